@@ -1,10 +1,10 @@
 #!/usr/bin/env python3
-"""Compares the documents with the sources, without a build: documents.py [--width].
+"""Compares the documents with the sources, without a build: documents.py.
 
 The codes of docs/FAULTS.md are those of `FaultCode`, in its order and with its words. Commands, options, limits and exit statuses of
 the manual, and those of README, are the program's. The columns of FAULTS are those of the help. README and PROOFS state one
-theorem, and PROOFS names calls and clauses that there are. Each link leads somewhere, and no document is longer than it may be. --width:
-no line of a proof is wider than 160 columns. What fails is printed, and then the status is 1.
+theorem, and PROOFS names calls and clauses that there are. Each link leads somewhere, no document is longer than it may be, and no
+line of a proof is wider than 160 columns. What fails is printed, and then the status is 1.
 """
 
 import glob
@@ -152,7 +152,7 @@ def lengths():
         failed.append(f"all documents: {sum(count.values())} words, of at most {ALL_WORDS}")
 
 
-def width():
+def widths():
     for path in paths("crates/*/proofs/**/*.antt"):
         wide = [number for number, line in enumerate(text_of(path).splitlines(), 1) if len(line) > WIDTH]
         if wide:
@@ -160,12 +160,10 @@ def width():
 
 
 def main():
-    if sys.argv[1:] not in ([], ["--width"]):
-        sys.exit(__doc__)
-    for check in (codes, statuses, usage, columns, theorem, clauses, links, lengths):
-        check()
     if sys.argv[1:]:
-        width()
+        sys.exit(__doc__)
+    for check in (codes, statuses, usage, columns, theorem, clauses, links, lengths, widths):
+        check()
     print("\n".join(failed) if failed else "the documents are as the sources")
     sys.exit(1 if failed else 0)
 

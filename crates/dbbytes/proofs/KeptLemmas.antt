@@ -1,5 +1,6 @@
 -- The bytes that a sieve keeps of a row are enough to determine the row.
-use Rattle.std.proofs.Common.{◌≡◌, ℕ, ◌+◌, ◌%◌, ◌<◌, ◌≤◌, Bool, true, false, not, ◌&&◌, List, [], ◌∷◌, length, take, drop, get_or, min, Option, Some, None, Result, cond, eqb, leb, ℤ, refl, sym, ap, ◌∙◌, ◌⊎◌, inl, inr, arith}
+use Rattle.std.proofs.Common.{◌≡◌, ℕ, ◌+◌, ◌%◌, ◌<◌, ◌≤◌, Bool, true, false, not, ◌&&◌, List, [], ◌∷◌, length, take, drop, get_or, min, Option, Some, None}
+use Rattle.std.proofs.Common.{Result, cond, eqb, leb, ℤ, refl, sym, ap, ◌∙◌, ◌⊎◌, inl, inr, arith}
 use Rattle.std.specs.Prelude.{sum, codes}
 use Rattle.std.specs.Str.{bytes_eq}
 use Rattle.std.proofs.lemmas.Bool.{cases_lt, false≢true}
@@ -57,11 +58,14 @@ by_sum false xs lens e = absurd (none_some e)
 
 -- no type is so long
 kind_long : (e : Encoding) (bytes : List ℕ) → 15 ≤ length bytes → row_kind e (text bytes) ≡ None
-kind_long Utf8 bytes h = none_of _ _ _ _ (longer bytes (ascii_in Utf8 (codes "table")) (omega arith)) (longer bytes (ascii_in Utf8 (codes "index")) (omega arith))
+kind_long Utf8 bytes h = none_of _ _ _ _ (longer bytes (ascii_in Utf8 (codes "table")) (omega arith))
+    (longer bytes (ascii_in Utf8 (codes "index")) (omega arith))
     (longer bytes (ascii_in Utf8 (codes "view")) (omega arith)) (longer bytes (ascii_in Utf8 (codes "trigger")) (omega arith))
-kind_long Utf16le bytes h = none_of _ _ _ _ (longer bytes (ascii_in Utf16le (codes "table")) (omega arith)) (longer bytes (ascii_in Utf16le (codes "index")) (omega arith))
+kind_long Utf16le bytes h = none_of _ _ _ _ (longer bytes (ascii_in Utf16le (codes "table")) (omega arith))
+    (longer bytes (ascii_in Utf16le (codes "index")) (omega arith))
     (longer bytes (ascii_in Utf16le (codes "view")) (omega arith)) (longer bytes (ascii_in Utf16le (codes "trigger")) (omega arith))
-kind_long Utf16be bytes h = none_of _ _ _ _ (longer bytes (ascii_in Utf16be (codes "table")) (omega arith)) (longer bytes (ascii_in Utf16be (codes "index")) (omega arith))
+kind_long Utf16be bytes h = none_of _ _ _ _ (longer bytes (ascii_in Utf16be (codes "table")) (omega arith))
+    (longer bytes (ascii_in Utf16be (codes "index")) (omega arith))
     (longer bytes (ascii_in Utf16be (codes "view")) (omega arith)) (longer bytes (ascii_in Utf16be (codes "trigger")) (omega arith))
 
 -- no name is so long
@@ -128,7 +132,8 @@ short_choice false false false false type n rest e h k m = absurd (false≢true 
 -- an integer has eight bytes at most
 integer_len : (type n : ℕ) → type ≤ 9 → serial_len type ≡ Some n → n ≤ 8
 unfolding serial_len
-integer_len type n h e = short_choice (leb type 4) (leb type 5) (leb type 7) (leb type 9) type n _ e h (λ k. grind (arith, nat_tests)) (grind (arith, nat_tests))
+integer_len type n h e = short_choice (leb type 4) (leb type 5) (leb type 7) (leb type 9) type n _ e h (λ k. grind (arith, nat_tests))
+    (grind (arith, nat_tests))
 
 no_root : (a b c d f : Bool) (y z : ℤ) (bytes : List ℕ) → a ≡ false → b ≡ false → d ≡ false → root_number (classed a b c d f y z bytes) ≡ None
 no_root a b true d f y z bytes p q r = rw (p, q) refl
@@ -179,7 +184,12 @@ kept_five : (e : Encoding) (a b c d f n0 n1 n2 n3 n4 bodies : ℕ) (more : List 
     → kept_columns e (a ∷ b ∷ c ∷ d ∷ f ∷ []) (n0 ∷ n1 ∷ n2 ∷ n3 ∷ n4 ∷ []) more
     ≡ row_of_values e (body_values (a ∷ b ∷ c ∷ d ∷ f ∷ []) bodies more)
 kept_five e a b c d f n0 n1 n2 n3 n4 bodies more h =
-    rw h (rw (drop_thrice n0 n1 n2 more, kind_kept e a n0 more, name_kept e b n1 (drop n0 more), root_kept d n3 (drop n2 (drop n1 (drop n0 more))) (fourth a b c d f n0 n1 n2 n3 n4 bodies h)) refl)
+    rw h (rw (
+      drop_thrice n0 n1 n2 more,
+      kind_kept e a n0 more,
+      name_kept e b n1 (drop n0 more),
+      root_kept d n3 (drop n2 (drop n1 (drop n0 more))) (fourth a b c d f n0 n1 n2 n3 n4 bodies h),
+    ) refl)
 
 -- what is kept of the columns determines the row
 pub kept_row : (e : Encoding) (types lens more : List ℕ) (bodies : ℕ) → length types ≡ 5 → length lens ≡ 5 → body_lens types bodies ≡ Some lens

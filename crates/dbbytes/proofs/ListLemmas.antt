@@ -1,5 +1,6 @@
 -- Lists that come in two parts.
-use Rattle.std.proofs.Common.{◌≡◌, ℕ, zero, suc, ◌+◌, ◌-◌, ◌<◌, List, [], ◌∷◌, ◌++◌, length, take, drop, min, refl, sym, ap, ◌∙◌, arith, append_assoc, length-set, set}
+use Rattle.std.proofs.Common.{◌≡◌, ℕ, zero, suc, ◌+◌, ◌-◌, ◌<◌, List, [], ◌∷◌, ◌++◌, length, take, drop, min, refl, sym, ap, ◌∙◌, arith, append_assoc}
+use Rattle.std.proofs.Common.{length-set, set}
 use Rattle.std.proofs.lemmas.Grind.{common_steps}
 use Rattle.std.proofs.lemmas.List.{length-drop, take_min, take_all}
 
@@ -44,7 +45,8 @@ pushed count value xs h = grind (arith, common_steps)
 -- the items with the last
 pub filled : (count value : ℕ) (xs : List ℕ) → length xs ≡ count + 1 → set xs count value ≡ take count xs ++ value ∷ []
 filled count value xs h =
-    let all : take (count + 1) (set xs count value) ≡ set xs count value = take_all (count + 1) (set xs count value) (omega (arith, length-set xs count value)) in
+    let all : take (count + 1) (set xs count value) ≡ set xs count value =
+    take_all (count + 1) (set xs count value) (omega (arith, length-set xs count value)) in
     sym all ∙ pushed count value xs (omega arith)
 
 -- a slice from a place on

@@ -1,5 +1,6 @@
 -- A record's header, byte by byte.
-use Rattle.std.proofs.Common.{◌≡◌, ℕ, zero, suc, ◌+◌, ◌-◌, ◌<◌, ◌≤◌, Bool, true, false, ◌&&◌, List, [], ◌∷◌, ◌++◌, length, take, drop, Option, Some, None, Err, cond, eqb, leb, refl, sym, ap, ◌∙◌, ◌⊎◌, inl, inr, arith, append_assoc, set}
+use Rattle.std.proofs.Common.{◌≡◌, ℕ, zero, suc, ◌+◌, ◌-◌, ◌<◌, ◌≤◌, Bool, true, false, ◌&&◌, List, [], ◌∷◌, ◌++◌, length, take, drop, Option, Some, None, Err}
+use Rattle.std.proofs.Common.{cond, eqb, leb, refl, sym, ap, ◌∙◌, ◌⊎◌, inl, inr, arith, append_assoc, set}
 use Rattle.std.specs.Prelude.{option_map}
 use Rattle.std.proofs.lemmas.Bool.Decides.{nat_tests}
 use Rattle.dbformat.specs.Options.{◌>>=◌}

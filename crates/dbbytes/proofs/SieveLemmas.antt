@@ -1,5 +1,6 @@
 -- The stages of a sieve.
-use Rattle.std.proofs.Common.{◌≡◌, ℕ, ◌+◌, ◌-◌, ◌<◌, ◌≤◌, List, [], ◌∷◌, ◌++◌, length, take, drop, get_or, min, false, Option, Some, None, Result, Err, cond, eqb, refl, sym, ap, ◌∙◌, arith, append_assoc, append-nil, add-one, drop-cons, length-append, leb, ℤ}
+use Rattle.std.proofs.Common.{◌≡◌, ℕ, ◌+◌, ◌-◌, ◌<◌, ◌≤◌, List, [], ◌∷◌, ◌++◌, length, take, drop, get_or, min, false, Option, Some, None, Result, Err, cond}
+use Rattle.std.proofs.Common.{eqb, refl, sym, ap, ◌∙◌, arith, append_assoc, append-nil, add-one, drop-cons, length-append, leb, ℤ}
 use Rattle.std.proofs.Math.Seq.{drop-nil, take-nil}
 use Rattle.std.proofs.lemmas.Bool.Decides.{nat_tests}
 use Rattle.std.proofs.lemmas.List.{drop_all}
@@ -81,7 +82,13 @@ pub row_done : (s : RowSieve) (types : List ℕ) (left : ℕ) → s.stage ≡ st
     → row_after s [] ≡ row_of_kept s.encoding types s.kind.bytes.items s.name.bytes.items s.root.bytes.items
 unfolding row_after
 row_done s types left e none =
-    rw (e, none, kept_all s.kind.gap s.kind.want s.kind.bytes.items, kept_all s.name.gap s.name.want s.name.bytes.items, kept_all s.root.gap s.root.want s.root.bytes.items) refl
+    rw (
+      e,
+      none,
+      kept_all s.kind.gap s.kind.want s.kind.bytes.items,
+      kept_all s.name.gap s.name.want s.name.bytes.items,
+      kept_all s.root.gap s.root.want s.root.bytes.items,
+    ) refl
 
 -- Bytes are still to come.
 row_short : (left : ℕ) (row : Result SchemaRow RowFault) → (left ≡ 0 → ⊥) → cond (eqb 0 left) row (Err Malformed) ≡ Err Malformed
@@ -102,7 +109,8 @@ no_values left bodies types others n value = rw (take-nil left) (cond_none (leb 
 pub row_types_short : (s : RowSieve) (header : RecordHeader) → s.stage ≡ stage.SerialTypes header → row_after s [] ≡ Err Malformed
 unfolding row_after
 row_types_short s header e =
-    rw (e, no_values header.left header.bodies (take header.count header.types) (4 - header.count) header.number.length header.number.value) (row_by_none s.encoding _)
+    rw (e, no_values header.left header.bodies (take header.count header.types) (4 - header.count) header.number.length header.number.value)
+    (row_by_none s.encoding _)
 
 -- The row of what is kept.
 pub row_checked : (e : Encoding) (types kind name root k n r : List ℕ) (row_k : Option RowKind) (row_r : Option ℤ) (row_n : Option (List ℕ))
@@ -127,5 +135,6 @@ taken_row {size = size} {e = e} {bytes = bytes} h = h.tells [] ∙ ap (λ w. sch
 
 -- all of a piece
 pub fed_all : (s first : RowSieve) (piece : List ℕ) (i : ℕ) → length piece ≤ i
-    → ((more : List ℕ) → row_after s (drop i piece ++ more) ≡ row_after first (piece ++ more)) → (more : List ℕ) → row_after s more ≡ row_after first (piece ++ more)
+    → ((more : List ℕ) → row_after s (drop i piece ++ more) ≡ row_after first (piece ++ more)) → (more : List ℕ) → row_after s more
+    ≡ row_after first (piece ++ more)
 fed_all s first piece i h before more = let none : drop i piece ≡ [] = drop_all i piece h in rw none at (before more)

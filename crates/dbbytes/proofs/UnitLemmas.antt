@@ -1,6 +1,8 @@
 -- UTF-16, unit by unit.
-use Rattle.std.proofs.Common.{◌≡◌, ℕ, ◌+◌, ◌%◌, ◌<◌, ◌≤◌, Bool, true, false, not, ◌&&◌, List, [], ◌∷◌, length, drop, get_or, Some, None, Result, Ok, Err, MatchResult, is_ok, eqb, ltb, leb, refl, sym, ap, ◌∙◌, ◌⊎◌, inl, inr, arith}
-use Rattle.std.specs.Char.Utf16.{utf16_chars, utf16_lossy_chars, lone_unit_char, is_high_surrogate, is_low_surrogate, surrogate_pair_char, has_unpaired_surrogate}
+use Rattle.std.proofs.Common.{◌≡◌, ℕ, ◌+◌, ◌%◌, ◌<◌, ◌≤◌, Bool, true, false, not, ◌&&◌, List, [], ◌∷◌, length, drop, get_or, Some, None, Result, Ok, Err}
+use Rattle.std.proofs.Common.{MatchResult, is_ok, eqb, ltb, leb, refl, sym, ap, ◌∙◌, ◌⊎◌, inl, inr, arith}
+use Rattle.std.specs.Char.Utf16.{utf16_chars, utf16_lossy_chars, lone_unit_char, is_high_surrogate, is_low_surrogate, surrogate_pair_char}
+use Rattle.std.specs.Char.Utf16.{has_unpaired_surrogate}
 use Rattle.std.specs.Str.{IsUtf8, is_utf8}
 use Rattle.std.proofs.lemmas.Str.{IsUtf8-from_is_utf8, is_utf8-from_IsUtf8}
 use Rattle.std.proofs.lemmas.Bool.Decides.{nat_tests}
@@ -58,7 +60,8 @@ unit_at order bytes = unit_of order (get_or bytes 0 0) (get_or bytes 1 0)
 pub begins_plain : (order : Order) (bytes : List ℕ) (c : ℕ) → 2 ≤ length bytes → c ≡ unit_at order bytes
     → (c < 0xD800) ⊎ (0xE000 ≤ c) → BeginsWith order bytes c 2
 begins_plain order bytes c h e plain = record {
-  begins = rw (units_first order bytes h, ← e) (chars_lone c (units order (drop 2 bytes)) (not_first c (get_or (units order (drop 2 bytes)) 0 0) (elim plain [ inl a ↦ inl a | inr a ↦ inr (omega arith) ]))
+  begins = rw (units_first order bytes h, ← e) (chars_lone c (units order (drop 2 bytes))
+      (not_first c (get_or (units order (drop 2 bytes)) 0 0) (elim plain [ inl a ↦ inl a | inr a ↦ inr (omega arith) ]))
       ∙ ap (λ w. w ∷ utf16_chars (units order (drop 2 bytes))) (no_surrogate c plain));
   some = omega arith;
   even = refl;
@@ -91,13 +94,15 @@ second_at LowFirst (a ∷ b ∷ c ∷ d ∷ bytes) h = refl
 second_at HighFirst (a ∷ b ∷ c ∷ d ∷ bytes) h = refl
 second_at order bytes h = absurd (omega arith)
 
-pub begins_alone : (order : Order) (bytes : List ℕ) (u v : ℕ) → 4 ≤ length bytes → u ≡ unit_at order bytes → v ≡ unit_of order (get_or bytes 2 0) (get_or bytes 3 0)
+pub begins_alone : (order : Order) (bytes : List ℕ) (u v : ℕ) → 4 ≤ length bytes → u ≡ unit_at order bytes → v
+    ≡ unit_of order (get_or bytes 2 0) (get_or bytes 3 0)
     → 0xD800 ≤ u → u < 0xE000 → (v < 0xDC00) ⊎ (0xE000 ≤ v) → BeginsUnpaired order bytes
 begins_alone order bytes u v h e f low high other =
     let next : get_or (units order (drop 2 bytes)) 0 0 ≡ v = rw (second_at order bytes h) (sym f) in
     alone order bytes u (omega arith) e low high v next other
 
-pub begins_pair : (order : Order) (bytes : List ℕ) (u v c : ℕ) → 4 ≤ length bytes → u ≡ unit_at order bytes → v ≡ unit_of order (get_or bytes 2 0) (get_or bytes 3 0)
+pub begins_pair : (order : Order) (bytes : List ℕ) (u v c : ℕ) → 4 ≤ length bytes → u ≡ unit_at order bytes → v
+    ≡ unit_of order (get_or bytes 2 0) (get_or bytes 3 0)
     → 0xD800 ≤ u → u < 0xDC00 → 0xDC00 ≤ v → v < 0xE000 → c ≡ surrogate_pair_char u v → BeginsWith order bytes c 4
 begins_pair order bytes u v c h e f p q r s g = record {
   begins = rw (units_first order bytes (omega arith), second_at order bytes h, ← e, ← f, g) (chars_pair u v (units order (drop 4 bytes)) (both u v p q r s));

@@ -1,5 +1,6 @@
 -- A variable-length integer is the same read byte by byte.
-use Rattle.std.proofs.Common.{◌≡◌, ℕ, zero, suc, ◌+◌, ◌*◌, ◌%◌, ◌^◌, ◌<◌, ◌≤◌, Bool, true, false, List, [], ◌∷◌, length, take, drop, get_or, fold, Option, Some, None, cond, eqb, ltb, leb, refl, sym, ◌∙◌, ◌⊎◌, inl, inr, arith}
+use Rattle.std.proofs.Common.{◌≡◌, ℕ, zero, suc, ◌+◌, ◌*◌, ◌%◌, ◌^◌, ◌<◌, ◌≤◌, Bool, true, false, List, [], ◌∷◌, length, take, drop, get_or, fold, Option, Some}
+use Rattle.std.proofs.Common.{None, cond, eqb, ltb, leb, refl, sym, ◌∙◌, ◌⊎◌, inl, inr, arith}
 use Rattle.std.specs.Prelude.{IfSome}
 use Rattle.std.specs.Prelude.{option_map}
 use Rattle.std.specs.List.{prefix_len}
@@ -117,7 +118,8 @@ from_none b = omega arith
 
 -- the number, after its first byte
 pub varint_after_first : (bytes : List ℕ) → 0 < length bytes
-    → varint bytes ≡ cond (ltb (get_or bytes 0 0) 128) (Some (get_or bytes 0 0, 1)) (option_map (λ r. (r.0, r.1)) (varint_from 1 (get_or bytes 0 0 % 128) (drop 1 bytes)))
+    → varint bytes ≡ cond (ltb (get_or bytes 0 0) 128) (Some (get_or bytes 0 0, 1))
+    (option_map (λ r. (r.0, r.1)) (varint_from 1 (get_or bytes 0 0 % 128) (drop 1 bytes)))
 varint_after_first [] long = absurd (omega arith)
 varint_after_first (b ∷ bs) long =
     sym (varint-from-number (b ∷ bs)) ∙ elim (byte_tests b) [

@@ -1,5 +1,6 @@
 -- A record is what is read of it byte by byte.
-use Rattle.std.proofs.Common.{◌≡◌, ℕ, ◌+◌, ◌-◌, ◌<◌, ◌≤◌, Bool, true, false, ◌&&◌, List, [], length, take, drop, Option, Some, None, cond, eqb, leb, refl, sym, ap, ◌∙◌, ◌⊎◌, inl, inr, arith}
+use Rattle.std.proofs.Common.{◌≡◌, ℕ, ◌+◌, ◌-◌, ◌<◌, ◌≤◌, Bool, true, false, ◌&&◌, List, [], length, take, drop, Option, Some, None, cond, eqb, leb, refl, sym}
+use Rattle.std.proofs.Common.{ap, ◌∙◌, ◌⊎◌, inl, inr, arith}
 use Rattle.std.specs.Prelude.{sum, option_map}
 use Rattle.std.proofs.lemmas.Bool.{cases_lt}
 use Rattle.std.proofs.lemmas.Bool.Decides.{nat_tests}
@@ -61,7 +62,8 @@ within s k bytes h m =
     (same_types s (length bytes) bytes (numbers_from 0 0 4 (take (s - k) (drop k bytes))) m)
 
 -- it is not
-without : (s k : ℕ) (bytes : List ℕ) → (s < k) ⊎ (length bytes < s) → (varints 5 (drop k (take s bytes)) >>= λ types. bodies_of s types (length bytes) bytes) ≡ None
+without : (s k : ℕ) (bytes : List ℕ) → (s < k) ⊎ (length bytes < s) → (varints 5 (drop k (take s bytes)) >>= λ types. bodies_of s types (length bytes) bytes)
+    ≡ None
 without s k bytes (inl h) =
     let none : drop k (take s bytes) ≡ [] = drop_all k (take s bytes) (omega (arith, length-take s bytes)) in
     rw (none, varints_next 4 []) refl
@@ -70,7 +72,8 @@ without s k bytes (inr h) = no_types s (length bytes) bytes (varints 5 (drop k (
 abbrev after_first : List ℕ → ℕ × ℕ × List ℕ → Option (List Value)
 after_first bytes r = cond (leb r.1 r.0 && leb r.0 (length bytes)) (values_from (r.0 - r.1) (length bytes - r.0) [] 4 0 0 r.2) None
 
-sized : (s k : ℕ) (bytes : List ℕ) → after_first bytes (s, k, drop k bytes) ≡ (varints 5 (drop k (take s bytes)) >>= λ types. bodies_of s types (length bytes) bytes)
+sized : (s k : ℕ) (bytes : List ℕ) → after_first bytes (s, k, drop k bytes)
+    ≡ (varints 5 (drop k (take s bytes)) >>= λ types. bodies_of s types (length bytes) bytes)
 sized s k bytes = elim (cases_lt s k) [
   | inl h ↦ (let no : (leb k s && leb s (length bytes)) ≡ false = grind (arith, nat_tests) in rw no (sym (without s k bytes (inl h))))
   | inr h ↦ elim (cases_lt (length bytes) s) [

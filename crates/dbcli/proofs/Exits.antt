@@ -99,7 +99,8 @@ err_written : (err mid err' : OutState) (bytes : List ℕ) → Appends err.bytes
 err_written err mid err' bytes h e = let P : OutState → Type 0 = λ o. Appends err.bytes o.bytes bytes in subst P (sym e) h
 
 -- what the status says of a report
-status_by_outcome : (rep : Report) (file : List ℕ) → ((e : Refusal) → refusal file ≡ Some e → rep.answer ≡ Err e) → (outcome : Result Verdict RunError) (out out' err mid err' : OutState)
+status_by_outcome : (rep : Report) (file : List ℕ) → ((e : Refusal) → refusal file ≡ Some e → rep.answer ≡ Err e)
+    → (outcome : Result Verdict RunError) (out out' err mid err' : OutState)
     → IsAnswerOf outcome file → OnOk outcome (Appends out.bytes out'.bytes rep.out) → Writes outcome err.bytes mid.bytes rep.err
     → IfOk outcome (λ v. rep.answer ≡ Ok v) → IsUnwritten outcome out.bytes out'.bytes
     → OnOk outcome (err' ≡ mid) → OnErr outcome (FewFailed (second_most (exit_status outcome)) err mid)
@@ -209,7 +210,8 @@ explain_exit limit file outcome out out' err mid err' run unwritten kept quiet f
     }
 
 -- of a map: at a verdict its picture was put, at a failed write a beginning of it, and else nothing
-map_writes : (outcome : Result Verdict RunError) (old new : Option (List ℕ)) (picture : List ℕ) → PutsMap outcome old new picture → Writes outcome old new picture
+map_writes : (outcome : Result Verdict RunError) (old new : Option (List ℕ)) (picture : List ℕ) → PutsMap outcome old new picture
+    → Writes outcome old new picture
 map_writes (Ok v) old new picture h = h
 map_writes (Err (Refused e)) old new picture h = nothing_begun old new picture h
 map_writes (Err ReadFailed) old new picture h = nothing_begun old new picture h
@@ -225,7 +227,8 @@ map_unwritten (Err ReadFailed) old new picture h s = h
 map_unwritten (Err OutOfMemory) old new picture h s = h
 map_unwritten (Err WriteFailed) old new picture h s = let k = s.1 in absurd (omega (arith, k))
 
-map_answers : (file : List ℕ) (V : List Reference) (outcome : Result Verdict RunError) → IsAnswerOf outcome file → IfOk outcome (λ v. v ≡ verdict (faults file V))
+map_answers : (file : List ℕ) (V : List Reference) (outcome : Result Verdict RunError) → IsAnswerOf outcome file
+    → IfOk outcome (λ v. v ≡ verdict (faults file V))
     → IfOk outcome (λ v. (report (Check 0) file V).answer ≡ Ok v)
 map_answers file V (Ok v) answer h = check_answer 0 file V answer v h
 map_answers file V (Err e) answer h = tt
@@ -274,7 +277,8 @@ answer_of (request.Map name) file outcome out out' err mid run = (run.answer, ru
 -- at a verdict a check says whether the file is sound
 ok_for : (asked : Request) (file : List ℕ) (outcome : Result Verdict RunError) (out out' err mid : OutState)
     → IsEndFor asked file outcome out out' err mid → exit_status outcome ≤ 1 → SaysOkFor asked file out out'
-ok_for (request.Report command) file (Ok v) out out' err mid run m = says_ok command file (survey file) out.bytes out'.bytes run.survey (run.reported (survey file) run.survey).out
+ok_for (request.Report command) file (Ok v) out out' err mid run m =
+    says_ok command file (survey file) out.bytes out'.bytes run.survey (run.reported (survey file) run.survey).out
 ok_for (request.Report command) file (Err (Refused e)) out out' err mid run m = absurd (omega arith)
 ok_for (request.Report command) file (Err ReadFailed) out out' err mid run m = absurd (omega arith)
 ok_for (request.Report command) file (Err OutOfMemory) out out' err mid run m = absurd (omega arith)

@@ -54,7 +54,8 @@ IsEndFor (request.Map name) file r out out' err err' = IsMapOf name.now file r o
 -- ---- the lines found so far
 
 -- what was put is a beginning
-put_begun : {A E : Type 0} (r : Result A E) (old mid new : OutState) (text : List ℕ) → Puts r old mid text → Keeps mid.bytes new.bytes → Begins old.bytes new.bytes text
+put_begun : {A E : Type 0} (r : Result A E) (old mid new : OutState) (text : List ℕ) → Puts r old mid text → Keeps mid.bytes new.bytes
+    → Begins old.bytes new.bytes text
 put_begun (Ok x) old mid new text p k = all_begun old.bytes new.bytes text (appends_kept old.bytes mid.bytes new.bytes text p.held k)
 put_begun (Err x) old mid new text p k = record {
   part = p.held.part;

@@ -54,7 +54,8 @@ one_moved out err out' err' (inr (same, inl (second, none))) = record {
 one_moved out err out' err' (inr (same, inr (also, none))) = absurd none
 
 -- more failures after others
-pub more_failures : (before now after s x : ℕ) → now % 2 ^ 64 ≡ (before + s) % 2 ^ 64 → after % 2 ^ 64 ≡ (now + x) % 2 ^ 64 → after % 2 ^ 64 ≡ (before + s + x) % 2 ^ 64
+pub more_failures : (before now after s x : ℕ) → now % 2 ^ 64 ≡ (before + s) % 2 ^ 64 → after % 2 ^ 64 ≡ (now + x) % 2 ^ 64 → after % 2 ^ 64
+    ≡ (before + s + x) % 2 ^ 64
 more_failures before now after s x h k = k ∙ sym (mod-add-mod now (2 ^ 64) x) ∙ ap (λ n. (n + x) % 2 ^ 64) h ∙ mod-add-mod (before + s) (2 ^ 64) x
 
 pub failed_then : (a most n : ℕ) (old mid new : OutState) → a + most ≤ n → mid.failures % 2 ^ 64 ≡ (old.failures + a) % 2 ^ 64

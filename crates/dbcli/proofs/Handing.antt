@@ -1,5 +1,6 @@
 -- What handing on makes of the outcome of a run, and of what is said of it.
-use Rattle.std.proofs.Common.{◌≡◌, ◌↔◌, ◌∙◌, ℕ, ◌+◌, ◌%◌, ◌^◌, ◌≤◌, List, [], ◌++◌, Option, None, Some, Result, Ok, Err, inl, inr, refl, sym, ap, subst, arith, true, false}
+use Rattle.std.proofs.Common.{◌≡◌, ◌↔◌, ◌∙◌, ℕ, ◌+◌, ◌%◌, ◌^◌, ◌≤◌, List, [], ◌++◌, Option, None, Some, Result, Ok, Err, inl, inr, refl, sym, ap, subst, arith}
+use Rattle.std.proofs.Common.{true, false}
 use Rattle.std.specs.Prelude.{IfErr, IfOk, OnErr, OnOk, ◌⊎◌, is_ok}
 use Rattle.std.specs.Io.KnownBytes.{Appends, Keeps}
 use Rattle.std.proofs.lemmas.List.{append-nil}
@@ -21,7 +22,8 @@ use Rattle.dbsource.specs.declared.error.RunError.TheVariants.{Refused, ReadFail
 use Rattle.dbmap.specs.MapPictures.{map_picture}
 use Rattle.dbmap.specs.Maps.{PutsMap}
 use Rattle.dbcli.proofs.Explaining.{IsEndFor, LeavesText, gets_found}
-use Rattle.dbcli.proofs.Failures.{FewFailed, after_one, failed_then, few_then, few_then_line, more_count, more_failures, none_moved, not_same, one_moved, same_count}
+use Rattle.dbcli.proofs.Failures.{FewFailed, after_one, failed_then, few_then, few_then_line, more_count, more_failures, none_moved, not_same, one_moved}
+use Rattle.dbcli.proofs.Failures.{same_count}
 use Rattle.dbcli.specs.ErrorLines.{error_line}
 use Rattle.dbcli.specs.Exit.{EndsWithLine, OutHasFailed, IsHandedOn, IsHandedOnOrFailed, failures_at_4, first_most, second_most, unread_most}
 use Rattle.dbcli.specs.Handing.{IsHanded, StopsFlushing, TriesToFlush}
@@ -68,7 +70,8 @@ module _ (out out' err err' : OutState) where
   still_of P (Err WriteFailed) r h p = rw h.0 tt
 
   -- at a refusal nothing was written
-  pub still_unwritten : {X : Type 0} (o r : Result Verdict RunError) (a b c : X) → IsHanded o r out out' err err' → IsUnwritten o a b → IsUnwritten o b c → IsUnwritten r a c
+  pub still_unwritten : {X : Type 0} (o r : Result Verdict RunError) (a b c : X) → IsHanded o r out out' err err' → IsUnwritten o a b → IsUnwritten o b c
+      → IsUnwritten r a c
   still_unwritten (Ok v) (Ok w) a b c h u k = tt
   still_unwritten (Ok v) (Err e) a b c h u k = rw h.0 tt
   still_unwritten (Err (Refused x)) r a b c h u k = rw h.0 (k ∙ u)
@@ -77,7 +80,8 @@ module _ (out out' err err' : OutState) where
   still_unwritten (Err WriteFailed) r a b c h u k = rw h.0 tt
 
   -- the header alone was asked for
-  pub still_refused : (step : Step) (o r : Result Verdict RunError) (a b : Trail) → IsHanded o r out out' err err' → AsksHeaderAlone step o a b → AsksHeaderAlone step r a b
+  pub still_refused : (step : Step) (o r : Result Verdict RunError) (a b : Trail) → IsHanded o r out out' err err' → AsksHeaderAlone step o a b
+      → AsksHeaderAlone step r a b
   still_refused step (Ok v) (Ok w) a b h k = tt
   still_refused step (Ok v) (Err e) a b h k = rw h.0 tt
   still_refused step (Err (Refused x)) r a b h k = rw h.0 k
@@ -106,7 +110,8 @@ module _ (out out' err err' : OutState) where
   still_second (Err WriteFailed) r before bytes h k = rw h.0 (subst (λ g. Begins before g.bytes bytes) (sym h.2) k)
 
   -- so what a run left of a file is left of it still
-  still_run : (rep : List ℕ → List Reference → Report) (file : List ℕ) (o r : Result Verdict RunError) (first second : Option (List ℕ)) → IsHanded o r out out' err err'
+  still_run : (rep : List ℕ → List Reference → Report) (file : List ℕ) (o r : Result Verdict RunError) (first second : Option (List ℕ))
+      → IsHanded o r out out' err err'
       → IsRunBy rep file o first out.bytes second err.bytes → IsRunBy rep file r first out'.bytes second err'.bytes
   still_run rep file o r first second h run = record {
     survey = run.survey;
@@ -138,8 +143,10 @@ module _ (out out' err err' : OutState) where
   still_explained limit file V (Err (Refused x)) r first h k =
       rw h.0 (subst (λ g. Begins first.bytes g.bytes (explain_report limit file V).out) (sym h.1) k)
   still_explained limit file V (Err ReadFailed) r first h k = rw h.0 (gets_found limit file V first out out' k h.1)
-  still_explained limit file V (Err OutOfMemory) r first h k = rw h.0 (begins_still first.bytes out.bytes out'.bytes (explain_report limit file V).out k h.1.kept)
-  still_explained limit file V (Err WriteFailed) r first h k = rw h.0 (begins_still first.bytes out.bytes out'.bytes (explain_report limit file V).out k h.1.kept)
+  still_explained limit file V (Err OutOfMemory) r first h k =
+      rw h.0 (begins_still first.bytes out.bytes out'.bytes (explain_report limit file V).out k h.1.kept)
+  still_explained limit file V (Err WriteFailed) r first h k =
+      rw h.0 (begins_still first.bytes out.bytes out'.bytes (explain_report limit file V).out k h.1.kept)
 
   -- for what was asked
   pub still_for : (asked : Request) (file : List ℕ) (o r : Result Verdict RunError) (first second : OutState) → IsHanded o r out out' err err'
@@ -176,7 +183,13 @@ stopped_first : (out out' err err' : OutState) → StopsFlushing out out' err er
 stopped_first out out' err err' s = by_once s.once
   where
     by_once : HasOneMore (failures_of_each out err) (failures_of_each out' err') → IsHandedOnOrFailed 1 out out'
-    by_once (inl (first, same)) = record { failed = 1; bound = omega arith; count = more_count out.failures out'.failures first; all = λ e. absurd (omega arith) }
+    by_once (inl (first, same)) = record {
+      failed = 1;
+      bound = omega arith;
+      count = more_count out.failures out'.failures first;
+      all =
+          λ e. absurd (omega arith);
+    }
     by_once (inr (same, more)) = record { failed = 0; bound = omega arith; count = same_count out.failures out'.failures same; all = λ e. s.first same }
 
 module _ (out err out1 err1 out2 err2 err3 : OutState) where
@@ -196,7 +209,8 @@ module _ (out err out1 err1 out2 err2 err3 : OutState) where
   whole_at_verdict asked (Err WriteFailed) r same h quiet k = let q : 6 ≤ 1 = rw h.0 at k in absurd (omega arith)
 
   -- the first Out after a failed read
-  first_unread : (asked : Request) → OutsFail (Err ReadFailed) asked out out1 err err1 → TriesToFlush out1 out2 → IsHandedOnOrFailed (unread_most asked) out out2
+  first_unread : (asked : Request) → OutsFail (Err ReadFailed) asked out out1 err err1 → TriesToFlush out1 out2
+      → IsHandedOnOrFailed (unread_most asked) out out2
   first_unread (request.Report command) same t =
       let m = none_moved out err out1 err1 same in let s = m.sum in failed_then m.first 1 1 out out1 out2 (omega (arith, s)) m.count t.once
   first_unread (request.Explain limit) (inl same, second) t = failed_then 0 1 2 out out1 out2 (omega arith) (same_count out.failures out1.failures same) t.once
@@ -208,12 +222,15 @@ module _ (out err out1 err1 out2 err2 err3 : OutState) where
   pub first_at_error : (asked : Request) (o r : Result Verdict RunError) → OutsFail o asked out out1 err err1
       → IsHanded o r out1 out2 err1 err2 → 4 ≤ exit_status r → IsHandedOnOrFailed (first_most asked (exit_status r)) out out2
   first_at_error asked (Ok v) (Ok w) same h k = let q = at_verdict w in absurd (omega arith)
-  first_at_error asked (Ok v) (Err e) same h k = rw h.0 (let m = none_moved out err out1 err1 same in let z : m.first ≡ 0 = (let s = m.sum in omega (arith, s)) in
+  first_at_error asked (Ok v) (Err e) same h k = rw h.0
+      (let m = none_moved out err out1 err1 same in let z : m.first ≡ 0 = (let s = m.sum in omega (arith, s)) in
       failed_then m.first 1 2 out out1 out2 (omega (arith, z)) m.count (stopped_first out1 out2 err1 err2 h.1))
   first_at_error asked (Err (Refused x)) r same h k = let q : 4 ≤ 3 = rw h.0 at k in absurd (omega arith)
   first_at_error asked (Err ReadFailed) r same h k = rw h.0 (first_unread asked same h.1)
-  first_at_error asked (Err OutOfMemory) r same h k = rw h.0 (let m = none_moved out err out1 err1 same in let s = m.sum in failed_then m.first 1 1 out out1 out2 (omega (arith, s)) m.count h.1.once)
-  first_at_error asked (Err WriteFailed) r one h k = rw h.0 (let m = one_moved out err out1 err1 one in let s = m.sum in failed_then m.first 1 2 out out1 out2 (omega (arith, s)) m.count h.1.once)
+  first_at_error asked (Err OutOfMemory) r same h k =
+      rw h.0 (let m = none_moved out err out1 err1 same in let s = m.sum in failed_then m.first 1 1 out out1 out2 (omega (arith, s)) m.count h.1.once)
+  first_at_error asked (Err WriteFailed) r one h k =
+      rw h.0 (let m = one_moved out err out1 err1 one in let s = m.sum in failed_then m.first 1 2 out out1 out2 (omega (arith, s)) m.count h.1.once)
 
   none_few : failures_of_each out1 err1 ≡ failures_of_each out err → err2 ≡ err1 → FewFailed 2 err err2
   none_few same e = let m = none_moved out err out1 err1 same in let s = m.sum in record {
@@ -321,7 +338,13 @@ module _ (out err out1 err1 out2 err2 err3 : OutState) where
 
 flushed_once : {C Z : Type 0} (r : Result C Z) (old new : OutState) → Flushes r old new → IsHandedOnOrFailed 1 old new
 flushed_once (Ok x) old new f = record { failed = 0; bound = omega arith; count = same_count old.failures new.failures f.count; all = λ e. f.empty }
-flushed_once (Err x) old new f = record { failed = 1; bound = omega arith; count = more_count old.failures new.failures f.count; all = λ e. absurd (omega arith) }
+flushed_once (Err x) old new f = record {
+  failed = 1;
+  bound = omega arith;
+  count = more_count old.failures new.failures f.count;
+  all =
+      λ e. absurd (omega arith);
+}
 
 -- a flush after a line
 line_after : {C Z : Type 0} (t : Result C Z) (line shown cut : List ℕ) (k : ℕ) (a c d : OutState) → k ≤ 1 → shown ++ cut ≡ line

@@ -76,7 +76,8 @@ other_name a b name e named other = other (ap (λ (l : Text). slice_index l 0) (
 pub only_checks : (request : Request) (name : Text) (rows : List Row) → name ≡ codes "check"
     → ((limit : ℕ) → IsLimit 1000000 limit → IsInRow limit rows → ⊥) → HasLimit request → name ≡ name_of request → IsLimitOf request rows → ⊥
 only_checks (Report (Check limit)) name rows e none range named value = none limit range value
-only_checks (Report (Stat aggregate all)) name rows e none range named value = other_name (codes "check") (codes "stat") name e named (λ h. absurd (omega (arith, h)))
+only_checks (Report (Stat aggregate all)) name rows e none range named value =
+    other_name (codes "check") (codes "stat") name e named (λ h. absurd (omega (arith, h)))
 only_checks (Explain limit) name rows e none range named value = other_name (codes "check") (codes "explain") name e named (λ h. absurd (omega (arith, h)))
 only_checks (Map title) name rows e none range named value = other_name (codes "check") (codes "map") name e named (λ h. absurd (omega (arith, h)))
 
@@ -84,8 +85,10 @@ only_checks (Map title) name rows e none range named value = other_name (codes "
 pub only_explains : (request : Request) (name : Text) (rows : List Row) → name ≡ codes "explain"
     → ((limit : ℕ) → IsLimit 10000 limit → IsInRow limit rows → ⊥) → HasLimit request → name ≡ name_of request → IsLimitOf request rows → ⊥
 only_explains (Explain limit) name rows e none range named value = none limit range value
-only_explains (Report (Check limit)) name rows e none range named value = other_name (codes "explain") (codes "check") name e named (λ h. absurd (omega (arith, h)))
-only_explains (Report (Stat aggregate all)) name rows e none range named value = other_name (codes "explain") (codes "stat") name e named (λ h. absurd (omega (arith, h)))
+only_explains (Report (Check limit)) name rows e none range named value =
+    other_name (codes "explain") (codes "check") name e named (λ h. absurd (omega (arith, h)))
+only_explains (Report (Stat aggregate all)) name rows e none range named value =
+    other_name (codes "explain") (codes "stat") name e named (λ h. absurd (omega (arith, h)))
 only_explains (Map title) name rows e none range named value = other_name (codes "explain") (codes "map") name e named (λ h. absurd (omega (arith, h)))
 
 -- the flag that turns progress off, by the rows that were met

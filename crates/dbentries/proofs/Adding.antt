@@ -1,5 +1,6 @@
 -- One fault more, by what is kept of the entries.
-use Rattle.std.proofs.Common.{◌≡◌, ℕ, zero, suc, ◌<◌, ◌≤◌, Bool, true, false, cond, List, [], ◌∷◌, ◌++◌, length, map, take, drop, refl, sym, ap, subst, arith, ◌∙◌}
+use Rattle.std.proofs.Common.{◌≡◌, ℕ, zero, suc, ◌<◌, ◌≤◌, Bool, true, false, cond, List, [], ◌∷◌, ◌++◌, length, map, take, drop, refl, sym, ap, subst, arith}
+use Rattle.std.proofs.Common.{◌∙◌}
 use Rattle.std.specs.Prelude.{◌==◌}
 use Rattle.std.specs.List.{sum_by}
 use Rattle.std.proofs.lemmas.Bool.Decides.{nat_tests}
@@ -69,7 +70,8 @@ none_kept limit = record {
 }
 
 -- a fault more, of a part that comes after none of the others
-pub added_is : (xs : List Reported) (x : Reported) (s : Stored) → KeepsEntries (entries xs) s → s.part ≤ rank x.part → KeepsEntries (entries (xs ++ x ∷ [])) (added x s)
+pub added_is : (xs : List Reported) (x : Reported) (s : Stored) → KeepsEntries (entries xs) s → s.part ≤ rank x.part
+    → KeepsEntries (entries (xs ++ x ∷ [])) (added x s)
 added_is xs x s is rises =
     let t = turned_is (entries xs) s (rank x.part) is rises in
     subst (λ es. KeepsEntries es (added x s)) (sym (entries_more xs x)) (placed (entries xs) x (turned (rank x.part) s) t.0 t.1 (few_entries xs))

@@ -1,5 +1,6 @@
 -- The line of the faults that belong to an entry, by what is kept of them.
-use Rattle.std.proofs.Common.{◌≡◌, ℕ, zero, suc, ◌+◌, ◌-◌, ◌<◌, ◌≤◌, Bool, true, false, cond, ◌&&◌, List, [], ◌∷◌, ◌++◌, length, map, take, get_or, set, Option, Some, None, refl, sym, ap, ap₂, subst, ◌∙◌, arith, append_assoc, append-nil, take-suc}
+use Rattle.std.proofs.Common.{◌≡◌, ℕ, zero, suc, ◌+◌, ◌-◌, ◌<◌, ◌≤◌, Bool, true, false, cond, ◌&&◌, List, [], ◌∷◌, ◌++◌, length, map, take, get_or, set, Option}
+use Rattle.std.proofs.Common.{Some, None, refl, sym, ap, ap₂, subst, ◌∙◌, arith, append_assoc, append-nil, take-suc}
 use Rattle.std.specs.Prelude.{codes, fold, nat_le, nat_lt, ◌==◌, if◌then◌else◌}
 use Rattle.std.specs.List.{join_by, last_or, flat_map, sum_by}
 use Rattle.std.specs.Option.{option_map_or}
@@ -15,7 +16,8 @@ use Rattle.dbentries.specs.Kept.{look_cells, entry_added, lone_entry, is_next, k
 use Rattle.dbentries.specs.Lines.{indented}
 use Rattle.dbentries.specs.Listing as listing
 use Rattle.dbentries.specs.Listing.{changed_at}
-use Rattle.dbentries.specs.Others.{alike_text, belonging_text, last_text, kept_faults_line, kept_text, next_run_text, others_text, run_before, run_text, runs, shown_runs_text}
+use Rattle.dbentries.specs.Others.{alike_text, belonging_text, last_text, kept_faults_line, kept_text, next_run_text, others_text, run_before, run_text, runs}
+use Rattle.dbentries.specs.Others.{shown_runs_text}
 use Rattle.dbentries.specs.declared.entry.Entry.{Entry}
 use Rattle.dbentries.specs.declared.entry.Others.{Others}
 use Rattle.dbentries.specs.declared.runs.Run.{Run}
@@ -31,7 +33,8 @@ nothing (r ∷ rs) = refl
 
 -- run number i after those before it
 pub run_more : (rs : List Run) (line now : List ℕ) (i : ℕ) → i < length rs
-    → now ≡ (line ++ join_by run_text (codes ", ") (take i rs)) ++ next_run_text i (get_or rs i no_run) → now ≡ line ++ join_by run_text (codes ", ") (take (i + 1) rs)
+    → now ≡ (line ++ join_by run_text (codes ", ") (take i rs)) ++ next_run_text i (get_or rs i no_run) → now ≡ line
+    ++ join_by run_text (codes ", ") (take (i + 1) rs)
 run_more rs line now i h e =
     e
     ∙ append_assoc line (join_by run_text (codes ", ") (take i rs)) (next_run_text i (get_or rs i no_run))

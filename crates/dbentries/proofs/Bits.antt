@@ -1,5 +1,6 @@
 -- The bit of a page, where one is set.
-use Rattle.std.proofs.Common.{◌≡◌, ◌≢◌, ℕ, zero, suc, ◌*◌, ◌/◌, ◌%◌, ◌^◌, ◌<◌, ◌||◌, Bool, true, false, List, length, replicate, get_or, refl, sym, ap, ◌∙◌, arith}
+use Rattle.std.proofs.Common.{◌≡◌, ◌≢◌, ℕ, zero, suc, ◌*◌, ◌/◌, ◌%◌, ◌^◌, ◌<◌, ◌||◌, Bool, true, false, List, length, replicate, get_or, refl, sym, ap, ◌∙◌}
+use Rattle.std.proofs.Common.{arith}
 use Rattle.std.specs.Prelude.{◌==◌}
 use Rattle.std.specs.Int.{bit_at, w64}
 use Rattle.std.specs.Int.RustNames.{bit_or}
@@ -33,7 +34,8 @@ module _ (words : List ℕ) (q p : ℕ) (room : HasPageBit words p) where
       let b : q % 64 ≡ p % 64 = ap (λ n. n % 64) e in
       let l : q / 64 < length words = omega (arith, w, inside) in
       let at : get_or (bit_set q words) (p / 64) 0 ≡ with = ap (λ i. get_or (bit_set q words) i 0) (sym w) ∙ get_or-set_same words (q / 64) with 0 l in
-      let one : bit_at (get_or (bit_set q words) (p / 64) 0) (p % 64) ≡ 1 = ap (λ n. bit_at n (p % 64)) at ∙ ap (bit_at with) (sym b) ∙ bit_at_set_same w64 word (q % 64) bit_within in
+      let one : bit_at (get_or (bit_set q words) (p / 64) 0) (p % 64) ≡ 1 = ap (λ n. bit_at n (p % 64)) at ∙ ap (bit_at with) (sym b)
+      ∙ bit_at_set_same w64 word (q % 64) bit_within in
       eq-eqb (bit_at (get_or (bit_set q words) (p / 64) 0) (p % 64)) 1 one
 
   other_bit : q / 64 ≡ p / 64 → (q ≡ p → ⊥) → bit_at (get_or (bit_set q words) (p / 64) 0) (p % 64) ≡ bit_at (get_or words (p / 64) 0) (p % 64)
@@ -60,7 +62,8 @@ module _ (words : List ℕ) (q p : ℕ) (room : HasPageBit words p) where
     where
       by_case : (b : Bool) → (q == p) ≡ b → has_bit (bit_set q words) p ≡ (has_bit words p || (q == p))
       by_case true e = here (eqb-true q p e) ∙ sym (or_true (has_bit words p)) ∙ ap (λ b. has_bit words p || b) (sym e)
-      by_case false e = elsewhere (λ f. let g : (q == p) ≡ true = eq-eqb q p f in cc) ∙ sym (or-false (has_bit words p)) ∙ ap (λ b. has_bit words p || b) (sym e)
+      by_case false e = elsewhere (λ f. let g : (q == p) ≡ true = eq-eqb q p f in cc) ∙ sym (or-false (has_bit words p))
+          ∙ ap (λ b. has_bit words p || b) (sym e)
 
 -- there is room as before
 pub room_kept : (words : List ℕ) (q p : ℕ) → HasPageBit (bit_set q words) p → HasPageBit words p

@@ -17,7 +17,8 @@ use Rattle.dbentries.specs.Reported.{HearsReported}
 use Rattle.dbentries.proofs.PartsRise.{PartsRise, parts_rise}
 
 -- up to some point is to the end of a beginning
-some_moves : {S E : Type 0} {move : S → E → S → Type 0} (es : List E) (s t : S) → MovesBySome move s es t → (xs ys : List E) × (xs ++ ys ≡ es) × Moves move s xs t
+some_moves : {S E : Type 0} {move : S → E → S → Type 0} (es : List E) (s t : S) → MovesBySome move s es t → (xs ys : List E) × (xs ++ ys ≡ es)
+    × Moves move s xs t
 some_moves [] s t m = ([], [], refl, m)
 some_moves (e ∷ es) s t (inl m) = ([], e ∷ es, refl, m)
 some_moves (e ∷ es) s t (inr (m, k, n)) = let r = some_moves es m t n in (e ∷ r.0, r.1, ap (λ l. e ∷ l) r.2, (m, k, r.3))
@@ -29,7 +30,8 @@ never_stops move (e ∷ es) s t (inl h) = h
 never_stops move (e ∷ es) s t (inr (m, k, h)) = never_stops move es m t h
 
 -- By what is so of a reporter that has heard some faults and lists them, where the part of the last one is not after those of the next.
-module _ {K : Type 0} (adds : Reported → K → K → Type 0) (listing : K → Held) (lists : (x : Reported) (s t : K) → adds x s t → ListsFault x (listing s) (listing t))
+module _ {K : Type 0} (adds : Reported → K → K → Type 0) (listing : K → Held)
+    (lists : (x : Reported) (s t : K) → adds x s t → ListsFault x (listing s) (listing t))
     (Has : List Reported → K → Type 0)
     (one : (x : Reported) (ts : List Reported) (s t : K) → (listing s).entries.part ≤ rank x.part → Has ts s → adds x s t → Has (ts ++ x ∷ []) t) where
   abbrev IsBefore : K → List Reported → Type 0
@@ -39,12 +41,14 @@ module _ {K : Type 0} (adds : Reported → K → K → Type 0) (listing : K → 
   after_one x rest s t rise most a y i = let l = (lists x s t a).part most in let k = rise.0 y i in omega (arith, l, k)
 
   -- notice after notice
-  all_heard : (ns : List Notice) (ts : List Reported) (s t : K) → PartsRise (reported_in ns) → IsBefore s (reported_in ns) → Has ts s → Moves (HearsReported adds) s ns t
+  all_heard : (ns : List Notice) (ts : List Reported) (s t : K) → PartsRise (reported_in ns) → IsBefore s (reported_in ns) → Has ts s
+      → Moves (HearsReported adds) s ns t
       → Has (ts ++ reported_in ns) t
   all_heard [] ts s t rise most h m = subst (λ l. Has l t) (sym (append-nil ts)) (subst (Has ts) m h)
   all_heard (heard_fault x ∷ ns) ts s t rise most h m =
       subst (λ l. Has l t) (append_assoc ts (x ∷ []) (reported_in ns))
-      (all_heard ns (ts ++ x ∷ []) m.0 t rise.1 (after_one x (reported_in ns) s m.0 rise (most x (inl refl)) m.1) (one x ts s m.0 (most x (inl refl)) h m.1) m.2)
+      (all_heard ns (ts ++ x ∷ []) m.0 t rise.1 (after_one x (reported_in ns) s m.0 rise (most x (inl refl)) m.1) (one x ts s m.0 (most x (inl refl)) h m.1)
+      m.2)
   all_heard (heard_row at r ∷ ns) ts s t rise most h m =
       all_heard ns ts m.0 t rise (subst (λ (r : K). IsBefore r (reported_in ns)) (sym m.1) most) (subst (Has ts) (sym m.1) h) m.2
   all_heard (ended at ∷ ns) ts s t rise most h m =

@@ -27,7 +27,8 @@ others_push ts x = sym (filter-append (λ x. not (is_lost x)) ts (x ∷ []) ∙ 
     one true e = rw e refl
     one false e = rw e refl
 
-pub one_listed : (limit : ℕ) (ts : List Reported) (x : Reported) (old new : Held) → old.entries.part ≤ rank x.part → HasListed limit ts old → ListsFault x old new
+pub one_listed : (limit : ℕ) (ts : List Reported) (x : Reported) (old new : Held) → old.entries.part ≤ rank x.part → HasListed limit ts old
+    → ListsFault x old new
     → HasListed limit (ts ++ x ∷ []) new
 one_listed limit ts x old new most h a = record {
   entries = subst (λ l. IsListOf l new) (others_push ts x) (a.entries (others_of ts) h.entries most);

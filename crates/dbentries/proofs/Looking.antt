@@ -1,5 +1,6 @@
 -- The entries that are kept, looked through one after another.
-use Rattle.std.proofs.Common.{◌≡◌, ℕ, suc, ◌+◌, ◌<◌, ◌≤◌, true, false, cond, List, [], ◌∷◌, ◌++◌, length, take, drop, get_or, Option, Some, None, refl, sym, ap, ap₂, ◌∙◌, arith, drop-cons, append-nil}
+use Rattle.std.proofs.Common.{◌≡◌, ℕ, suc, ◌+◌, ◌<◌, ◌≤◌, true, false, cond, List, [], ◌∷◌, ◌++◌, length, take, drop, get_or, Option, Some, None, refl, sym, ap}
+use Rattle.std.proofs.Common.{ap₂, ◌∙◌, arith, drop-cons, append-nil}
 use Rattle.std.specs.Prelude.{find, nat_lt}
 use Rattle.std.specs.Option.{option_map_or, option_or}
 use Rattle.std.proofs.lemmas.List.{drop-append-le, length-append, length-drop, length-take, take-append-drop, take_all, take_more}

@@ -1,5 +1,6 @@
 -- Pages to which nothing refers, by the marks, and their faults.
-use Rattle.std.proofs.Common.{◌≡◌, ℕ, ◌+◌, ◌<◌, ◌≤◌, Bool, true, false, List, [], ◌∷◌, ◌++◌, length, map, take, drop, Option, Some, None, refl, sym, ap, ap₂, ◌∙◌, arith, append-nil, ◌&&◌}
+use Rattle.std.proofs.Common.{◌≡◌, ℕ, ◌+◌, ◌<◌, ◌≤◌, Bool, true, false, List, [], ◌∷◌, ◌++◌, length, map, take, drop, Option, Some, None, refl, sym, ap, ap₂}
+use Rattle.std.proofs.Common.{◌∙◌, arith, append-nil, ◌&&◌}
 use Rattle.std.specs.Prelude.{filter, flat_map, if◌then◌else◌}
 use Rattle.std.specs.List.{range_with_len}
 use Rattle.std.specs.Option.{option_map_or}
@@ -11,7 +12,8 @@ use Rattle.std.proofs.lemmas.List.Folds.{flat_map-map}
 use Rattle.dbsurvey.specs.Story as story
 use Rattle.dbsurvey.proofs.Lists.{flat_map-flat_map, flat_map-same}
 use Rattle.dbformat.specs.Address.{start_of}
-use Rattle.dbformat.specs.EndFaults.{end_faults, entry_fault, format_fault, freelist_fault, greatest_root_fault, late_root_fault, least_other_page, page_end_faults, page_numbers, sum_faults, use_fault, visit_of}
+use Rattle.dbformat.specs.EndFaults.{end_faults, entry_fault, format_fault, freelist_fault, greatest_root_fault, late_root_fault, least_other_page}
+use Rattle.dbformat.specs.EndFaults.{page_end_faults, page_numbers, sum_faults, use_fault, visit_of}
 use Rattle.dbformat.specs.File.{MapEntry, geometry, map_entry}
 use Rattle.dbformat.specs.FixedPages.{is_fixed, is_page}
 use Rattle.dbformat.specs.HeaderFaults.{header_faults}
@@ -50,7 +52,8 @@ nowhere_by_mark : (file : List ℕ) (V : List Reference) (p : ℕ) → is_none (
 unfolding mark_of
 nowhere_by_mark file V p = by_case (is_fixed (geometry file) p) refl (visit_of V p) refl
   where
-    by_case : (b : Bool) → is_fixed (geometry file) p ≡ b → (o : Option Reference) → visit_of V p ≡ o → is_none (mark_of (geometry file) V p) ≡ is_unreached file V p
+    by_case : (b : Bool) → is_fixed (geometry file) p ≡ b → (o : Option Reference) → visit_of V p ≡ o → is_none (mark_of (geometry file) V p)
+        ≡ is_unreached file V p
     by_case true e o f = rw e refl
     by_case false e None f = rw (e, f) refl
     by_case false e (Some r) f = rw (e, f) (visit_marked (role_of r) (from_of r))
@@ -102,7 +105,8 @@ none_in_header : (file : List ℕ) (V : List Reference) (fs : List Fault) → fl
 none_in_header file V [] = refl
 none_in_header file V (f ∷ fs) = none_in_header file V fs
 
-none_at_start : (file : List ℕ) (V : List Reference) (k : ℕ) (why : FaultCode → Cause) (fs : List Fault) → flat_map (as_lost file V) (map (λ f. at_start k f (why f.code)) fs) ≡ []
+none_at_start : (file : List ℕ) (V : List Reference) (k : ℕ) (why : FaultCode → Cause) (fs : List Fault)
+    → flat_map (as_lost file V) (map (λ f. at_start k f (why f.code)) fs) ≡ []
 none_at_start file V k why [] = refl
 none_at_start file V k why (f ∷ fs) = none_at_start file V k why fs
 
@@ -128,7 +132,8 @@ unfolding sum_faults
 sums_at_end file V =
     flat_map-append (at_end file V) (format_fault file V ++ greatest_root_fault file V) (freelist_fault file V)
     ∙ ap₂ (λ a b. a ++ b)
-    (flat_map-append (at_end file V) (format_fault file V) (greatest_root_fault file V) ∙ ap₂ (λ a b. a ++ b) (not_at_end file V _ _ refl) (not_at_end file V _ _ refl))
+    (flat_map-append (at_end file V) (format_fault file V) (greatest_root_fault file V)
+    ∙ ap₂ (λ a b. a ++ b) (not_at_end file V _ _ refl) (not_at_end file V _ _ refl))
     (not_at_end file V _ _ refl)
 
 late_at_end : (file : List ℕ) (V : List Reference) (p : ℕ) → flat_map (at_end file V) (late_root_fault file V p) ≡ []
@@ -147,7 +152,8 @@ use_at_end file V p = by_visit (visit_of V p) refl (is_fixed (geometry file) p) 
     of_entry None r = refl
     of_entry (Some e) r = not_at_end file V _ _ refl
 
-    by_visit : (o : Option Reference) → visit_of V p ≡ o → (b : Bool) → is_fixed (geometry file) p ≡ b → flat_map (at_end file V) (use_fault file V p) ≡ lost_at file V p
+    by_visit : (o : Option Reference) → visit_of V p ≡ o → (b : Bool) → is_fixed (geometry file) p ≡ b → flat_map (at_end file V) (use_fault file V p)
+        ≡ lost_at file V p
     by_visit None e true f = rw (e, f) refl
     by_visit None e false f = rw (e, f) refl
     by_visit (Some r) e true f = rw (e, f) (of_entry (map_entry file p) r)
@@ -162,7 +168,8 @@ lost_are file V =
     picked file V (told_faults file V)
     ∙ flat_map-append (as_lost file V) (hs ++ walk_told file V) es
     ∙ ap₂ (λ a b. a ++ b)
-    (flat_map-append (as_lost file V) hs (walk_told file V) ∙ ap₂ (λ a b. a ++ b) (none_in_header file V (header_faults file (length file))) (none_of_walk file V (telling file V)))
+    (flat_map-append (as_lost file V) hs (walk_told file V)
+    ∙ ap₂ (λ a b. a ++ b) (none_in_header file V (header_faults file (length file))) (none_of_walk file V (telling file V)))
     (flat_map-map (as_lost file V) (of_file part.End) (end_faults file V)
     ∙ flat_map-append (at_end file V) (sum_faults file V) (flat_map (page_end_faults file V) pages)
     ∙ ap₂ (λ a b. a ++ b) (sums_at_end file V)
@@ -178,16 +185,20 @@ map-same [] = refl
 map-same (x ∷ xs) = ap (λ l. x ∷ l) (map-same xs)
 
 -- with those of one page more
-pub lost_more : (file : List ℕ) (V : List Reference) (n : ℕ) → flat_map (lost_at file V) (range_with_len 1 (n + 1)) ≡ flat_map (lost_at file V) (range_with_len 1 n) ++ lost_at file V (n + 1)
+pub lost_more : (file : List ℕ) (V : List Reference) (n : ℕ) → flat_map (lost_at file V) (range_with_len 1 (n + 1))
+    ≡ flat_map (lost_at file V) (range_with_len 1 n) ++ lost_at file V (n + 1)
 lost_more file V n =
     let f = lost_at file V in
-    ap (flat_map f) (range_more n) ∙ flat_map-append f (range_with_len 1 n) ((n + 1) ∷ []) ∙ ap (λ l. flat_map f (range_with_len 1 n) ++ l) (append-nil (f (n + 1)))
+    ap (flat_map f) (range_more n) ∙ flat_map-append f (range_with_len 1 n) ((n + 1) ∷ [])
+    ∙ ap (λ l. flat_map f (range_with_len 1 n) ++ l) (append-nil (f (n + 1)))
   where
     range_more : (n : ℕ) → range_with_len 1 (n + 1) ≡ range_with_len 1 n ++ (n + 1) ∷ []
-    range_more n = sym (map-same (range_with_len 1 (n + 1))) ∙ map-range_with_len_more (λ k. k) 1 n (n + 1) (omega arith) ∙ ap (λ l. l ++ (n + 1) ∷ []) (map-same (range_with_len 1 n))
+    range_more n = sym (map-same (range_with_len 1 (n + 1))) ∙ map-range_with_len_more (λ k. k) 1 n (n + 1) (omega arith)
+        ∙ ap (λ l. l ++ (n + 1) ∷ []) (map-same (range_with_len 1 n))
 
 -- those of the first pages are a beginning
-pub lost_first : (file : List ℕ) (V : List Reference) (n : ℕ) → n ≤ (geometry file).pages → IsBeginning (flat_map (lost_at file V) (range_with_len 1 n)) (lost_faults file V)
+pub lost_first : (file : List ℕ) (V : List Reference) (n : ℕ) → n ≤ (geometry file).pages
+    → IsBeginning (flat_map (lost_at file V) (range_with_len 1 n)) (lost_faults file V)
 lost_first file V n h =
     let pages = (geometry file).pages in
     let f = lost_at file V in

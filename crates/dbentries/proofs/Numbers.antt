@@ -1,5 +1,6 @@
 -- Lists: the numbers of the elements that pass a test, and a list with one element changed.
-use Rattle.std.proofs.Common.{◌≡◌, ℕ, zero, suc, ◌+◌, ◌<◌, ◌≤◌, Bool, true, false, cond, List, [], ◌∷◌, ◌++◌, length, map, take, drop, get_or, set, Option, Some, None, ◌⊎◌, inl, inr, refl, sym, ap, ap₂, subst, ◌∙◌, arith}
+use Rattle.std.proofs.Common.{◌≡◌, ℕ, zero, suc, ◌+◌, ◌<◌, ◌≤◌, Bool, true, false, cond, List, [], ◌∷◌, ◌++◌, length, map, take, drop, get_or, set, Option}
+use Rattle.std.proofs.Common.{Some, None, ◌⊎◌, inl, inr, refl, sym, ap, ap₂, subst, ◌∙◌, arith}
 use Rattle.std.specs.List.{find, sum_by, slice_get}
 use Rattle.std.specs.Option.{option_or}
 use Rattle.std.proofs.lemmas.List.Sums.{sum_by-append, sum_by-cons}
@@ -9,7 +10,8 @@ use Rattle.dbentries.specs.Listing.{changed_at, last_of, entry_numbers_from}
 
 -- ---- numbers
 
-pub numbers-append : {X : Type 0} (p : X → Bool) (i : ℕ) (xs ys : List X) → entry_numbers_from p i (xs ++ ys) ≡ entry_numbers_from p i xs ++ entry_numbers_from p (i + length xs) ys
+pub numbers-append : {X : Type 0} (p : X → Bool) (i : ℕ) (xs ys : List X) → entry_numbers_from p i (xs ++ ys) ≡ entry_numbers_from p i xs
+    ++ entry_numbers_from p (i + length xs) ys
 numbers-append p i [] ys = let e : i ≡ i + 0 = omega arith in ap (λ n. entry_numbers_from p n ys) e
 numbers-append p i (x ∷ xs) ys = by_case (p x) (numbers-append p (suc i) xs ys)
   where
@@ -23,11 +25,14 @@ numbers-append p i (x ∷ xs) ys = by_case (p x) (numbers-append p (suc i) xs ys
     by_case false h = h ∙ ap (λ n. entry_numbers_from p (suc i) xs ++ entry_numbers_from p n ys) same
 
 -- the same from number 0 on
-pub numbers-join : {X : Type 0} (p : X → Bool) (xs ys : List X) → entry_numbers_from p 0 (xs ++ ys) ≡ entry_numbers_from p 0 xs ++ entry_numbers_from p (length xs) ys
-numbers-join p xs ys = let e : 0 + length xs ≡ length xs = omega arith in numbers-append p 0 xs ys ∙ ap (λ n. entry_numbers_from p 0 xs ++ entry_numbers_from p n ys) e
+pub numbers-join : {X : Type 0} (p : X → Bool) (xs ys : List X) → entry_numbers_from p 0 (xs ++ ys) ≡ entry_numbers_from p 0 xs
+    ++ entry_numbers_from p (length xs) ys
+numbers-join p xs ys = let e : 0 + length xs ≡ length xs = omega arith in numbers-append p 0 xs ys
+    ∙ ap (λ n. entry_numbers_from p 0 xs ++ entry_numbers_from p n ys) e
 
 -- a change that the test does not see
-pub numbers-changed : {X : Type 0} (p : X → Bool) (f : X → X) → ((x : X) → p (f x) ≡ p x) → (i j : ℕ) (xs : List X) → entry_numbers_from p i (changed_at f j xs) ≡ entry_numbers_from p i xs
+pub numbers-changed : {X : Type 0} (p : X → Bool) (f : X → X) → ((x : X) → p (f x) ≡ p x) → (i j : ℕ) (xs : List X) → entry_numbers_from p i (changed_at f j xs)
+    ≡ entry_numbers_from p i xs
 numbers-changed p f h i j [] = refl
 numbers-changed p f h i zero (x ∷ xs) = ap (λ b. cond b (i ∷ entry_numbers_from p (suc i) xs) (entry_numbers_from p (suc i) xs)) (h x)
 numbers-changed p f h i (suc j) (x ∷ xs) = ap (λ l. cond (p x) (i ∷ l) l) (numbers-changed p f h (suc i) j xs)

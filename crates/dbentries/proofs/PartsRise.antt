@@ -105,12 +105,14 @@ parts_rise file V s =
     let e = ap rank t.1 in omega (arith, l, e) in
     EachPair-append R (hs ++ walk_told file V) es
     (EachPair-append R hs (walk_told file V) (part_rises part.Header (header_faults file (length file))) walk
-    (λ x y i j. let e = in_part part.Header (header_faults file (length file)) x i in let P : Part → Type 0 = λ q. rank q ≤ rank y.part in subst P (sym e) (omega arith)))
+    (λ x y i j. let e = in_part part.Header (header_faults file (length file)) x i in let P : Part → Type 0 = λ q. rank q
+    ≤ rank y.part in subst P (sym e) (omega arith)))
     (part_rises part.End (end_faults file V))
     (λ x y i j.
     let e = in_part part.End (end_faults file V) y j in
     let P : Part → Type 0 = λ q. rank x.part ≤ rank q in
     subst P (sym e) (elim (IsIn-cases x hs (walk_told file V) i) [
-      | inl m ↦ (let f = in_part part.Header (header_faults file (length file)) x m in let Q : Part → Type 0 = λ q. rank q ≤ rank part.End in subst Q (sym f) (omega arith))
+      | inl m ↦ (let f = in_part part.Header (header_faults file (length file)) x m in let Q : Part → Type 0 = λ q. rank q
+          ≤ rank part.End in subst Q (sym f) (omega arith))
       | inr m ↦ (let l = most x m in omega (arith, l))
     ]))

@@ -1,10 +1,12 @@
 -- One fault more of the part of the last one, by what is kept of the entries.
-use Rattle.std.proofs.Common.{◌≡◌, ℕ, suc, ◌+◌, ◌<◌, ◌≤◌, Bool, true, false, cond, ◌&&◌, List, [], ◌∷◌, ◌++◌, length, map, take, drop, Option, Some, None, inl, inr, refl, sym, ap, ap₂, subst, ◌∙◌, arith, ltb-true, ltb-false, append-nil}
+use Rattle.std.proofs.Common.{◌≡◌, ℕ, suc, ◌+◌, ◌<◌, ◌≤◌, Bool, true, false, cond, ◌&&◌, List, [], ◌∷◌, ◌++◌, length, map, take, drop, Option, Some, None, inl}
+use Rattle.std.proofs.Common.{inr, refl, sym, ap, ap₂, subst, ◌∙◌, arith, ltb-true, ltb-false, append-nil}
 use Rattle.std.specs.Prelude.{find, nat_lt, ◌==◌}
 use Rattle.std.specs.List.{slice_get, sum_by}
 use Rattle.std.specs.Option.{option_map, option_map_or, option_or}
 use Rattle.std.proofs.lemmas.Bool.Decides.{nat_tests}
-use Rattle.std.proofs.lemmas.List.{drop-append-le, drop_all, length-append, length-drop, length-map, length-take, map-append, take-append-drop, take-append-le, take_all}
+use Rattle.std.proofs.lemmas.List.{drop-append-le, drop_all, length-append, length-drop, length-map, length-take, map-append, take-append-drop, take-append-le}
+use Rattle.std.proofs.lemmas.List.{take_all}
 use Rattle.std.proofs.lemmas.List.Folds.{find-append}
 use Rattle.std.proofs.lemmas.List.Sums.{sum_by-append}
 use Rattle.std.proofs.lemmas.Option.{slice_get-map}
@@ -14,13 +16,15 @@ use Rattle.dbformat.specs.Codes.{code_index}
 use Rattle.dbformat.specs.Lines.{counted}
 use Rattle.dbentries.specs.Kept.{entry_added, lone_entry, kept_of}
 use Rattle.dbentries.specs.Listing as listing
-use Rattle.dbentries.specs.Listing.{changed_at, home, home_among, is_cause, is_of, joined, last_of, most, entry_numbers_from, rank, same_cause, size, with_fault}
+use Rattle.dbentries.specs.Listing.{changed_at, home, home_among, is_cause, is_of, joined, last_of, most, entry_numbers_from, rank, same_cause, size}
+use Rattle.dbentries.specs.Listing.{with_fault}
 use Rattle.dbentries.specs.Store.{KeepsEntries, Stored, beside_before, home_kept, is_beside, is_listed_cause, put_at, put_kept, put_new}
 use Rattle.dbentries.specs.declared.entry.Entry.{Entry}
 use Rattle.dbtrace.specs.declared.Reported.{Reported}
 use Rattle.dbentries.proofs.Few.{AreFew}
 use Rattle.dbentries.proofs.Noting.{alone, counted_next, first_kept, kept_more, size_more, some_lead, with_home, with_none}
-use Rattle.dbentries.proofs.Numbers.{changed-length, changed-past, drop-changed, find-same, get-take, in-append, in-changed, last-append, last-in, last-some, map-changed, numbers-append, numbers-join, numbers-map, numbers-none, numbers_within, sum-changed, sum-parts, take-changed}
+use Rattle.dbentries.proofs.Numbers.{changed-length, changed-past, drop-changed, find-same, get-take, in-append, in-changed, last-append, last-in, last-some}
+use Rattle.dbentries.proofs.Numbers.{map-changed, numbers-append, numbers-join, numbers-map, numbers-none, numbers_within, sum-changed, sum-parts, take-changed}
 
 module _ (es : List listing.Entry) (x : Reported) (s : Stored) (is : KeepsEntries es s) (here : s.part ≡ rank x.part) (few : AreFew es) where
   -- the numbers of the entries of its code and part: of those that are kept, and of the others

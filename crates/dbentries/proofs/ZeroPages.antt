@@ -27,7 +27,8 @@ words_kept x words = by_case (is_of_zeros x.cause)
 pub zeros_more : (xs : List Reported) (x : Reported) (words : List ℕ) → AreZeros xs words → AreZeros (xs ++ x ∷ []) (zero_noted x words)
 zeros_more xs x words is p room =
     by_case (is_of_zeros x.cause) room
-    ∙ sym (list_any-append (λ (x : Reported). is_of_zeros x.cause && (x.fault.page == p)) xs (x ∷ []) ∙ ap (λ b. is_zero_page xs p || b) (or-false (is_of_zeros x.cause && (x.fault.page == p))))
+    ∙ sym (list_any-append (λ (x : Reported). is_of_zeros x.cause && (x.fault.page == p)) xs (x ∷ [])
+    ∙ ap (λ b. is_zero_page xs p || b) (or-false (is_of_zeros x.cause && (x.fault.page == p))))
   where
     by_case : (b : Bool) → HasPageBit (cond b (bit_set x.fault.page words) words) p
         → has_bit (cond b (bit_set x.fault.page words) words) p ≡ (is_zero_page xs p || (b && (x.fault.page == p)))

@@ -70,7 +70,8 @@ pub entry_is : (file : List ℕ) (V : List Reference) → Survey file V → (p :
     → option_map_or line_of_entry (wanted_entry (page_mark (marks_of (geometry file) V) p)) [] ≡ entry_line (visit_of V p)
 entry_is file V s p = by_case (visit_of V p) refl
   where
-    by_case : (o : Option Reference) → visit_of V p ≡ o → option_map_or line_of_entry (wanted_entry (page_mark (marks_of (geometry file) V) p)) [] ≡ entry_line (visit_of V p)
+    by_case : (o : Option Reference) → visit_of V p ≡ o → option_map_or line_of_entry (wanted_entry (page_mark (marks_of (geometry file) V) p)) []
+        ≡ entry_line (visit_of V p)
     by_case None e =
         ap (λ m. option_map_or line_of_entry (wanted_entry m) []) (no_visit file V s p e)
         ∙ ap (λ o. option_map_or line_of_entry o []) (unused_entry (is_fixed (geometry file) p) (is_page (geometry file) p))
@@ -94,7 +95,8 @@ pub known_trees : (file : List ℕ) (V : List Reference) (h : HeaderBytes) (rows
 known_trees file V h rows e header listed texts =
     ap (λ e. tree_of_row e rows) (texts ∙ ap encoding header.begins ∙ encoding_within file) ∙ ap (tree_of_row (encoding file)) listed
 
-pub known_text : (file : List ℕ) (V : List Reference) (h : HeaderBytes) (rows : List SchemaRow) (g : Geometry) (e : Encoding) (n : Option LineBelow × Option LineBelow)
+pub known_text : (file : List ℕ) (V : List Reference) (h : HeaderBytes) (rows : List SchemaRow) (g : Geometry) (e : Encoding)
+    (n : Option LineBelow × Option LineBelow)
     → IsHeaderOf h file → AreListed file V rows → g ≡ geometry_of h.bytes h.file_len → e ≡ encoding h.bytes
     → notes_text g (tree_of_row e rows) n ≡ notes_text (geometry file) (tree_text file V) n
 known_text file V h rows g e n header listed shape texts =

@@ -29,7 +29,8 @@ cause_parts file V p (cause.Page page facts) = refl
 cause_parts file V p (cause.Look l facts) = refl
 
 -- a put, by what was written and how often the Out failed
-pub put_by : {A E : Type 0} (r : Result A E) (o n : OutState) (text : List ℕ) → Writes r o.bytes n.bytes text → n.failures ≡ failures_after is_any r o.failures → Puts r o n text
+pub put_by : {A E : Type 0} (r : Result A E) (o n : OutState) (text : List ℕ) → Writes r o.bytes n.bytes text → n.failures ≡ failures_after is_any r o.failures
+    → Puts r o n text
 put_by r o n text held count = record { held = held; count = count }
 
 -- the line of the cause, and then what comes after it

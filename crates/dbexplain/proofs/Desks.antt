@@ -6,10 +6,10 @@ use Rattle.dbsource.specs.Headers.{IsHeaderOf}
 use Rattle.dbexplain.specs.Notes.{AreOwnersOf}
 use Rattle.dbscan.specs.Roots.{Listed}
 use Rattle.dbexplain.specs.declared.owners.Owners.{Owners}
-use Rattle.dbscan.specs.Desks.{Things}
+use Rattle.dbscan.specs.Desks.{DeskView}
 use Rattle.dbscan.specs.Finishes.{IsDeskOf}
 
-pub of_desk : {A : Type 0} (o : Owners A) (d : Things) (file : List ℕ) (V : List Reference)
+pub of_desk : {A : Type 0} (o : Owners A) (d : DeskView) (file : List ℕ) (V : List Reference)
     → o.header.now ≡ d.header → o.marks.now ≡ d.marks → o.roots.now ≡ d.roots → IsDeskOf d file V → AreOwnersOf o file V
 of_desk o d file V header marks roots is = record {
   header = subst (λ (h : HeaderBytes). IsHeaderOf h file) (sym header) is.header;

@@ -52,7 +52,8 @@ module _ (limit : ℕ) (file : List ℕ) (V : List Reference) (read : refusal fi
   answer_is v e = ap (λ (r : Report). r.answer) explain_is ∙ ap Ok (sym e)
 
 -- its verdict is that of a check
-explain_sound : (limit : ℕ) (file : List ℕ) → refusal file ≡ None → (v : Verdict) → (explain_report limit file (survey file)).answer ≡ Ok v → v ≡ Clean ↔ Sound file
+explain_sound : (limit : ℕ) (file : List ℕ) → refusal file ≡ None → (v : Verdict) → (explain_report limit file (survey file)).answer ≡ Ok v → v
+    ≡ Clean ↔ Sound file
 explain_sound limit file read v e =
     let V = survey file in
     sound_by_verdict file (Check limit) V (one_survey file).0 v
@@ -60,8 +61,10 @@ explain_sound limit file read v e =
 
 -- ---- by what a run leaves of the reporter, and then the lines after a failed read
 
-module _ {A O : Type 0} (held : O → OutState) (limit : ℕ) (file : List ℕ) (V : List Reference) (read : refusal file ≡ None) (first now after : ExplainReporter A O) where
-  found_put : IsReportLeft held limit file V (Err ReadFailed) first now → PutsLines held now after → PutsFound limit file V (held first.out.now) (held after.out.now)
+module _ {A O : Type 0} (held : O → OutState) (limit : ℕ) (file : List ℕ) (V : List Reference) (read : refusal file ≡ None)
+    (first now after : ExplainReporter A O) where
+  found_put : IsReportLeft held limit file V (Err ReadFailed) first now → PutsLines held now after
+      → PutsFound limit file V (held first.out.now) (held after.out.now)
   found_put k lines =
       let found : ListsFirst limit file V now.kept.now.listing = k.1 in
       let text = found_text limit (entries found.told) in record {
@@ -75,13 +78,15 @@ module _ {A O : Type 0} (held : O → OutState) (limit : ℕ) (file : List ℕ) 
       }
 
   -- at any other answer nothing is put after the run
-  as_left : (r : Result Verdict RunError) → Writes r (held first.out.now).bytes (held now.out.now).bytes (explain_text limit file V (listed_entries file V)) → after.out.now ≡ now.out.now
+  as_left : (r : Result Verdict RunError) → Writes r (held first.out.now).bytes (held now.out.now).bytes (explain_text limit file V (listed_entries file V))
+      → after.out.now ≡ now.out.now
       → Writes r (held first.out.now).bytes (held after.out.now).bytes (explain_report limit file V).out
   as_left r w e =
       subst (λ o. Writes r (held first.out.now).bytes (held o).bytes (explain_report limit file V).out) (sym e)
       (subst (Writes r (held first.out.now).bytes (held now.out.now).bytes) (out_is limit file V read) w)
 
-  written : (r : Result Verdict RunError) → IsReportLeft held limit file V r first now → Ends held r now after → WritesReport limit file V r (held first.out.now) (held after.out.now)
+  written : (r : Result Verdict RunError) → IsReportLeft held limit file V r first now → Ends held r now after
+      → WritesReport limit file V r (held first.out.now) (held after.out.now)
   written (Ok v) k e = as_left (Ok v) k.0 e
   written (Err ReadFailed) k e = found_put k e
   written (Err WriteFailed) k e = as_left (Err WriteFailed) k e
@@ -96,7 +101,8 @@ module _ {A O : Type 0} (held : O → OutState) (limit : ℕ) (file : List ℕ) 
       → Leaves Hears CutsNever (LeavesExplained held) file V r first now → Ends held r now after
       → WritesReport limit file V r (held old) (held after.out.now) × IfOk r (λ v. (explain_report limit file V).answer ≡ Ok v)
   explained r old survey empty begun left ends =
-      let k = is_left held file V survey first now limit empty r left in (subst (λ o. WritesReport limit file V r (held o) (held after.out.now)) begun (written r k ends), found r k)
+      let k = is_left held file V survey first now limit empty r left in
+      (subst (λ o. WritesReport limit file V r (held o) (held after.out.now)) begun (written r k ends), found r k)
 
 -- ---- how often the Out failed
 
@@ -118,7 +124,8 @@ module _ {A O : Type 0} (held : O → OutState) (now after : ExplainReporter A O
 
 -- the file was read
 pub is_explained : (limit : ℕ) (file : List ℕ) (r : Result Verdict RunError) (old new : OutState) → IfErr r IsReadWriteOrMemory → refusal file ≡ None
-    → ((V : List Reference) → Survey file V → WritesReport limit file V r old new × IfOk r (λ v. (explain_report limit file V).answer ≡ Ok v)) → IsExplained limit file r old new
+    → ((V : List Reference) → Survey file V → WritesReport limit file V r old new × IfOk r (λ v. (explain_report limit file V).answer ≡ Ok v))
+    → IsExplained limit file r old new
 is_explained limit file r old new only read told = record {
   survey = (one_survey file).0;
   written = λ V s. (told V s).0;

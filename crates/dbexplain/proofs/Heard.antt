@@ -48,10 +48,12 @@ module _ {A O : Type 0} (file : List ℕ) (V : List Reference) (survey : Survey 
   -- all of it
   pub all_heard : Moves Hears first (run_notices file V) now → HasHeardFaults limit (told_faults file V) first now
   all_heard m =
-      file_heard Adds listing (λ x s t a. a.listing) (λ ts s. HasHeardFaults limit ts first s) (one_heard limit first) file V survey first now empty.listing.part nothing_heard m
+      file_heard Adds listing (λ x s t a. a.listing) (λ ts s. HasHeardFaults limit ts first s) (one_heard limit first) file V survey first now
+      empty.listing.part nothing_heard m
 
   -- a beginning: the first faults are listed, and nothing was put
   pub found_first : MovesBySome Hears first (run_notices file V) now → (now.out.now ≡ first.out.now) × ListsFirst limit file V now.kept.now.listing
   found_first m =
-      let h = file_begun Adds listing (λ x s t a. a.listing) (λ ts s. HasHeardFaults limit ts first s) (one_heard limit first) file V survey first now empty.listing.part nothing_heard m in
+      let h = file_begun Adds listing (λ x s t a. a.listing) (λ ts s. HasHeardFaults limit ts first s) (one_heard limit first) file V survey first now
+      empty.listing.part nothing_heard m in
       (h.2.out, heard_first limit file V now.kept.now.listing h.0 h.1 h.2.listing)

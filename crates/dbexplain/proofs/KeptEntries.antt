@@ -1,5 +1,6 @@
 -- The lines of entries, one after another, by what is kept of them.
-use Rattle.std.proofs.Common.{◌≡◌, ℕ, zero, suc, ◌+◌, ◌<◌, ◌≤◌, Bool, true, false, Option, Some, None, List, [], ◌∷◌, ◌++◌, length, take, drop, map, get_or, add-one, drop-cons, refl, ap, ap₂, ◌∙◌}
+use Rattle.std.proofs.Common.{◌≡◌, ℕ, zero, suc, ◌+◌, ◌<◌, ◌≤◌, Bool, true, false, Option, Some, None, List, [], ◌∷◌, ◌++◌, length, take, drop, map, get_or}
+use Rattle.std.proofs.Common.{add-one, drop-cons, refl, ap, ap₂, ◌∙◌}
 use Rattle.std.specs.Prelude.{flat_map, fold, nat_lt, if◌then◌else◌}
 use Rattle.std.specs.Option.{option_map_or}
 use Rattle.std.proofs.lemmas.List.{drop_all}
@@ -28,7 +29,8 @@ pub no_text : (text : listing.Entry → List ℕ) (es : List listing.Entry) (i :
 no_text text es i h = ap (flat_map text) (drop_all i es h)
 
 -- the fault lines, by the next one
-pub next_line : (kept : List Entry) (i : ℕ) (none : Entry) → i < length kept → lines_of (drop i kept) ≡ fault_line (get_or kept i none).first.fault ++ lines_of (drop (i + 1) kept)
+pub next_line : (kept : List Entry) (i : ℕ) (none : Entry) → i < length kept → lines_of (drop i kept) ≡ fault_line (get_or kept i none).first.fault
+    ++ lines_of (drop (i + 1) kept)
 next_line kept i none h = rw (add-one, drop-cons kept i none h) refl
 
 -- those of what is kept are those of the entries

@@ -15,7 +15,7 @@ use Rattle.dbsource.specs.declared.error.RunError.TheVariants.{Refused, ReadFail
 use Rattle.dbsource.proofs.Beginnings.{begins_nothing}
 use Rattle.dbwalk.specs.Telling.{StopsBy}
 use Rattle.dbowner.specs.Climbs.{Trees}
-use Rattle.dbscan.specs.Desks.{Things}
+use Rattle.dbscan.specs.Desks.{DeskView}
 use Rattle.dbscan.specs.Finishes.{HasHeard, Leaves}
 use Rattle.dbscan.specs.Notices.{CutsNever, run_notices}
 use Rattle.dbscan.specs.Placed.{told_faults}
@@ -41,12 +41,13 @@ pub record HasHeardFile {A O : Type 0} (limit : ℕ) (file : List ℕ) (V : List
   pub empty : IsEmpty limit (geometry file) first.kept.now
   pub all : HasHeardFaults limit (told_faults file V) first now
 
-pub file_heard : {A O : Type 0} {limit : ℕ} {file : List ℕ} {V : List Reference} {d : Things} {first now : ExplainReporter A O}
+pub file_heard : {A O : Type 0} {limit : ℕ} {file : List ℕ} {V : List Reference} {d : DeskView} {first now : ExplainReporter A O}
     → HasHeard Hears d file V first now → IsEmpty limit (geometry file) first.kept.now → HasHeardFile limit file V first now
 file_heard {limit = limit} {file = file} {V = V} {first = first} {now = now} h empty =
     record { empty = empty; all = all_heard file V h.desk.survey first now limit (geometry file) empty h.heard }
 
-module _ {A O : Type 0} (held : O → OutState) {limit : ℕ} {file : List ℕ} {V : List Reference} {first now : ExplainReporter A O} (heard : HasHeardFile limit file V first now) where
+module _ {A O : Type 0} (held : O → OutState) {limit : ℕ} {file : List ℕ} {V : List Reference} {first now : ExplainReporter A O}
+    (heard : HasHeardFile limit file V first now) where
   pub all_counted : now.kept.now.tally.all ≡ counted (length (faults file V))
   all_counted = heard.all.tally.all ∙ ap counted (sym (length-map (told_faults file V) (λ (t : Reported). t.fault)) ∙ ap length (all_told file V))
 
@@ -54,12 +55,14 @@ module _ {A O : Type 0} (held : O → OutState) {limit : ℕ} {file : List ℕ} 
   text = explain_text limit file V (listed_entries file V)
 
   -- what was put after it was heard
-  pub written : {X E : Type 0} (r : Result X E) (after : O) (t : List ℕ) → t ≡ text → Writes r (held now.out.now).bytes (held after).bytes t → Writes r (held first.out.now).bytes (held after).bytes text
+  pub written : {X E : Type 0} (r : Result X E) (after : O) (t : List ℕ) → t ≡ text → Writes r (held now.out.now).bytes (held after).bytes t
+      → Writes r (held first.out.now).bytes (held after).bytes text
   written r after t e w =
       subst (Writes r (held first.out.now).bytes (held after).bytes) e (subst (λ o. Writes r (held o).bytes (held after).bytes t) heard.all.out w)
 
   -- no fault was found
-  pub clean_put : now.kept.now.tally.all ≡ 0 → {X E : Type 0} (r : Result X E) (after : O) → Writes r (held now.out.now).bytes (held after).bytes ok_line → Writes r (held first.out.now).bytes (held after).bytes text
+  pub clean_put : now.kept.now.tally.all ≡ 0 → {X E : Type 0} (r : Result X E) (after : O) → Writes r (held now.out.now).bytes (held after).bytes ok_line
+      → Writes r (held first.out.now).bytes (held after).bytes text
   clean_put none r after w = written r after ok_line (sym (ok_text limit file V (none_counted (told_faults file V) (sym heard.all.tally.all ∙ none)))) w
 
   -- some were found
@@ -67,7 +70,8 @@ module _ {A O : Type 0} (held : O → OutState) {limit : ℕ} {file : List ℕ} 
   told_some some e = some (heard.all.tally.all ∙ ap (λ (ts : List Reported). counted (length ts)) e)
 
   -- with the lost pages
-  pub all_kept : (l : Held) → ListsAll limit file V l → length l.zeros ≡ length now.kept.now.listing.zeros → HasAll limit file V (record now.kept.now { listing = l })
+  pub all_kept : (l : Held) → ListsAll limit file V l → length l.zeros ≡ length now.kept.now.listing.zeros
+      → HasAll limit file V (record now.kept.now { listing = l })
   all_kept l listed words = record {
     listing = listed;
     tally = heard.all.tally;

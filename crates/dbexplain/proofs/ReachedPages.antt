@@ -44,9 +44,11 @@ module _ (V : List Reference) (ts : List Reported) (n : ℕ) (few : n < most_pag
   same_start : (k : ℕ) → is_reached V k p ≡ false → counted_start V ts n k ≡ counted_start V ts (n + 1) k
   same_start k off =
       let a : count_by (is_reached V k) (range_with_len 1 n) ≡ count_by (is_reached V k) (range_with_len 1 (n + 1)) =
-      sym (more (is_reached V k) ∙ ap (λ b. count_by (is_reached V k) (range_with_len 1 n) + cond b 1 0) off ∙ none (count_by (is_reached V k) (range_with_len 1 n))) in
+      sym (more (is_reached V k) ∙ ap (λ b. count_by (is_reached V k) (range_with_len 1 n) + cond b 1 0) off
+      ∙ none (count_by (is_reached V k) (range_with_len 1 n))) in
       let b : count_by (both k) (range_with_len 1 n) ≡ count_by (both k) (range_with_len 1 (n + 1)) =
-      sym (more (both k) ∙ ap (λ b. count_by (both k) (range_with_len 1 n) + cond (b && is_told ts p) 1 0) off ∙ none (count_by (both k) (range_with_len 1 n))) in
+      sym (more (both k) ∙ ap (λ b. count_by (both k) (range_with_len 1 n) + cond (b && is_told ts p) 1 0) off ∙ none (count_by (both k) (range_with_len 1 n)))
+      in
       ap₂ (λ x y. record { faults = counted (start_count ts k); reached = x; faulty = y }) a b
     where
       none : (m : ℕ) → m + 0 ≡ m
@@ -63,13 +65,15 @@ module _ (V : List Reference) (ts : List Reported) (n : ℕ) (few : n < most_pag
           (more (is_reached V k) ∙ ap (λ b. count_by (is_reached V k) (range_with_len 1 n) + cond b 1 0) on)
 
       faulty : (b : Bool) → is_told ts p ≡ b
-          → cond b (min (count_by (both k) (range_with_len 1 n) + 1) (2 ^ 32 - 1)) (count_by (both k) (range_with_len 1 n)) ≡ count_by (both k) (range_with_len 1 (n + 1))
+          → cond b (min (count_by (both k) (range_with_len 1 n) + 1) (2 ^ 32 - 1)) (count_by (both k) (range_with_len 1 n))
+          ≡ count_by (both k) (range_with_len 1 (n + 1))
       faulty true e =
           let l = at_most (both k) 1 n in
           capped (count_by (both k) (range_with_len 1 n)) (count_by (both k) (range_with_len 1 (n + 1))) (omega (arith, l, few))
           (more (both k) ∙ ap₂ (λ a b. count_by (both k) (range_with_len 1 n) + cond (a && b) 1 0) on e)
       faulty false e =
-          sym (more (both k) ∙ ap₂ (λ a b. count_by (both k) (range_with_len 1 n) + cond (a && b) 1 0) on e ∙ (let f : count_by (both k) (range_with_len 1 n) + 0 ≡ count_by (both k) (range_with_len 1 n) = omega arith in f))
+          sym (more (both k) ∙ ap₂ (λ a b. count_by (both k) (range_with_len 1 n) + cond (a && b) 1 0) on e
+          ∙ (let f : count_by (both k) (range_with_len 1 n) + 0 ≡ count_by (both k) (range_with_len 1 n) = omega arith in f))
 
   pub page_more : (t : Tallied) → IsTallyTo V ts n t → HasPageBit t.pages p → IsTallyTo V ts (n + 1) (reached_counted (start_at V p) p t)
   page_more t is room = by_start (start_at V p) refl

@@ -20,7 +20,8 @@ use Rattle.dbexplain.specs.Summary.{summary}
 use Rattle.dbexplain.proofs.KeptEntries.{some_listed}
 
 -- there is room for what is known of each page that has a mark
-pub marks_fit : (file : List ℕ) (V : List Reference) (marks : List Mark) (room : ℕ) → AreMarksOf file V marks → (geometry file).pages ≤ room → length marks ≤ room
+pub marks_fit : (file : List ℕ) (V : List Reference) (marks : List Mark) (room : ℕ) → AreMarksOf file V marks → (geometry file).pages ≤ room → length marks
+    ≤ room
 marks_fit file V marks room marked fits =
     let all : length marks ≡ (geometry file).pages = ap length marked ∙ marks_of-length (geometry file) V in
     omega (arith, all, fits)
@@ -38,7 +39,8 @@ none_of file V (t ∷ ts) h = by_case (is_lost t) h
     some [] ys y h = cc
     some (x ∷ xs) ys y h = cc
 
-    by_case : (b : Bool) → cond (not b) (t ∷ others_of ts) (others_of ts) ++ map (looked_at file V) (cond b (t ∷ filter is_lost ts) (filter is_lost ts)) ≡ [] → t ∷ ts ≡ []
+    by_case : (b : Bool) → cond (not b) (t ∷ others_of ts) (others_of ts) ++ map (looked_at file V) (cond b (t ∷ filter is_lost ts) (filter is_lost ts)) ≡ []
+        → t ∷ ts ≡ []
     by_case true h = absurd (some (others_of ts) (map (looked_at file V) (filter is_lost ts)) (looked_at file V t) h)
     by_case false h = cc
 
@@ -46,12 +48,14 @@ pub none_told : (file : List ℕ) (V : List Reference) → listed_entries file V
 none_told file V h = none_of file V (told_faults file V) (some_listed (listed_faults file V) h)
 
 text_some : (limit : ℕ) (file : List ℕ) (V : List Reference) (es : List listing.Entry) → (es ≡ [] → ⊥)
-    → flat_map (entry_text file V) (take limit es) ++ (more_text (sum_by size (drop limit es)) ++ summary file V (told_faults file V)) ≡ explain_text limit file V es
+    → flat_map (entry_text file V) (take limit es) ++ (more_text (sum_by size (drop limit es)) ++ summary file V (told_faults file V))
+    ≡ explain_text limit file V es
 text_some limit file V [] h = absurd (h refl)
 text_some limit file V (e ∷ es) h = refl
 
 pub report_text : (limit : ℕ) (file : List ℕ) (V : List Reference) → (told_faults file V ≡ [] → ⊥)
-    → flat_map (entry_text file V) (take limit (listed_entries file V)) ++ (more_text (sum_by size (drop limit (listed_entries file V))) ++ summary file V (told_faults file V))
+    → flat_map (entry_text file V) (take limit (listed_entries file V))
+    ++ (more_text (sum_by size (drop limit (listed_entries file V))) ++ summary file V (told_faults file V))
     ≡ explain_text limit file V (listed_entries file V)
 report_text limit file V some = text_some limit file V (listed_entries file V) (λ e. some (none_told file V e))
 

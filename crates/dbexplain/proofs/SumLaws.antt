@@ -91,7 +91,8 @@ once_in (l ∷ ls) k rise (inr i) =
     omega (arith, a, b)
 
 module _ (file : List ℕ) (V : List Reference) (s : Survey file V) where
-  one_part : (t : Reported) → IsIn t (told_faults file V) → count_by (λ (l : Link Way). is_part_of_start l.step t.part) (starts file V) + cond (is_whole t.part) 1 0 ≡ 1
+  one_part : (t : Reported) → IsIn t (told_faults file V) → count_by (λ (l : Link Way). is_part_of_start l.step t.part) (starts file V)
+      + cond (is_whole t.part) 1 0 ≡ 1
   one_part t i = by_part t.part refl
     where
       by_part : (p : Part) → t.part ≡ p → count_by (λ (l : Link Way). is_part_of_start l.step p) (starts file V) + cond (is_whole p) 1 0 ≡ 1
@@ -101,4 +102,5 @@ module _ (file : List ℕ) (V : List Reference) (s : Survey file V) where
       by_part part.End e = let a = count_none (λ (l : Link Way). false) (starts file V) (λ l i. refl) in omega (arith, a)
 
   pub starts_add_up : StartsAddUp file V
-  starts_add_up = all_once (λ (l : Link Way) (t : Reported). is_part_of_start l.step t.part) (λ t. is_whole t.part) (starts file V) (told_faults file V) one_part
+  starts_add_up = all_once (λ (l : Link Way) (t : Reported). is_part_of_start l.step t.part) (λ t. is_whole t.part) (starts file V) (told_faults file V)
+      one_part

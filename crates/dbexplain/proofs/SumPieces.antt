@@ -1,5 +1,6 @@
 -- The lines of the summary by the pieces that are put.
-use Rattle.std.proofs.Common.{◌≡◌, ℕ, zero, suc, ◌+◌, ◌<◌, ◌≤◌, ◌^◌, true, false, cond, List, [], ◌∷◌, ◌++◌, length, drop, get_or, add-one, drop-cons, refl, sym, ap, ap₂, ◌∙◌, arith, append_assoc}
+use Rattle.std.proofs.Common.{◌≡◌, ℕ, zero, suc, ◌+◌, ◌<◌, ◌≤◌, ◌^◌, true, false, cond, List, [], ◌∷◌, ◌++◌, length, drop, get_or, add-one, drop-cons, refl}
+use Rattle.std.proofs.Common.{sym, ap, ap₂, ◌∙◌, arith, append_assoc}
 use Rattle.std.specs.Prelude.{codes, decimal, ◌==◌}
 use Rattle.std.specs.List.{enumerate_from, flat_map}
 use Rattle.dbformat.specs.Address.{freelist_start}
@@ -21,7 +22,8 @@ pub next_code : (all : ℕ) (counts : List CodeCount) (i : ℕ) (none : CodeCoun
 next_code all counts i none h = rw (add-one, drop-cons counts i none h) refl
 
 -- of some runs
-pub next_run : (line : Run → List ℕ) (runs : List Run) (i : ℕ) (none : Run) → i < length runs → flat_map line (drop i runs) ≡ line (get_or runs i none) ++ flat_map line (drop (i + 1) runs)
+pub next_run : (line : Run → List ℕ) (runs : List Run) (i : ℕ) (none : Run) → i < length runs → flat_map line (drop i runs) ≡ line (get_or runs i none)
+    ++ flat_map line (drop (i + 1) runs)
 next_run line runs i none h = rw (add-one, drop-cons runs i none h) refl
 
 -- and of the counts of starts
@@ -39,7 +41,8 @@ pub next_start : (all : ℕ) (name : ℕ → List ℕ) (counts : List StartCount
     ≡ start_sum all (name i) (get_or counts i none) ++ flat_map (numbered_sum all name) (drop (i + 1) (enumerate_from 0 counts))
 next_start all name counts i none h = rw add-one (next_suc all name counts none 0 i i h (omega arith))
 
-pub no_start : (all : ℕ) (name : ℕ → List ℕ) (counts : List StartCount) (k i : ℕ) → length counts ≤ i → flat_map (numbered_sum all name) (drop i (enumerate_from k counts)) ≡ []
+pub no_start : (all : ℕ) (name : ℕ → List ℕ) (counts : List StartCount) (k i : ℕ) → length counts ≤ i
+    → flat_map (numbered_sum all name) (drop i (enumerate_from k counts)) ≡ []
 no_start all name [] k zero h = refl
 no_start all name [] k (suc i) h = refl
 no_start all name (n ∷ counts) k zero h = absurd (let f : ⊥ = omega arith in f)
@@ -47,7 +50,8 @@ no_start all name (n ∷ counts) k (suc i) h = no_start all name counts (k + 1) 
 
 -- the name of a start
 pub freelist_name : (e : Encoding) (rows : List SchemaRow) (k : ℕ) → (k == freelist_start) ≡ true → codes "the freelist" ≡ start_name e rows k
-freelist_name e rows k h = sym (ap (λ b. cond b (codes "the freelist") (tree_of_row e rows k ++ codes " (root page " ++ decimal (root_page rows k) ++ codes ")")) h)
+freelist_name e rows k h = sym (ap (λ b. cond b (codes "the freelist")
+    (tree_of_row e rows k ++ codes " (root page " ++ decimal (root_page rows k) ++ codes ")")) h)
 
 pub tree_name : (e : Encoding) (rows : List SchemaRow) (k : ℕ) → (k == freelist_start) ≡ false
     → tree_of_row e rows k ++ (codes " (root page " ++ decimal (root_page rows k) ++ codes ")") ≡ start_name e rows k
@@ -66,7 +70,8 @@ start_pieces all name c a n some =
     let fits : c.faults ≡ counted c.faults = omega arith in
     joined (codes "    ") (aligned all c.faults) (codes " ") (codes "in ") name (faulty_pages_text c.faulty c.reached) (line_feed ∷ [])
     ∙ ap₂ (λ x y. indented (aligned x y ++ codes " " ++ (codes "in " ++ name ++ faulty_pages_text c.faulty c.reached))) all_fits fits
-    ∙ sym (ap (λ b. cond b [] (indented (aligned (counted all) (counted c.faults) ++ codes " " ++ (codes "in " ++ name ++ faulty_pages_text c.faulty c.reached)))) some)
+    ∙ sym (ap (λ b. cond b [] (indented (aligned (counted all) (counted c.faults) ++ codes " "
+    ++ (codes "in " ++ name ++ faulty_pages_text c.faulty c.reached)))) some)
   where
     joined : (a b c d e f g : List ℕ) → ((a ++ b ++ c) ++ d) ++ (e ++ (f ++ g)) ≡ a ++ (b ++ c ++ (d ++ e ++ f)) ++ g
     joined a b c d e f g = simp append_assoc

@@ -1,5 +1,6 @@
 -- The summary by the counts of a tally is that of a file.
-use Rattle.std.proofs.Common.{◌≡◌, ℕ, zero, suc, ◌+◌, ◌-◌, ◌<◌, ◌≤◌, inl, inr, Bool, true, false, cond, not, ◌&&◌, List, [], ◌∷◌, ◌++◌, length, map, take, Option, Some, None, refl, sym, ap, ap₂, subst, ◌∙◌, arith, append-nil, append_assoc}
+use Rattle.std.proofs.Common.{◌≡◌, ℕ, zero, suc, ◌+◌, ◌-◌, ◌<◌, ◌≤◌, inl, inr, Bool, true, false, cond, not, ◌&&◌, List, [], ◌∷◌, ◌++◌, length, map, take}
+use Rattle.std.proofs.Common.{Option, Some, None, refl, sym, ap, ap₂, subst, ◌∙◌, arith, append-nil, append_assoc}
 use Rattle.std.specs.Prelude.{codes, decimal, count_by, filter, fold, min, nat_le, slice_get, slice_index_or, ◌==◌}
 use Rattle.std.specs.List.{enumerate_from, flat_map, range_with_len}
 use Rattle.std.specs.Option.{option_map_or}
@@ -50,7 +51,9 @@ use Rattle.dbentries.specs.declared.runs.Runs.{Runs}
 use Rattle.dbentries.proofs.Belonging.{runs_kept}
 use Rattle.dbentries.proofs.Numbers.{get-take}
 use Rattle.dbentries.proofs.ZeroPages.{zeros_are}
-use Rattle.dbexplain.specs.Summary.{aligned, code_count, code_line, count_text, faulty_pages_at, is_faulty_at, is_of_kind, is_reached, is_part_of_start, is_whole, faulty_pages_text, reached_pages, start_count, start_sum_line, start_name, sum_line, summary, trees_text, whole_count, whole_line, whole_trees, zero_runs_text, zeros_text}
+use Rattle.dbexplain.specs.Summary.{aligned, code_count, code_line, count_text, faulty_pages_at, is_faulty_at, is_of_kind, is_reached, is_part_of_start}
+use Rattle.dbexplain.specs.Summary.{is_whole, faulty_pages_text, reached_pages, start_count, start_sum_line, start_name, sum_line, summary, trees_text}
+use Rattle.dbexplain.specs.Summary.{whole_count, whole_line, whole_trees, zero_runs_text, zeros_text}
 use Rattle.dbexplain.specs.Sums.{code_sum, freelist_start_count, numbered_sum, start_sum, last_sum, summary_by, tree_counts, trees_by, zeros_sum}
 use Rattle.dbexplain.specs.Tallies.{Tallied, IsTallyTo, counted_code, counted_start, is_told, no_count}
 use Rattle.dbexplain.specs.declared.tally.StartCount.{StartCount}
@@ -95,7 +98,8 @@ points f a (suc n) [] h = absurd (let e : None ≡ Some (f (a + 0)) = h 0 (omega
 points f a (suc n) (x ∷ xs) h =
     let first : x ≡ f (a + 0) = (let e : Some x ≡ Some (f (a + 0)) = h 0 (omega arith) in cc) in
     let same : a + 0 ≡ a = omega arith in
-    ap₂ (λ y ys. y ∷ ys) (first ∙ ap f same) (points f (a + 1) n xs (λ k l. h (suc k) (omega arith) ∙ ap (λ i. Some (f i)) (let e : a + suc k ≡ a + 1 + k = omega arith in e)))
+    ap₂ (λ y ys. y ∷ ys) (first ∙ ap f same) (points f (a + 1) n xs
+    (λ k l. h (suc k) (omega arith) ∙ ap (λ i. Some (f i)) (let e : a + suc k ≡ a + 1 + k = omega arith in e)))
 
 -- ---- tests
 
@@ -160,7 +164,8 @@ module _ (file : List ℕ) (V : List Reference) (s : Survey file V) where
 
   line_same : (k : ℕ) → start_sum (counted (length ts)) (name k) (counted_start V ts n k) ≡ start_sum_line file V ts k
   line_same k =
-      sum_same (length ts) (start_count ts k) (codes "in " ++ name k ++ faulty_pages_text (count_by (λ p. is_reached V k p && is_told ts p) (range_with_len 1 n)) (reached_pages file V k))
+      sum_same (length ts) (start_count ts k) (codes "in " ++ name k
+      ++ faulty_pages_text (count_by (λ p. is_reached V k p && is_told ts p) (range_with_len 1 n)) (reached_pages file V k))
       ∙ ap (λ m. sum_line (length ts) (start_count ts k) (codes "in " ++ name k ++ faulty_pages_text m (reached_pages file V k))) (pages_same k)
 
   lines_same : (m k : ℕ) → flat_map (numbered_sum (counted (length ts)) name) (enumerate_from k (map (counted_start V ts n) (range_with_len k m)))
@@ -169,7 +174,8 @@ module _ (file : List ℕ) (V : List Reference) (s : Survey file V) where
   lines_same (suc m) k = ap₂ (λ a b. a ++ b) (line_same k) (lines_same m (k + 1))
 
   rows_lines : (k : ℕ) (rows : List SchemaRow)
-      → flat_map (λ (l : Link Way). start_sum_line file V ts l.step) (map (root_start file) (enumerate_from k rows)) ≡ flat_map (start_sum_line file V ts) (range_with_len k (length rows))
+      → flat_map (λ (l : Link Way). start_sum_line file V ts l.step) (map (root_start file) (enumerate_from k rows))
+      ≡ flat_map (start_sum_line file V ts) (range_with_len k (length rows))
   rows_lines k [] = refl
   rows_lines k (row ∷ rows) = ap (λ w. start_sum_line file V ts k ++ w) (rows_lines (k + 1) rows)
 
@@ -201,8 +207,10 @@ module _ (file : List ℕ) (V : List Reference) (s : Survey file V) where
   free_line = by_case (first_trunk file == 0) none_free
     where
       by_case : (b : Bool) → (cond b [] (start freelist_start trunk (first_trunk file) ∷ []) ≡ [] → start_count ts freelist_start ≡ 0)
-          → start_sum_line file V ts freelist_start ≡ flat_map (λ (l : Link Way). start_sum_line file V ts l.step) (cond b [] (start freelist_start trunk (first_trunk file) ∷ []))
-      by_case true h = ap (λ m. sum_line (length ts) m (codes "in " ++ name freelist_start ++ faulty_pages_text (faulty_pages_at file ts freelist_start) (reached_pages file V freelist_start))) (h refl)
+          → start_sum_line file V ts freelist_start ≡ flat_map (λ (l : Link Way). start_sum_line file V ts l.step)
+          (cond b [] (start freelist_start trunk (first_trunk file) ∷ []))
+      by_case true h = ap (λ m. sum_line (length ts) m (codes "in " ++ name freelist_start
+          ++ faulty_pages_text (faulty_pages_at file ts freelist_start) (reached_pages file V freelist_start))) (h refl)
       by_case false h = sym (append-nil (start_sum_line file V ts freelist_start))
 
   start_lines : start_sum_line file V ts 0 ++ (flat_map (start_sum_line file V ts) (range_with_len 1 (length rows)) ++ start_sum_line file V ts freelist_start)
@@ -225,7 +233,8 @@ module _ (file : List ℕ) (V : List Reference) (s : Survey file V) where
     count_at : (k : ℕ) → k ≤ length rows → slice_index_or (tree_counts rows t) k no_count ≡ counted_start V ts n k
     count_at k l =
         let w = few in
-        get_or_from_slice_get (tree_counts rows t) k (counted_start V ts n k) no_count (get-take (suc (length rows)) k t.starts (omega (arith, l)) ∙ is.starts k (omega (arith, l, w)))
+        get_or_from_slice_get (tree_counts rows t) k (counted_start V ts n k) no_count
+        (get-take (suc (length rows)) k t.starts (omega (arith, l)) ∙ is.starts k (omega (arith, l, w)))
 
     abbrev sum : ℕ → ℕ → TreeSum
     sum whole all = record { whole = whole; all = all }
@@ -233,7 +242,8 @@ module _ (file : List ℕ) (V : List Reference) (s : Survey file V) where
     trees_whole : (index : Bool) → trees_by index rows (tree_counts rows t) ≡ whole_trees index rows ts
     trees_whole index =
         let by_count : ℕ → Bool = λ k. is_of_kind index rows k && ((slice_index_or (tree_counts rows t) k no_count).faults == 0) in
-        let all : length (tree_counts rows t) ≡ suc (length rows) = ap length trees_are ∙ length-map-range_with_len (counted_start V ts n) 0 (suc (length rows)) in
+        let all : length (tree_counts rows t) ≡ suc (length rows) = ap length trees_are
+        ∙ length-map-range_with_len (counted_start V ts n) 0 (suc (length rows)) in
         let rest : length (tree_counts rows t) - 1 ≡ length rows = omega (arith, all) in
         ap₂ sum
         (ap (λ m. count_by by_count (range_with_len 1 m)) rest
@@ -246,10 +256,12 @@ module _ (file : List ℕ) (V : List Reference) (s : Survey file V) where
     abbrev last_lines : List ℕ
     last_lines = zeros_text (geometry file).page_size (zero_pages file V) ++ trees_text (whole_trees false rows ts) (whole_trees true rows ts)
 
-    last_part : (size : ℕ) (r : Runs) → zeros_sum size r ≡ zeros_text (geometry file).page_size (zero_pages file V) → last_sum size r rows (tree_counts rows t) ≡ last_lines
+    last_part : (size : ℕ) (r : Runs) → zeros_sum size r ≡ zeros_text (geometry file).page_size (zero_pages file V) → last_sum size r rows (tree_counts rows t)
+        ≡ last_lines
     last_part size r zeros = ap₂ (λ a b. a ++ b) zeros (ap₂ trees_text (trees_whole false) (trees_whole true))
 
-    first_part : flat_map (numbered_sum t.all name) (enumerate_from 0 (tree_counts rows t)) ≡ start_sum_line file V ts 0 ++ flat_map (start_sum_line file V ts) (range_with_len 1 (length rows))
+    first_part : flat_map (numbered_sum t.all name) (enumerate_from 0 (tree_counts rows t)) ≡ start_sum_line file V ts 0
+        ++ flat_map (start_sum_line file V ts) (range_with_len 1 (length rows))
     first_part = ap₂ (λ n cs. flat_map (numbered_sum n name) (enumerate_from 0 cs)) is.all trees_are ∙ lines_same (suc (length rows)) 0
 
     free_part : start_sum t.all (name freelist_start) (freelist_start_count t) ≡ start_sum_line file V ts freelist_start
@@ -258,13 +270,15 @@ module _ (file : List ℕ) (V : List Reference) (s : Survey file V) where
     whole_part : sum_line t.all t.whole (codes "in the whole file") ≡ whole_line ts
     whole_part = ap₂ (λ n k. sum_line n k (codes "in the whole file")) is.all is.whole ∙ sum_same (length ts) (whole_count ts) (codes "in the whole file")
 
-    summary_same : (size : ℕ) (r : Runs) → zeros_sum size r ≡ zeros_text (geometry file).page_size (zero_pages file V) → summary_by size r (encoding file) rows t ≡ summary file V ts
+    summary_same : (size : ℕ) (r : Runs) → zeros_sum size r ≡ zeros_text (geometry file).page_size (zero_pages file V)
+        → summary_by size r (encoding file) rows t ≡ summary file V ts
     summary_same size r zeros =
         joined
         (ap count_text is.all ∙ count_same (length ts))
         (ap₂ (λ n cs. flat_map (code_sum n) cs) is.all is.codes ∙ codes_same ts all_codes)
         first_part free_part whole_part (last_part size r zeros)
-        ∙ parts (count_text (length ts)) (flat_map (code_line ts) all_codes) (start_sum_line file V ts 0) (flat_map (start_sum_line file V ts) (range_with_len 1 (length rows)))
+        ∙ parts (count_text (length ts)) (flat_map (code_line ts) all_codes) (start_sum_line file V ts 0)
+        (flat_map (start_sum_line file V ts) (range_with_len 1 (length rows)))
         (start_sum_line file V ts freelist_start) (whole_line ts) last_lines
         ∙ ap (λ w. count_text (length ts) ++ flat_map (code_line ts) all_codes ++ w ++ whole_line ts ++ last_lines) start_lines
       where
@@ -276,7 +290,8 @@ module _ (file : List ℕ) (V : List Reference) (s : Survey file V) where
         parts a b c m d e f = simp append_assoc
 
 -- so it is of what is put by the list of roots, and by the runs of the pages that are zeros
-pub known_summary : (file : List ℕ) (V : List Reference) → Survey file V → (h : HeaderBytes) (rows : List SchemaRow) (e : Encoding) (t : Tallied) (size : ℕ) (r : Runs)
+pub known_summary : (file : List ℕ) (V : List Reference) → Survey file V
+    → (h : HeaderBytes) (rows : List SchemaRow) (e : Encoding) (t : Tallied) (size : ℕ) (r : Runs)
     → IsHeaderOf h file → AreListed file V rows → e ≡ encoding h.bytes → IsTallyTo V (told_faults file V) (geometry file).pages t
     → zeros_sum size r ≡ zeros_text (geometry file).page_size (zero_pages file V) → summary_by size r e rows t ≡ summary file V (told_faults file V)
 known_summary file V s h given e t size r header listed texts is zeros =

@@ -1,5 +1,6 @@
 -- A tally with one fault more.
-use Rattle.std.proofs.Common.{◌≡◌, ℕ, zero, suc, ◌+◌, ◌/◌, ◌%◌, ◌<◌, ◌≤◌, Bool, true, false, ◌||◌, List, [], ◌∷◌, ◌++◌, length, map, replicate, get_or, Some, refl, sym, ap, ◌∙◌, arith, length-append}
+use Rattle.std.proofs.Common.{◌≡◌, ℕ, zero, suc, ◌+◌, ◌/◌, ◌%◌, ◌<◌, ◌≤◌, Bool, true, false, ◌||◌, List, [], ◌∷◌, ◌++◌, length, map, replicate, get_or, Some}
+use Rattle.std.proofs.Common.{refl, sym, ap, ◌∙◌, arith, length-append}
 use Rattle.std.specs.Prelude.{if◌then◌else◌, count_by, not, ◌&&◌, slice_get, slice_set, slice_index_or, ◌==◌}
 use Rattle.std.specs.Int.{bit_at}
 use Rattle.std.proofs.Math.Bool.{or-false}
@@ -58,7 +59,8 @@ module _ (ts : List Reported) (r : Reported) where
       let code = r.fault.code in
       ap (counted_in code) e
       ∙ ap (λ c. slice_set (map (counted_code ts) all_codes) (code_index code) (one_more_of_code c))
-      (get_or_from_slice_get (map (counted_code ts) all_codes) (code_index code) (counted_code ts code) (record { code = code; count = 0 }) (entry_at (counted_code ts) code))
+      (get_or_from_slice_get (map (counted_code ts) all_codes) (code_index code) (counted_code ts code) (record { code = code; count = 0 })
+      (entry_at (counted_code ts) code))
       ∙ ap (slice_set (map (counted_code ts) all_codes) (code_index code)) next_count
       ∙ entry_set (counted_code ts) (counted_code more) code same_count
 
@@ -123,12 +125,14 @@ module _ (ts : List Reported) (f : Fault) (why : Cause) (t : Tallied) (is : IsTa
       at_each k l true h =
           let same : j ≡ k = eqb-true j k h in
           let here : slice_get t.starts j ≡ Some (faults_of (start_count ts j)) = is.starts j (omega arith) in
-          let v : slice_index_or t.starts j no_count ≡ faults_of (start_count ts j) = get_or_from_slice_get t.starts j (faults_of (start_count ts j)) no_count here in
+          let v : slice_index_or t.starts j no_count ≡ faults_of (start_count ts j) =
+          get_or_from_slice_get t.starts j (faults_of (start_count ts j)) no_count here in
           let on : (j == j) ≡ true = ap (λ i. j == i) same ∙ h in
           ap (slice_get (slice_set t.starts j (one_fault (slice_index_or t.starts j no_count)))) (sym same)
           ∙ get_set t.starts j (one_fault (slice_index_or t.starts j no_count)) (slice_get_within t.starts j (faults_of (start_count ts j)) here)
           ∙ ap (λ c. Some (one_fault c)) v
-          ∙ ap (λ n. Some (record { faults = n; reached = 0; faulty = 0 })) (rises ts (told (part.Start j)) (λ (t : Reported). is_part_of_start j t.part) (counted (start_count ts j)) on refl)
+          ∙ ap (λ n. Some (record { faults = n; reached = 0; faulty = 0 }))
+          (rises ts (told (part.Start j)) (λ (t : Reported). is_part_of_start j t.part) (counted (start_count ts j)) on refl)
           ∙ ap (λ i. Some (counted_start [] (with (part.Start j)) 0 i)) same
       at_each k l false h =
           get_set_other t.starts j k (one_fault (slice_index_or t.starts j no_count)) (λ e. let d : (j == k) ≡ true = grind (arith, nat_tests) in cc)
@@ -152,7 +156,8 @@ none_told (suc n) (suc k) c l = none_told n k c (omega arith)
 none_told zero k c l = absurd (let f : ⊥ = omega arith in f)
 
 -- where no fault was reported
-pub nothing_told : (t : Tallied) → t.all ≡ 0 → t.codes ≡ map (counted_code []) all_codes → t.starts ≡ replicate 65538 no_count → t.whole ≡ 0 → ((p : ℕ) → has_bit t.pages p ≡ false)
+pub nothing_told : (t : Tallied) → t.all ≡ 0 → t.codes ≡ map (counted_code []) all_codes → t.starts ≡ replicate 65538 no_count → t.whole ≡ 0
+    → ((p : ℕ) → has_bit t.pages p ≡ false)
     → IsTallyOf [] t
 nothing_told t all codes starts whole none = record {
   all = all;

@@ -1,5 +1,6 @@
 -- The starts of a survey, and what is visited below each of them.
-use Rattle.std.proofs.Common.{◌≡◌, ℕ, zero, suc, ◌+◌, ◌<◌, ◌≤◌, ◌⊎◌, inl, inr, Bool, true, false, cond, not, ◌&&◌, List, [], ◌∷◌, ◌++◌, length, map, take, Option, Some, None, refl, sym, ap, subst, ◌∙◌, arith, append_assoc, length-append}
+use Rattle.std.proofs.Common.{◌≡◌, ℕ, zero, suc, ◌+◌, ◌<◌, ◌≤◌, ◌⊎◌, inl, inr, Bool, true, false, cond, not, ◌&&◌, List, [], ◌∷◌, ◌++◌, length, map, take}
+use Rattle.std.proofs.Common.{Option, Some, None, refl, sym, ap, subst, ◌∙◌, arith, append_assoc, length-append}
 use Rattle.std.specs.Prelude.{find, is_some, nat_lt, option_map, ◌==◌}
 use Rattle.std.specs.List.{enumerate_from}
 use Rattle.std.proofs.lemmas.Bool.Decides.{nat_tests}
@@ -30,7 +31,8 @@ use Rattle.dbformat.specs.Starts.{start_at, is_start, first_start}
 abbrev pub IsAtStart : ℕ → Role → Type 0
 IsAtStart k role = ((role ≡ trunk) × (k ≡ freelist_start)) ⊎ ((is_root role ≡ true) × (k < freelist_start))
 
-pub rows_start : (file : List ℕ) (k : ℕ) (rows : List SchemaRow) (l : Link Way) → IsIn l (map (root_start file) (enumerate_from k rows)) → (is_root l.role.role ≡ true) × (l.step < k + length rows)
+pub rows_start : (file : List ℕ) (k : ℕ) (rows : List SchemaRow) (l : Link Way) → IsIn l (map (root_start file) (enumerate_from k rows))
+    → (is_root l.role.role ≡ true) × (l.step < k + length rows)
 rows_start file k [] l i = absurd i
 rows_start file k (row ∷ rows) l (inl e) = (ap (λ l. is_root l.role.role) e, let d : l.step ≡ k = ap (λ l. l.step) e in omega arith)
 rows_start file k (row ∷ rows) l (inr i) = let h = rows_start file (k + 1) rows l i in let d = h.1 in (h.0, omega arith)
@@ -54,7 +56,8 @@ each_start file V l (inl e) = inr (ap (λ l. is_root l.role.role) e, let d : l.s
 each_start file V l (inr i) =
     let rows = rooted_rows (schema file (under schema_start V)) in
     elim (IsIn-cases l (root_starts file rows) (freelist_starts file) i) [
-      | inl j ↦ (let h = rows_start file 1 (take last_root_start rows) l j in let few = length_taken last_root_start rows in let d = h.1 in inr (h.0, omega arith))
+      | inl j ↦ (let h = rows_start file 1 (take last_root_start rows) l j in let few = length_taken last_root_start rows in let d =
+          h.1 in inr (h.0, omega arith))
       | inr j ↦ inl (free_start file l j)
     ]
 
@@ -68,7 +71,8 @@ one_step (x ∷ []) k e d = ap (λ x. x ∷ []) e
 one_step (x ∷ y ∷ a) k e d = absurd (let f : ⊥ = omega arith in f)
 
 -- the first link with a page comes no later than any other
-found_first : (p : ℕ) (ls : List (Link Way)) (l m : Link Way) → IsRising ls → find (λ l. l.page == p) ls ≡ Some l → IsIn m ls → (m.page == p) ≡ true → l.step ≤ m.step
+found_first : (p : ℕ) (ls : List (Link Way)) (l m : Link Way) → IsRising ls → find (λ l. l.page == p) ls ≡ Some l → IsIn m ls → (m.page == p) ≡ true → l.step
+    ≤ m.step
 found_first p [] l m h e i f = absurd i
 found_first p (x ∷ ls) l m h e i f = by_case (x.page == p) refl e i (λ d j. found_first p ls l m h.1 d j f)
   where
@@ -81,7 +85,8 @@ found_first p (x ∷ ls) l m h e i f = by_case (x.page == p) refl e i (λ d j. f
 
 module _ (file : List ℕ) (V : List Reference) (s : Survey file V) where
   -- what holds of the visits at starts, and of a page's where it holds of the page's own visit, holds of each visit
-  each_visit : (P : Reference → Type 0) → ((r : Reference) → IsIn r V → (l : Link Way) → IsIn l (starts file V) → r ≡ record { address = l.step ∷ []; page = l.page; role = l.role } → P r)
+  each_visit : (P : Reference → Type 0) → ((r : Reference) → IsIn r V → (l : Link Way) → IsIn l (starts file V) → r
+      ≡ record { address = l.step ∷ []; page = l.page; role = l.role } → P r)
       → ((u r : Reference) → IsIn u V → IsIn r (children (rules_of file) u) → P u → P r) → (r : Reference) → IsIn r V → P r
   each_visit P at_start below r i = let p = parted r V i in up (suc (length p.0)) p.0 r p.1 (sym p.2) (omega arith)
     where
@@ -106,16 +111,19 @@ module _ (file : List ℕ) (V : List Reference) (s : Survey file V) where
   start_here r i = ap (λ o. option_map (λ (r : Reference). start_of r.address) o) (visit_is file V s r i)
 
   -- a page is below the start of the page that it is of, one step deeper
-  pub one_below : (u r : Reference) → IsIn u V → IsIn r (children (rules_of file) u) → (start_of r.address ≡ start_of u.address) × (depth r.address ≡ depth u.address + 1)
+  pub one_below : (u r : Reference) → IsIn u V → IsIn r (children (rules_of file) u) → (start_of r.address ≡ start_of u.address)
+      × (depth r.address ≡ depth u.address + 1)
   one_below u r i c =
       let step = named_at-step u.address ((rules_of file).links u.page u.role) r c in
       let long : length (u.address ++ step.0 ∷ []) ≡ length u.address + 1 = length-append u.address (step.0 ∷ []) in
       (ap start_of step.1 ∙ start_of-step u.address step.0 (has_address file V s u i), ap length step.1 ∙ long)
 
   -- what a visit is at a start, or else which page it is of
-  pub start_or_below : (r : Reference) → IsIn r V → ((k : ℕ) × (r.address ≡ k ∷ []) × IsAtStart k (role_of r)) ⊎ ((u : Reference) × IsIn u V × IsIn r (children (rules_of file) u))
+  pub start_or_below : (r : Reference) → IsIn r V → ((k : ℕ) × (r.address ≡ k ∷ []) × IsAtStart k (role_of r))
+      ⊎ ((u : Reference) × IsIn u V × IsIn r (children (rules_of file) u))
   start_or_below r i = elim ((s.exact r).0 i).0 [
-    | inl j ↦ (let k = named_at-from [] (starts file V) r j in inl (k.0.step, ap (λ r. r.address) k.2, subst (IsAtStart k.0.step) (sym (ap role_of k.2)) (each_start file V k.0 k.1)))
+    | inl j ↦ (let k = named_at-from [] (starts file V) r j in inl
+        (k.0.step, ap (λ r. r.address) k.2, subst (IsAtStart k.0.step) (sym (ap role_of k.2)) (each_start file V k.0 k.1)))
     | inr w ↦ inr w
   ]
 
@@ -158,7 +166,8 @@ module _ (file : List ℕ) (V : List Reference) (s : Survey file V) where
           f ∙ ap Some (one_at_key (λ t. t.address) V s.ascending q r h.0 i (a ∙ sym e))
 
   -- a visit at one step is of a start
-  of_start : (r : Reference) (k : ℕ) → IsIn r V → r.address ≡ k ∷ [] → (l : Link Way) × IsIn l (starts file V) × (r ≡ record { address = l.step ∷ []; page = l.page; role = l.role })
+  of_start : (r : Reference) (k : ℕ) → IsIn r V → r.address ≡ k ∷ [] → (l : Link Way) × IsIn l (starts file V)
+      × (r ≡ record { address = l.step ∷ []; page = l.page; role = l.role })
   of_start r k i e = elim ((s.exact r).0 i).0 [
     | inl j ↦ named_at-from [] (starts file V) r j
     | inr w ↦ (let u : Reference = w.0 in

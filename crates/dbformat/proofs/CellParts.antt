@@ -44,7 +44,8 @@ cell_fits InteriorTable v offset c e =
     let f = a.2 in
     by_eq _ c f refl (_, refl) (_, refl)
   where
-    by_eq : (d c : Cell) → Some d ≡ Some c → d.overflow ≡ None → ((q : ℕ) × (d.left ≡ Some q)) → ((k : ℤ) × (d.key ≡ Some k)) → (c.overflow ≡ None) × ((q : ℕ) × (c.left ≡ Some q)) × ((k : ℤ) × (c.key ≡ Some k))
+    by_eq : (d c : Cell) → Some d ≡ Some c → d.overflow ≡ None → ((q : ℕ) × (d.left ≡ Some q)) → ((k : ℤ) × (d.key ≡ Some k)) → (c.overflow ≡ None)
+        × ((q : ℕ) × (c.left ≡ Some q)) × ((k : ℤ) × (c.key ≡ Some k))
     by_eq d c e x y z = let same : d ≡ c = cc in subst (λ c. (c.overflow ≡ None) × ((q : ℕ) × (c.left ≡ Some q)) × ((k : ℤ) × (c.key ≡ Some k))) same (x, y, z)
 cell_fits LeafIndex v offset c e =
     let a = then_some (varint (bytes_from v offset)) _ c e in
@@ -64,7 +65,8 @@ at_offset v i c e = by_case (nat_le (content_start v.number v.bytes) (cell_point
     by_option None f e = cc
     by_option (Some d) f e = let same : d ≡ c = cc in (cell_pointer v i, f ∙ ap (λ d. Some d) same)
 
-    by_case : (b : Bool) → cond b (ok_or (cell_at v.kind v (cell_pointer v i)) Unreadable) (Err Offset) ≡ Ok c → (offset : ℕ) × (cell_at v.kind v offset ≡ Some c)
+    by_case : (b : Bool) → cond b (ok_or (cell_at v.kind v (cell_pointer v i)) Unreadable) (Err Offset) ≡ Ok c → (offset : ℕ)
+        × (cell_at v.kind v offset ≡ Some c)
     by_case true e = by_option (cell_at v.kind v (cell_pointer v i)) refl e
     by_case false e = cc
 

@@ -1,5 +1,6 @@
 -- How much of a payload is in the cell of a table leaf.
-use Rattle.std.proofs.Common.{arith, ◌≡◌, ℕ, ◌+◌, ◌-◌, ◌<◌, ◌≤◌, Bool, true, false, cond, ◌&&◌, Option, Some, None, Ok, Err, List, length, take, drop, refl, sym, ap, subst, ◌∙◌, ℤ}
+use Rattle.std.proofs.Common.{arith, ◌≡◌, ℕ, ◌+◌, ◌-◌, ◌<◌, ◌≤◌, Bool, true, false, cond, ◌&&◌, Option, Some, None, Ok, Err, List, length, take, drop, refl}
+use Rattle.std.proofs.Common.{sym, ap, subst, ◌∙◌, ℤ}
 use Rattle.std.specs.Prelude.{nat_le, nat_lt}
 use Rattle.std.proofs.lemmas.List.{length-take, length-drop}
 use Rattle.std.proofs.lemmas.Bool.{and_parts}
@@ -47,7 +48,8 @@ local_within usable size wide = by_most (nat_le size (usable - 35)) refl
     above : nat_le size (usable - 35) ≡ false → usable - 35 < size
     above e = grind (arith, nat_tests)
 
-    by_most : (b : Bool) → nat_le size (usable - 35) ≡ b → cond b size (cond (nat_le (even_local usable size) (usable - 35)) (even_local usable size) (least_local usable)) ≤ size
+    by_most : (b : Bool) → nat_le size (usable - 35) ≡ b
+        → cond b size (cond (nat_le (even_local usable size) (usable - 35)) (even_local usable size) (least_local usable)) ≤ size
     by_most true e = omega arith
     by_most false e = let a = above e in let s = least_small in by_even (nat_le (even_local usable size) (usable - 35)) (omega arith)
 
@@ -60,7 +62,8 @@ payload_sized v offset before size left key c wide long e =
     here : ℕ
     here = local_len TableLeaf v.usable size
 
-    sized : (d : Cell) → d.size ≡ size → d.local ≡ take here (drop (offset + before) v.bytes) → (d.overflow ≡ cond (nat_lt here size) (Some (u32_at (offset + before + here) v.bytes)) None)
+    sized : (d : Cell) → d.size ≡ size → d.local ≡ take here (drop (offset + before) v.bytes)
+        → (d.overflow ≡ cond (nat_lt here size) (Some (u32_at (offset + before + here) v.bytes)) None)
         → nat_le (offset + (before + here + cond (nat_lt here size) 4 0)) v.usable ≡ true → IsSized d
     sized d s l o fits =
         let w = local_within v.usable size wide in
@@ -74,15 +77,19 @@ payload_sized v offset before size left key c wide long e =
         fits_in x f = grind (arith, nat_tests)
 
         length_is : (d : Cell) → d.local ≡ take here (drop (offset + before) v.bytes) → offset + before + here ≤ length v.bytes → length d.local ≡ here
-        length_is d l h = ap length l ∙ (let a = length-take here (drop (offset + before) v.bytes) in let b = length-drop (offset + before) v.bytes in omega arith)
+        length_is d l h = ap length l ∙ (let a = length-take here (drop (offset + before) v.bytes) in let b =
+            length-drop (offset + before) v.bytes in omega arith)
 
         all : (b : Bool) → nat_lt here size ≡ b → cond b (Some (u32_at (offset + before + here) v.bytes)) None ≡ None → here ≤ size → here ≡ size
         all true f g h = cc
         all false f g h = grind (arith, nat_tests)
 
-    by_case : (b : Bool) (d : Cell) → cond b (Some d) None ≡ Some c → (nat_le size most_payload && nat_le (offset + (before + here + cond (nat_lt here size) 4 0)) v.usable) ≡ b
-        → d.size ≡ size → d.local ≡ take here (drop (offset + before) v.bytes) → (d.overflow ≡ cond (nat_lt here size) (Some (u32_at (offset + before + here) v.bytes)) None) → IsSized c
-    by_case true d e f s l o = let same : d ≡ c = cc in subst IsSized same (sized d s l o (and_parts (nat_le size most_payload) (nat_le (offset + (before + here + cond (nat_lt here size) 4 0)) v.usable) f).1)
+    by_case : (b : Bool) (d : Cell) → cond b (Some d) None ≡ Some c
+        → (nat_le size most_payload && nat_le (offset + (before + here + cond (nat_lt here size) 4 0)) v.usable) ≡ b
+        → d.size ≡ size → d.local ≡ take here (drop (offset + before) v.bytes)
+        → (d.overflow ≡ cond (nat_lt here size) (Some (u32_at (offset + before + here) v.bytes)) None) → IsSized c
+    by_case true d e f s l o = let same : d ≡ c = cc in subst IsSized same
+        (sized d s l o (and_parts (nat_le size most_payload) (nat_le (offset + (before + here + cond (nat_lt here size) 4 0)) v.usable) f).1)
     by_case false d e f s l o = cc
 
 cell_sized : (v : View) (offset : ℕ) (c : Cell) → 480 ≤ v.usable → v.usable ≤ length v.bytes → cell_at LeafTable v offset ≡ Some c → IsSized c
@@ -96,8 +103,10 @@ view_parts : (p usable : ℕ) (page : List ℕ) (o : Option PageKind) (v : View)
 view_parts p usable page None v e = cc
 view_parts p usable page (Some kind) v e = by_case (nat_le (pointers_end p kind page) (content_start p page) && nat_le (content_start p page) usable) e
   where
-    by_case : (b : Bool) → cond b (Ok (record { number = p; kind = kind; usable = usable; bytes = page })) (Err ContentStart) ≡ Ok v → (v.usable ≡ usable) × (v.bytes ≡ page)
-    by_case true e = let same : record { number = p; kind = kind; usable = usable; bytes = page } ≡ v = cc in (sym (ap (λ v. v.usable) same), sym (ap (λ v. v.bytes) same))
+    by_case : (b : Bool) → cond b (Ok (record { number = p; kind = kind; usable = usable; bytes = page })) (Err ContentStart) ≡ Ok v → (v.usable ≡ usable)
+        × (v.bytes ≡ page)
+    by_case true e = let same : record { number = p; kind = kind; usable = usable; bytes = page } ≡ v =
+        cc in (sym (ap (λ v. v.usable) same), sym (ap (λ v. v.bytes) same))
     by_case false e = cc
 
 table_leaf : (k : PageKind) → is_interior k ≡ false → tree_of k ≡ tree.Table → k ≡ LeafTable
@@ -106,7 +115,8 @@ table_leaf InteriorTable i e = cc
 table_leaf LeafIndex i e = cc
 table_leaf LeafTable i e = refl
 
-pub leaf_sized : {file : List ℕ} {kind : TreeKind} {is_child : Bool} {p : ℕ} {v : View} → Terms.IsFaultlessPage file kind is_child p v → kind ≡ tree.Table → is_interior v.kind ≡ false
+pub leaf_sized : {file : List ℕ} {kind : TreeKind} {is_child : Bool} {p : ℕ} {v : View} → Terms.IsFaultlessPage file kind is_child p v → kind ≡ tree.Table
+    → is_interior v.kind ≡ false
     → 480 ≤ usable_size file → usable_size file ≤ length (page_bytes file p) → Each IsSized (cells_of v)
 unfolding view
 leaf_sized {file} {kind} {is_child} {p} {v} w table leaf wide long c i =

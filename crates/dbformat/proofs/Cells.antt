@@ -34,9 +34,11 @@ module _ (f : ℕ → Option Cell) where
 
   numbers_rise : (k n : ℕ) → RiseFrom k (filter_map numbered (range_with_len k n))
   numbers_rise k zero = tt
-  numbers_rise k (suc n) = by_case (f k) (RiseFrom-lower (suc k) (k + 1) (filter_map numbered (range_with_len (k + 1) n)) (omega arith) (numbers_rise (k + 1) n))
+  numbers_rise k (suc n) = by_case (f k) (RiseFrom-lower (suc k) (k + 1) (filter_map numbered (range_with_len (k + 1) n)) (omega arith)
+      (numbers_rise (k + 1) n))
     where
-      by_case : (o : Option Cell) → RiseFrom (suc k) (filter_map numbered (range_with_len (k + 1) n)) → RiseFrom k (cons_option (option_map (λ c. (k, c)) o) (filter_map numbered (range_with_len (k + 1) n)))
+      by_case : (o : Option Cell) → RiseFrom (suc k) (filter_map numbered (range_with_len (k + 1) n))
+          → RiseFrom k (cons_option (option_map (λ c. (k, c)) o) (filter_map numbered (range_with_len (k + 1) n)))
       by_case None r = RiseFrom-lower k (suc k) (filter_map numbered (range_with_len (k + 1) n)) (omega arith) r
       by_case (Some c) r = (omega arith, r)
 

@@ -1,5 +1,6 @@
 -- The list of the codes, and a table with an entry for each of them.
-use Rattle.std.proofs.Common.{◌≡◌, ℕ, zero, suc, ◌+◌, ◌<◌, Bool, true, false, List, [], ◌∷◌, length, map, set, Option, Some, refl, sym, ap, ap₂, ◌∙◌, cond, arith}
+use Rattle.std.proofs.Common.{◌≡◌, ℕ, zero, suc, ◌+◌, ◌<◌, Bool, true, false, List, [], ◌∷◌, length, map, set, Option, Some, refl, sym, ap, ap₂, ◌∙◌, cond}
+use Rattle.std.proofs.Common.{arith}
 use Rattle.std.specs.Prelude.{slice_get, option_map, ◌==◌}
 use Rattle.std.specs.List.{range_with_len}
 use Rattle.std.specs.Str.{bytes_eq}
@@ -62,7 +63,8 @@ module _ {X : Type 0} (f g : FaultCode → X) (code : FaultCode) (same : (c : Fa
   past [] a e l = refl
   past (c ∷ cs) a e l =
       let h : code_index c ≡ a = cc in
-      ap₂ (λ x xs. x ∷ xs) (other c a h (λ i. omega arith)) (past cs (a + 1) (let t : map code_index cs ≡ range_with_len (a + 1) (length cs) = cc in t) (omega arith))
+      ap₂ (λ x xs. x ∷ xs) (other c a h (λ i. omega arith))
+      (past cs (a + 1) (let t : map code_index cs ≡ range_with_len (a + 1) (length cs) = cc in t) (omega arith))
 
   from : (cs : List FaultCode) (a j : ℕ) → map code_index cs ≡ range_with_len a (length cs) → code_index code ≡ a + j → slice_get cs j ≡ Some code
       → set (map f cs) j (g code) ≡ map g cs

@@ -24,8 +24,13 @@ module _ (file : List ℕ) (V : List Reference) where
       let a = both_empty (header_faults file (length file) ++ walk_faults file V) (end_faults file V) e in
       let b = both_empty (header_faults file (length file)) (walk_faults file V) a.0 in
       let c = both_empty (sum_faults file V) (flat_map (page_end_faults file V) (page_numbers (geometry file))) a.1 in
-      let each = none_of (page_end_faults file V) (page_numbers (geometry file)) c.1 in
-      (b.0, b.1, c.0, (λ p i. (both_empty (use_fault file V p) (late_root_fault file V p) (each p i)).0), (λ p i. (both_empty (use_fault file V p) (late_root_fault file V p) (each p i)).1))
+      let each = none_of (page_end_faults file V) (page_numbers (geometry file)) c.1 in (
+        b.0,
+        b.1,
+        c.0,
+        (λ p i. (both_empty (use_fault file V p) (late_root_fault file V p) (each p i)).0),
+        (λ p i. (both_empty (use_fault file V p) (late_root_fault file V p) (each p i)).1),
+      )
 
   pub none_by_parts : header_faults file (length file) ≡ [] → walk_faults file V ≡ [] → sum_faults file V ≡ [] → AllUsed → NoneLate → faults file V ≡ []
   unfolding faults

@@ -3,7 +3,8 @@ use Rattle.std.proofs.Common.{◌≡◌, ℕ, zero, suc, ◌+◌, ◌-◌, ◌*�
 use Rattle.std.specs.Prelude.{nat_le}
 use Rattle.std.proofs.lemmas.Bool.Decides.{nat_tests}
 use Rattle.dbformat.specs.Head.{View, first_freeblock, content_start}
-use Rattle.dbformat.specs.Coverage.{Span, AreFreeblocksAll, freeblocks, freeblocks_from, freeblock_at, next_freeblock, is_good_freeblock, offset_after, end_after}
+use Rattle.dbformat.specs.Coverage.{Span, AreFreeblocksAll, freeblocks, freeblocks_from, freeblock_at, next_freeblock, is_good_freeblock, offset_after}
+use Rattle.dbformat.specs.Coverage.{end_after}
 
 -- what a good freeblock is
 pub record IsGood (v : View) (end offset : ℕ) : Type 0 where
@@ -23,7 +24,8 @@ five false b c d e h = cc
 
 pub good_parts : (v : View) (end offset : ℕ) → is_good_freeblock v end offset ≡ true → IsGood v end offset
 good_parts v end offset h =
-    let parts = five (nat_le (content_start v.number v.bytes) offset) (nat_le offset (v.usable - 4)) (nat_le 4 (freeblock_at v offset).len) (nat_le (offset + (freeblock_at v offset).len) v.usable) (nat_le end offset) h in
+    let parts = five (nat_le (content_start v.number v.bytes) offset) (nat_le offset (v.usable - 4)) (nat_le 4 (freeblock_at v offset).len)
+    (nat_le (offset + (freeblock_at v offset).len) v.usable) (nat_le end offset) h in
     record {
       from_start = grind (arith, nat_tests);
       has_four = grind (arith, nat_tests);
@@ -79,7 +81,8 @@ enough (suc n) v end offset past = by_case (is_good_freeblock v end offset) refl
   where
     by_case : (b : Bool) → is_good_freeblock v end offset ≡ b
         → (v.usable ≤ (offset + (freeblock_at v offset).len) + 4 * n + 3
-        → IsOver v (offset + (freeblock_at v offset).len) (next_freeblock v offset) (freeblocks_from n v (offset + (freeblock_at v offset).len) (next_freeblock v offset)))
+        → IsOver v (offset + (freeblock_at v offset).len) (next_freeblock v offset)
+        (freeblocks_from n v (offset + (freeblock_at v offset).len) (next_freeblock v offset)))
         → IsOver v end offset (freeblocks_from (suc n) v end offset)
     by_case true h rest = let g = good_ends v end offset h in rw (from_good n v end offset h) (rest (omega arith))
     by_case false h rest = rw (from_bad (suc n) v end offset h) h

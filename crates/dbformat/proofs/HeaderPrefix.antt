@@ -1,5 +1,6 @@
 -- What the header says rests on the file's first 100 bytes alone.
-use Rattle.std.proofs.Common.{◌≡◌, ℕ, suc, ◌+◌, ◌-◌, ◌<◌, ◌≤◌, List, [], ◌∷◌, ◌++◌, take, drop, slice_index, refl, ap, ap₂, ◌∙◌, sym, arith, not, pos, Bool, cond, true, false}
+use Rattle.std.proofs.Common.{◌≡◌, ℕ, suc, ◌+◌, ◌-◌, ◌<◌, ◌≤◌, List, [], ◌∷◌, ◌++◌, take, drop, slice_index, refl, ap, ap₂, ◌∙◌, sym, arith, not, pos, Bool}
+use Rattle.std.proofs.Common.{cond, true, false}
 use Rattle.std.specs.Prelude.{◌==◌}
 use Rattle.std.specs.Prelude.{IfSome, find, Some, None, option_map, option_to_list}
 use Rattle.std.specs.List.{range_with_len}
@@ -7,7 +8,9 @@ use Rattle.std.proofs.lemmas.List.{drop-take, get_or-take, take-take}
 use Rattle.byteorder.specs.Endian.{big_number}
 use Rattle.byteorder.specs.Numbers.{big_from-take}
 use Rattle.dbformat.specs.Numbers.{u16_at}
-use Rattle.dbformat.specs.Header.{page_size, reserved_bytes, usable_size, change_counter, stated_pages, first_trunk, freelist_count, schema_format, greatest_root, encoding, encoding_number, incremental_vacuum, version_valid_for, has_pointer_map, is_size_valid, whole_pages, page_count}
+use Rattle.dbformat.specs.Header.{page_size, reserved_bytes, usable_size, change_counter, stated_pages, first_trunk, freelist_count, schema_format}
+use Rattle.dbformat.specs.Header.{greatest_root, encoding, encoding_number, incremental_vacuum, version_valid_for, has_pointer_map, is_size_valid, whole_pages}
+use Rattle.dbformat.specs.Header.{page_count}
 use Rattle.dbformat.specs.FixedPages.{most_pages, geometry_of}
 use Rattle.dbformat.specs.File.{refusal_of}
 use Rattle.dbformat.specs.FixedPages.{lock_page, is_map_position}
@@ -170,18 +173,24 @@ size_faults valid whole stated vacuum mapped = all_true (
     (valid && nat_lt whole stated, fault H06 1 0 (pos stated))
     ∷ (not (vacuum == 0) && not mapped, fault H07 1 0 (pos vacuum)) ∷ [])
 
-format_within : (file : List ℕ) → format_faults (schema_format (take 100 file)) (encoding_number (take 100 file)) ≡ format_faults (schema_format file) (encoding_number file)
+format_within : (file : List ℕ) → format_faults (schema_format (take 100 file)) (encoding_number (take 100 file))
+    ≡ format_faults (schema_format file) (encoding_number file)
 format_within file = ap₂ format_faults (schema_format_within file) (encoding_number_within file)
 
-size_within : (file : List ℕ) (len : ℕ) → size_faults (is_size_valid (take 100 file)) (whole_pages (take 100 file) len) (stated_pages (take 100 file)) (incremental_vacuum (take 100 file)) (has_pointer_map (take 100 file))
+size_within : (file : List ℕ) (len : ℕ) → size_faults (is_size_valid (take 100 file)) (whole_pages (take 100 file) len) (stated_pages (take 100 file))
+    (incremental_vacuum (take 100 file)) (has_pointer_map (take 100 file))
     ≡ size_faults (is_size_valid file) (whole_pages file len) (stated_pages file) (incremental_vacuum file) (has_pointer_map file)
 size_within file len =
-    ap (λ x. size_faults x (whole_pages (take 100 file) len) (stated_pages (take 100 file)) (incremental_vacuum (take 100 file)) (has_pointer_map (take 100 file))) (is_size_valid_within file)
-    ∙ ap₂ (λ x y. size_faults (is_size_valid file) x y (incremental_vacuum (take 100 file)) (has_pointer_map (take 100 file))) (whole_pages_within file len) (stated_pages_within file)
-    ∙ ap₂ (λ x y. size_faults (is_size_valid file) (whole_pages file len) (stated_pages file) x y) (incremental_vacuum_within file) (has_pointer_map_within file)
+    ap (λ x. size_faults x (whole_pages (take 100 file) len) (stated_pages (take 100 file)) (incremental_vacuum (take 100 file))
+    (has_pointer_map (take 100 file))) (is_size_valid_within file)
+    ∙ ap₂ (λ x y. size_faults (is_size_valid file) x y (incremental_vacuum (take 100 file)) (has_pointer_map (take 100 file))) (whole_pages_within file len)
+    (stated_pages_within file)
+    ∙ ap₂ (λ x y. size_faults (is_size_valid file) (whole_pages file len) (stated_pages file) x y) (incremental_vacuum_within file)
+    (has_pointer_map_within file)
 
 pub header_faults_within : (file : List ℕ) (len : ℕ) → header_faults (take 100 file) len ≡ header_faults file len
 unfolding header_faults
 header_faults_within file len =
     let joined : List Fault → List Fault → List Fault = λ xs ys. xs ++ ys in
-    ap₂ joined (ap₂ joined (ap₂ joined (ap₂ joined (version_within file) (fraction_within file)) (format_within file)) (expansion_within file)) (size_within file len)
+    ap₂ joined (ap₂ joined (ap₂ joined (ap₂ joined (version_within file) (fraction_within file)) (format_within file)) (expansion_within file))
+    (size_within file len)

@@ -1,5 +1,6 @@
 -- A tree page without a fault: all its cells are readable, and have the parts that its kind gives them.
-use Rattle.std.proofs.Common.{◌≡◌, ℕ, zero, suc, ◌+◌, inl, inr, Bool, true, false, cond, List, [], ◌∷◌, ◌++◌, length, Option, Some, None, Result, Ok, Err, refl, sym, subst, ap}
+use Rattle.std.proofs.Common.{◌≡◌, ℕ, zero, suc, ◌+◌, inl, inr, Bool, true, false, cond, List, [], ◌∷◌, ◌++◌, length, Option, Some, None, Result, Ok, Err, refl}
+use Rattle.std.proofs.Common.{sym, subst, ap}
 use Rattle.std.specs.Prelude.{option_map, ◌==◌}
 use Rattle.std.specs.List.{range_with_len, enumerate_from, cons_option}
 use Rattle.std.specs.Result.{result_ok}
@@ -7,7 +8,8 @@ use Rattle.dbformat.specs.Header.{usable_size}
 use Rattle.dbformat.specs.File.{page_bytes}
 use Rattle.dbformat.specs.Head.{right_number, is_interior, View, view, if_of_tree, is_same_tree, tree_of}
 use Rattle.dbformat.specs.Cell.{right_child, Cell, cell, cells, count}
-use Rattle.dbformat.specs.PageFaults.{tree_page_faults, faults_of_view, inner_faults, cell_fault, cell_faults, fragment_fault, freeblock_fault, coverage_fault, empty_fault}
+use Rattle.dbformat.specs.PageFaults.{tree_page_faults, faults_of_view, inner_faults, cell_fault, cell_faults, fragment_fault, freeblock_fault, coverage_fault}
+use Rattle.dbformat.specs.PageFaults.{empty_fault}
 use Rattle.dbformat.specs.Terms.{IsFaultlessPage, cells_of}
 use Rattle.dbformat.specs.declared.CellFault.{CellFault}
 use Rattle.dbformat.specs.declared.CellFault.TheVariants.{Offset, Unreadable}
@@ -18,7 +20,8 @@ use Rattle.dbsurvey.proofs.Each.{Each, Each-none, Each-cons}
 use Rattle.dbsurvey.proofs.Lists.{both_empty, none_of}
 
 -- the view of an undamaged page is of the tree's kind
-undamaged_parts : (kind : TreeKind) (r : Result View HeadFault) (v : View) → if_of_tree kind r ≡ Some v → (r ≡ Ok v) × (is_same_tree (tree_of v.kind) kind ≡ true)
+undamaged_parts : (kind : TreeKind) (r : Result View HeadFault) (v : View) → if_of_tree kind r ≡ Some v → (r ≡ Ok v)
+    × (is_same_tree (tree_of v.kind) kind ≡ true)
 undamaged_parts kind (Err e) v h = cc
 undamaged_parts kind (Ok w) v h = let k = by_case (is_same_tree (tree_of w.kind) kind) refl h in (ap (λ u. Ok u) k.0, k.1)
   where
@@ -65,10 +68,12 @@ readable v i e = by_result (cell v i) refl
     by_result (Err Offset) f = let g = rw f at e in cc
     by_result (Err Unreadable) f = let g = rw f at e in cc
 
-inner_none : (kind : TreeKind) (is_child : Bool) (p : ℕ) (page : List ℕ) (v : View) → is_same_tree (tree_of v.kind) kind ≡ true → faults_of_view kind is_child p page (Ok v) ≡ [] → cell_faults v ≡ []
+inner_none : (kind : TreeKind) (is_child : Bool) (p : ℕ) (page : List ℕ) (v : View) → is_same_tree (tree_of v.kind) kind ≡ true
+    → faults_of_view kind is_child p page (Ok v) ≡ [] → cell_faults v ≡ []
 inner_none kind is_child p page v same e =
     let inner : inner_faults v is_child ≡ [] = rw same at e in
-    let a = both_empty (fragment_fault v ++ cell_faults v ++ freeblock_fault v ++ coverage_fault v (length (cell_faults v ++ freeblock_fault v) == 0)) (empty_fault v is_child) inner in
+    let a = both_empty (fragment_fault v ++ cell_faults v ++ freeblock_fault v ++ coverage_fault v (length (cell_faults v ++ freeblock_fault v) == 0))
+    (empty_fault v is_child) inner in
     let b = both_empty (fragment_fault v ++ cell_faults v ++ freeblock_fault v) (coverage_fault v (length (cell_faults v ++ freeblock_fault v) == 0)) a.0 in
     let c = both_empty (fragment_fault v ++ cell_faults v) (freeblock_fault v) b.0 in
     (both_empty (fragment_fault v) (cell_faults v) c.0).1
@@ -77,8 +82,10 @@ pub has_all_cells : {file : List ℕ} {kind : TreeKind} {is_child : Bool} {p : �
 unfolding tree_page_faults cells
 has_all_cells {file} {kind} {is_child} {p} {v} w =
     let parts = undamaged_parts kind (view p (usable_size file) (page_bytes file p)) v w.undamaged in
-    let none : cell_faults v ≡ [] = inner_none kind is_child p (page_bytes file p) v parts.1 (subst (λ r. faults_of_view kind is_child p (page_bytes file p) r ≡ []) parts.0 w.faultless) in
-    let all = all_there (λ i. result_ok (cell v i)) 0 (count v) (λ i j. let k = readable v i (none_of (cell_fault v) (range_with_len 0 (count v)) none i j) in (k.0, ap result_ok k.1)) in
+    let none : cell_faults v ≡ [] = inner_none kind is_child p (page_bytes file p) v parts.1
+    (subst (λ r. faults_of_view kind is_child p (page_bytes file p) r ≡ []) parts.0 w.faultless) in
+    let all = all_there (λ i. result_ok (cell v i)) 0 (count v)
+    (λ i j. let k = readable v i (none_of (cell_fault v) (range_with_len 0 (count v)) none i j) in (k.0, ap result_ok k.1)) in
     record {
       view_is = parts.0;
       same_kind = parts.1;

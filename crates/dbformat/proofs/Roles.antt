@@ -14,7 +14,9 @@ use Rattle.dbformat.specs.Payload.{overflow_next}
 use Rattle.dbformat.specs.Head.{View, undamaged}
 use Rattle.dbformat.specs.Cell.{Cell, cells, overflow_size, right_child, count}
 use Rattle.dbformat.specs.Address.{overflow_step, child_step}
-use Rattle.dbformat.specs.Reference.{Role, root, child, first_overflow, later_overflow, trunk, free_leaf, Way, Reference, role_of, is_root, is_on_freelist, link, cell_links, right_links, page_links, overflow_links, trunk_links, role_links, leaf_link, next_trunk, trunk_next, leaf_count, most_leaves, free_leaves}
+use Rattle.dbformat.specs.Reference.{Role, root, child, first_overflow, later_overflow, trunk, free_leaf, Way, Reference, role_of, is_root, is_on_freelist}
+use Rattle.dbformat.specs.Reference.{link, cell_links, right_links, page_links, overflow_links, trunk_links, role_links, leaf_link, next_trunk, trunk_next}
+use Rattle.dbformat.specs.Reference.{leaf_count, most_leaves, free_leaves}
 use Rattle.dbformat.specs.Survey.{rules_of}
 use Rattle.dbformat.specs.declared.TreeKind.{TreeKind}
 use Rattle.dbsurvey.proofs.Lists.{filter-none}
@@ -41,7 +43,8 @@ no_root_on free_leaf e = refl
 abbrev LeadsOn : Bool → Link Way → Type 0
 LeadsOn on l = (is_root l.role.role ≡ false) × (is_on_freelist l.role.role ≡ on)
 
-at_option : (on : Bool) (p step item : ℕ) (role : Role) (o : Option ℕ) (l : Link Way) → LeadsOn on (link p step item role 0) → IsIn l (option_to_list (option_map (link p step item role) o)) → LeadsOn on l
+at_option : (on : Bool) (p step item : ℕ) (role : Role) (o : Option ℕ) (l : Link Way) → LeadsOn on (link p step item role 0)
+    → IsIn l (option_to_list (option_map (link p step item role) o)) → LeadsOn on l
 at_option on p step item role None l h i = absurd i
 at_option on p step item role (Some q) l h (inl e) = subst (LeadsOn on) (sym e) h
 at_option on p step item role (Some q) l h (inr i) = absurd i
@@ -78,7 +81,8 @@ of_next p page item l h = by_case (trunk_next page == 0) h
 of_trunk : (p usable : ℕ) (page : List ℕ) (l : Link Way) → IsIn l (trunk_links p usable page) → LeadsOn true l
 of_trunk p usable page l h = by_case (nat_le (leaf_count page) (most_leaves usable)) h
   where
-    by_case : (b : Bool) → IsIn l (cond b (map (leaf_link p) (enumerate_from 0 (free_leaves page)) ++ next_trunk p page (leaf_count page)) (next_trunk p page 0)) → LeadsOn true l
+    by_case : (b : Bool) → IsIn l (cond b (map (leaf_link p) (enumerate_from 0 (free_leaves page)) ++ next_trunk p page (leaf_count page))
+        (next_trunk p page 0)) → LeadsOn true l
     by_case true i = elim (IsIn-cases l (map (leaf_link p) (enumerate_from 0 (free_leaves page))) (next_trunk p page (leaf_count page)) i) [
       | inl j ↦ (let m = IsIn-from_map (leaf_link p) (enumerate_from 0 (free_leaves page)) l j in subst (LeadsOn true) (sym m.2) (refl, refl))
       | inr j ↦ of_next p page (leaf_count page) l j
@@ -94,7 +98,8 @@ of_role trunk p usable page l h = of_trunk p usable page l h
 of_role free_leaf p usable page l h = absurd h
 
 module _ (file : List ℕ) where
-  pub child_leads : (t u : Reference) → IsIn u (children (rules_of file) t) → (is_root (role_of u) ≡ false) × (is_on_freelist (role_of u) ≡ is_on_freelist (role_of t))
+  pub child_leads : (t u : Reference) → IsIn u (children (rules_of file) t) → (is_root (role_of u) ≡ false)
+      × (is_on_freelist (role_of u) ≡ is_on_freelist (role_of t))
   unfolding rules_of
   child_leads t u i =
       let m = named_at-from t.address (role_links (role_of t) t.page (usable_size file) (page_bytes file t.page)) u i in
@@ -102,7 +107,8 @@ module _ (file : List ℕ) where
       (ap (λ u. is_root (role_of u)) m.2 ∙ h.0, ap (λ u. is_on_freelist (role_of u)) m.2 ∙ h.1)
 
   -- all that candidates lead to is on the freelist, or off it, as they are
-  pub all_as : (on : Bool) {cs X : List Reference} → IsWhole (rules_of file) cs X → ((c : Reference) → IsIn c cs → is_on_freelist (role_of c) ≡ on) → (t : Reference) → IsIn t X → is_on_freelist (role_of t) ≡ on
+  pub all_as : (on : Bool) {cs X : List Reference} → IsWhole (rules_of file) cs X → ((c : Reference) → IsIn c cs → is_on_freelist (role_of c) ≡ on)
+      → (t : Reference) → IsIn t X → is_on_freelist (role_of t) ≡ on
   all_as on nothing h t i = absurd i
   all_as on (all_of {c = c} {cs = cs} {V = A} {U = B} m a b) h t (inl e) = ap (λ t. is_on_freelist (role_of t)) e ∙ h c (inl refl)
   all_as on (all_of {c = c} {cs = cs} {V = A} {U = B} m a b) h t (inr j) = elim (IsIn-cases t A B j) [
@@ -111,7 +117,8 @@ module _ (file : List ℕ) where
   ]
 
   -- all that candidates lead to which are no roots is none
-  no_root : {cs X : List Reference} → IsWhole (rules_of file) cs X → ((c : Reference) → IsIn c cs → is_root (role_of c) ≡ false) → (t : Reference) → IsIn t X → is_root (role_of t) ≡ false
+  no_root : {cs X : List Reference} → IsWhole (rules_of file) cs X → ((c : Reference) → IsIn c cs → is_root (role_of c) ≡ false) → (t : Reference) → IsIn t X
+      → is_root (role_of t) ≡ false
   no_root nothing h t i = absurd i
   no_root (all_of {c = c} {cs = cs} {V = A} {U = B} m a b) h t (inl e) = ap (λ t. is_root (role_of t)) e ∙ h c (inl refl)
   no_root (all_of {c = c} {cs = cs} {V = A} {U = B} m a b) h t (inr j) = elim (IsIn-cases t A B j) [
@@ -120,7 +127,8 @@ module _ (file : List ℕ) where
   ]
 
   -- below a root it is the only one
-  pub one_root : (c : Reference) {ds X : List Reference} → ds ≡ c ∷ [] → is_root (role_of c) ≡ true → IsWhole (rules_of file) ds X → filter (λ r. is_root (role_of r)) X ≡ c ∷ []
+  pub one_root : (c : Reference) {ds X : List Reference} → ds ≡ c ∷ [] → is_root (role_of c) ≡ true → IsWhole (rules_of file) ds X
+      → filter (λ r. is_root (role_of r)) X ≡ c ∷ []
   one_root c e h nothing = cc
   one_root c e h (all_of {c = d} {cs = cs} {V = A} {U = B} m a b) =
       let f : d ≡ c = cc in
@@ -133,7 +141,8 @@ module _ (file : List ℕ) where
       ∙ ap (λ d. d ∷ []) f
 
   -- and below other starts there is none
-  pub no_roots : {cs X : List Reference} → IsWhole (rules_of file) cs X → ((c : Reference) → IsIn c cs → is_root (role_of c) ≡ false) → filter (λ r. is_root (role_of r)) X ≡ []
+  pub no_roots : {cs X : List Reference} → IsWhole (rules_of file) cs X → ((c : Reference) → IsIn c cs → is_root (role_of c) ≡ false)
+      → filter (λ r. is_root (role_of r)) X ≡ []
   no_roots {cs} {X} w h = filter-none (λ r. is_root (role_of r)) X (λ t i. no_root w h t i)
 
 -- counts

@@ -1,5 +1,6 @@
 -- Each row of the schema has a place of its own. Few rows with a root come before any of them.
-use Rattle.std.proofs.Common.{◌≡◌, ℕ, ◌+◌, ◌<◌, ◌≤◌, ◌⊎◌, inl, inr, Bool, true, false, cond, List, [], ◌∷◌, ◌++◌, map, length, Option, Some, None, refl, sym, ap, subst, ◌∙◌, arith}
+use Rattle.std.proofs.Common.{◌≡◌, ℕ, ◌+◌, ◌<◌, ◌≤◌, ◌⊎◌, inl, inr, Bool, true, false, cond, List, [], ◌∷◌, ◌++◌, map, length, Option, Some, None, refl, sym}
+use Rattle.std.proofs.Common.{ap, subst, ◌∙◌, arith}
 use Rattle.std.specs.Prelude.{filter, ◌==◌}
 use Rattle.std.specs.List.{cons_option}
 use Rattle.dbsurvey.specs.Address.{IsIn, EachPair, Address, IsBefore}
@@ -28,7 +29,8 @@ module _ (file : List ℕ) (V : List Reference) where
       by_kind true v = tt
       by_kind false v = each_map (λ c d. c.place ≡ d.place → ⊥) (schema_cell file V r) (cells v)
           (each_weaker (λ x y. x.0 < y.0) (λ x y. (schema_cell file V r x).place ≡ (schema_cell file V r y).place → ⊥) (cells v)
-          (λ x y l e. let h = (same_front r.address r.address (key_step x.0) (key_step y.0) e).1 in let f : ⊥ = omega arith in f) (rise_pairs 0 (cells v) (cells_rise v)))
+          (λ x y l e. let h = (same_front r.address r.address (key_step x.0) (key_step y.0) e).1 in let f : ⊥ = omega arith in f)
+          (rise_pairs 0 (cells v) (cells_rise v)))
 
       by_start : (b : Bool) (o : Option View) → HaveOwnPlaces (cond b (leaf_rows file V r o) [])
       by_start false o = tt
@@ -50,7 +52,8 @@ module _ (file : List ℕ) (V : List Reference) where
   pub own_places : Survey file V → HaveOwnPlaces (schema file V)
   unfolding schema
   own_places s = each_list (λ c d. c.place ≡ d.place → ⊥) (rows_at file V) V in_page
-      (each_weaker (λ q r. IsBefore q.address r.address) (λ q r. (c d : SchemaCell) → IsIn c (rows_at file V q) → IsIn d (rows_at file V r) → c.place ≡ d.place → ⊥) V
+      (each_weaker (λ q r. IsBefore q.address r.address)
+      (λ q r. (c d : SchemaCell) → IsIn c (rows_at file V q) → IsIn d (rows_at file V r) → c.place ≡ d.place → ⊥) V
       (λ q r l c d i j e. let m = place_of q c i in let n = place_of r d j in
       IsBefore-irreflexive q.address (subst (λ a. IsBefore q.address a) (sym (same_front q.address r.address m.0 n.0 (sym m.1 ∙ e ∙ n.1)).0) l))
       s.ascending)
@@ -64,7 +67,8 @@ abbrev IsRooted : SchemaCell → Type 0
 IsRooted c = (r : SchemaRow) × (rooted c.row ≡ Some r)
 
 -- the last one with a root, if one has
-last_rooted : (S : List SchemaCell) → (count_rooted S ≡ 0) ⊎ ((c : SchemaCell) × IsIn c S × IsRooted c × ((d : SchemaCell) → IsIn d S → IsRooted d → (d.place ≡ c.place) ⊎ IsBefore d.place c.place))
+last_rooted : (S : List SchemaCell) → (count_rooted S ≡ 0)
+    ⊎ ((c : SchemaCell) × IsIn c S × IsRooted c × ((d : SchemaCell) → IsIn d S → IsRooted d → (d.place ≡ c.place) ⊎ IsBefore d.place c.place))
 last_rooted [] = inl refl
 last_rooted (d ∷ S) = by_case (rooted d.row) refl (last_rooted S)
   where
@@ -78,7 +82,8 @@ last_rooted (d ∷ S) = by_case (rooted d.row) refl (last_rooted S)
     zero_none [] e c i h = absurd i
     zero_none (x ∷ S) e c i h = by_row (rooted x.row) refl e i (λ f j. zero_none S f c j h)
       where
-        by_row : (o : Option SchemaRow) → rooted x.row ≡ o → length (cons_option o (rooted_rows S)) ≡ 0 → IsIn c (x ∷ S) → (count_rooted S ≡ 0 → IsIn c S → ⊥) → ⊥
+        by_row : (o : Option SchemaRow) → rooted x.row ≡ o → length (cons_option o (rooted_rows S)) ≡ 0 → IsIn c (x ∷ S) → (count_rooted S ≡ 0 → IsIn c S → ⊥)
+            → ⊥
         by_row None f e (inl k) h' = not_rooted c (ap (λ c. rooted c.row) k ∙ f) h
         by_row None f e (inr j) h' = h' e j
         by_row (Some r) f e i h' = let g : ⊥ = omega arith in g
@@ -143,6 +148,7 @@ pub few_by_place : (S : List SchemaCell) (n : ℕ) → HaveOwnPlaces S
     → ((c : SchemaCell) → IsIn c S → IsRooted c → count_rooted (filter (λ d. is_before d.place c.place) S) < n) → count_rooted S ≤ n
 few_by_place S n own h = by_case (last_rooted S)
   where
-    by_case : (count_rooted S ≡ 0) ⊎ ((c : SchemaCell) × IsIn c S × IsRooted c × ((d : SchemaCell) → IsIn d S → IsRooted d → (d.place ≡ c.place) ⊎ IsBefore d.place c.place)) → count_rooted S ≤ n
+    by_case : (count_rooted S ≡ 0) ⊎ ((c : SchemaCell) × IsIn c S × IsRooted c
+        × ((d : SchemaCell) → IsIn d S → IsRooted d → (d.place ≡ c.place) ⊎ IsBefore d.place c.place)) → count_rooted S ≤ n
     by_case (inl z) = omega arith
     by_case (inr k) = let l = h k.0 k.1 k.2 in let m = all_up_to k.0.place S own k.3 in omega arith

@@ -26,7 +26,8 @@ use Rattle.dbformat.proofs.Roles.{child_leads}
 -- a visited page with a view is one of a tree
 pub kind_of_view : (file : List ℕ) (r : Reference) (v : View) → tree_view file r ≡ Some v → (kind : TreeKind) × (tree_kind (role_of r) ≡ Some kind)
 unfolding tree_view
-kind_of_view file r v e = let h = then_some (tree_kind (role_of r)) (λ kind. undamaged kind r.page (usable_size file) (page_bytes file r.page)) v e in (h.0, h.1)
+kind_of_view file r v e = let h = then_some (tree_kind (role_of r)) (λ kind. undamaged kind r.page (usable_size file) (page_bytes file r.page)) v e in
+    (h.0, h.1)
 
 bounds : (p n : ℕ) → (nat_le 1 p && nat_le p n) ≡ true → (1 ≤ p) × (p < 1 + n)
 bounds p n e = grind (arith, nat_tests)
@@ -48,7 +49,8 @@ module _ (file : List ℕ) (V : List Reference) (s : Survey file V) where
     where
       by_case : (o : Option Reference) → visit_of V r.page ≡ o → visit_of V r.page ≡ Some r
       by_case None e = let f = sym (find-none (λ q. q.page == r.page) V e r i) ∙ eq-eqb r.page r.page refl in cc
-      by_case (Some q) e = let k = find-some (λ q. q.page == r.page) V q e in e ∙ ap Some (one_by (λ r. r.page) V each_once q r k.0 i (eqb-true q.page r.page k.1))
+      by_case (Some q) e = let k = find-some (λ q. q.page == r.page) V q e in e
+          ∙ ap Some (one_by (λ r. r.page) V each_once q r k.0 i (eqb-true q.page r.page k.1))
 
   pub number_of : (r : Reference) → IsIn r V → IsIn r.page (page_numbers (geometry file))
   number_of r i = let b = bounds r.page (geometry file).pages (allowed r i).0 in IsIn-range 1 (geometry file).pages r.page b.0 b.1

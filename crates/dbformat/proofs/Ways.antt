@@ -13,7 +13,9 @@ use Rattle.dbformat.specs.Payload.{overflow_next}
 use Rattle.dbformat.specs.Head.{View, undamaged}
 use Rattle.dbformat.specs.Cell.{Cell, cells, overflow_size, right_child, count}
 use Rattle.dbformat.specs.Address.{overflow_step, child_step}
-use Rattle.dbformat.specs.Reference.{Role, root, child, first_overflow, later_overflow, trunk, free_leaf, Way, Reference, role_of, from_of, link, cell_links, right_links, page_links, overflow_links, trunk_links, role_links, leaf_link, next_trunk, trunk_next, leaf_count, most_leaves, free_leaves}
+use Rattle.dbformat.specs.Reference.{Role, root, child, first_overflow, later_overflow, trunk, free_leaf, Way, Reference, role_of, from_of, link, cell_links}
+use Rattle.dbformat.specs.Reference.{right_links, page_links, overflow_links, trunk_links, role_links, leaf_link, next_trunk, trunk_next, leaf_count}
+use Rattle.dbformat.specs.Reference.{most_leaves, free_leaves}
 use Rattle.dbformat.specs.Survey.{rules_of}
 use Rattle.dbformat.specs.declared.TreeKind.{TreeKind}
 
@@ -57,7 +59,8 @@ of_next p page item l h = by_case (trunk_next page == 0) h
 of_trunk : (p usable : ℕ) (page : List ℕ) (l : Link Way) → IsIn l (trunk_links p usable page) → IsFrom p l
 of_trunk p usable page l h = by_case (nat_le (leaf_count page) (most_leaves usable)) h
   where
-    by_case : (b : Bool) → IsIn l (cond b (map (leaf_link p) (enumerate_from 0 (free_leaves page)) ++ next_trunk p page (leaf_count page)) (next_trunk p page 0)) → IsFrom p l
+    by_case : (b : Bool) → IsIn l (cond b (map (leaf_link p) (enumerate_from 0 (free_leaves page)) ++ next_trunk p page (leaf_count page))
+        (next_trunk p page 0)) → IsFrom p l
     by_case true i = elim (IsIn-cases l (map (leaf_link p) (enumerate_from 0 (free_leaves page))) (next_trunk p page (leaf_count page)) i) [
       | inl j ↦ (let m = IsIn-from_map (leaf_link p) (enumerate_from 0 (free_leaves page)) l j in ap (λ l. l.role.from) m.2)
       | inr j ↦ of_next p page (leaf_count page) l j

@@ -54,7 +54,8 @@ module _ {O : Type 0} {held : O → OutState} where
   pub written_from : (s : Writer O) {rest whole : List ℕ} → rest ≡ whole → HasWritten held s s rest whole
   written_from s {rest = rest} {whole = whole} e = record { done = []; split = e; wrote = wrote_nothing s }
 
-  pub written_more : {s m t : Writer O} {rest whole : List ℕ} (a left : List ℕ) → HasWritten held s m rest whole → Wrote held m a t → rest ≡ a ++ left → HasWritten held s t left whole
+  pub written_more : {s m t : Writer O} {rest whole : List ℕ} (a left : List ℕ) → HasWritten held s m rest whole → Wrote held m a t → rest ≡ a ++ left
+      → HasWritten held s t left whole
   written_more {rest = rest} {whole = whole} a left h k e = record {
     done = h.done ++ a;
     split = append_assoc h.done a left ∙ ap (λ l. h.done ++ l) (sym e) ∙ h.split;

@@ -66,7 +66,8 @@ module _ {A O : Type 0} (file : List ℕ) (V : List Reference) (survey : Survey 
     pub map_keeps : (l : Held) → ListsAll 100 file V l → HasFaults file V (record t.kept.now { listing = l })
     map_keeps l listed = record {
       room = subst (λ (w : DrawState A). HasTreeRoom (geometry file).pages w.trees.known) (sym all.state) empty.room;
-      notes = subst (λ (fs : List (ℕ × FaultCode)). AreNoted (geometry file).pages fs [] t.kept.now.notes) (coded_told (told_faults file V) ∙ ap (map coded) (all_told file V)) all.notes;
+      notes = subst (λ (fs : List (ℕ × FaultCode)). AreNoted (geometry file).pages fs [] t.kept.now.notes)
+          (coded_told (told_faults file V) ∙ ap (map coded) (all_told file V)) all.notes;
       listing = listed;
     }
 
@@ -94,4 +95,6 @@ module _ {A O : Type 0} (file : List ℕ) (V : List Reference) (survey : Survey 
   map_left held r (inr (e, is, k)) =
       let kept : Keeps (held s.out.now).bytes (held t.out.now).bytes =
       subst (λ (o : O). Keeps (held s.out.now).bytes (held o).bytes) (sym (stopped e k)) (keeps_same (held s.out.now).bytes) in
-      subst (λ (r : Result Verdict RunError). IfOk r (λ v. v ≡ verdict (faults file V)) × PutsMap r (held s.out.now).bytes (held t.out.now).bytes (map_picture file V s.name.now)) (sym is) (tt, unbegun e (held s.out.now).bytes (held t.out.now).bytes kept)
+      subst (λ (r : Result Verdict RunError). IfOk r (λ v. v ≡ verdict (faults file V))
+      × PutsMap r (held s.out.now).bytes (held t.out.now).bytes (map_picture file V s.name.now)) (sym is)
+      (tt, unbegun e (held s.out.now).bytes (held t.out.now).bytes kept)

@@ -50,7 +50,8 @@ module _ {O : Type 0} {held : O → OutState} where
   pub drawn_from : (s : Canvas O) {rest whole : List ℕ} → rest ≡ whole → HasDrawn held s s rest whole
   drawn_from s {rest = rest} {whole = whole} e = record { done = []; split = e; draws = draws_nothing s }
 
-  pub drawn_more : {s m t : Canvas O} {rest whole : List ℕ} (a left : List ℕ) → HasDrawn held s m rest whole → Draws held m a t → rest ≡ a ++ left → HasDrawn held s t left whole
+  pub drawn_more : {s m t : Canvas O} {rest whole : List ℕ} (a left : List ℕ) → HasDrawn held s m rest whole → Draws held m a t → rest ≡ a ++ left
+      → HasDrawn held s t left whole
   drawn_more {rest = rest} {whole = whole} a left h k e = record {
     done = h.done ++ a;
     split = append_assoc h.done a left ∙ ap (λ l. h.done ++ l) (sym e) ∙ h.split;

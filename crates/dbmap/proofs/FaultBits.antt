@@ -1,5 +1,6 @@
 -- The bits of squares and of pages, as faults are noted.
-use Rattle.std.proofs.Common.{◌≡◌, ◌≢◌, ℕ, ◌+◌, ◌*◌, ◌/◌, ◌%◌, ◌^◌, ◌<◌, ◌≤◌, ◌||◌, ◌&&◌, ◌⊎◌, inl, inr, Bool, true, false, List, [], ◌∷◌, ◌++◌, length, get_or, refl, sym, ap, ap₂, ◌∙◌, arith}
+use Rattle.std.proofs.Common.{◌≡◌, ◌≢◌, ℕ, ◌+◌, ◌*◌, ◌/◌, ◌%◌, ◌^◌, ◌<◌, ◌≤◌, ◌||◌, ◌&&◌, ◌⊎◌, inl, inr, Bool, true, false, List, [], ◌∷◌, ◌++◌, length, get_or}
+use Rattle.std.proofs.Common.{refl, sym, ap, ap₂, ◌∙◌, arith}
 use Rattle.std.specs.Prelude.{nat_le, ◌==◌}
 use Rattle.std.specs.Int.{bit_at, div_ceil, w64}
 use Rattle.std.specs.Int.RustNames.{bit_or}
@@ -43,7 +44,8 @@ module _ (words : List ℕ) (q p : ℕ) (room : p < 64 * length words) where
       let b : q % 64 ≡ p % 64 = ap (λ n. n % 64) e in
       let l : q / 64 < length words = omega (arith, w, room) in
       let at : get_or (bit_set q words) (p / 64) 0 ≡ with = ap (λ i. get_or (bit_set q words) i 0) (sym w) ∙ get_or-set_same words (q / 64) with 0 l in
-      let one : bit_at (get_or (bit_set q words) (p / 64) 0) (p % 64) ≡ 1 = ap (λ n. bit_at n (p % 64)) at ∙ ap (bit_at with) (sym b) ∙ bit_at_set_same w64 word (q % 64) bit_within in
+      let one : bit_at (get_or (bit_set q words) (p / 64) 0) (p % 64) ≡ 1 = ap (λ n. bit_at n (p % 64)) at ∙ ap (bit_at with) (sym b)
+      ∙ bit_at_set_same w64 word (q % 64) bit_within in
       eq-eqb (bit_at (get_or (bit_set q words) (p / 64) 0) (p % 64)) 1 one
 
   other_bit : q / 64 ≡ p / 64 → (q ≡ p → ⊥) → bit_at (get_or (bit_set q words) (p / 64) 0) (p % 64) ≡ bit_at (get_or words (p / 64) 0) (p % 64)
@@ -70,7 +72,8 @@ module _ (words : List ℕ) (q p : ℕ) (room : p < 64 * length words) where
     where
       by_case : (b : Bool) → (q == p) ≡ b → has_bit (bit_set q words) p ≡ (has_bit words p || (q == p))
       by_case true e = here (eqb-true q p e) ∙ sym (or_true (has_bit words p)) ∙ ap (λ b. has_bit words p || b) (sym e)
-      by_case false e = elsewhere (λ f. let g : (q == p) ≡ true = eq-eqb q p f in cc) ∙ sym (or-false (has_bit words p)) ∙ ap (λ b. has_bit words p || b) (sym e)
+      by_case false e = elsewhere (λ f. let g : (q == p) ≡ true = eq-eqb q p f in cc) ∙ sym (or-false (has_bit words p))
+          ∙ ap (λ b. has_bit words p || b) (sym e)
 
 -- ---- tests of bits by their numbers
 
@@ -94,7 +97,8 @@ square_bit i j b c l m = by_case (i == j) refl
   where
     by_case : (x : Bool) → (i == j) ≡ x → (i * 64 + b == j * 64 + c) ≡ (x && (b == c))
     by_case true e = let s = eqb-true i j e in same_test (i * 64 + b) (j * 64 + c) b c (λ k. omega (arith, k, s)) (λ k. omega (arith, k, s))
-    by_case false e = unequal (i * 64 + b) (j * 64 + c) (λ k. (let t : i ≡ j = omega (arith, k, l, m) in let g : (i == j) ≡ true = eq-eqb i j t in let no : true ≡ false = sym g ∙ e in cc))
+    by_case false e = unequal (i * 64 + b) (j * 64 + c)
+        (λ k. (let t : i ≡ j = omega (arith, k, l, m) in let g : (i == j) ≡ true = eq-eqb i j t in let no : true ≡ false = sym g ∙ e in cc))
 
 any_push : {X : Type 0} (t : X → Bool) (xs : List X) (x : X) → (list_any t xs || t x) ≡ list_any t (xs ++ x ∷ [])
 any_push t xs x = sym (list_any-append t xs (x ∷ []) ∙ ap (λ b. list_any t xs || b) (or-false (t x)))
@@ -214,10 +218,13 @@ module _ {A : Type 0} (count : ℕ) (n : FaultNotes A) (p : ℕ) (fs : List (ℕ
     pub noted : (code : FaultCode) → squares.words.items ≡ bit_set (square * 64 + 62) (bit_set (square * 64 + code_index code) words)
         → marked.words.items ≡ bit_set (p * 2) marks → AreNoted count (fs ++ (p, code) ∷ []) framed (record n { squares = squares; marked = marked })
     noted code e h =
-        let many : length squares.words.items ≡ length words = ap length e ∙ length-set (bit_set (square * 64 + code_index code) words) _ _ ∙ length-set words _ _ in
+        let many : length squares.words.items ≡ length words = ap length e ∙ length-set (bit_set (square * 64 + code_index code) words) _ _
+        ∙ length-set words _ _ in
         let bit = λ (index b : ℕ) (l : index < div_ceil count (run_for count)) (k : b < 64).
-        (let is : has_bit squares.words.items (index * 64 + b) ≡ (has_bit words (index * 64 + b) || ((square == index) && ((code_index code == b) || (62 == b)))) =
-        ap (λ (w : List ℕ). has_bit w (index * 64 + b)) e ∙ two_bits words square index (code_index code) 62 b (omega (arith, l, are.squares)) (omega (arith, few_codes code)) (omega arith) k in is) in
+        (let is : has_bit squares.words.items (index * 64 + b)
+        ≡ (has_bit words (index * 64 + b) || ((square == index) && ((code_index code == b) || (62 == b)))) =
+        ap (λ (w : List ℕ). has_bit w (index * 64 + b)) e ∙ two_bits words square index (code_index code) 62 b (omega (arith, l, are.squares))
+        (omega (arith, few_codes code)) (omega arith) k in is) in
         let low = few_codes code in record {
           pages = are.pages;
           run = are.run;
@@ -229,16 +236,20 @@ module _ {A : Type 0} (count : ℕ) (n : FaultNotes A) (p : ℕ) (fs : List (ℕ
               ∙ ap₂ (λ x y. x || (is_of_square count index p && y)) (are.codes index k l) (or-false (code_index code == code_index k))
               ∙ any_push (λ f. is_of_square count index f.0 && (code_index f.1 == code_index k)) fs (p, code);
           any = λ index l. bit index 62 l (omega arith)
-              ∙ ap₂ (λ x y. has_bit words (index * 64 + 62) || (x && (y || true))) (of_own index) (unequal (code_index code) 62 (λ f. (let no : ⊥ = omega (arith, f, low) in no)))
+              ∙ ap₂ (λ x y. has_bit words (index * 64 + 62) || (x && (y || true))) (of_own index)
+              (unequal (code_index code) 62 (λ f. (let no : ⊥ = omega (arith, f, low) in no)))
               ∙ ap₂ (λ x y. x || y) (are.any index l) (and-true (is_of_square count index p))
               ∙ any_push (λ f. is_of_square count index f.0) fs (p, code);
           strong = λ index l. bit index 63 l (omega arith)
-              ∙ ap (λ y. has_bit words (index * 64 + 63) || ((square == index) && (y || false))) (unequal (code_index code) 63 (λ f. (let no : ⊥ = omega (arith, f, low) in no)))
+              ∙ ap (λ y. has_bit words (index * 64 + 63) || ((square == index) && (y || false)))
+              (unequal (code_index code) 63 (λ f. (let no : ⊥ = omega (arith, f, low) in no)))
               ∙ ap (λ y. has_bit words (index * 64 + 63) || y) (and-false (square == index)) ∙ or-false (has_bit words (index * 64 + 63)) ∙ are.strong index l;
           faulty = λ q l m. has_marked (q * 2) h ∙ set_is marks (p * 2) (q * 2) (let room = are.marked in omega (arith, m, room))
-              ∙ ap₂ (λ x y. x || y) (are.faulty q l m) (same_test (p * 2) (q * 2) p q (λ f. omega (arith, f)) (λ f. omega (arith, f))) ∙ any_push (λ f. f.0 == q) fs (p, code);
+              ∙ ap₂ (λ x y. x || y) (are.faulty q l m) (same_test (p * 2) (q * 2) p q (λ f. omega (arith, f)) (λ f. omega (arith, f)))
+              ∙ any_push (λ f. f.0 == q) fs (p, code);
           framed = λ q l m. has_marked (q * 2 + 1) h ∙ set_is marks (p * 2) (q * 2 + 1) (in_marks q 1 m (omega arith))
-              ∙ ap (λ x. has_bit marks (q * 2 + 1) || x) (unequal (p * 2) (q * 2 + 1) (λ f. (let no : ⊥ = omega (arith, f) in no))) ∙ or-false (has_bit marks (q * 2 + 1)) ∙ are.framed q l m;
+              ∙ ap (λ x. has_bit marks (q * 2 + 1) || x) (unequal (p * 2) (q * 2 + 1) (λ f. (let no : ⊥ = omega (arith, f) in no)))
+              ∙ or-false (has_bit marks (q * 2 + 1)) ∙ are.framed q l m;
         }
 
     pub framed_more : squares.words.items ≡ bit_set (square * 64 + 63) words → marked.words.items ≡ bit_set (p * 2 + 1) marks
@@ -257,18 +268,22 @@ module _ {A : Type 0} (count : ℕ) (n : FaultNotes A) (p : ℕ) (fs : List (ℕ
           squares = many ∙ are.squares;
           marked = ap length h ∙ length-set marks _ _ ∙ are.marked;
           codes = λ index k l. bit index (code_index k) l (omega (arith, few_codes k))
-              ∙ still index (code_index k) (unequal 63 (code_index k) (λ f. (let m = few_codes k in let no : ⊥ = omega (arith, f, m) in no))) ∙ are.codes index k l;
+              ∙ still index (code_index k) (unequal 63 (code_index k) (λ f. (let m = few_codes k in let no : ⊥ = omega (arith, f, m) in no)))
+              ∙ are.codes index k l;
           any = λ index l. bit index 62 l (omega arith) ∙ still index 62 refl ∙ are.any index l;
           strong = λ index l. bit index 63 l (omega arith) ∙ ap (λ x. has_bit words (index * 64 + 63) || (x && true)) (of_own index)
               ∙ ap₂ (λ x y. x || y) (are.strong index l) (and-true (is_of_square count index p)) ∙ any_push (is_of_square count index) framed p;
           faulty = λ q l m. has_marked (q * 2) h ∙ set_is marks (p * 2 + 1) (q * 2) (let room = are.marked in omega (arith, m, room))
-              ∙ ap (λ x. has_bit marks (q * 2) || x) (unequal (p * 2 + 1) (q * 2) (λ f. (let no : ⊥ = omega (arith, f) in no))) ∙ or-false (has_bit marks (q * 2)) ∙ are.faulty q l m;
+              ∙ ap (λ x. has_bit marks (q * 2) || x) (unequal (p * 2 + 1) (q * 2) (λ f. (let no : ⊥ = omega (arith, f) in no)))
+              ∙ or-false (has_bit marks (q * 2)) ∙ are.faulty q l m;
           framed = λ q l m. has_marked (q * 2 + 1) h ∙ set_is marks (p * 2 + 1) (q * 2 + 1) (in_marks q 1 m (omega arith))
-              ∙ ap₂ (λ x y. x || y) (are.framed q l m) (same_test (p * 2 + 1) (q * 2 + 1) p q (λ f. omega (arith, f)) (λ f. omega (arith, f))) ∙ any_push (λ r. r == q) framed p;
+              ∙ ap₂ (λ x y. x || y) (are.framed q l m) (same_test (p * 2 + 1) (q * 2 + 1) p q (λ f. omega (arith, f)) (λ f. omega (arith, f)))
+              ∙ any_push (λ r. r == q) framed p;
         }
 
 -- nothing is noted
-pub none_noted : {A : Type 0} (count : ℕ) (n : FaultNotes A) → n.pages ≡ count → n.run ≡ run_for count → n.squares.words.items ≡ replicate {A = ℕ} (div_ceil count (run_for count)) 0
+pub none_noted : {A : Type 0} (count : ℕ) (n : FaultNotes A) → n.pages ≡ count → n.run ≡ run_for count → n.squares.words.items
+    ≡ replicate {A = ℕ} (div_ceil count (run_for count)) 0
     → n.marked.words.items ≡ replicate {A = ℕ} (count / 32 + 1) 0 → AreNoted count [] [] n
 none_noted count n pages run e h = record {
   pages = pages;
@@ -283,7 +298,11 @@ none_noted count n pages run e h = record {
 }
   where
     zero_at : (m i : ℕ) → get_or {A = ℕ} (replicate m 0) i 0 ≡ 0
-    zero_at m i = elim (order i m) [ inl l ↦ get_or-replicate m i 0 0 l | inr l ↦ get_or-eq_default (replicate m 0) 0 (let e = length-replicate {A = ℕ} m 0 in omega (arith, e, l)) ]
+    zero_at m i = elim (order i m) [
+      | inl l ↦ get_or-replicate m i 0 0 l
+      | inr l ↦ get_or-eq_default (replicate m 0) 0
+          (let e = length-replicate {A = ℕ} m 0 in omega (arith, e, l))
+    ]
       where
         order : (a b : ℕ) → (a < b) ⊎ (b ≤ a)
         order a b = grind arith

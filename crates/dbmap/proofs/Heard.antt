@@ -56,8 +56,10 @@ module _ {A O : Type 0} (file : List ℕ) (V : List Reference) (survey : Survey 
 
   -- all of it
   pub all_heard : Moves Hears first (run_notices file V) now → HasNotedFaults (geometry file).pages (told_faults file V) first now
-  all_heard m = file_heard Adds listing (λ x s t a. a.kept.listing) (λ ts s. HasNotedFaults (geometry file).pages ts first s) (one_heard (geometry file).pages first) file V survey first now empty.listing.part nothing_noted m
+  all_heard m = file_heard Adds listing (λ x s t a. a.kept.listing) (λ ts s. HasNotedFaults (geometry file).pages ts first s)
+      (one_heard (geometry file).pages first) file V survey first now empty.listing.part nothing_noted m
 
   -- nothing is put, where only some of it was heard
   pub some_untouched : MovesBySome Hears first (run_notices file V) now → now.out.now ≡ first.out.now
-  some_untouched m = (file_begun Adds listing (λ x s t a. a.kept.listing) (λ ts s. HasNotedFaults (geometry file).pages ts first s) (one_heard (geometry file).pages first) file V survey first now empty.listing.part nothing_noted m).2.out
+  some_untouched m = (file_begun Adds listing (λ x s t a. a.kept.listing) (λ ts s. HasNotedFaults (geometry file).pages ts first s)
+      (one_heard (geometry file).pages first) file V survey first now empty.listing.part nothing_noted m).2.out

@@ -1,5 +1,6 @@
 -- The largest trees, one after another.
-use Rattle.std.proofs.Common.{◌≡◌, ℕ, zero, suc, ◌+◌, ◌<◌, ◌≤◌, ◌⊎◌, inl, inr, Bool, true, false, cond, List, [], ◌∷◌, ◌++◌, Some, None, refl, sym, ap, ap₂, ◌∙◌, arith}
+use Rattle.std.proofs.Common.{◌≡◌, ℕ, zero, suc, ◌+◌, ◌<◌, ◌≤◌, ◌⊎◌, inl, inr, Bool, true, false, cond, List, [], ◌∷◌, ◌++◌, Some, None, refl, sym, ap, ap₂}
+use Rattle.std.proofs.Common.{◌∙◌, arith}
 use Rattle.std.specs.Prelude.{◌==◌}
 use Rattle.dbsurvey.specs.Address.{IsIn}
 use Rattle.dbmap.specs.Owners.{rank_of}
@@ -21,7 +22,8 @@ module _ (n d : ℕ) (f g : ℕ → ℕ) (same : (k : ℕ) → k ≤ n + d → f
 
   next_same : (taken : List ℕ) → next_start f n taken ≡ next_start g (n + d) taken
   next_same taken =
-      sym (most_rest (left_pages f taken) n d (λ k l m. ap (λ x. cond (rank_of taken (Some k) == 12) x 0) (none k l m) ∙ nothing (rank_of taken (Some k) == 12)))
+      sym (most_rest (left_pages f taken) n d (λ k l m. ap (λ x. cond (rank_of taken (Some k) == 12) x 0) (none k l m)
+      ∙ nothing (rank_of taken (Some k) == 12)))
       ∙ most_same (left_pages f taken) (left_pages g taken) (n + d) (left_same taken)
     where
       nothing : (b : Bool) → cond {A = ℕ} b 0 0 ≡ 0

@@ -1,5 +1,6 @@
 -- The lines of a legend, by what a tally has, and by the file.
-use Rattle.std.proofs.Common.{◌≡◌, ℕ, zero, suc, ◌+◌, ◌-◌, ◌<◌, ◌≤◌, inl, inr, Bool, true, false, cond, not, ◌&&◌, List, [], ◌∷◌, ◌++◌, length, map, get_or, drop, count_by, Some, append_assoc, append-nil, drop-cons, refl, sym, ap, ap₂, subst, ◌∙◌, add-one, arith}
+use Rattle.std.proofs.Common.{◌≡◌, ℕ, zero, suc, ◌+◌, ◌-◌, ◌<◌, ◌≤◌, inl, inr, Bool, true, false, cond, not, ◌&&◌, List, [], ◌∷◌, ◌++◌, length, map, get_or}
+use Rattle.std.proofs.Common.{drop, count_by, Some, append_assoc, append-nil, drop-cons, refl, sym, ap, ap₂, subst, ◌∙◌, add-one, arith}
 use Rattle.std.specs.Prelude.{◌==◌}
 use Rattle.std.specs.List.{range_with_len, sum_by}
 use Rattle.std.proofs.lemmas.List.Sums.{sum_by_push}
@@ -38,7 +39,8 @@ sum_same f g (suc n) h =
     let before = sum_same f g n (λ k l. h k (omega (arith, l))) in
     let here = h n (omega arith) in
     let next : suc n ≡ n + 1 = omega arith in
-    ap (λ m. sum_by f (range_with_len 0 m)) next ∙ sum_more f n ∙ ap₂ (λ a b. a + b) before here ∙ sym (sum_more g n) ∙ ap (λ m. sum_by g (range_with_len 0 m)) (sym next)
+    ap (λ m. sum_by f (range_with_len 0 m)) next ∙ sum_more f n ∙ ap₂ (λ a b. a + b) before here ∙ sym (sum_more g n)
+    ∙ ap (λ m. sum_by g (range_with_len 0 m)) (sym next)
 
 -- starts that add nothing
 sum_rest : (f : ℕ → ℕ) (n d : ℕ) → ((k : ℕ) → n ≤ k → k < n + d → f k ≡ 0) → sum_by f (range_with_len 0 (n + d)) ≡ sum_by f (range_with_len 0 n)
@@ -48,7 +50,8 @@ sum_rest f n (suc d) h =
     let before = sum_rest f n d (λ k l m. h k l (omega (arith, m))) in
     let none = h (n + d) (omega arith) (omega arith) in
     let more = sum_more f (n + d) in
-    ap (λ m. sum_by f (range_with_len 0 m)) next ∙ more ∙ (let e : sum_by f (range_with_len 0 (n + d)) + f (n + d) ≡ sum_by f (range_with_len 0 n) = omega (arith, before, none) in e)
+    ap (λ m. sum_by f (range_with_len 0 m)) next ∙ more
+    ∙ (let e : sum_by f (range_with_len 0 (n + d)) + f (n + d) ≡ sum_by f (range_with_len 0 n) = omega (arith, before, none) in e)
 
 -- ---- other trees
 
@@ -61,7 +64,8 @@ nothing_more a = omega arith
 module _ (share : ℕ → Share) (largest : List ℕ) (n : ℕ) where
   -- start n is one of them
   pub other_more : is_other share largest n ≡ true
-      → (other_trees share largest (n + 1) ≡ capped_pages (other_trees share largest n + 1)) × (others_share share largest (n + 1) ≡ share_sum (others_share share largest n) (share n))
+      → (other_trees share largest (n + 1) ≡ capped_pages (other_trees share largest n + 1))
+      × (others_share share largest (n + 1) ≡ share_sum (others_share share largest n) (share n))
   other_more e = (
     ap capped_pages (sum_more (λ k. cond (is_other share largest k) 1 0) n ∙ ap (λ b. count_by (is_other share largest) (range_with_len 0 n) + cond b 1 0) e)
         ∙ capped_sum (count_by (is_other share largest) (range_with_len 0 n)) 1,
@@ -159,7 +163,8 @@ legend_is file V t rows ks strong weak h few listed =
 -- ---- line after line
 
 -- a tree has its line
-pub tree_more : (rows : List SchemaRow) (starts : List Share) (ts : List tally.RankedTree) (i : ℕ) (d : tally.RankedTree) (lines : List LegendLine) {new all : List LegendLine} → i < length ts
+pub tree_more : (rows : List SchemaRow) (starts : List Share) (ts : List tally.RankedTree) (i : ℕ) (d : tally.RankedTree) (lines : List LegendLine)
+    {new all : List LegendLine} → i < length ts
     → new ≡ lines ++ line_if (Tree i (root_page rows (get_or ts i d).start)) (get_or ts i d).share → ts ≡ map (tree_at starts) (tree_starts ts)
     → lines ++ tree_lines rows (share_at starts) i (tree_starts (drop i ts)) ≡ all
     → new ++ tree_lines rows (share_at starts) (i + 1) (tree_starts (drop (i + 1) ts)) ≡ all
@@ -180,7 +185,8 @@ trees_end rows share ts i {lines = lines} l h =
     sym (append-nil lines) ∙ ap (λ us. lines ++ tree_lines rows share i (tree_starts us)) (sym (drop_all i ts l)) ∙ h
 
 -- four lines more
-pub four_more : (a b c d : List LegendLine) {trees one two three four all : List LegendLine} → trees ≡ all → one ≡ trees ++ a → two ≡ one ++ b → three ≡ two ++ c → four ≡ three ++ d
+pub four_more : (a b c d : List LegendLine) {trees one two three four all : List LegendLine} → trees ≡ all → one ≡ trees ++ a → two ≡ one ++ b → three ≡ two
+    ++ c → four ≡ three ++ d
     → four ≡ all ++ (a ++ (b ++ (c ++ d)))
 four_more a b c d {trees = trees} {one = one} {two = two} {three = three} {all = all} t e f g h =
     h ∙ ap (λ l. l ++ d) (g ∙ ap (λ l. l ++ c) (f ∙ ap (λ l. l ++ b) (e ∙ ap (λ l. l ++ a) t)))
@@ -195,7 +201,8 @@ module _ (share : ℕ → Share) (largest : List ℕ) (k : ℕ) {s : Share} (is 
       ap₂ (λ (x : Share) r. not (x.pages == 0) && (r == 12)) (sym is) e ∙ ap (λ b. not b && true) d
 
   pub other_empty : s.pages ≡ 0 → is_other share largest k ≡ false
-  other_empty none = ap (λ (x : Share). not (x.pages == 0) && (rank_of largest (Some k) == 12)) (sym is) ∙ ap (λ n. not (n == 0) && (rank_of largest (Some k) == 12)) none
+  other_empty none = ap (λ (x : Share). not (x.pages == 0) && (rank_of largest (Some k) == 12)) (sym is)
+      ∙ ap (λ n. not (n == 0) && (rank_of largest (Some k) == 12)) none
 
   pub other_ranked : (rank_of largest (Some k) ≡ 12 → ⊥) → is_other share largest k ≡ false
   other_ranked apart =

@@ -29,7 +29,8 @@ nothing_begun old new bytes kept = record { part = []; rest = bytes; whole = ref
 
 -- the file was read
 pub map_of : (name file : List ℕ) (r : Result Verdict RunError) → IfErr r IsReadWriteOrMemory → refusal file ≡ None
-    → (old new : Option (List ℕ)) → ((V : List Reference) → Survey file V → IfOk r (λ v. v ≡ verdict (faults file V)) × PutsMap r old new (map_picture file V name)) → IsMapOf name file r old new
+    → (old new : Option (List ℕ)) → ((V : List Reference) → Survey file V → IfOk r (λ v. v ≡ verdict (faults file V))
+    × PutsMap r old new (map_picture file V name)) → IsMapOf name file r old new
 map_of name file r only read old new found = record {
   survey = (one_survey file).0;
   verdict = λ V s. (found V s).0;

@@ -1,5 +1,6 @@
 -- The picture of the file that a desk is of.
-use Rattle.std.proofs.Common.{◌≡◌, ℕ, zero, suc, ◌+◌, ◌*◌, ◌/◌, ◌%◌, ◌<◌, ◌≤◌, ◌⊎◌, inl, inr, Bool, true, false, cond, not, ◌&&◌, ◌||◌, List, [], ◌∷◌, get_or, count_by, refl, sym, ap, ap₂, subst, ◌∙◌, arith}
+use Rattle.std.proofs.Common.{◌≡◌, ℕ, zero, suc, ◌+◌, ◌*◌, ◌/◌, ◌%◌, ◌<◌, ◌≤◌, ◌⊎◌, inl, inr, Bool, true, false, cond, not, ◌&&◌, ◌||◌, List, [], ◌∷◌, get_or}
+use Rattle.std.proofs.Common.{count_by, refl, sym, ap, ap₂, subst, ◌∙◌, arith}
 use Rattle.std.specs.Prelude.{◌==◌}
 use Rattle.std.specs.Int.{bit_at, div_ceil}
 use Rattle.std.specs.List.{list_any, range_with_len}
@@ -45,7 +46,8 @@ any_none : {X : Type 0} (t : X → Bool) (xs : List X) → ((x : X) → t x ≡ 
 any_none t [] h = refl
 any_none t (x ∷ xs) h = any_none t xs h ∙ sym (ap (λ b. b || list_any t xs) (h x))
 
-module _ {A : Type 0} (file : List ℕ) (V : List Reference) (n : FaultNotes A) (are : AreNoted (geometry file).pages (coded_faults file V) (framed_pages file V) n) where
+module _ {A : Type 0} (file : List ℕ) (V : List Reference) (n : FaultNotes A)
+    (are : AreNoted (geometry file).pages (coded_faults file V) (framed_pages file V) n) where
   abbrev pages : ℕ
   pages = (geometry file).pages
 

@@ -1,5 +1,6 @@
 -- The rank of a start among trees.
-use Rattle.std.proofs.Common.{◌≡◌, ℕ, ◌+◌, ◌<◌, ◌≤◌, ◌⊎◌, inl, inr, min, Bool, true, false, cond, List, [], ◌∷◌, length, drop, get_or, Option, Some, None, refl, sym, ap, subst, ◌∙◌, add-one, arith, drop-cons, eq-eqb, eqb}
+use Rattle.std.proofs.Common.{◌≡◌, ℕ, ◌+◌, ◌<◌, ◌≤◌, ◌⊎◌, inl, inr, min, Bool, true, false, cond, List, [], ◌∷◌, length, drop, get_or, Option, Some, None, refl}
+use Rattle.std.proofs.Common.{sym, ap, subst, ◌∙◌, add-one, arith, drop-cons, eq-eqb, eqb}
 use Rattle.std.specs.Prelude.{◌==◌}
 use Rattle.std.specs.Option.{option_eq}
 use Rattle.std.proofs.lemmas.Bool.{eqb-true, false≢true}
@@ -25,11 +26,13 @@ module _ (ts : List RankedTree) (i : ℕ) (d : RankedTree) where
   left l = let cut : drop i ts ≡ get_or ts i d ∷ drop (i + 1) ts = rw add-one (drop-cons ts i d l) in ap tree_starts cut
 
   -- the tree at rank i is not the one, or is too late
-  next_rank : (start : Option ℕ) → i < length ts → (Some (get_or ts i d).start ≡ start → 12 ≤ i) → rank_after i (tree_starts (drop i ts)) start ≡ rank_after (i + 1) (tree_starts (drop (i + 1) ts)) start
+  next_rank : (start : Option ℕ) → i < length ts → (Some (get_or ts i d).start ≡ start → 12 ≤ i) → rank_after i (tree_starts (drop i ts)) start
+      ≡ rank_after (i + 1) (tree_starts (drop (i + 1) ts)) start
   next_rank None l other = refl
   next_rank (Some k) l other = ap (λ js. rank_from i js k) (left l) ∙ by_case ((get_or ts i d).start == k) refl
     where
-      by_case : (b : Bool) → ((get_or ts i d).start == k) ≡ b → cond b (min i 12) (rank_from (i + 1) (tree_starts (drop (i + 1) ts)) k) ≡ rank_from (i + 1) (tree_starts (drop (i + 1) ts)) k
+      by_case : (b : Bool) → ((get_or ts i d).start == k) ≡ b → cond b (min i 12) (rank_from (i + 1) (tree_starts (drop (i + 1) ts)) k)
+          ≡ rank_from (i + 1) (tree_starts (drop (i + 1) ts)) k
       by_case false e = refl
       by_case true e =
           let late : 12 ≤ i = other (ap Some (eqb-true _ _ e)) in
@@ -39,7 +42,8 @@ module _ (ts : List RankedTree) (i : ℕ) (d : RankedTree) where
   -- the same by the test of a start
   pub next_by : (start : Option ℕ) {b : Bool} → i < length ts → b ≡ option_eq eqb (Some (get_or ts i d).start) start → ((b ≡ true) × (12 ≤ i)) ⊎ (b ≡ false)
       → rank_after i (tree_starts (drop i ts)) start ≡ rank_after (i + 1) (tree_starts (drop (i + 1) ts)) start
-  next_by start {b = b} l e either = next_rank start l (λ f. (let same : b ≡ true = e ∙ equal start f in elim either [ inl k ↦ k.1 | inr n ↦ absurd (false≢true (sym n ∙ same)) ]))
+  next_by start {b = b} l e either = next_rank start l
+      (λ f. (let same : b ≡ true = e ∙ equal start f in elim either [ inl k ↦ k.1 | inr n ↦ absurd (false≢true (sym n ∙ same)) ]))
     where
       equal : (start : Option ℕ) → Some (get_or ts i d).start ≡ start → option_eq eqb (Some (get_or ts i d).start) start ≡ true
       equal start f = subst (λ (o : Option ℕ). option_eq eqb (Some (get_or ts i d).start) o ≡ true) f (eq-eqb (get_or ts i d).start (get_or ts i d).start refl)

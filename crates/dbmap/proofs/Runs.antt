@@ -64,7 +64,8 @@ twice : (i k : ℕ) → i < k → 2 ^ i * 2 ≤ 2 ^ k
 twice i zero l = absurd (let f : ⊥ = omega arith in f)
 twice i (suc k) l = elim (order i k) [
   | inl m ↦ (let grow = twice i k m in let e = pow-suc 2 k in let some = pow_pos k in let at : 2 ^ i * 2 ≤ 2 ^ suc k = omega (arith, grow, e, some) in at)
-  | inr m ↦ (let same : i ≡ k = omega arith in let e = pow-suc 2 k in let p = ap (λ j. 2 ^ j) same in let at : 2 ^ i * 2 ≤ 2 ^ suc k = omega (arith, e, p) in at)
+  | inr m ↦ (let same : i ≡ k = omega arith in let e = pow-suc 2 k in let p = ap (λ j. 2 ^ j) same in let at : 2 ^ i * 2 ≤ 2 ^ suc k =
+      omega (arith, e, p) in at)
 ]
   where
     order : (a b : ℕ) → (a < b) ⊎ (b ≤ a)
@@ -86,7 +87,8 @@ run_is pages n run few e (k, is) low high =
     below : (k : ℕ) → ((i : ℕ) → i < k → 16384 < div_ceil pages (2 ^ i)) → k ≤ 0 + 18
     below k m = elim (order k 18) [
       | inl l ↦ (let at : k ≤ 0 + 18 = omega arith in at)
-      | inr l ↦ (let many = m 18 l in let none = ceil_most pages (2 ^ 18) 16384 (omega arith) (omega (arith, few)) in absurd (let f : ⊥ = omega (arith, many, none) in f))
+      | inr l ↦ (let many = m 18 l in let none = ceil_most pages (2 ^ 18) 16384 (omega arith) (omega (arith, few)) in absurd
+          (let f : ⊥ = omega (arith, many, none) in f))
     ]
       where
         order : (a b : ℕ) → (a ≤ b) ⊎ (b < a)

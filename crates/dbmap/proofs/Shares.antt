@@ -1,5 +1,6 @@
 -- What each owner has of some pages, page by page.
-use Rattle.std.proofs.Common.{◌≡◌, ℕ, ◌+◌, ◌-◌, ◌<◌, ◌≤◌, Bool, true, false, cond, ◌&&◌, List, [], ◌∷◌, ◌++◌, length, count_by, Option, sym, ap, ap₂, subst, ◌∙◌, arith}
+use Rattle.std.proofs.Common.{◌≡◌, ℕ, ◌+◌, ◌-◌, ◌<◌, ◌≤◌, Bool, true, false, cond, ◌&&◌, List, [], ◌∷◌, ◌++◌, length, count_by, Option, sym, ap, ap₂, subst}
+use Rattle.std.proofs.Common.{◌∙◌, arith}
 use Rattle.std.specs.Prelude.{◌==◌}
 use Rattle.std.specs.List.{range_with_len}
 use Rattle.std.proofs.lemmas.List.FromFn.{fill_by_all}
@@ -22,15 +23,25 @@ capped_same n = omega arith
 same_sum : (n : ℕ) → capped_pages (n + 0) ≡ capped_pages n
 same_sum n = omega arith
 
-pub share_push : (mine over : ℕ → Bool) (ps : List ℕ) (p : ℕ) → share_in mine over (ps ++ p ∷ []) ≡ cond (mine p) (one_page (over p) (share_in mine over ps)) (share_in mine over ps)
-share_push mine over ps p = ap₂ (λ x y. record { pages = capped_pages x; overflow = capped_pages y }) (sum_by_push (λ x. cond (mine x) 1 0) ps p) (sum_by_push (λ x. cond (mine x && over x) 1 0) ps p) ∙ by_case (mine p) (over p)
+pub share_push : (mine over : ℕ → Bool) (ps : List ℕ) (p : ℕ) → share_in mine over (ps ++ p ∷ [])
+    ≡ cond (mine p) (one_page (over p) (share_in mine over ps)) (share_in mine over ps)
+share_push mine over ps p = ap₂ (λ x y. record { pages = capped_pages x; overflow = capped_pages y }) (sum_by_push (λ x. cond (mine x) 1 0) ps p)
+    (sum_by_push (λ x. cond (mine x && over x) 1 0) ps p) ∙ by_case (mine p) (over p)
   where
-    by_case : (a b : Bool) → let s : Share = record { pages = capped_pages (count_by mine ps + cond a 1 0); overflow = capped_pages (count_by (λ p. mine p && over p) ps + cond (a && b) 1 0) } in
+    by_case : (a b : Bool) → let s : Share = record {
+      pages = capped_pages (count_by mine ps + cond a 1 0);
+      overflow =
+          capped_pages (count_by (λ p. mine p && over p) ps + cond (a && b) 1 0);
+    } in
         s ≡ cond a (one_page b (share_in mine over ps)) (share_in mine over ps)
-    by_case true true = ap₂ (λ x y. let s : Share = record { pages = x; overflow = y } in s) (sym (capped (count_by mine ps))) (sym (capped (count_by (λ p. mine p && over p) ps)))
-    by_case true false = ap₂ (λ x y. let s : Share = record { pages = x; overflow = y } in s) (sym (capped (count_by mine ps))) (sym (capped_same (count_by (λ p. mine p && over p) ps)))
-    by_case false true = ap₂ (λ x y. let s : Share = record { pages = x; overflow = y } in s) (same_sum (count_by mine ps)) (same_sum (count_by (λ p. mine p && over p) ps))
-    by_case false false = ap₂ (λ x y. let s : Share = record { pages = x; overflow = y } in s) (same_sum (count_by mine ps)) (same_sum (count_by (λ p. mine p && over p) ps))
+    by_case true true = ap₂ (λ x y. let s : Share = record { pages = x; overflow = y } in s) (sym (capped (count_by mine ps)))
+        (sym (capped (count_by (λ p. mine p && over p) ps)))
+    by_case true false = ap₂ (λ x y. let s : Share = record { pages = x; overflow = y } in s) (sym (capped (count_by mine ps)))
+        (sym (capped_same (count_by (λ p. mine p && over p) ps)))
+    by_case false true = ap₂ (λ x y. let s : Share = record { pages = x; overflow = y } in s) (same_sum (count_by mine ps))
+        (same_sum (count_by (λ p. mine p && over p) ps))
+    by_case false false = ap₂ (λ x y. let s : Share = record { pages = x; overflow = y } in s) (same_sum (count_by mine ps))
+        (same_sum (count_by (λ p. mine p && over p) ps))
 
 -- ---- what each owner has of some pages
 
@@ -40,7 +51,8 @@ module _ (largest : List ℕ) (place : ℕ → Place) (start : ℕ → Option �
   AreShares pages c = (number : ℕ) → number < 16 → share_of c number ≡ owner_share largest place start pages number
 
   -- one more page is counted for its owner
-  shares_push : (ps : List ℕ) (p : ℕ) (owner : Owner) (over : Bool) (c d : OwnerShares) → owner ≡ owner_by largest (place p) (start p) → over ≡ is_overflow (place p)
+  shares_push : (ps : List ℕ) (p : ℕ) (owner : Owner) (over : Bool) (c d : OwnerShares) → owner ≡ owner_by largest (place p) (start p) → over
+      ≡ is_overflow (place p)
       → ((number : ℕ) → number < 16 → share_of d number ≡ cond (owner_number owner == number) (one_page over (share_of c number)) (share_of c number))
       → AreShares ps c → AreShares (ps ++ p ∷ []) d
   shares_push ps p owner over c d e f added h = λ number l.
@@ -50,7 +62,8 @@ module _ (largest : List ℕ) (place : ℕ → Place) (start : ℕ → Option �
       ∙ sym (share_push (λ p. owner_number (owner_by largest (place p) (start p)) == number) (λ p. is_overflow (place p)) ps p)
 
   -- so it is of the pages from one to another
-  pub shares_next : (first p : ℕ) (owner : Owner) (over : Bool) (c d : OwnerShares) → first ≤ p → owner ≡ owner_by largest (place p) (start p) → over ≡ is_overflow (place p)
+  pub shares_next : (first p : ℕ) (owner : Owner) (over : Bool) (c d : OwnerShares) → first ≤ p → owner ≡ owner_by largest (place p) (start p) → over
+      ≡ is_overflow (place p)
       → ((number : ℕ) → number < 16 → share_of d number ≡ cond (owner_number owner == number) (one_page over (share_of c number)) (share_of c number))
       → AreShares (range_with_len first (p - first)) c → AreShares (range_with_len first (p + 1 - first)) d
   shares_next first p owner over c d l e f added h =
@@ -61,7 +74,8 @@ module _ (largest : List ℕ) (place : ℕ → Place) (start : ℕ → Option �
       subst (λ ps. AreShares ps d) range (shares_push (range_with_len first (p - first)) p owner over c d e f added h)
 
   -- all pages from the first to the last
-  pub shares_all : (first last n : ℕ) (c : OwnerShares) → n ≡ last + 1 - first → length c.shares ≡ 16 → AreShares (range_with_len first n) c → c ≡ shares_by largest place start first last
+  pub shares_all : (first last n : ℕ) (c : OwnerShares) → n ≡ last + 1 - first → length c.shares ≡ 16 → AreShares (range_with_len first n) c → c
+      ≡ shares_by largest place start first last
   unfolding shares_by
   shares_all first last n c e many h =
       let all : AreShares (pages_between first last) c = subst (λ m. AreShares (range_with_len first m) c) e h in

@@ -1,5 +1,6 @@
 -- What is left to draw, by what is drawn next.
-use Rattle.std.proofs.Common.{◌≡◌, ℕ, suc, ◌+◌, ◌-◌, ◌*◌, ◌<◌, ◌≤◌, min, Bool, ◌&&◌, not, List, [], ◌∷◌, ◌++◌, length, drop, get_or, add-one, drop-cons, ap, ◌∙◌, arith}
+use Rattle.std.proofs.Common.{◌≡◌, ℕ, suc, ◌+◌, ◌-◌, ◌*◌, ◌<◌, ◌≤◌, min, Bool, ◌&&◌, not, List, [], ◌∷◌, ◌++◌, length, drop, get_or, add-one, drop-cons, ap}
+use Rattle.std.proofs.Common.{◌∙◌, arith}
 use Rattle.std.specs.List.{flat_map}
 use Rattle.std.proofs.lemmas.List.{drop_all}
 use Rattle.dbformat.specs.declared.FaultCode.{FaultCode}
@@ -18,7 +19,8 @@ pub one_less : (n m : ℕ) → n < m → m - n ≡ suc (m - (n + 1))
 one_less n m h = omega arith
 
 pub next_owner : (c : OwnerShares) (names : List (List ℕ)) (f : Bool) (number : ℕ) → number < 16
-    → owners_from c names f number (16 - number) ≡ owner_text c names f number ++ owners_from c names (f && not (has_pages c number)) (number + 1) (16 - (number + 1))
+    → owners_from c names f number (16 - number) ≡ owner_text c names f number
+    ++ owners_from c names (f && not (has_pages c number)) (number + 1) (16 - (number + 1))
 unfolding owners_from
 next_owner c names f number h = ap (owners_from c names f number) (one_less number 16 h)
 

@@ -20,10 +20,12 @@ map_push : {X : Type 0} (f : ℕ → X) (ks : List ℕ) (k : ℕ) → map f (ks 
 map_push f [] k = refl
 map_push f (j ∷ ks) k = ap (λ l. f j ∷ l) (map_push f ks k)
 
-pub trees_push : (starts : List Share) (ts : List RankedTree) (t : RankedTree) {us : List RankedTree} → us ≡ ts ++ t ∷ [] → ts ≡ map (tree_at starts) (tree_starts ts) → t ≡ tree_at starts t.start
+pub trees_push : (starts : List Share) (ts : List RankedTree) (t : RankedTree) {us : List RankedTree} → us ≡ ts ++ t ∷ [] → ts
+    ≡ map (tree_at starts) (tree_starts ts) → t ≡ tree_at starts t.start
     → us ≡ map (tree_at starts) (tree_starts us)
 trees_push starts ts t e h k =
-    e ∙ ap₂ (λ l u. l ++ u ∷ []) h k ∙ sym (map_push (tree_at starts) (tree_starts ts) t.start) ∙ ap (map (tree_at starts)) (sym (starts_push ts t) ∙ ap tree_starts (sym e))
+    e ∙ ap₂ (λ l u. l ++ u ∷ []) h k ∙ sym (map_push (tree_at starts) (tree_starts ts) t.start)
+    ∙ ap (map (tree_at starts)) (sym (starts_push ts t) ∙ ap tree_starts (sym e))
 
 -- what a tree has is what a tally has of its start, where that is so of all
 pub tree_here : (starts : List Share) (ts : List RankedTree) (i : ℕ) (d : RankedTree) → i < length ts → ts ≡ map (tree_at starts) (tree_starts ts)

@@ -9,7 +9,7 @@ use Rattle.dbmarks.specs.Marking.{page_mark}
 use Rattle.dbmarks.specs.declared.marks.Mark.{Mark}
 use Rattle.dbowner.specs.Climbs.{place_by}
 use Rattle.dbowner.specs.declared.place.Place.{Place}
-use Rattle.dbscan.specs.Desks.{Things}
+use Rattle.dbscan.specs.Desks.{DeskView}
 use Rattle.dbscan.specs.Finishes.{IsDeskOf}
 use Rattle.dbsource.specs.Outs.{OutState, Puts}
 use Rattle.dbmap.specs.Canvas.{Draws}
@@ -54,7 +54,7 @@ pub record DrawsAs {O : Type 0} (held : O → OutState) (marks : List Mark) (kno
   pub draws : Draws held s text t
 
 -- A text was put, and where a file is that of the desk, and its faults were kept, it is the file's picture.
-pub record PutsPicture {A E K : Type 0} (r : Result A E) (old new : OutState) (name : List ℕ) (d : Things) (k : KeptFaults K) (found : ℕ) : Type 0 where
+pub record PutsPicture {A E K : Type 0} (r : Result A E) (old new : OutState) (name : List ℕ) (d : DeskView) (k : KeptFaults K) (found : ℕ) : Type 0 where
   pub text : List ℕ
   pub is : (file : List ℕ) (V : List Reference) → IsDeskOf d file V → HasFaults file V k
       → found ≡ counted (length (faults file V)) → text ≡ map_picture file V name

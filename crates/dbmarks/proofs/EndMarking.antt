@@ -1,5 +1,6 @@
 -- The faults at the end, by marks alone.
-use Rattle.std.proofs.Common.{◌≡◌, ℕ, zero, suc, ◌+◌, ◌-◌, ◌≤◌, ◌<◌, Bool, true, false, cond, not, inl, List, [], ◌∷◌, ◌++◌, map, set, get_or, length, Option, Some, None, refl, sym, ap, subst, ◌∙◌, arith, append_assoc, inr}
+use Rattle.std.proofs.Common.{◌≡◌, ℕ, zero, suc, ◌+◌, ◌-◌, ◌≤◌, ◌<◌, Bool, true, false, cond, not, inl, List, [], ◌∷◌, ◌++◌, map, set, get_or, length, Option}
+use Rattle.std.proofs.Common.{Some, None, refl, sym, ap, subst, ◌∙◌, arith, append_assoc, inr}
 use Rattle.std.specs.Prelude.{count_by, sum_by, pos, ◌==◌, fold, max, filter}
 use Rattle.std.specs.List.{range_with_len}
 use Rattle.std.proofs.lemmas.List.{append-nil}
@@ -13,7 +14,8 @@ use Rattle.dbsurvey.proofs.Lists.{find-some, filter-from, filter-has}
 use Rattle.dbsurvey.proofs.Order.{IsIn-right, EachPair-across}
 use Rattle.dbformat.specs.File.{geometry, MapEntry, map_entry}
 use Rattle.dbformat.specs.FixedPages.{is_fixed, is_page}
-use Rattle.dbformat.specs.Reference.{Role, root, child, first_overflow, later_overflow, trunk, free_leaf, Reference, role_of, from_of, is_on_freelist, entry_of, is_root}
+use Rattle.dbformat.specs.Reference.{Role, root, child, first_overflow, later_overflow, trunk, free_leaf, Reference, role_of, from_of, is_on_freelist, entry_of}
+use Rattle.dbformat.specs.Reference.{is_root}
 use Rattle.dbformat.specs.EndFaults.{visit_of, use_fault, entry_fault, free_pages, greatest_root_reached}
 use Rattle.dbformat.specs.Tests.{told_if}
 use Rattle.dbformat.specs.Faults.{fault}
@@ -59,7 +61,8 @@ by_visit file p true (Some r) h = absurd (let k : true ≡ false = h r refl in c
 by_visit file p false (Some r) h = entry_is p (map_entry file p) r ∙ mark_by_role p (map_entry file p) (from_of r) (role_of r)
 
 -- a page without mark is in no use, and another has the entry of its visit
-pub use_fault-by_mark : (file : List ℕ) (V : List Reference) (p : ℕ) → AreVisits (geometry file) V → use_fault file V p ≡ mark_fault p (map_entry file p) (mark_of (geometry file) V p)
+pub use_fault-by_mark : (file : List ℕ) (V : List Reference) (p : ℕ) → AreVisits (geometry file) V → use_fault file V p
+    ≡ mark_fault p (map_entry file p) (mark_of (geometry file) V p)
 unfolding use_fault mark_of
 use_fault-by_mark file V p h = by_visit file p (is_fixed (geometry file) p) (visit_of V p)
     (λ r e. let k = found_in V p r e in subst (λ q. is_fixed (geometry file) q ≡ false) k.1 (h.allowed r k.0).1)
@@ -71,7 +74,8 @@ unfolding mark_of
 zero_marks g f u x a zero = refl
 zero_marks g f u x a (suc n) =
     let k : f (mark_of g [] a) ≡ 0 = either (is_fixed g a) in
-    let d : sum_by f (map (mark_of g []) (range_with_len a (suc n))) ≡ f (mark_of g [] a) + sum_by f (map (mark_of g []) (range_with_len (a + 1) n)) = sum_by-cons f (mark_of g [] a) (map (mark_of g []) (range_with_len (a + 1) n)) in
+    let d : sum_by f (map (mark_of g []) (range_with_len a (suc n))) ≡ f (mark_of g [] a) + sum_by f (map (mark_of g []) (range_with_len (a + 1) n)) =
+    sum_by-cons f (mark_of g [] a) (map (mark_of g []) (range_with_len (a + 1) n)) in
     let r : sum_by f (map (mark_of g []) (range_with_len (a + 1) n)) ≡ 0 = zero_marks g f u x (a + 1) n in omega arith
   where
     either : (b : Bool) → f (cond b Fixed Unmarked) ≡ 0
@@ -99,13 +103,18 @@ visit_sum g f u U V c h =
     let e : 1 + (c.page - 1) ≡ c.page = omega arith in
     let i : c.page - 1 < g.pages = omega arith in
     let n : mark_of g U c.page ≡ Unmarked = fresh_mark g U V c h in
-    let at : get_or (map (mark_of g U) (range_with_len 1 g.pages)) (c.page - 1) Unmarked ≡ Unmarked = get_or-map-range_with_len (mark_of g U) 1 g.pages (c.page - 1) c.page Unmarked i e ∙ n in
+    let at : get_or (map (mark_of g U) (range_with_len 1 g.pages)) (c.page - 1) Unmarked ≡ Unmarked =
+    get_or-map-range_with_len (mark_of g U) 1 g.pages (c.page - 1) c.page Unmarked i e ∙ n in
     let z : f (get_or (map (mark_of g U) (range_with_len 1 g.pages)) (c.page - 1) Unmarked) ≡ 0 = ap f at ∙ u in
     let len : length (map (mark_of g U) (range_with_len 1 g.pages)) ≡ g.pages = length-map-range_with_len (mark_of g U) 1 g.pages in
-    let s : sum_by f (set (map (mark_of g U) (range_with_len 1 g.pages)) (c.page - 1) (visit_mark c)) + f (get_or (map (mark_of g U) (range_with_len 1 g.pages)) (c.page - 1) Unmarked)
-    ≡ sum_by f (map (mark_of g U) (range_with_len 1 g.pages)) + f (visit_mark c) = sum_by-set f (map (mark_of g U) (range_with_len 1 g.pages)) (c.page - 1) (visit_mark c) Unmarked (omega arith) in
-    let t : sum_by f (set (map (mark_of g U) (range_with_len 1 g.pages)) (c.page - 1) (visit_mark c)) ≡ sum_by f (marks_of g (U ++ (c ∷ []))) = ap (sum_by f) (marks_of-visit g U c l m n) in
-    sym t ∙ (let r : sum_by f (set (map (mark_of g U) (range_with_len 1 g.pages)) (c.page - 1) (visit_mark c)) ≡ sum_by f (map (mark_of g U) (range_with_len 1 g.pages)) + f (visit_mark c) = omega arith in r)
+    let s : sum_by f (set (map (mark_of g U) (range_with_len 1 g.pages)) (c.page - 1) (visit_mark c))
+    + f (get_or (map (mark_of g U) (range_with_len 1 g.pages)) (c.page - 1) Unmarked)
+    ≡ sum_by f (map (mark_of g U) (range_with_len 1 g.pages)) + f (visit_mark c) =
+    sum_by-set f (map (mark_of g U) (range_with_len 1 g.pages)) (c.page - 1) (visit_mark c) Unmarked (omega arith) in
+    let t : sum_by f (set (map (mark_of g U) (range_with_len 1 g.pages)) (c.page - 1) (visit_mark c)) ≡ sum_by f (marks_of g (U ++ (c ∷ []))) =
+    ap (sum_by f) (marks_of-visit g U c l m n) in
+    sym t ∙ (let r : sum_by f (set (map (mark_of g U) (range_with_len 1 g.pages)) (c.page - 1) (visit_mark c))
+    ≡ sum_by f (map (mark_of g U) (range_with_len 1 g.pages)) + f (visit_mark c) = omega arith in r)
 
 sum_from : (g : Geometry) (f : Mark → ℕ) → f Unmarked ≡ 0 → (U V : List Reference) → AreVisits g (U ++ V)
     → sum_by f (marks_of g (U ++ V)) ≡ sum_by f (marks_of g U) + sum_by (λ r. f (visit_mark r)) V
@@ -113,12 +122,15 @@ sum_from g f u U [] h =
     let e : sum_by f (marks_of g (U ++ [])) ≡ sum_by f (marks_of g U) = ap (λ W. sum_by f (marks_of g W)) (append-nil U) in omega arith
 sum_from g f u U (c ∷ V) h =
     let e : (U ++ (c ∷ [])) ++ V ≡ U ++ (c ∷ V) = append_assoc U (c ∷ []) V in
-    let r : sum_by f (marks_of g ((U ++ (c ∷ [])) ++ V)) ≡ sum_by f (marks_of g (U ++ (c ∷ []))) + sum_by (λ r. f (visit_mark r)) V = sum_from g f u (U ++ (c ∷ [])) V (subst (λ W. AreVisits g W) (sym e) h) in
+    let r : sum_by f (marks_of g ((U ++ (c ∷ [])) ++ V)) ≡ sum_by f (marks_of g (U ++ (c ∷ []))) + sum_by (λ r. f (visit_mark r)) V =
+    sum_from g f u (U ++ (c ∷ [])) V (subst (λ W. AreVisits g W) (sym e) h) in
     let s : sum_by f (marks_of g (U ++ (c ∷ []))) ≡ sum_by f (marks_of g U) + f (visit_mark c) = visit_sum g f u U V c h in
     let t : sum_by f (marks_of g ((U ++ (c ∷ [])) ++ V)) ≡ sum_by f (marks_of g (U ++ (c ∷ V))) = ap (λ W. sum_by f (marks_of g W)) e in
-    let d : sum_by (λ r. f (visit_mark r)) (c ∷ V) ≡ f (visit_mark c) + sum_by (λ r. f (visit_mark r)) V = sum_by-cons (λ r. f (visit_mark r)) c V in omega arith
+    let d : sum_by (λ r. f (visit_mark r)) (c ∷ V) ≡ f (visit_mark c) + sum_by (λ r. f (visit_mark r)) V =
+    sum_by-cons (λ r. f (visit_mark r)) c V in omega arith
 
-pub sum_marks : (g : Geometry) (f : Mark → ℕ) (V : List Reference) → f Unmarked ≡ 0 → f Fixed ≡ 0 → AreVisits g V → sum_by f (marks_of g V) ≡ sum_by (λ r. f (visit_mark r)) V
+pub sum_marks : (g : Geometry) (f : Mark → ℕ) (V : List Reference) → f Unmarked ≡ 0 → f Fixed ≡ 0 → AreVisits g V → sum_by f (marks_of g V)
+    ≡ sum_by (λ r. f (visit_mark r)) V
 unfolding marks_of
 sum_marks g f V u x h =
     let r = sum_from g f u [] V h in
@@ -141,8 +153,10 @@ free_pages-by_marks g V h = sum_marks g (λ m. cond (is_free_mark m) 1 0) V refl
     same (r ∷ W) =
         let a : ◌≡◌ {A = ℕ} (cond (is_free_mark (visit_mark r)) 1 0) (cond (is_on_freelist (role_of r)) 1 0) = by_role (role_of r) (from_of r) in
         let b : sum_by (λ r. cond (is_free_mark (visit_mark r)) 1 0) W ≡ free_pages W = same W in
-        let d : sum_by (λ r. cond (is_free_mark (visit_mark r)) 1 0) (r ∷ W) ≡ cond (is_free_mark (visit_mark r)) 1 0 + sum_by (λ r. cond (is_free_mark (visit_mark r)) 1 0) W = sum_by-cons (λ r. cond (is_free_mark (visit_mark r)) 1 0) r W in
-        let e : free_pages (r ∷ W) ≡ cond (is_on_freelist (role_of r)) 1 0 + free_pages W = sum_by-cons (λ r. cond (is_on_freelist (role_of r)) 1 0) r W in omega arith
+        let d : sum_by (λ r. cond (is_free_mark (visit_mark r)) 1 0) (r ∷ W) ≡ cond (is_free_mark (visit_mark r)) 1 0
+        + sum_by (λ r. cond (is_free_mark (visit_mark r)) 1 0) W = sum_by-cons (λ r. cond (is_free_mark (visit_mark r)) 1 0) r W in
+        let e : free_pages (r ∷ W) ≡ cond (is_on_freelist (role_of r)) 1 0 + free_pages W =
+        sum_by-cons (λ r. cond (is_on_freelist (role_of r)) 1 0) r W in omega arith
 
 -- the visits of a survey are such visits
 pub survey_visits : (file : List ℕ) (V : List Reference) → Survey file V → AreVisits (geometry file) V

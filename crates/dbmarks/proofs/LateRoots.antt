@@ -1,5 +1,6 @@
 -- Roots that come after a page that is no root, by marks alone; and with them all that marks say at the end.
-use Rattle.std.proofs.Common.{◌≡◌, ℕ, zero, suc, ◌+◌, ◌≤◌, inl, inr, Bool, true, false, cond, not, ◌&&◌, List, [], ◌∷◌, length, Option, Some, None, refl, sym, ap, subst, ◌∙◌, arith}
+use Rattle.std.proofs.Common.{◌≡◌, ℕ, zero, suc, ◌+◌, ◌≤◌, inl, inr, Bool, true, false, cond, not, ◌&&◌, List, [], ◌∷◌, length, Option, Some, None, refl, sym}
+use Rattle.std.proofs.Common.{ap, subst, ◌∙◌, arith}
 use Rattle.std.specs.Prelude.{find, pos, nat_lt, min, ◌==◌}
 use Rattle.std.specs.List.{range_with_len, reduce}
 use Rattle.std.proofs.lemmas.Bool.{cases_Bool, and_parts, and_from, eqb-true, eq-eqb, ne_eqb, not-true, both_ways}
@@ -26,7 +27,8 @@ use Rattle.dbformat.proofs.Rising.{starts_rise}
 use Rattle.dbformat.proofs.Visited.{allowed, each_once, has_address, root_is_start}
 use Rattle.dbmarks.specs.EndMarks.{AreVisits, is_root_mark, is_other_mark, is_marked, least_other_marked, late_fault, MarksTellTheEnd}
 use Rattle.dbmarks.specs.Marking.{mark_of, marks_of}
-use Rattle.dbmarks.proofs.EndMarking.{use_fault-by_mark, free_pages-by_marks, survey_visits, root_test, other_test, visited_pages, visit-of_marked, marked-visit_of, visited_is_marked, marked_is_visited, greatest_root-by_marks}
+use Rattle.dbmarks.proofs.EndMarking.{use_fault-by_mark, free_pages-by_marks, survey_visits, root_test, other_test, visited_pages, visit-of_marked}
+use Rattle.dbmarks.proofs.EndMarking.{marked-visit_of, visited_is_marked, marked_is_visited, greatest_root-by_marks}
 
 -- the least page that is no root
 
@@ -77,7 +79,8 @@ module _ (file : List ℕ) (V : List Reference) (s : Survey file V) where
       let first : Reference = record { address = schema_start ∷ []; page = 1; role = schema_link.role } in
       let page : is_page (geometry file) 1 ≡ true = subst (λ p. is_page (geometry file) p ≡ true) e (allowed file V s r i).0 in
       let free : is_fixed (geometry file) 1 ≡ false = subst (λ p. is_fixed (geometry file) p ≡ false) e (allowed file V s r i).1 in
-      let may : (rules_of file).may first ≡ true = and_from (is_page (geometry file) 1) (not (is_fixed (geometry file) 1) && true) page (and_from (not (is_fixed (geometry file) 1)) true (ap not free) refl) in
+      let may : (rules_of file).may first ≡ true = and_from (is_page (geometry file) 1) (not (is_fixed (geometry file) 1) && true) page
+      (and_from (not (is_fixed (geometry file) 1)) true (ap not free) refl) in
       let there : IsIn first V = (s.exact first).1 (inl (inl refl), may, λ u j before same. none_before u.address (has_address file V s u j) before) in
       ap (λ r. start_of r.address) (one_by (λ r. r.page) V (each_once file V s) r first i there e)
     where
@@ -90,7 +93,8 @@ module _ (file : List ℕ) (V : List Reference) (s : Survey file V) where
   later_start : (r : Reference) → IsIn r V → is_root (role_of r) ≡ true → (r.page == 1) ≡ false → (start_of r.address == schema_start) ≡ false
   later_start r i e other = by_start (named_at-from [] (starts file V) r (root_is_start file V s r i e))
     where
-      by_start : (l : Link Way) × IsIn l (starts file V) × (r ≡ record { address = l.step ∷ []; page = l.page; role = l.role }) → (start_of r.address == schema_start) ≡ false
+      by_start : (l : Link Way) × IsIn l (starts file V) × (r ≡ record { address = l.step ∷ []; page = l.page; role = l.role })
+          → (start_of r.address == schema_start) ≡ false
       by_start h = elim h.1 [
         | inl k ↦ absurd (both_ways (r.page == 1) other (eq-eqb r.page 1 (ap (λ r. r.page) h.2 ∙ ap (λ l. l.page) k)))
         | inr k ↦ (let later = (starts_rise file (under schema_start V)).0 h.0 k in
@@ -134,7 +138,8 @@ module _ (file : List ℕ) (V : List Reference) (s : Survey file V) where
   late_by p None = []
   late_by p (Some least) = told_if ((geometry file).has_map && is_root_page V p && nat_lt least p) (fault M02 p 0 (pos least))
 
-  late_root_fault-by_marks : (p : ℕ) → late_root_fault file V p ≡ late_fault (geometry file).has_map p (mark_of (geometry file) V p) (least_other_marked (marks_of (geometry file) V))
+  late_root_fault-by_marks : (p : ℕ) → late_root_fault file V p
+      ≡ late_fault (geometry file).has_map p (mark_of (geometry file) V p) (least_other_marked (marks_of (geometry file) V))
   unfolding late_root_fault
   late_root_fault-by_marks p =
       by_least (least_other_page V)

@@ -1,5 +1,6 @@
 -- The marks of pages, visit by visit.
-use Rattle.std.proofs.Common.{◌≡◌, ◌≢◌, ℕ, zero, suc, ◌+◌, ◌-◌, ◌<◌, ◌≤◌, Bool, true, false, cond, not, ◌||◌, inl, inr, List, [], ◌∷◌, ◌++◌, length, map, set, Option, Some, None, refl, sym, ap, ◌∙◌, arith, ◌*◌, ◌/◌, ◌%◌, take, drop, get_or}
+use Rattle.std.proofs.Common.{◌≡◌, ◌≢◌, ℕ, zero, suc, ◌+◌, ◌-◌, ◌<◌, ◌≤◌, Bool, true, false, cond, not, ◌||◌, inl, inr, List, [], ◌∷◌, ◌++◌, length, map, set}
+use Rattle.std.proofs.Common.{Option, Some, None, refl, sym, ap, ◌∙◌, arith, ◌*◌, ◌/◌, ◌%◌, take, drop, get_or}
 use Rattle.std.specs.Prelude.{slice_get, is_some, nat_le, ◌==◌}
 use Rattle.std.specs.List.{range_with_len}
 use Rattle.std.specs.Option.{option_or, option_map_or}
@@ -53,7 +54,8 @@ set_made f h a (suc n) zero m l e d =
 set_made f h a (suc n) (suc i) m l e d =
     let z : a + 1 + i ≡ a + suc i = omega arith in
     let k : h a ≡ f a = d a (λ x. omega arith) in
-    let r : set (map f (range_with_len (a + 1) n)) i m ≡ map h (range_with_len (a + 1) n) = set_made f h (a + 1) n i m (omega arith) (ap h z ∙ e) (λ p q. d p (λ x. q (x ∙ sym z))) in cc
+    let r : set (map f (range_with_len (a + 1) n)) i m ≡ map h (range_with_len (a + 1) n) =
+    set_made f h (a + 1) n i m (omega arith) (ap h z ∙ e) (λ p q. d p (λ x. q (x ∙ sym z))) in cc
 
 -- the mark of a page
 
@@ -109,7 +111,8 @@ owned_visit (u ∷ W) p = by_case (u.page == p) (owned_visit W p)
     by_case true h = refl
     by_case false h = h
 
-page_mark-is : (g : Geometry) (W : List Reference) (p : ℕ) → page_mark (marks_of g W) p ≡ cond (is_page g p) (Some (cond (is_fixed g p) Fixed (option_map_or visit_mark (visit_of W p) Unmarked))) None
+page_mark-is : (g : Geometry) (W : List Reference) (p : ℕ) → page_mark (marks_of g W) p
+    ≡ cond (is_page g p) (Some (cond (is_fixed g p) Fixed (option_map_or visit_mark (visit_of W p) Unmarked))) None
 unfolding mark_of
 page_mark-is g W p = elim (cases_Bool (is_page g p)) [
   | inl e ↦ (let l : 1 ≤ p = page_low (nat_le 1 p) (nat_le p g.pages) e in let m : p ≤ g.pages = page_high e in
@@ -124,7 +127,8 @@ page_mark-is g W p = elim (cases_Bool (is_page g p)) [
     page_high e = grind (arith, nat_tests)
 
 -- where W comes before it, the mark of its page and its depth say why a reference is refused
-pub refused-by_mark : (file : List ℕ) (W : List Reference) (c : Reference) (marks : List Mark) → ((u : Reference) → IsIn u W → IsBefore u.address c.address) → AreMarksOf file W marks
+pub refused-by_mark : (file : List ℕ) (W : List Reference) (c : Reference) (marks : List Mark) → ((u : Reference) → IsIn u W → IsBefore u.address c.address)
+    → AreMarksOf file W marks
     → refused file W c ≡ refusal_by (page_mark marks c.page) (is_too_deep c)
 unfolding refused
 refused-by_mark file W c marks before m =
@@ -135,10 +139,12 @@ refused-by_mark file W c marks before m =
     ∙ ap (λ o. refusal_by o (is_too_deep c)) (sym (page_mark-is g W c.page) ∙ ap (λ l. page_mark l c.page) (sym m))
 
 -- one that no test refuses is followed, and one that some test refuses is not
-pub followed-unrefused : (file : List ℕ) (W : List Reference) (c : Reference) → ((u : Reference) → IsIn u W → IsBefore u.address c.address) → refused file W c ≡ None → is_followed (rules_of file) W c ≡ true
+pub followed-unrefused : (file : List ℕ) (W : List Reference) (c : Reference) → ((u : Reference) → IsIn u W → IsBefore u.address c.address) → refused file W c
+    ≡ None → is_followed (rules_of file) W c ≡ true
 followed-unrefused file W c before h = (refused_by_marks file W c before).1.1 h
 
-pub followed-refused : (file : List ℕ) (W : List Reference) (c : Reference) (code : FaultCode) → ((u : Reference) → IsIn u W → IsBefore u.address c.address) → refused file W c ≡ Some code → is_followed (rules_of file) W c ≡ false
+pub followed-refused : (file : List ℕ) (W : List Reference) (c : Reference) (code : FaultCode) → ((u : Reference) → IsIn u W → IsBefore u.address c.address)
+    → refused file W c ≡ Some code → is_followed (rules_of file) W c ≡ false
 followed-refused file W c code before h = elim (cases_Bool (is_followed (rules_of file) W c)) [
   | inl e ↦ (let k : refused file W c ≡ None = (refused_by_marks file W c before).1.0 e in cc)
   | inr e ↦ e

@@ -1,5 +1,6 @@
 -- What is kept of the marks and read, call after call.
-use Rattle.std.proofs.Common.{◌≡◌, ◌≢◌, ℕ, zero, suc, ◌+◌, ◌-◌, ◌*◌, ◌<◌, ◌≤◌, true, false, cond, inl, inr, List, [], ◌∷◌, ◌++◌, length, map, set, get_or, Some, None, Ok, refl, sym, ap, subst, ◌∙◌, arith}
+use Rattle.std.proofs.Common.{◌≡◌, ◌≢◌, ℕ, zero, suc, ◌+◌, ◌-◌, ◌*◌, ◌<◌, ◌≤◌, true, false, cond, inl, inr, List, [], ◌∷◌, ◌++◌, length, map, set, get_or, Some}
+use Rattle.std.proofs.Common.{None, Ok, refl, sym, ap, subst, ◌∙◌, arith}
 use Rattle.std.specs.Prelude.{slice_get, count_by, ◌==◌, Result, IfSome, OnOk}
 use Rattle.std.specs.Option.{option_map_or}
 use Rattle.std.proofs.lemmas.Bool.{cases_Bool, both_ways}
@@ -92,14 +93,16 @@ keeps_then a b c h k = record {
 -- a page gets its mark
 pub keeps_put : (marks : List Mark) (p : ℕ) (m : Mark) → page_mark marks p ≡ Some Unmarked → cleared m ≡ Unmarked → KeepsMarks marks (set marks (p - 1) m)
 keeps_put marks p m h e = record {
-  marks = λ q u. page_set marks p q m (page_get marks p Unmarked h).0 (λ x. both_ways (is_unmarked marks p) (subst (λ r. is_unmarked marks r ≡ false) x u) (unmarked-is marks p h));
+  marks = λ q u. page_set marks p q m (page_get marks p Unmarked h).0
+      (λ x. both_ways (is_unmarked marks p) (subst (λ r. is_unmarked marks r ≡ false) x u) (unmarked-is marks p h));
   fixed = clear_set marks (p - 1) m Unmarked (page_get marks p Unmarked h).1 e;
 }
 
 pub put_marked : (marks : List Mark) (p : ℕ) (m : Mark) → page_mark marks p ≡ Some Unmarked → is_none m ≡ false → is_unmarked (set marks (p - 1) m) p ≡ false
 put_marked marks p m h e = marked-is (set marks (p - 1) m) p m (page_set_same marks p m Unmarked h) e
 
-pub put_count : (marks : List Mark) (p : ℕ) (m : Mark) → page_mark marks p ≡ Some Unmarked → is_none m ≡ false → unmarked_pages (set marks (p - 1) m) + 1 ≡ unmarked_pages marks
+pub put_count : (marks : List Mark) (p : ℕ) (m : Mark) → page_mark marks p ≡ Some Unmarked → is_none m ≡ false → unmarked_pages (set marks (p - 1) m) + 1
+    ≡ unmarked_pages marks
 put_count marks p m h e = count_set marks (p - 1) m (page_get marks p Unmarked h).1 e
 
 -- reads
@@ -158,20 +161,24 @@ log_none size marks marks' s e q = logs.has_none s s refl refl (reads_none size 
 
 -- a page was marked, and then read
 pub log_page : {step : Step} (Q : List ℕ → Type 0) {T : List ℕ → Type 0} (size : ℕ) (marks marks' : List Mark) (p : ℕ) (m : Mark) {old new : SourceState}
-    → page_mark marks p ≡ Some Unmarked → marks' ≡ set marks (p - 1) m → IsUse m → HasLog step (λ log. log ≡ page_range size p ∷ []) Q old new → ((file : List ℕ) → Q file → T file)
+    → page_mark marks p ≡ Some Unmarked → marks' ≡ set marks (p - 1) m → IsUse m → HasLog step (λ log. log ≡ page_range size p ∷ []) Q old new
+    → ((file : List ℕ) → Q file → T file)
     → HasLog step (Reads size marks marks') T old new
 log_page Q size marks marks' p m h e used k q = logs.has_weaker (λ log. log ≡ page_range size p ∷ []) Q k
-    (λ log l. subst (Reads size marks marks') (sym l) (subst (λ l. Reads size marks l (page_range size p ∷ [])) (sym e) (reads_page size marks p m h used.cleared used.some))) q
+    (λ log l. subst (Reads size marks marks') (sym l) (subst (λ l. Reads size marks l (page_range size p ∷ [])) (sym e)
+    (reads_page size marks p m h used.cleared used.some))) q
 
 -- one page was read, or the source failed
-pub log_load : {step : Step} {old new : SourceState} (size p : ℕ) (bytes : List ℕ) (r : Result (Unit {0}) ReadFailed) → new.bytes ≡ old.bytes → length bytes ≡ size
+pub log_load : {step : Step} {old new : SourceState} (size p : ℕ) (bytes : List ℕ) (r : Result (Unit {0}) ReadFailed) → new.bytes ≡ old.bytes → length bytes
+    ≡ size
     → step old.trail (answer r ((p - 1) * size) bytes) new.trail × OnOk r (IfSome old.bytes (λ file. IsRangeOf file ((p - 1) * size) bytes))
     → HasLog step (λ log. log ≡ page_range size p ∷ []) (λ file. OnOk r (IsRangeOf file ((p - 1) * size) bytes)) old new
 log_load size p bytes r told e h = logs.has_one r ((p - 1) * size) bytes told h.0 h.1 (ap (λ n. range ((p - 1) * size) n ∷ []) e) (λ file f. f)
 
 -- a page was marked, and then read, and then more pages were marked
 pub log_opened : {step : Step} (Q : List ℕ → Type 0) {T : List ℕ → Type 0} (size : ℕ) (a b c : List Mark) (p : ℕ) (m : Mark) {old new : SourceState}
-    → page_mark a p ≡ Some Unmarked → b ≡ set a (p - 1) m → IsUse m → KeepsMarks b c → HasLog step (λ log. log ≡ page_range size p ∷ []) Q old new → ((file : List ℕ) → Q file → T file)
+    → page_mark a p ≡ Some Unmarked → b ≡ set a (p - 1) m → IsUse m → KeepsMarks b c → HasLog step (λ log. log ≡ page_range size p ∷ []) Q old new
+    → ((file : List ℕ) → Q file → T file)
     → HasLog step (Reads size a c) T old new
 log_opened Q size a b c p m h e used kept k q = logs.has_weaker (λ log. log ≡ page_range size p ∷ []) Q k
     (λ log l. subst (Reads size a c) (sym l) (reads_then size a b c (page_range size p ∷ []) []
@@ -179,12 +186,16 @@ log_opened Q size a b c p m h e used kept k q = logs.has_weaker (λ log. log ≡
 
 -- one log after another
 pub log_then : {step : Step} (Q Q' : List ℕ → Type 0) {T : List ℕ → Type 0} {size size' : ℕ} {a b c : List Mark} {old mid new : SourceState} → size' ≡ size
-    → HasLog step (Reads size a b) Q old mid → HasLog step (Reads size' b c) Q' mid new → ((file : List ℕ) → Q file → Q' file → T file) → HasLog step (Reads size a c) T old new
+    → HasLog step (Reads size a b) Q old mid → HasLog step (Reads size' b c) Q' mid new → ((file : List ℕ) → Q file → Q' file → T file)
+    → HasLog step (Reads size a c) T old new
 log_then {step} Q Q' {size = size} {a = a} {b = b} {c = c} {mid = mid} {new = new} e h k q =
-    logs.has_append (Reads size a b) (Reads size b c) Q Q' h (subst (λ n. HasLog step (Reads n b c) Q' mid new) e k) (λ l m p q. reads_then size a b c l m p q) q
+    logs.has_append (Reads size a b) (Reads size b c) Q Q' h (subst (λ n. HasLog step (Reads n b c) Q' mid new) e k) (λ l m p q. reads_then size a b c l m p q)
+    q
 
 -- a walk in which nothing failed, and then another, as calls
-pub asks_then : {A B : Type 0} {step : Step} (Q Q' : List ℕ → Type 0) {T : List ℕ → Type 0} {size size' : ℕ} {a b c : List Mark} {u : A} {r : Result B RunError} {old mid new : SourceState} → size' ≡ size
-    → Asks step (Reads size a b) Q is_read_failed (Ok u) old mid → Asks step (Reads size' b c) Q' is_read_failed r mid new → ((file : List ℕ) → Q file → Q' file → T file)
+pub asks_then : {A B : Type 0} {step : Step} (Q Q' : List ℕ → Type 0) {T : List ℕ → Type 0} {size size' : ℕ} {a b c : List Mark} {u : A} {r : Result B RunError}
+    {old mid new : SourceState} → size' ≡ size
+    → Asks step (Reads size a b) Q is_read_failed (Ok u) old mid → Asks step (Reads size' b c) Q' is_read_failed r mid new
+    → ((file : List ℕ) → Q file → Q' file → T file)
     → Asks step (Reads size a c) T is_read_failed r old new
 asks_then Q Q' {r = r} e h k q = record { log = log_then Q Q' e h.log k.log q; count = k.count ∙ ap (failures_after is_read_failed r) h.count }

@@ -39,9 +39,11 @@ none_is (Some (FirstOverflow from)) h = cc
 none_is (Some (LaterOverflow from)) h = cc
 none_is (Some (Child from)) h = cc
 
-pub unmarked_unfixed : (g : Geometry) (marks : List Mark) (p : ℕ) → AreMarksFor g marks → is_unmarked marks p ≡ true → (is_page g p ≡ true) × (is_fixed g p ≡ false)
+pub unmarked_unfixed : (g : Geometry) (marks : List Mark) (p : ℕ) → AreMarksFor g marks → is_unmarked marks p ≡ true → (is_page g p ≡ true)
+    × (is_fixed g p ≡ false)
 unmarked_unfixed g marks p h u =
-    let k : page_mark (marks_of g []) p ≡ Some Unmarked = ap (λ l. page_mark l p) (sym h) ∙ page_mark-cleared marks p ∙ ap (option_map cleared) (none_is (page_mark marks p) u) in
+    let k : page_mark (marks_of g []) p ≡ Some Unmarked = ap (λ l. page_mark l p) (sym h) ∙ page_mark-cleared marks p
+    ∙ ap (option_map cleared) (none_is (page_mark marks p) u) in
     elim (cases_Bool (is_page g p)) [
       | inl e ↦ (e, (unvisited g [] p (same (sym (page_mark-in g [] p (low e) (high e)) ∙ k))).0)
       | inr e ↦ absurd (clash (sym (page_mark-out g [] p e) ∙ k))

@@ -53,5 +53,6 @@ are_owned file V s r i = record {
     by_tree : (q : ℕ) → owner_at V k ≡ Tree q → first_start (starts file V) q ≡ Some k
     by_tree q f = elim (cases_Bool (k == freelist_start)) [
       | inl e ↦ absurd (let g : Freelist ≡ Tree q = sym (ap (λ b. cond b Freelist (tree_at V k)) e) ∙ f in cc)
-      | inr e ↦ subst (λ q. first_start (starts file V) q ≡ Some k) (same u.0.page q (sym (ap (λ b. cond b Freelist (tree_at V k)) e ∙ tree_is) ∙ f)) (first_is file V s u.0 k u.1 u.2)
+      | inr e ↦ subst (λ q. first_start (starts file V) q ≡ Some k) (same u.0.page q (sym (ap (λ b. cond b Freelist (tree_at V k)) e ∙ tree_is) ∙ f))
+          (first_is file V s u.0 k u.1 u.2)
     ]

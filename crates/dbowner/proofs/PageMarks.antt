@@ -45,7 +45,8 @@ named (later_overflow left) from q e = (cc, refl, λ f. cc)
 named trunk from q e = cc
 named free_leaf from q e = cc
 
-unnamed : (role : Role) (from k : ℕ) → parent_by (Some (role_mark role from)) ≡ None → (is_root role ≡ true → ⊥) → (is_on_freelist role ≡ true → k ≡ freelist_start) → start_by (Some (role_mark role from)) ≡ Some k
+unnamed : (role : Role) (from k : ℕ) → parent_by (Some (role_mark role from)) ≡ None → (is_root role ≡ true → ⊥)
+    → (is_on_freelist role ≡ true → k ≡ freelist_start) → start_by (Some (role_mark role from)) ≡ Some k
 unnamed (root kind) from k e off f = absurd (off refl)
 unnamed (child kind) from k e off f = cc
 unnamed (first_overflow left) from k e off f = cc
@@ -116,8 +117,10 @@ module _ (file : List ℕ) (V : List Reference) (s : Survey file V) where
   unfolding place_of
   place_is p = by_case (visit_of V p) refl
     where
-      by_case : (o : Option Reference) → visit_of V p ≡ o → place_by (page_mark (marks_of (geometry file) V) p) ≡ by_visit (visit_of V p) (is_fixed (geometry file) p)
-      by_case None e = ap place_by (no_visit p e) ∙ unused_place (is_fixed (geometry file) p) (is_page (geometry file) p) ∙ sym (ap (λ o. by_visit o (is_fixed (geometry file) p)) e)
+      by_case : (o : Option Reference) → visit_of V p ≡ o → place_by (page_mark (marks_of (geometry file) V) p)
+          ≡ by_visit (visit_of V p) (is_fixed (geometry file) p)
+      by_case None e = ap place_by (no_visit p e) ∙ unused_place (is_fixed (geometry file) p) (is_page (geometry file) p)
+          ∙ sym (ap (λ o. by_visit o (is_fixed (geometry file) p)) e)
       by_case (Some r) e =
           let k = found_in V p r e in
           let free : is_fixed (geometry file) p ≡ false = subst (λ p. is_fixed (geometry file) p ≡ false) k.1 (allowed file V s r k.0).1 in
@@ -131,7 +134,8 @@ module _ (file : List ℕ) (V : List Reference) (s : Survey file V) where
   pub one_up : (p q : ℕ) → parent (marks_of (geometry file) V) p ≡ Some q → (start_at V p ≡ start_at V q) × (depth_at V p ≡ depth_at V q + 1)
   one_up p q h = by_case (visit_of V p) refl
     where
-      of_visit : (r : Reference) → IsIn r V → parent_by (Some (visit_mark r)) ≡ Some q → (start_at V r.page ≡ start_at V q) × (depth_at V r.page ≡ depth_at V q + 1)
+      of_visit : (r : Reference) → IsIn r V → parent_by (Some (visit_mark r)) ≡ Some q → (start_at V r.page ≡ start_at V q)
+          × (depth_at V r.page ≡ depth_at V q + 1)
       of_visit r i e = elim (start_or_below file V s r i) [
         | inl t ↦ absurd (elim t.2 [
           | inl c ↦ (named (role_of r) (from_of r) q e).2 c.0
@@ -146,7 +150,8 @@ module _ (file : List ℕ) (V : List Reference) (s : Survey file V) where
       ]
 
       by_case : (o : Option Reference) → visit_of V p ≡ o → (start_at V p ≡ start_at V q) × (depth_at V p ≡ depth_at V q + 1)
-      by_case None e = absurd (let f : None ≡ Some q = sym (ap parent_by (no_visit p e) ∙ unused_parent (is_fixed (geometry file) p) (is_page (geometry file) p)) ∙ h in cc)
+      by_case None e = absurd (let f : None ≡ Some q = sym
+          (ap parent_by (no_visit p e) ∙ unused_parent (is_fixed (geometry file) p) (is_page (geometry file) p)) ∙ h in cc)
       by_case (Some r) e =
           let k = found_in V p r e in
           let at : parent_by (Some (visit_mark r)) ≡ Some q = sym (ap parent_by (mark_here r k.0)) ∙ ap (parent (marks_of (geometry file) V)) k.1 ∙ h in
@@ -158,7 +163,8 @@ module _ (file : List ℕ) (V : List Reference) (s : Survey file V) where
   mark_start p h off = by_case (visit_of V p) refl
     where
       by_case : (o : Option Reference) → visit_of V p ≡ o → start_by (page_mark (marks_of (geometry file) V) p) ≡ start_at V p
-      by_case None e = ap start_by (no_visit p e) ∙ unused_start (is_fixed (geometry file) p) (is_page (geometry file) p) ∙ sym (ap (λ o. option_map (λ r. start_of r.address) o) e)
+      by_case None e = ap start_by (no_visit p e) ∙ unused_start (is_fixed (geometry file) p) (is_page (geometry file) p)
+          ∙ sym (ap (λ o. option_map (λ r. start_of r.address) o) e)
       by_case (Some r) e =
           let k = found_in V p r e in
           let at : parent_by (Some (visit_mark r)) ≡ None = sym (ap parent_by (mark_here r k.0)) ∙ ap (parent (marks_of (geometry file) V)) k.1 ∙ h in
@@ -170,11 +176,18 @@ module _ (file : List ℕ) (V : List Reference) (s : Survey file V) where
   pub root_marked : (r : Reference) → IsIn r V → is_root (role_of r) ≡ true → is_marked is_root_mark (marks_of (geometry file) V) r.page ≡ true
   root_marked r i h = ap (λ o. option_map_or is_root_mark o false) (mark_here r i) ∙ root_test.visited (role_of r) (from_of r) ∙ h
 
-  pub root_visited : (p : ℕ) → is_marked is_root_mark (marks_of (geometry file) V) p ≡ true → (r : Reference) × IsIn r V × (r.page ≡ p) × (is_root (role_of r) ≡ true)
+  pub root_visited : (p : ℕ) → is_marked is_root_mark (marks_of (geometry file) V) p ≡ true → (r : Reference) × IsIn r V × (r.page ≡ p)
+      × (is_root (role_of r) ≡ true)
   root_visited p h = by_case (visit_of V p) refl
     where
       by_case : (o : Option Reference) → visit_of V p ≡ o → (r : Reference) × IsIn r V × (r.page ≡ p) × (is_root (role_of r) ≡ true)
-      by_case None e = absurd (let f : false ≡ true = sym (ap (λ o. option_map_or is_root_mark o false) (no_visit p e) ∙ unused_root (is_fixed (geometry file) p) (is_page (geometry file) p)) ∙ h in cc)
+      by_case None e = absurd (let f : false ≡ true = sym
+          (ap (λ o. option_map_or is_root_mark o false) (no_visit p e) ∙ unused_root (is_fixed (geometry file) p) (is_page (geometry file) p)) ∙ h in cc)
       by_case (Some r) e =
-          let k = found_in V p r e in
-          (r, k.0, k.1, sym (root_test.visited (role_of r) (from_of r)) ∙ sym (ap (λ o. option_map_or is_root_mark o false) (mark_here r k.0)) ∙ ap (λ p. is_marked is_root_mark (marks_of (geometry file) V) p) k.1 ∙ h)
+          let k = found_in V p r e in (
+            r,
+            k.0,
+            k.1,
+            sym (root_test.visited (role_of r) (from_of r)) ∙ sym (ap (λ o. option_map_or is_root_mark o false) (mark_here r k.0))
+                ∙ ap (λ p. is_marked is_root_mark (marks_of (geometry file) V) p) k.1 ∙ h,
+          )

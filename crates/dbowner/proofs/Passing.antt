@@ -30,11 +30,16 @@ module _ (marks : List Mark) (page : ℕ) where
     pages = refl;
   }
 
-  pub climb_more : (n : ℕ) (old : List Known) (at : ℕ) (now : List Known) (from : ℕ) → IsClimb marks page n old at now → slot now at ≡ Some None → parent marks at ≡ Some from
+  pub climb_more : (n : ℕ) (old : List Known) (at : ℕ) (now : List Known) (from : ℕ) → IsClimb marks page n old at now → slot now at ≡ Some None
+      → parent marks at ≡ Some from
       → IsClimb marks page (n + 1) old from (set now (at - 1) (Some None))
   climb_more n old at now from h e f = subst (λ m. IsClimb marks page m old from new) (let d : suc n ≡ n + 1 = omega arith in d) (record {
     ends = ap (λ o. unwrap_or o 0) up;
-    steps = λ k l. elim (last k n l) [ inl d ↦ h.steps k d | inr d ↦ subst (λ k. parent marks (above marks k page) ≡ Some (above marks (suc k) page)) (sym d) (up ∙ ap (λ o. Some (unwrap_or o 0)) (sym up)) ];
+    steps = λ k l. elim (last k n l) [
+      | inl d ↦ h.steps k d
+      | inr d ↦ subst (λ k. parent marks (above marks k page) ≡ Some (above marks (suc k) page)) (sym d)
+          (up ∙ ap (λ o. Some (unwrap_or o 0)) (sym up))
+    ];
     way = λ k l. elim (last k n l) [
       | inl d ↦ elim (put (above marks k page)) [ inl c ↦ c.1 | inr c ↦ c ∙ h.way k d ]
       | inr d ↦ ap (known_of new) (ap (λ k. above marks k page) d ∙ h.ends) ∙ here
@@ -70,13 +75,15 @@ module _ (marks : List Mark) (page : ℕ) where
     pages = refl;
   }
 
-  pub settled_slot : (n : ℕ) (start : Option ℕ) (old now : List Known) (p : ℕ) → IsSettled marks page n start old now → known_of old p ≡ Some None → (o : Option ℕ) × (slot now p ≡ Some (Some o))
+  pub settled_slot : (n : ℕ) (start : Option ℕ) (old now : List Known) (p : ℕ) → IsSettled marks page n start old now → known_of old p ≡ Some None
+      → (o : Option ℕ) × (slot now p ≡ Some (Some o))
   settled_slot n start old now p h e = elim (h.others p) [
     | inl c ↦ (None, known_slot now p None (c ∙ e))
     | inr c ↦ (start, known_slot now p start c.0)
   ]
 
-  pub settle_more : (n : ℕ) (start : Option ℕ) (old now : List Known) (at : ℕ) → IsSettled marks page n start old now → known_of old at ≡ Some None → above marks n page ≡ at
+  pub settle_more : (n : ℕ) (start : Option ℕ) (old now : List Known) (at : ℕ) → IsSettled marks page n start old now → known_of old at ≡ Some None
+      → above marks n page ≡ at
       → IsSettled marks page (n + 1) start old (set now (at - 1) (Some start))
   settle_more n start old now at h e f = subst (λ m. IsSettled marks page m start old new) (let d : suc n ≡ n + 1 = omega arith in d) (record {
     way = λ k l. elim (last k n l) [

@@ -1,5 +1,6 @@
 -- Root pages, by the list of roots.
-use Rattle.std.proofs.Common.{◌≡◌, ℕ, zero, suc, ◌+◌, ◌-◌, ◌<◌, ◌≤◌, Bool, true, false, cond, not, ◌&&◌, List, [], ◌∷◌, ◌++◌, length, map, take, drop, set, replicate, Option, Some, None, refl, sym, ap, subst, ◌∙◌, arith, inl, inr}
+use Rattle.std.proofs.Common.{◌≡◌, ℕ, zero, suc, ◌+◌, ◌-◌, ◌<◌, ◌≤◌, Bool, true, false, cond, not, ◌&&◌, List, [], ◌∷◌, ◌++◌, length, map, take, drop, set}
+use Rattle.std.proofs.Common.{replicate, Option, Some, None, refl, sym, ap, subst, ◌∙◌, arith, inl, inr}
 use Rattle.std.specs.Prelude.{find, is_some, nat_le, option_map, option_and_then, slice_get, IfSome, ◌==◌}
 use Rattle.std.specs.List.{enumerate_from}
 use Rattle.std.specs.Option.{option_map_or, option_or}
@@ -86,7 +87,8 @@ pub entered_is : (marks : List Mark) (known : List Known) (page start : ℕ) →
 entered_is marks known page start m o p = elim (cases_Bool (p == page)) [
   | inl e ↦ (let f : p ≡ page = eqb-true p page e in
       let w = within known page None (open_slot known page o) in
-      let here : (is_marked is_root_mark marks p && is_open known p) ≡ true = and_from (is_marked is_root_mark marks p) (is_open known p) (ap (is_marked is_root_mark marks) f ∙ m) (ap (is_open known) f ∙ o) in
+      let here : (is_marked is_root_mark marks p && is_open known p) ≡ true =
+      and_from (is_marked is_root_mark marks p) (is_open known p) (ap (is_marked is_root_mark marks) f ∙ m) (ap (is_open known) f ∙ o) in
       ap (known_of (set known (page - 1) (Some (Some start)))) f ∙ ap (λ o. option_and_then (λ k. k) o) (put_here known page (Some (Some start)) w.0 w.1)
       ∙ sym (ap (λ b. cond b (Some (Some start)) (known_of known p)) (and_from (p == page) (is_marked is_root_mark marks p && is_open known p) e here)))
   | inr e ↦ (let w = within known page None (open_slot known page o) in
@@ -114,10 +116,12 @@ pub one_entered : (marks : List Mark) (known : List Known) (page start : ℕ) (l
     → option_or (known_on_entry marks known page start p) (root_known marks (length known) later p)
     ≡ option_or (known_of known p) (root_known marks (length known) (cond (p == page) (Some start) later) p)
 one_entered marks known page start later p =
-    ap (λ b. option_or (cond ((p == page) && (is_marked is_root_mark marks p && b)) (Some (Some start)) (known_of known p)) (root_known marks (length known) later p)) (open_is known p)
+    ap (λ b. option_or (cond ((p == page) && (is_marked is_root_mark marks p && b)) (Some (Some start)) (known_of known p))
+    (root_known marks (length known) later p)) (open_is known p)
     ∙ one_row (p == page) (is_marked is_root_mark marks p) (has_room (length known) p) (known_of known p) start later
 
-pub row_entered : (marks : List Mark) (known : List Known) (rows : List SchemaRow) (i page : ℕ) (p : ℕ) → option_map (λ row. row.root) (slice_get rows i) ≡ Some page
+pub row_entered : (marks : List Mark) (known : List Known) (rows : List SchemaRow) (i page : ℕ) (p : ℕ) → option_map (λ row. row.root) (slice_get rows i)
+    ≡ Some page
     → option_or (known_on_entry marks known page (i + 1) p) (root_known marks (length known) (row_start (i + 1 + 1) (drop (suc i) rows) p) p)
     ≡ option_or (known_of known p) (root_known marks (length known) (row_start (i + 1) (drop i rows) p) p)
 row_entered marks known rows i page p h =
@@ -139,9 +143,11 @@ all_entered marks known rows i n p k l h =
 
 -- where the rows up to number i were entered, what is known and the other rows give the starts of all roots
 abbrev pub AreEntered : List Mark → List SchemaRow → ℕ → List Known → Type 0
-AreEntered marks rows i known = (p : ℕ) → option_or (known_of known p) (root_known marks (length known) (row_start (i + 1) (drop i rows) p) p) ≡ root_known marks (length known) (listed_start rows p) p
+AreEntered marks rows i known = (p : ℕ) → option_or (known_of known p) (root_known marks (length known) (row_start (i + 1) (drop i rows) p) p)
+    ≡ root_known marks (length known) (listed_start rows p) p
 
-pub schema_entered : (marks : List Mark) (n : ℕ) (known : List Known) (rows : List SchemaRow) → ((p : ℕ) → known_of known p ≡ known_on_entry marks (replicate n None) 1 schema_start p) → length known ≡ n
+pub schema_entered : (marks : List Mark) (n : ℕ) (known : List Known) (rows : List SchemaRow)
+    → ((p : ℕ) → known_of known p ≡ known_on_entry marks (replicate n None) 1 schema_start p) → length known ≡ n
     → AreEntered marks rows 0 known
 schema_entered marks n known rows h e p =
     let long : length known ≡ length (replicate {A = Known} n None) = e ∙ sym (length-replicate n None) in
@@ -151,8 +157,10 @@ schema_entered marks n known rows h e p =
     ∙ ap (λ k. option_or k (root_known marks (length (replicate {A = Known} n None)) (listed_start rows p) p)) (nothing_known n p)
     ∙ ap (λ n'. root_known marks n' (listed_start rows p) p) (sym long)
 
-pub next_entered : (marks : List Mark) (rows : List SchemaRow) (i page : ℕ) (known new : List Known) → option_map (λ row. row.root) (slice_get rows i) ≡ Some page
-    → ((p : ℕ) → known_of new p ≡ known_on_entry marks known page (i + 1) p) → length new ≡ length known → AreEntered marks rows i known → AreEntered marks rows (i + 1) new
+pub next_entered : (marks : List Mark) (rows : List SchemaRow) (i page : ℕ) (known new : List Known) → option_map (λ row. row.root) (slice_get rows i)
+    ≡ Some page
+    → ((p : ℕ) → known_of new p ≡ known_on_entry marks known page (i + 1) p) → length new ≡ length known → AreEntered marks rows i known
+    → AreEntered marks rows (i + 1) new
 next_entered marks rows i page known new row h e before p =
     let d : i + 1 ≡ suc i = omega arith in
     ap (λ k. option_or k (root_known marks (length new) (row_start (i + 1 + 1) (drop (i + 1) rows) p) p)) (h p)
@@ -167,8 +175,10 @@ rows_first : (file : List ℕ) (k : ℕ) (rows : List SchemaRow) (more : List (L
 rows_first file k [] more q = refl
 rows_first file k (row ∷ rows) more q = by_case (row.root == q) (rows_first file (k + 1) rows more q)
   where
-    by_case : (b : Bool) → first_start (map (root_start file) (enumerate_from (k + 1) rows) ++ more) q ≡ option_or (row_start (k + 1) rows q) (first_start more q)
-        → option_map (λ l. l.step) (cond b (Some (root_start file (k, row))) (find (λ l. l.page == q) (map (root_start file) (enumerate_from (k + 1) rows) ++ more)))
+    by_case : (b : Bool) → first_start (map (root_start file) (enumerate_from (k + 1) rows) ++ more) q
+        ≡ option_or (row_start (k + 1) rows q) (first_start more q)
+        → option_map (λ l. l.step) (cond b (Some (root_start file (k, row)))
+        (find (λ l. l.page == q) (map (root_start file) (enumerate_from (k + 1) rows) ++ more)))
         ≡ option_or (cond b (Some k) (row_start (k + 1) rows q)) (first_start more q)
     by_case true e = refl
     by_case false e = e
@@ -198,11 +208,13 @@ module _ (file : List ℕ) (V : List Reference) (s : Survey file V) (rows : List
       at = ap (λ ls. first_start ls q) (sym starts_are) ∙ e
 
       first : (1 == q) ≡ true → Some schema_start ≡ Some k
-      first f = sym (ap (λ b. option_map (λ l. l.step) (cond b (Some schema_link) (find (λ l. l.page == q) (map (root_start file) (enumerate_from 1 rows) ++ freelist_starts file)))) f) ∙ at
+      first f = sym (ap (λ b. option_map (λ l. l.step) (cond b (Some schema_link)
+          (find (λ l. l.page == q) (map (root_start file) (enumerate_from 1 rows) ++ freelist_starts file)))) f) ∙ at
 
       later : (1 == q) ≡ false → option_or (row_start 1 rows q) (first_start (freelist_starts file) q) ≡ Some k
       later f = sym (rows_first file 1 rows (freelist_starts file) q)
-          ∙ sym (ap (λ b. option_map (λ l. l.step) (cond b (Some schema_link) (find (λ l. l.page == q) (map (root_start file) (enumerate_from 1 rows) ++ freelist_starts file)))) f) ∙ at
+          ∙ sym (ap (λ b. option_map (λ l. l.step) (cond b (Some schema_link)
+          (find (λ l. l.page == q) (map (root_start file) (enumerate_from 1 rows) ++ freelist_starts file)))) f) ∙ at
 
       by_case : (b : Bool) → (q == 1) ≡ b → (o : Option ℕ) → row_start 1 rows q ≡ o → listed_start rows q ≡ Some k
       by_case true f o g = ap (λ b. cond b (Some schema_start) (row_start 1 rows q)) f ∙ first (eq-eqb 1 q (sym (eqb-true q 1 f)))
@@ -227,9 +239,11 @@ module _ (file : List ℕ) (V : List Reference) (s : Survey file V) (rows : List
           let less = k.2 in
           let a = (allowed file V s r i).0 in
           let own : listed_start rows r.page ≡ Some k.0 = by_list r.page k.0 (first_is file V s r k.0 i k.1) (λ f. let x : ⊥ = omega arith in x) in
-          let here : has_room (length known) r.page ≡ true = and_from (nat_le 1 r.page) (nat_le r.page (length known)) (grind (arith, nat_tests, room)) (grind (arith, nat_tests, room)) in
+          let here : has_room (length known) r.page ≡ true =
+          and_from (nat_le 1 r.page) (nat_le r.page (length known)) (grind (arith, nat_tests, room)) (grind (arith, nat_tests, room)) in
           let marked : is_marked is_root_mark marks r.page ≡ true = ap (λ marks. is_marked is_root_mark marks r.page) m ∙ root_marked file V s r i e in
-          h r.page ∙ ap (λ b. cond b (option_map Some (listed_start rows r.page)) None) (and_from (is_marked is_root_mark marks r.page) (has_room (length known) r.page) marked here)
+          h r.page ∙ ap (λ b. cond b (option_map Some (listed_start rows r.page)) None)
+          (and_from (is_marked is_root_mark marks r.page) (has_room (length known) r.page) marked here)
           ∙ ap (λ o. option_map Some o) own ∙ ap (λ k. Some (Some k)) (sym (ap start_of k.1))
 
       roots : (r : Reference) → IsIn r V → is_root (role_of r) ≡ true → known_of known r.page ≡ Some (Some (start_of r.address))

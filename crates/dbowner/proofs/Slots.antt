@@ -1,5 +1,6 @@
 -- What is known of pages, page by page.
-use Rattle.std.proofs.Common.{◌≡◌, ℕ, zero, suc, ◌+◌, ◌-◌, ◌<◌, ◌≤◌, ◌⊎◌, inl, inr, Bool, true, false, cond, List, [], ◌∷◌, not, ◌&&◌, length, map, take, replicate, set, get_or, Option, Some, None, refl, sym, ap, subst, ◌∙◌, arith}
+use Rattle.std.proofs.Common.{◌≡◌, ℕ, zero, suc, ◌+◌, ◌-◌, ◌<◌, ◌≤◌, ◌⊎◌, inl, inr, Bool, true, false, cond, List, [], ◌∷◌, not, ◌&&◌, length, map, take}
+use Rattle.std.proofs.Common.{replicate, set, get_or, Option, Some, None, refl, sym, ap, subst, ◌∙◌, arith}
 use Rattle.std.specs.Prelude.{slice_get, is_some, option_and_then, nat_le, ◌==◌}
 use Rattle.std.specs.Option.{option_map_or}
 use Rattle.std.proofs.lemmas.Bool.{cases_Bool, and_parts, and_from, eqb-true}
@@ -65,7 +66,8 @@ put_cases known p a l m q = elim (cases_Bool (q == p)) [
 ]
 
 -- and counted
-count_put : (known : List Known) (p : ℕ) (a : Option ℕ) (o : Known) → slot known p ≡ Some o → known_pages (set known (p - 1) (Some a)) + cond (is_some o) 1 0 ≡ known_pages known + 1
+count_put : (known : List Known) (p : ℕ) (a : Option ℕ) (o : Known) → slot known p ≡ Some o → known_pages (set known (p - 1) (Some a)) + cond (is_some o) 1 0
+    ≡ known_pages known + 1
 count_put known p a o h =
     let k = within known p o h in
     let i : p - 1 < length known = omega (arith, k.0, k.1) in
@@ -83,17 +85,21 @@ pub count_more : (known : List Known) (p : ℕ) (a : Option ℕ) → 1 ≤ p →
 count_more known p a l m = by_case (slot known p) refl
   where
     by_case : (o : Option Known) → slot known p ≡ o → known_pages known ≤ known_pages (set known (p - 1) (Some a))
-    by_case None e = absurd (let f : slot known p ≡ Some (get_or known (p - 1) None) = slot_at known p l ∙ slice_get-get_or known (p - 1) None (omega arith) in cc)
+    by_case None e = absurd (let f : slot known p ≡ Some (get_or known (p - 1) None) = slot_at known p l
+        ∙ slice_get-get_or known (p - 1) None (omega arith) in cc)
     by_case (Some None) e = let k = count_new known p a e in omega (arith, k)
     by_case (Some (Some b)) e = let k = count_same known p a b e in omega (arith, k)
 
 -- how it is stored
 
-pub stored : (words : List ℕ) (p w : ℕ) (a : Option ℕ) → unpacked_start w ≡ Some a → map unpacked_start (set words (p - 1) w) ≡ set (map unpacked_start words) (p - 1) (Some a)
+pub stored : (words : List ℕ) (p w : ℕ) (a : Option ℕ) → unpacked_start w ≡ Some a → map unpacked_start (set words (p - 1) w)
+    ≡ set (map unpacked_start words) (p - 1) (Some a)
 stored words p w a e = map-set unpacked_start words (p - 1) w ∙ ap (set (map unpacked_start words) (p - 1)) e
 
-pub stored_more : (words : List ℕ) (p w : ℕ) (a : Option ℕ) → unpacked_start w ≡ Some a → 1 ≤ p → p ≤ length (map unpacked_start words) → known_pages (map unpacked_start words) ≤ known_pages (map unpacked_start (set words (p - 1) w))
-stored_more words p w a e l m = subst (λ known. known_pages (map unpacked_start words) ≤ known_pages known) (sym (stored words p w a e)) (count_more (map unpacked_start words) p a l m)
+pub stored_more : (words : List ℕ) (p w : ℕ) (a : Option ℕ) → unpacked_start w ≡ Some a → 1 ≤ p → p ≤ length (map unpacked_start words)
+    → known_pages (map unpacked_start words) ≤ known_pages (map unpacked_start (set words (p - 1) w))
+stored_more words p w a e l m = subst (λ known. known_pages (map unpacked_start words) ≤ known_pages known) (sym (stored words p w a e))
+    (count_more (map unpacked_start words) p a l m)
 
 -- nothing is stored as 0
 pub nothing_stored : (n : ℕ) → map unpacked_start (replicate n 0) ≡ replicate n None
@@ -141,7 +147,8 @@ open_is known p = by_case (slot known p) refl
   where
     by_case : (o : Option Known) → slot known p ≡ o
         → option_map_or (λ k. not (is_some k)) (slot known p) false ≡ (has_room (length known) p && not (is_some (option_and_then (λ k. k) (slot known p))))
-    by_case None e = ap (λ o. option_map_or (λ k. not (is_some k)) o false) e ∙ sym (ap (λ b. b && not (is_some (option_and_then (λ k. k) (slot known p)))) (no_slot known p e))
+    by_case None e = ap (λ o. option_map_or (λ k. not (is_some k)) o false) e
+        ∙ sym (ap (λ b. b && not (is_some (option_and_then (λ k. k) (slot known p)))) (no_slot known p e))
     by_case (Some k) e =
         let w = within known p k e in
         let l = w.0 in

@@ -22,8 +22,10 @@ use Rattle.dbowner.proofs.Slots.{has_room, no_slot}
 abbrev Known : Type 0
 Known = Option (Option ℕ)
 
-pub climbed : (file : List ℕ) (V : List Reference) (marks : List Mark) (page n top : ℕ) (old mid new : List Known) (start : Option ℕ) → Survey file V → AreMarksOf file V marks → AreTrees file V old
-    → IsClimb marks page n old top mid → (slot mid top ≡ Some None → parent marks top ≡ None) → start ≡ start_above marks mid top → IsSettled marks page n start mid new
+pub climbed : (file : List ℕ) (V : List Reference) (marks : List Mark) (page n top : ℕ) (old mid new : List Known) (start : Option ℕ) → Survey file V
+    → AreMarksOf file V marks → AreTrees file V old
+    → IsClimb marks page n old top mid → (slot mid top ≡ Some None → parent marks top ≡ None) → start ≡ start_above marks mid top
+    → IsSettled marks page n start mid new
     → (start ≡ start_at V page) × AreTrees file V new
 climbed file V marks page n top old mid new start s m t climb end is settled = (
   start_is,
@@ -72,7 +74,8 @@ climbed file V marks page n top old mid new start s m t climb end is settled = (
     outside : slot mid top ≡ None → is_page (geometry file) top ≡ false
     outside h = elim (cases_Bool (is_page (geometry file) top)) [
       | inl e ↦ absurd (let a = climb.pages in let b = t.room in
-          let here : has_room (length mid) top ≡ true = and_from (nat_le 1 top) (nat_le top (length mid)) (grind (arith, nat_tests)) (grind (arith, nat_tests)) in
+          let here : has_room (length mid) top ≡ true = and_from (nat_le 1 top) (nat_le top (length mid)) (grind (arith, nat_tests)) (grind (arith, nat_tests))
+          in
           both_ways (has_room (length mid) top) (no_slot mid top h) here)
       | inr e ↦ e
     ]
@@ -81,7 +84,8 @@ climbed file V marks page n top old mid new start s m t climb end is settled = (
     top_is = by_case (slot mid top) refl
       where
         by_case : (o : Option Known) → slot mid top ≡ o → start_above marks mid top ≡ start_at V top
-        by_case None e = by_mark (ap (λ o. option_and_then (λ k. k) o) e) (ap (λ marks. parent marks top) m ∙ ap parent_by (page_mark-out (geometry file) V top (outside e)))
+        by_case None e = by_mark (ap (λ o. option_and_then (λ k. k) o) e)
+            (ap (λ marks. parent marks top) m ∙ ap parent_by (page_mark-out (geometry file) V top (outside e)))
         by_case (Some None) e = by_mark (ap (λ o. option_and_then (λ k. k) o) e) (end e)
         by_case (Some (Some a)) e =
             let k : known_of mid top ≡ Some a = ap (λ o. option_and_then (λ k. k) o) e in

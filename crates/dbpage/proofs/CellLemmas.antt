@@ -1,5 +1,6 @@
 -- Where a cell may begin, and what a readable cell holds.
-use Rattle.std.proofs.Common.{◌≡◌, ℕ, ◌+◌, ◌-◌, ◌<◌, ◌≤◌, ◌⊎◌, inl, inr, max, Bool, true, false, if◌then◌else◌, ◌&&◌, List, Option, Some, None, ℤ, Ok, Err, length, drop, refl, sym, subst, ap, ◌∙◌, arith}
+use Rattle.std.proofs.Common.{◌≡◌, ℕ, ◌+◌, ◌-◌, ◌<◌, ◌≤◌, ◌⊎◌, inl, inr, max, Bool, true, false, if◌then◌else◌, ◌&&◌, List, Option, Some, None, ℤ, Ok, Err}
+use Rattle.std.proofs.Common.{length, drop, refl, sym, subst, ap, ◌∙◌, arith}
 use Rattle.std.specs.Prelude.{Result, ◌==◌, nat_le, nat_lt, ok_or, option_and_then, IfSome}
 use Rattle.std.proofs.lemmas.List.{length-take}
 use Rattle.dbbytes.proofs.VarintLemmas.{varint-within}
@@ -61,7 +62,8 @@ payload_inside v kind offset before size left key c h =
 
 varint_room : (v : View) (offset : ℕ) (r : ℕ × ℕ) → varint (bytes_from v offset) ≡ Some r → offset ≤ v.usable → offset + r.1 ≤ v.usable
 varint_room v offset r h room =
-    let w = subst (λ (o : Option (ℕ × ℕ)). IfSome o (λ q. (0 < q.1) × (q.1 ≤ 9) × (q.1 ≤ length (bytes_from v offset)))) h (varint-within (bytes_from v offset)) in
+    let w = subst (λ (o : Option (ℕ × ℕ)). IfSome o (λ q. (0 < q.1) × (q.1 ≤ 9) × (q.1 ≤ length (bytes_from v offset)))) h (varint-within (bytes_from v offset))
+    in
     omega (arith, w.2, length-take (v.usable - offset) (drop offset v.bytes))
 
 cell_at_inside : (kind : PageKind) (v : View) (offset : ℕ) (c : Cell) → offset + 4 ≤ v.usable → cell_at kind v offset ≡ Some c → IsInside v offset c
@@ -106,8 +108,14 @@ cell_within v i c h =
       | inr from ↦ elim (cases_lt (v.usable - 4) (cell_pointer v i)) [
         | inl past ↦ absurd (not_err (sym (cell_outside v i (inr past)) ∙ h))
         | inr room ↦
-            let inside = cell_at_inside v.kind v (cell_pointer v i) c (omega (arith, content_positive v.number v.bytes)) (ok_some (cell_at v.kind v (cell_pointer v i)) c (sym (cell_inside v i from room) ∙ h)) in
-            record { place = inside.place; from_start = omega (arith, inside.place); ends = omega (arith, inside.place, inside.ends, content_positive v.number v.bytes) }
+            let inside = cell_at_inside v.kind v (cell_pointer v i) c (omega (arith, content_positive v.number v.bytes))
+            (ok_some (cell_at v.kind v (cell_pointer v i)) c (sym (cell_inside v i from room) ∙ h)) in
+            record {
+              place = inside.place;
+              from_start = omega (arith, inside.place);
+              ends =
+                  omega (arith, inside.place, inside.ends, content_positive v.number v.bytes);
+            }
       ]
     ]
   where

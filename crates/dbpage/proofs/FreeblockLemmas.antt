@@ -1,5 +1,6 @@
 -- The freeblocks of a page, one after another.
-use Rattle.std.proofs.Common.{◌≡◌, ℕ, zero, suc, ◌+◌, ◌*◌, ◌<◌, ◌≤◌, Bool, true, false, List, [], ◌∷◌, ◌++◌, length, take, refl, sym, subst, ap, ◌∙◌, arith, length-append}
+use Rattle.std.proofs.Common.{◌≡◌, ℕ, zero, suc, ◌+◌, ◌*◌, ◌<◌, ◌≤◌, Bool, true, false, List, [], ◌∷◌, ◌++◌, length, take, refl, sym, subst, ap, ◌∙◌, arith}
+use Rattle.std.proofs.Common.{length-append}
 use Rattle.std.specs.Prelude.{sum_by}
 use Rattle.std.proofs.lemmas.List.{append_assoc, take_at, length_push, length-take-le}
 use Rattle.std.proofs.lemmas.List.Sums.{sum_by-cons}
@@ -20,7 +21,8 @@ enough_is_enough (suc n) (suc m) v end offset p q =
   where
     by_case : (b : Bool) → is_good_freeblock v end offset ≡ b
         → (v.usable ≤ (offset + (freeblock_at v offset).len) + 4 * n + 3 → v.usable ≤ (offset + (freeblock_at v offset).len) + 4 * m + 3
-        → freeblocks_from n v (offset + (freeblock_at v offset).len) (next_freeblock v offset) ≡ freeblocks_from m v (offset + (freeblock_at v offset).len) (next_freeblock v offset))
+        → freeblocks_from n v (offset + (freeblock_at v offset).len) (next_freeblock v offset)
+        ≡ freeblocks_from m v (offset + (freeblock_at v offset).len) (next_freeblock v offset))
         → freeblocks_from (suc n) v end offset ≡ freeblocks_from (suc m) v end offset
     by_case true h rest =
         let ends = good_ends v end offset h in
@@ -31,7 +33,8 @@ enough_is_enough (suc n) (suc m) v end offset p q =
 
 -- the usable bytes are enough at each place
 pub next_good : (v : View) (end offset : ℕ) → is_good_freeblock v end offset ≡ true
-    → freeblocks_from v.usable v end offset ≡ freeblock_at v offset ∷ freeblocks_from v.usable v (offset + (freeblock_at v offset).len) (next_freeblock v offset)
+    → freeblocks_from v.usable v end offset ≡ freeblock_at v offset
+    ∷ freeblocks_from v.usable v (offset + (freeblock_at v offset).len) (next_freeblock v offset)
 next_good v end offset h =
     enough_is_enough v.usable (suc v.usable) v end offset (omega arith) (omega arith) ∙ from_good v.usable v end offset h
 
@@ -48,12 +51,14 @@ sum-freeblocks_from (suc n) v end offset h =
   where
     by_case : (b : Bool) → is_good_freeblock v end offset ≡ b
         → (offset + (freeblock_at v offset).len ≤ v.usable
-        → (offset + (freeblock_at v offset).len) + sum_by (λ f. f.len) (freeblocks_from n v (offset + (freeblock_at v offset).len) (next_freeblock v offset)) ≤ v.usable)
+        → (offset + (freeblock_at v offset).len) + sum_by (λ f. f.len) (freeblocks_from n v (offset + (freeblock_at v offset).len) (next_freeblock v offset))
+        ≤ v.usable)
         → end + sum_by (λ f. f.len) (freeblocks_from (suc n) v end offset) ≤ v.usable
     by_case true good fits =
         let parts = good_parts v end offset good in
         let rest = fits parts.inside in
-        let whole = sum_by-cons (λ (f : Span). f.len) (freeblock_at v offset) (freeblocks_from n v (offset + (freeblock_at v offset).len) (next_freeblock v offset)) in
+        let whole = sum_by-cons (λ (f : Span). f.len) (freeblock_at v offset)
+        (freeblocks_from n v (offset + (freeblock_at v offset).len) (next_freeblock v offset)) in
         rw (from_good n v end offset good) (omega (arith, rest, whole, parts.behind))
     by_case false bad fits = rw (from_bad (suc n) v end offset bad) (omega arith)
 

@@ -1,5 +1,6 @@
 -- The items of a page, one after another.
-use Rattle.std.proofs.Common.{◌≡◌, ℕ, suc, ◌+◌, ◌-◌, ◌<◌, ◌≤◌, max, zero, true, false, Bool, List, [], ◌∷◌, ◌++◌, length, take, drop, get_or, Ok, Some, refl, sym, subst, ap, ◌∙◌, arith, append_assoc, length-append}
+use Rattle.std.proofs.Common.{◌≡◌, ℕ, suc, ◌+◌, ◌-◌, ◌<◌, ◌≤◌, max, zero, true, false, Bool, List, [], ◌∷◌, ◌++◌, length, take, drop, get_or, Ok, Some, refl}
+use Rattle.std.proofs.Common.{sym, subst, ap, ◌∙◌, arith, append_assoc, length-append}
 use Rattle.std.proofs.lemmas.List.{take-append-drop, drop_more, get_or_append_left, get_or-append_right}
 use Rattle.std.proofs.lemmas.List.FromFn.{length-map-range_with_len, take-map-range_with_len, get_or-map-range_with_len, map-range_with_len_more}
 use Rattle.dbformat.specs.Head.{View, content_start, first_freeblock}
@@ -32,8 +33,10 @@ items_at v i h =
     let rest = drop (i + 1) all in
     let front : take i all ≡ cells_upto v i = take-map-range_with_len (item v) 0 (count v) i (omega arith) in
     let back : drop i all ≡ item v i ∷ rest =
-    drop_more all i no_span (omega (arith, length-cells_upto v (count v))) ∙ ap (λ (s : Span). s ∷ rest) (get_or-map-range_with_len (item v) 0 (count v) i i no_span h (omega arith)) in
-    let whole : all ≡ cells_upto v i ++ item v i ∷ rest = sym (take-append-drop i all) ∙ ap (λ (xs : List Span). xs ++ drop i all) front ∙ ap (λ (xs : List Span). cells_upto v i ++ xs) back in
+    drop_more all i no_span (omega (arith, length-cells_upto v (count v)))
+    ∙ ap (λ (s : Span). s ∷ rest) (get_or-map-range_with_len (item v) 0 (count v) i i no_span h (omega arith)) in
+    let whole : all ≡ cells_upto v i ++ item v i ∷ rest = sym (take-append-drop i all) ∙ ap (λ (xs : List Span). xs ++ drop i all) front
+    ∙ ap (λ (xs : List Span). cells_upto v i ++ xs) back in
     (rest ++ freeblocks v, ap (λ (xs : List Span). xs ++ freeblocks v) whole ∙ append_assoc (cells_upto v i) (item v i ∷ rest) (freeblocks v))
 
 pub Holds-from_read : (v : View) (i : ℕ) (c : Cell) (offset len : ℕ) → cell v i ≡ Ok c → c.offset ≡ offset → max c.len 4 ≡ len → Holds v i offset len
@@ -50,7 +53,12 @@ Holds-from_read v i c offset len readable place size =
 
 pub AreMarked_none : (v : View) (table : List ℕ) → ((byte : ℕ) → byte < v.usable → is_claimed table byte ≡ false)
     → AreMarked [] (start_of v) v.usable table 0
-AreMarked_none v table free = record { marked = λ byte from below. free byte below; apart = λ k none. absurd (omega arith); counted = omega (arith, none_held (start_of v) (v.usable - start_of v)) }
+AreMarked_none v table free = record {
+  marked = λ byte from below. free byte below;
+  apart = λ k none. absurd (omega arith);
+  counted =
+      omega (arith, none_held (start_of v) (v.usable - start_of v));
+}
 
 module _ (v : View) (i : ℕ) (table : List ℕ) (held : ℕ) (was : AreMarked (cells_upto v i) (start_of v) v.usable table held) where
   -- one more cell is marked
@@ -94,7 +102,8 @@ inside_from (suc n) v end offset done rest f h =
     by_case done h (is_good_freeblock v end offset) refl (λ ds. inside_from n v (offset + (freeblock_at v offset).len) (next_freeblock v offset) ds rest f)
   where
     by_case : (done : List Span) → done ++ f ∷ rest ≡ freeblocks_from (suc n) v end offset → (b : Bool) → is_good_freeblock v end offset ≡ b
-        → ((ds : List Span) → ds ++ f ∷ rest ≡ freeblocks_from n v (offset + (freeblock_at v offset).len) (next_freeblock v offset) → IsInContent v f) → IsInContent v f
+        → ((ds : List Span) → ds ++ f ∷ rest ≡ freeblocks_from n v (offset + (freeblock_at v offset).len) (next_freeblock v offset) → IsInContent v f)
+        → IsInContent v f
     by_case done h false bad more = absurd (not_nil done rest f (h ∙ from_bad (suc n) v end offset bad))
     by_case [] h true good more =
         let parts = good_parts v end offset good in
@@ -107,8 +116,10 @@ unfolding freeblocks
 freeblock_inside v done rest f h = inside_from v.usable v 0 (first_freeblock v.number v.bytes) done rest f h
 
 -- after the marked cells, some freeblocks are marked, and others follow
-module _ (v : View) (done rest : List Span) (f : Span) (table : List ℕ) (held : ℕ) (was : AreMarked (cell_spans v ++ done) (start_of v) v.usable table held) (whole : done ++ f ∷ rest ≡ freeblocks v) where
-  pub freeblock_marked : (new : List ℕ) → Marks table f.offset (f.offset + f.len) new → AreMarked (cell_spans v ++ (done ++ f ∷ [])) (start_of v) v.usable new (held + f.len)
+module _ (v : View) (done rest : List Span) (f : Span) (table : List ℕ) (held : ℕ) (was : AreMarked (cell_spans v ++ done) (start_of v) v.usable table held)
+    (whole : done ++ f ∷ rest ≡ freeblocks v) where
+  pub freeblock_marked : (new : List ℕ) → Marks table f.offset (f.offset + f.len) new
+      → AreMarked (cell_spans v ++ (done ++ f ∷ [])) (start_of v) v.usable new (held + f.len)
   freeblock_marked new marks =
       let inside = freeblock_inside v done rest f whole in
       subst (λ (spans : List Span). AreMarked spans (start_of v) v.usable new (held + f.len)) (append_assoc (cell_spans v) done (f ∷ []))
@@ -118,13 +129,15 @@ module _ (v : View) (done rest : List Span) (f : Span) (table : List ℕ) (held 
   unfolding items
   freeblock_overlaps hit =
       let inside = freeblock_inside v done rest f whole in
-      let all : items v ≡ (cell_spans v ++ done) ++ f ∷ rest = ap (λ (fs : List Span). cell_spans v ++ fs) (sym whole) ∙ sym (append_assoc (cell_spans v) done (f ∷ rest)) in
+      let all : items v ≡ (cell_spans v ++ done) ++ f ∷ rest = ap (λ (fs : List Span). cell_spans v ++ fs) (sym whole)
+      ∙ sym (append_assoc (cell_spans v) done (f ∷ rest)) in
       let len : length (cell_spans v ++ done) ≡ count v + length done = omega (arith, length-append (cell_spans v) done, length-cells_upto v (count v)) in
       ap first_overlap all
       ∙ first_overlap_at (cell_spans v ++ done) f (start_of v) v.usable table held was rest inside.0 inside.1 hit
       ∙ ap (λ (n : ℕ). Some n) len
 
-pub all_marked : (v : View) (done : List Span) (table : List ℕ) (held : ℕ) → AreMarked (cell_spans v ++ done) (start_of v) v.usable table held → done ≡ freeblocks v
+pub all_marked : (v : View) (done : List Span) (table : List ℕ) (held : ℕ) → AreMarked (cell_spans v ++ done) (start_of v) v.usable table held → done
+    ≡ freeblocks v
     → AreMarked (items v) (start_of v) v.usable table held
 unfolding items
 all_marked v done table held was whole = subst (λ (fs : List Span). AreMarked (cell_spans v ++ fs) (start_of v) v.usable table held) whole was

@@ -1,10 +1,12 @@
 -- 32 bytes of a table at once.
-use Rattle.std.proofs.Common.{◌≡◌, ℕ, suc, ◌+◌, ◌-◌, ◌*◌, ◌/◌, ◌%◌, ◌<◌, ◌≤◌, ◌⊎◌, inl, inr, Bool, true, false, not, List, [], ◌∷◌, length, map, get_or, replicate, w8, refl, sym, ap, ◌∙◌, arith}
+use Rattle.std.proofs.Common.{◌≡◌, ℕ, suc, ◌+◌, ◌-◌, ◌*◌, ◌/◌, ◌%◌, ◌<◌, ◌≤◌, ◌⊎◌, inl, inr, Bool, true, false, not, List, [], ◌∷◌, length, map, get_or}
+use Rattle.std.proofs.Common.{replicate, w8, refl, sym, ap, ◌∙◌, arith}
 use Rattle.std.specs.Prelude.{◌==◌, MatchBool, nat_eq}
 use Rattle.std.specs.Int.{bit_at, trailing_zeros}
 use Rattle.std.proofs.lemmas.Bool.Decides.{nat_tests}
 use Rattle.std.proofs.lemmas.Nat.Bits.{bit_at-zero, bit_at-trailing_zeros, bit_at_mask_inside}
-use Rattle.std.proofs.lemmas.Simd.{get_or-put_chunk_below, get_or-put_chunk_at, get_or-put_chunk_above, get_or-replicate, length-chunk, get_or-chunk, none_from_empty_mask}
+use Rattle.std.proofs.lemmas.Simd.{get_or-put_chunk_below, get_or-put_chunk_at, get_or-put_chunk_above, get_or-replicate, length-chunk, get_or-chunk}
+use Rattle.std.proofs.lemmas.Simd.{none_from_empty_mask}
 use lib.Lanes.{chunk, mask_l, put_chunk}
 use Rattle.dbpage.specs.Marking.{HasOther, HasMarked, Marks, mark_bit}
 use Rattle.dbpage.proofs.Tables.{set_is, unset_is, other_side}
@@ -34,7 +36,8 @@ some_lane one (x ∷ xs) h = by_case (differs one x) refl (λ some. some_lane on
         let next = rest (omega (arith, rw e at h)) in
         (suc next.0, omega (arith, next.1), next.2)
 
-pub other_or_none : (table : List ℕ) (one start m : ℕ) → start + 32 ≤ length table → ((j : ℕ) → get_or table j 0 < 256) → m ≡ mask_l (map (differs one) (chunk start 32 table))
+pub other_or_none : (table : List ℕ) (one start m : ℕ) → start + 32 ≤ length table → ((j : ℕ) → get_or table j 0 < 256) → m
+    ≡ mask_l (map (differs one) (chunk start 32 table))
     → MatchBool (not (nat_eq m 0)) (HasOther table one start (start + 32)) ((k : ℕ) → start ≤ k → k < start + 32 → get_or table k 0 ≡ one)
 other_or_none table one start m room small is = by_case (not (nat_eq m 0)) refl
   where
@@ -49,7 +52,8 @@ other_or_none table one start m room small is = by_case (not (nat_eq m 0)) refl
           other = ap (λ x. x == one) (sym (get_or-chunk start 32 table lane.0 0 (omega (arith, lane.1, long)))) ∙ lane.2;
           fits = small (start + lane.0);
         }
-    by_case false e = λ k low high. same_lane one (get_or table k 0) (none_from_empty_mask (differs one) table start 32 0 room (sym is ∙ same_lane 0 m e) k low high)
+    by_case false e = λ k low high. same_lane one (get_or table k 0)
+        (none_from_empty_mask (differs one) table start 32 0 room (sym is ∙ same_lane 0 m e) k low high)
 
 -- the marks of whole bytes
 module _ (table : List ℕ) (from : ℕ) (room : from + 256 ≤ length table) (whole : from % 8 ≡ 0) where
@@ -63,14 +67,21 @@ module _ (table : List ℕ) (from : ℕ) (room : from + 256 ≤ length table) (w
       let at : byte / 8 ≡ has.place = omega (arith, lowest.0) in
       let bit : byte % 8 ≡ t = omega (arith, lowest.0) in
       let one : mark_bit table byte ≡ 1 = ap (λ (k : ℕ). bit_at (get_or table k 0) (byte % 8)) at ∙ ap (bit_at x) bit ∙ lowest.1 in
-      record { byte = byte; from_on = omega (arith, has.from_on); below = omega (arith, has.below, lowest.0); marked = set_is (mark_bit table byte) (omega (arith, one)) }
+      record {
+        byte = byte;
+        from_on = omega (arith, has.from_on);
+        below = omega (arith, has.below, lowest.0);
+        marked =
+            set_is (mark_bit table byte) (omega (arith, one));
+      }
 
   abbrev full : List ℕ
   full = replicate 32 255
 
   pub all_set : ((k : ℕ) → from / 8 ≤ k → k < from / 8 + 32 → get_or table k 0 ≡ 0) → Marks table from (from + 256) (put_chunk (from / 8) table full)
   all_set none = record {
-    were_free = λ byte low high. unset_is (mark_bit table byte) (ap (λ (x : ℕ). bit_at x (byte % 8)) (none (byte / 8) (omega arith) (omega arith)) ∙ bit_at-zero (byte % 8));
+    were_free = λ byte low high. unset_is (mark_bit table byte)
+        (ap (λ (x : ℕ). bit_at x (byte % 8)) (none (byte / 8) (omega arith) (omega arith)) ∙ bit_at-zero (byte % 8));
     are_marked = λ byte low high. set_is (mark_bit (put_chunk (from / 8) table full) byte) (omega (arith, now byte low high));
     others = λ byte h. ap (λ (x : ℕ). not (bit_at x (byte % 8) == 0)) (other byte (other_side from (from + 256) byte h));
   }

@@ -42,7 +42,8 @@ run_more at first (next ∷ bytes) = by_byte (next == first) refl
     some n = grind (arith, nat_tests)
 
     by_byte : (b : Bool) → (next == first) ≡ b
-        → of (cond (nat_lt 0 (prefix_len (λ byte. byte == next) bytes + 1) && b) (prefix_len (λ byte. byte == next) bytes + 1 + 1) 1) ≡ of (cond b (1 + prefix_len (λ byte. byte == first) bytes) 0 + 1)
+        → of (cond (nat_lt 0 (prefix_len (λ byte. byte == next) bytes + 1) && b) (prefix_len (λ byte. byte == next) bytes + 1 + 1) 1)
+        ≡ of (cond b (1 + prefix_len (λ byte. byte == first) bytes) 0 + 1)
     by_byte true e =
         ap (λ b. of (cond (b && true) (prefix_len (λ byte. byte == next) bytes + 1 + 1) 1)) (some (prefix_len (λ byte. byte == next) bytes))
         ∙ ap (λ x. of (prefix_len (λ byte. byte == x) bytes + 1 + 1)) (same e)
@@ -69,11 +70,13 @@ module _ (bytes : List ℕ) (at j : ℕ) (low : j < length bytes) where
       ∙ ap (λ r. longer r (longest_run (at + j + 1) (drop (suc j) bytes))) (f ∙ ap (run_at (at + j)) split) ∙ ap (longest_run (at + j)) (sym split)
 
 -- the same in a loop, where the offset of the bytes after it is i
-pub run_here : (bytes : List ℕ) (at j i : ℕ) → i ≡ suc j → j < length bytes → (run new : ByteRun) → run ≡ run_at (at + i) (drop i bytes) → new ≡ run_before run (at + j) (get_or bytes j 0)
+pub run_here : (bytes : List ℕ) (at j i : ℕ) → i ≡ suc j → j < length bytes → (run new : ByteRun) → run ≡ run_at (at + i) (drop i bytes) → new
+    ≡ run_before run (at + j) (get_or bytes j 0)
     → new ≡ run_at (at + j) (drop j bytes)
 run_here bytes at j i more low run new e f = f ∙ run_step bytes at j low run (e ∙ ap (λ n. run_at (at + n) (drop n bytes)) more)
 
-pub longest_at : (bytes : List ℕ) (at j i : ℕ) → i ≡ suc j → j < length bytes → (longest run : ByteRun) → longest ≡ longest_run (at + i) (drop i bytes) → run ≡ run_at (at + j) (drop j bytes)
+pub longest_at : (bytes : List ℕ) (at j i : ℕ) → i ≡ suc j → j < length bytes → (longest run : ByteRun) → longest ≡ longest_run (at + i) (drop i bytes) → run
+    ≡ run_at (at + j) (drop j bytes)
     → (b : Bool) → nat_le longest.len run.len ≡ b → cond b run longest ≡ longest_run (at + j) (drop j bytes)
 longest_at bytes at j i more low longest run e f b test = ap (λ b. cond b run longest) (sym test)
     ∙ longest_step bytes at j low longest run (e ∙ ap (λ n. longest_run (at + n) (drop n bytes)) more) f

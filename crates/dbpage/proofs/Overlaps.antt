@@ -1,5 +1,6 @@
 -- Items that are marked one after another.
-use Rattle.std.proofs.Common.{◌≡◌, ℕ, ◌+◌, ◌-◌, ◌<◌, ◌≤◌, inl, inr, Bool, true, false, ◌||◌, List, [], ◌∷◌, ◌++◌, length, Some, None, refl, sym, subst, ap, ◌∙◌, arith, length-append}
+use Rattle.std.proofs.Common.{◌≡◌, ℕ, ◌+◌, ◌-◌, ◌<◌, ◌≤◌, inl, inr, Bool, true, false, ◌||◌, List, [], ◌∷◌, ◌++◌, length, Some, None, refl, sym, subst, ap, ◌∙◌}
+use Rattle.std.proofs.Common.{arith, length-append}
 use Rattle.std.specs.List.{range_with_len, list_any}
 use Rattle.std.proofs.lemmas.Bool.{cases_lt}
 use Rattle.std.proofs.lemmas.Bool.Decides.{nat_tests}
@@ -59,7 +60,8 @@ module _ (spans : List Span) (s : Span) (free : (byte : ℕ) → s.offset ≤ by
     (λ byte h. is_held_outside spans s byte (outside s.offset (s.offset + s.len) byte h)),
   )
 
-  stay_apart : ((k : ℕ) → k < length spans → is_overlapping spans k ≡ false) → (k : ℕ) → k < length (spans ++ s ∷ []) → is_overlapping (spans ++ s ∷ []) k ≡ false
+  stay_apart : ((k : ℕ) → k < length spans → is_overlapping spans k ≡ false) → (k : ℕ) → k < length (spans ++ s ∷ []) → is_overlapping (spans ++ s ∷ []) k
+      ≡ false
   stay_apart apart k h =
       elim (cases_lt k (length spans)) [
         | inl earlier ↦ is_overlapping-append spans (s ∷ []) k earlier ∙ apart k earlier
@@ -69,7 +71,8 @@ module _ (spans : List Span) (s : Span) (free : (byte : ℕ) → s.offset ≤ by
             (is_overlapping_at spans s [] ∙ any_none (is_held spans) s.offset s.len free)
       ]
 
-  pub ShareNoByte_push : (start end held : ℕ) → ShareNoByte spans start end held → start ≤ s.offset → s.offset + s.len ≤ end → ShareNoByte (spans ++ s ∷ []) start end (held + s.len)
+  pub ShareNoByte_push : (start end held : ℕ) → ShareNoByte spans start end held → start ≤ s.offset → s.offset + s.len ≤ end
+      → ShareNoByte (spans ++ s ∷ []) start end (held + s.len)
   ShareNoByte_push start end held was low high =
       let fewer = fewer_fail (is_held spans) (is_held (spans ++ s ∷ [])) s.offset (s.offset + s.len) start (end - start) pass_more in
       record { apart = stay_apart was.apart; counted = omega (arith, fewer, was.counted) }
@@ -104,7 +107,9 @@ module _ (spans : List Span) (s : Span) (start end : ℕ) (table : List ℕ) (he
       let free = λ (byte : ℕ) (from : s.offset ≤ byte) (below : byte < s.offset + s.len). absurd {A = is_held spans byte ≡ false} (omega arith) in
       let fewer = fewer_fail (is_held spans) (is_held (spans ++ s ∷ [])) s.offset (s.offset + s.len) start (end - start) (pass_more spans s free) in
       record {
-        marked = λ byte from below. was.marked byte from below ∙ sym (is_held_outside spans s byte (outside s.offset (s.offset + s.len) byte (elim (cases_lt byte s.offset) [ inl below ↦ inl below | inr from ↦ inr (omega arith) ])));
+        marked = λ byte from below. was.marked byte from below
+            ∙ sym (is_held_outside spans s byte (outside s.offset (s.offset + s.len) byte
+            (elim (cases_lt byte s.offset) [ inl below ↦ inl below | inr from ↦ inr (omega arith) ])));
         apart = stay_apart spans s free was.apart;
         counted = omega (arith, fewer, was.counted);
       }
@@ -113,7 +118,8 @@ module _ (spans : List Span) (s : Span) (start end : ℕ) (table : List ℕ) (he
   pub first_overlap_at : (rest : List Span) → start ≤ s.offset → s.offset + s.len ≤ end → HasMarked table s.offset (s.offset + s.len)
       → first_overlap (spans ++ s ∷ rest) ≡ Some (length spans)
   first_overlap_at rest low high hit =
-      find_first (is_overlapping (spans ++ s ∷ rest)) 0 (length (spans ++ s ∷ rest)) (length spans) (omega arith) (omega (arith, length-append spans (s ∷ rest)))
+      find_first (is_overlapping (spans ++ s ∷ rest)) 0 (length (spans ++ s ∷ rest)) (length spans) (omega arith)
+      (omega (arith, length-append spans (s ∷ rest)))
       (λ k l h. is_overlapping-append spans (s ∷ rest) k h ∙ was.apart k h)
       (is_overlapping_at spans s rest ∙ any_at (is_held spans) s.offset s.len hit.byte hit.from_on hit.below
       (sym (was.marked hit.byte (omega (arith, hit.from_on)) (omega (arith, hit.below))) ∙ hit.marked))
@@ -121,7 +127,8 @@ module _ (spans : List Span) (s : Span) (start end : ℕ) (table : List ℕ) (he
 pub no_overlap : (spans : List Span) (start end held : ℕ) → ShareNoByte spans start end held → first_overlap spans ≡ None
 no_overlap spans start end held are = find_none (is_overlapping spans) 0 (length spans) (λ k l h. are.apart k (omega arith))
 
-pub ShareNoByte-from_marked : (spans : List Span) (start end : ℕ) (table : List ℕ) (held : ℕ) → AreMarked spans start end table held → ShareNoByte spans start end held
+pub ShareNoByte-from_marked : (spans : List Span) (start end : ℕ) (table : List ℕ) (held : ℕ) → AreMarked spans start end table held
+    → ShareNoByte spans start end held
 ShareNoByte-from_marked spans start end table held are = record { apart = are.apart; counted = are.counted }
 
 pub first_overlap_none : (spans : List Span) (start end : ℕ) (table : List ℕ) (held : ℕ) → AreMarked spans start end table held → first_overlap spans ≡ None

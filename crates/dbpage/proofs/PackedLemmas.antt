@@ -1,5 +1,6 @@
 -- The cells of a packed page, one after another.
-use Rattle.std.proofs.Common.{◌≡◌, ℕ, zero, suc, true, Err, ◌+◌, ◌<◌, ◌≤◌, max, inl, inr, false, List, [], ◌∷◌, ◌++◌, ◌||◌, Bool, length, map, Option, Some, None, Ok, ℤ, refl, sym, subst, ap, ◌∙◌, arith}
+use Rattle.std.proofs.Common.{◌≡◌, ℕ, zero, suc, true, Err, ◌+◌, ◌<◌, ◌≤◌, max, inl, inr, false, List, [], ◌∷◌, ◌++◌, ◌||◌, Bool, length, map, Option, Some}
+use Rattle.std.proofs.Common.{None, Ok, ℤ, refl, sym, subst, ap, ◌∙◌, arith}
 use Rattle.std.specs.Prelude.{fold, filter_map, option_map, is_some, IsOk, MatchBool, ◌<ℤ◌}
 use Rattle.std.specs.List.{range_with_len}
 use Rattle.std.specs.Result.{result_ok}
@@ -50,7 +51,8 @@ first_cells_more v n c readable =
 
 module _ (v : View) (n : ℕ) (sums : CellSums) (was : AddUpTo v n sums) where
   pub one_more_read : (c : Cell) → cell v n ≡ Ok c → length c.local ≤ 65536 → IsAboveLast sums.last c.key
-      → (now : CellSums) → now.payload ≡ sums.payload + length c.local → now.greatest ≡ max sums.greatest c.size → (n ≡ 0 → now.first ≡ c.key) → (0 < n → now.first ≡ sums.first)
+      → (now : CellSums) → now.payload ≡ sums.payload + length c.local → now.greatest ≡ max sums.greatest c.size → (n ≡ 0 → now.first ≡ c.key)
+      → (0 < n → now.first ≡ sums.first)
       → now.last ≡ c.key → now.has_overflow ≡ (sums.has_overflow || is_some c.overflow) → AddUpTo v (n + 1) now
   one_more_read c readable fits greater now payload greatest at_first later last overflow =
       let all = first_cells_more v n c readable in
@@ -72,7 +74,8 @@ module _ (v : View) (n : ℕ) (sums : CellSums) (was : AddUpTo v n sums) where
         empty = λ h. absurd (omega (arith, h));
         payload_is = omega (arith, payload, was.payload_is, ap payload_of all, sum_by-append (λ (i, c). length c.local) (first_cells v n) ((n, c) ∷ []));
         greatest_is = greatest ∙ greatest_more all;
-        overflow_is = subst (λ b. MatchBool b (HasOverflow v (n + 1)) ((i : ℕ) → i < n + 1 → IsAllLocal v i)) (sym overflow) (overflow_more sums.has_overflow was.overflow_is c.overflow refl);
+        overflow_is = subst (λ b. MatchBool b (HasOverflow v (n + 1)) ((i : ℕ) → i < n + 1 → IsAllLocal v i)) (sym overflow)
+            (overflow_more sums.has_overflow was.overflow_is c.overflow refl);
         few = omega (arith, payload, was.few);
       }
     where
@@ -101,7 +104,8 @@ module _ (v : View) (n : ℕ) (sums : CellSums) (was : AddUpTo v n sums) where
       greatest_more all =
           let size : ℕ × Cell → ℕ = λ (i, c). c.size in
           ap (λ (g : ℕ). max g c.size) was.greatest_is
-          ∙ sym (ap greatest_of all ∙ ap (fold max 0) (map-append size (first_cells v n) ((n, c) ∷ [])) ∙ fold-append max 0 (map size (first_cells v n)) (c.size ∷ []))
+          ∙ sym (ap greatest_of all ∙ ap (fold max 0) (map-append size (first_cells v n) ((n, c) ∷ []))
+          ∙ fold-append max 0 (map size (first_cells v n)) (c.size ∷ []))
 
 -- a cell that is not readable
 pub unpacked_at_unreadable : (v : View) (i : ℕ) (e : CellFault) → i < count v → cell v i ≡ Err e → IsUnpacked v
@@ -114,7 +118,8 @@ some_is_none : (a : ℤ) → Some a ≡ None → ⊥
 some_is_none a h = cc
 
 -- or one whose key does not rise
-pub unpacked_at_key : (v : View) (i : ℕ) (sums : CellSums) (c : Cell) → AddUpTo v i sums → i < count v → cell v i ≡ Ok c → (IsAboveLast sums.last c.key → ⊥) → IsUnpacked v
+pub unpacked_at_key : (v : View) (i : ℕ) (sums : CellSums) (c : Cell) → AddUpTo v i sums → i < count v → cell v i ≡ Ok c → (IsAboveLast sums.last c.key → ⊥)
+    → IsUnpacked v
 unpacked_at_key v i sums c was within readable falls page all =
     falls (λ a b p q. rises i refl a b p q)
   where

@@ -1,5 +1,6 @@
 -- Cells without gaps between them.
-use Rattle.std.proofs.Common.{◌≡◌, ℕ, ◌+◌, ◌-◌, ◌<◌, ◌≤◌, ◌⊎◌, inl, inr, Bool, true, false, ◌||◌, List, [], ◌∷◌, ◌++◌, Option, Some, refl, sym, subst, ap, ◌∙◌, arith}
+use Rattle.std.proofs.Common.{◌≡◌, ℕ, ◌+◌, ◌-◌, ◌<◌, ◌≤◌, ◌⊎◌, inl, inr, Bool, true, false, ◌||◌, List, [], ◌∷◌, ◌++◌, Option, Some, refl, sym, subst, ap, ◌∙◌}
+use Rattle.std.proofs.Common.{arith}
 use Rattle.std.specs.Prelude.{MatchOption}
 use Rattle.std.proofs.lemmas.Bool.Decides.{nat_tests}
 use Rattle.std.proofs.lemmas.List.{append-nil}
@@ -19,7 +20,11 @@ no_cells v at low high = record {
   between = omega arith;
   high = high;
   held = λ byte from below. none byte;
-  apart = record { apart = λ k h. absurd (omega arith); counted = omega (arith, none_held (content_start v.number v.bytes) (v.usable - content_start v.number v.bytes)) };
+  apart = record {
+    apart = λ k h. absurd (omega arith);
+    counted =
+        omega (arith, none_held (content_start v.number v.bytes) (v.usable - content_start v.number v.bytes));
+  };
 }
   where
     none : (byte : ℕ) → false ≡ is_within at at byte
@@ -30,10 +35,12 @@ run_as v n {from} {from'} {to} {to'} run f t = subst (λ (a : ℕ). AreInRun v n
 
 -- a cell ended the run
 pub ends_run : (v : View) (b : Beginning) (offset len : ℕ) → b.next ≡ Some (offset, len) → IsBegun v b → EndsRun v b.cells b.run.from b.run.to offset len
-ends_run v b offset len is begun = subst (λ (o : Option (ℕ × ℕ)). MatchOption o (AreInRun v b.cells b.run.from b.run.to) (λ held. EndsRun v b.cells b.run.from b.run.to held.0 held.1)) is begun.runs
+ends_run v b offset len is begun = subst (λ (o : Option (ℕ × ℕ)). MatchOption o (AreInRun v b.cells b.run.from b.run.to)
+    (λ held. EndsRun v b.cells b.run.from b.run.to held.0 held.1)) is begun.runs
 
 -- one more span, beside the run
-module _ (spans : List Span) (start end from to : ℕ) (was : IsCellRun spans start end from to) (s : Span) (low : start ≤ s.offset) (high : s.offset + s.len ≤ end) (first last : ℕ) (all : AreAdjoining from to s.offset s.len first last) where
+module _ (spans : List Span) (start end from to : ℕ) (was : IsCellRun spans start end from to) (s : Span) (low : start ≤ s.offset)
+    (high : s.offset + s.len ≤ end) (first last : ℕ) (all : AreAdjoining from to s.offset s.len first last) where
   joined : (byte : ℕ) → (is_within from to byte || holds s byte) ≡ is_within first last byte
   joined byte = elim all [
     | inl under ↦ below byte under.0 under.1 under.2
@@ -47,7 +54,8 @@ module _ (spans : List Span) (start end from to : ℕ) (was : IsCellRun spans st
       above byte a b c = grind (arith, nat_tests, was.between)
 
   beside : (byte : ℕ) → s.offset ≤ byte → byte < s.offset + s.len → is_held spans byte ≡ false
-  beside byte from_on below = was.held byte (omega (arith, low)) (omega (arith, high)) ∙ other byte (elim all [ inl under ↦ inl (omega (arith, under)) | inr over ↦ inr (omega (arith, over)) ])
+  beside byte from_on below = was.held byte (omega (arith, low)) (omega (arith, high))
+      ∙ other byte (elim all [ inl under ↦ inl (omega (arith, under)) | inr over ↦ inr (omega (arith, over)) ])
     where
       other : (byte : ℕ) → (byte < from) ⊎ (to ≤ byte) → is_within from to byte ≡ false
       other byte h = grind (arith, nat_tests)
@@ -88,11 +96,17 @@ module _ (v : View) (n from to : ℕ) (run : AreInRun v n from to) where
     pub run_marked : (new : List ℕ) → Marks table from (from + len) new → AreMarked (cells_upto v n) (content_start v.number v.bytes) v.usable new len
     run_marked new marks =
         let now : Marks table from to new = subst (λ (e : ℕ). Marks table from e new) (run_end len all) marks in
-        record { marked = λ byte from_on below. by_case now byte from_on below (is_within from to byte) refl; apart = run.apart.apart; counted = omega (arith, run.apart.counted, all) }
+        record {
+          marked = λ byte from_on below. by_case now byte from_on below (is_within from to byte) refl;
+          apart = run.apart.apart;
+          counted =
+              omega (arith, run.apart.counted, all);
+        }
       where
         inside : (byte : ℕ) → is_within from to byte ≡ true → (from ≤ byte) × (byte < to)
         inside byte h = (grind (arith, nat_tests), grind (arith, nat_tests))
 
-        by_case : Marks table from to new → (byte : ℕ) → content_start v.number v.bytes ≤ byte → byte < v.usable → (b : Bool) → is_within from to byte ≡ b → is_claimed new byte ≡ is_held (cells_upto v n) byte
+        by_case : Marks table from to new → (byte : ℕ) → content_start v.number v.bytes ≤ byte → byte < v.usable → (b : Bool) → is_within from to byte ≡ b
+            → is_claimed new byte ≡ is_held (cells_upto v n) byte
         by_case now byte from_on below true h = now.are_marked byte (inside byte h).0 (inside byte h).1 ∙ sym (run.held byte from_on below ∙ h)
         by_case now byte from_on below false h = now.others byte h ∙ free byte below ∙ sym (run.held byte from_on below ∙ h)

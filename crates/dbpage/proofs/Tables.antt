@@ -1,5 +1,6 @@
 -- A table some of whose bits are set.
-use Rattle.std.proofs.Common.{◌≡◌, ℕ, zero, suc, ◌+◌, ◌-◌, ◌*◌, ◌/◌, ◌%◌, ◌^◌, ◌<◌, ◌≤◌, min, max, ◌⊎◌, inl, inr, Bool, true, false, not, List, ◌++◌, length, length-append, length-drop, take, drop, get_or, w64, sym, ap, ◌∙◌, arith}
+use Rattle.std.proofs.Common.{◌≡◌, ℕ, zero, suc, ◌+◌, ◌-◌, ◌*◌, ◌/◌, ◌%◌, ◌^◌, ◌<◌, ◌≤◌, min, max, ◌⊎◌, inl, inr, Bool, true, false, not, List, ◌++◌, length}
+use Rattle.std.proofs.Common.{length-append, length-drop, take, drop, get_or, w64, sym, ap, ◌∙◌, arith}
 use Rattle.std.specs.Prelude.{◌==◌, MatchBool}
 use Rattle.std.specs.Int.{bit_at, trailing_zeros}
 use Rattle.std.specs.Int.Bits.{bit_and, bit_or}
@@ -8,7 +9,8 @@ use borrow.Rule.Slice.PartMut.{put_mid}
 use Rattle.std.proofs.lemmas.Bool.{cases_lt}
 use Rattle.std.proofs.lemmas.Bool.Decides.{nat_tests}
 use Rattle.std.proofs.lemmas.Nat.{and_le_l}
-use Rattle.std.proofs.lemmas.Nat.Bits.{bit_at-zero, bit_at_and, bit_at_or, bit_at_cat_low, bit_at_cat_high, bit_at-trailing_zeros, bit_at_mask_inside, bit_at_mask_below, bit_at_mask_above}
+use Rattle.std.proofs.lemmas.Nat.Bits.{bit_at-zero, bit_at_and, bit_at_or, bit_at_cat_low, bit_at_cat_high, bit_at-trailing_zeros, bit_at_mask_inside}
+use Rattle.std.proofs.lemmas.Nat.Bits.{bit_at_mask_below, bit_at_mask_above}
 use Rattle.std.proofs.lemmas.List.{length-take-le, get_or_append_left, get_or-append_right, get_or-take, get_or-drop, get_or_past}
 use Rattle.std.proofs.lemmas.List.Edits.{length-between, get_or-between}
 use Rattle.byteorder.specs.Endian.{little_from, little_number, little_bytes}
@@ -26,7 +28,8 @@ bit_at-little i (suc n) xs small zero t within in_byte =
     let whole : x + 256 * rest ≡ rest * 256 + x = omega arith in
     let place : 8 * 0 + t ≡ t = omega arith in
     let same : i ≡ i + 0 = omega arith in
-    ap (λ (m : ℕ). bit_at m (8 * 0 + t)) whole ∙ ap (bit_at (rest * 256 + x)) place ∙ bit_at_cat_low rest 8 x t in_byte ∙ ap (λ (j : ℕ). bit_at (get_or xs j 0) t) same
+    ap (λ (m : ℕ). bit_at m (8 * 0 + t)) whole ∙ ap (bit_at (rest * 256 + x)) place ∙ bit_at_cat_low rest 8 x t in_byte
+    ∙ ap (λ (j : ℕ). bit_at (get_or xs j 0) t) same
 bit_at-little i (suc n) xs small (suc k) t within in_byte =
     let x : ℕ = get_or xs i 0 in
     let rest : ℕ = little_from (suc i) n xs in
@@ -82,7 +85,8 @@ module _ (old mid : List ℕ) (from at to : ℕ) (start : from ≤ at) (more : a
     marked = sym (first.others has.byte (outside from at has.byte (inr has.from_on))) ∙ has.marked;
   }
 
-  pub either_more : (b : Bool) (new : List ℕ) → MatchBool b (Marks mid at to new) (HasMarked mid at to) → MatchBool b (Marks old from to new) (HasMarked old from to)
+  pub either_more : (b : Bool) (new : List ℕ) → MatchBool b (Marks mid at to new) (HasMarked mid at to)
+      → MatchBool b (Marks old from to new) (HasMarked old from to)
   either_more true new h = Marks_more new h
   either_more false new h = HasMarked_more h
 
@@ -130,7 +134,8 @@ module _ (table : List ℕ) (start : ℕ) (room : start + 8 ≤ length table) wh
       ]
 
   -- a bit of the number is a mark
-  pub bit_is_mark : ((j : ℕ) → get_or table j 0 < 256) → (byte : ℕ) → 8 * start ≤ byte → byte < 8 * start + 64 → bit_at (little_number 8 eight) (byte - 8 * start) ≡ mark_bit table byte
+  pub bit_is_mark : ((j : ℕ) → get_or table j 0 < 256) → (byte : ℕ) → 8 * start ≤ byte → byte < 8 * start + 64
+      → bit_at (little_number 8 eight) (byte - 8 * start) ≡ mark_bit table byte
   bit_is_mark small byte low high =
       let k : ℕ = byte / 8 - start in
       let t : ℕ = byte % 8 in
@@ -146,13 +151,21 @@ module _ (table : List ℕ) (start : ℕ) (room : start + 8 ≤ length table) wh
     new = put_mid start 8 table part
 
     length_part : length part ≡ 8
-    length_part = omega (arith, ap length written, length-append (little_bytes 8 x) (drop 8 eight), length-bytes_low_first 0 8 x, length-drop 8 eight, length-between table start (start + 8) room)
+    length_part = omega (
+      arith,
+      ap length written,
+      length-append (little_bytes 8 x) (drop 8 eight),
+      length-bytes_low_first 0 8 x,
+      length-drop 8 eight,
+      length-between table start (start + 8) room,
+    )
 
     part_small : (j : ℕ) → get_or part j 0 < 256
     part_small j =
         elim (cases_lt j 8) [
           | inl inside ↦
-              let here = ap (λ (xs : List ℕ). get_or xs j 0) written ∙ get_or_append_left (little_bytes 8 x) (drop 8 eight) 0 j (omega (arith, length-bytes_low_first 0 8 x)) in
+              let here = ap (λ (xs : List ℕ). get_or xs j 0) written
+              ∙ get_or_append_left (little_bytes 8 x) (drop 8 eight) 0 j (omega (arith, length-bytes_low_first 0 8 x)) in
               omega (arith, here, small_bytes 0 8 x j)
           | inr past ↦ omega (arith, get_or_past part j 0 (omega (arith, length_part)))
         ]
@@ -201,7 +214,8 @@ module _ (table : List ℕ) (from len : ℕ) (few : from % 8 + len ≤ 64) (bits
       let lowest = bit_at-trailing_zeros w64 (bit_and old bits) some (omega (arith, and_le_l old bits)) in
       let both : min (bit_at old i) (bit_at bits i) ≡ 1 = sym (bit_at_and old bits i) ∙ lowest.1 in
       let low : from % 8 ≤ i = elim (cases_lt i (from % 8)) [ inl below ↦ absurd (omega (arith, both, out_of_bits i (inl below))) | inr on ↦ on ] in
-      let high : i < from % 8 + len = elim (cases_lt i (from % 8 + len)) [ inl inside ↦ inside | inr above ↦ absurd (omega (arith, both, out_of_bits i (inr above))) ] in
+      let high : i < from % 8 + len = elim (cases_lt i (from % 8 + len))
+      [ inl inside ↦ inside | inr above ↦ absurd (omega (arith, both, out_of_bits i (inr above))) ] in
       let byte : ℕ = 8 * (from / 8) + i in
       let place : byte - 8 * (from / 8) ≡ i = omega arith in
       let one : bit_at old i ≡ mark_bit table byte = ap (bit_at old) (sym place) ∙ old_bit byte (omega arith) (omega (arith, lowest.0)) in
@@ -231,6 +245,7 @@ module _ (table : List ℕ) (from len : ℕ) (few : from % 8 + len ≤ 64) (bits
     pub Marks-set : bit_and old bits ≡ 0 → Marks table from (from + len) new
     Marks-set none = record {
       were_free = λ byte low high. unset_is (mark_bit table byte) (free_of_none_common none byte low high);
-      are_marked = λ byte low high. set_is (mark_bit new byte) (omega (arith, bit_of byte (omega arith) (omega arith), in_bits (byte - 8 * (from / 8)) (omega arith) (omega arith)));
+      are_marked = λ byte low high. set_is (mark_bit new byte)
+          (omega (arith, bit_of byte (omega arith) (omega arith), in_bits (byte - 8 * (from / 8)) (omega arith) (omega arith)));
       others = λ byte h. ap (λ (b : ℕ). not (b == 0)) (other byte (other_side from (from + len) byte h));
     }

@@ -23,7 +23,8 @@ use Rattle.dbreport.proofs.Checks.{check_writes, check_finds, check_begins}
 
 module _ {O : Type 0} (held : O → OutState) (file : List ℕ) (V : List Reference) (survey : Survey file V) where
   -- it stopped within what is reported
-  check_stopped : (e : RunError) (s t : CheckReporter O) → StopsBy (HearsFaults (ShowsFault held)) (CutsFaults (CutsFault held)) e s (run_notices file V) t → LeavesCheck held file V (Err e) s t
+  check_stopped : (e : RunError) (s t : CheckReporter O) → StopsBy (HearsFaults (ShowsFault held)) (CutsFaults (CutsFault held)) e s (run_notices file V) t
+      → LeavesCheck held file V (Err e) s t
   check_stopped e s t k none no_more =
       (check_begins held (faults file V) s t none no_more e (faults_heard_by (ShowsFault held) (CutsFault held) {A = Verdict} file V survey (Err e) s t k), tt)
 
@@ -32,19 +33,26 @@ module _ {O : Type 0} (held : O → OutState) (file : List ℕ) (V : List Refere
     all : Moves (ShowsFault held) s (faults file V) t
     all = faults_heard_by (ShowsFault held) (CutsFault held) {A = Unit {0}} file V survey (Ok tt) s t told
 
-    pub check_cut : {X : Type 0} (x : X) → Puts {A = Verdict} (Err x) (held t.out.now) (held u.out.now) (end_text t.shown t.more) → LeavesCheck held file V (Err WriteFailed) s u
+    pub check_cut : {X : Type 0} (x : X) → Puts {A = Verdict} (Err x) (held t.out.now) (held u.out.now) (end_text t.shown t.more)
+        → LeavesCheck held file V (Err WriteFailed) s u
     check_cut x puts none no_more = ((check_writes held (faults file V) s t none no_more all (Err x) (held u.out.now) puts).held, tt)
 
-    pub check_ended : {X : Type 0} (v : Verdict) → Puts {E = X} (Ok v) (held t.out.now) (held u.out.now) (end_text t.shown t.more) → v ≡ found_verdict t.shown t.more → LeavesCheck held file V (Ok v) s u
-    check_ended v puts found none no_more =
-        ((check_writes held (faults file V) s t none no_more all (Ok v) (held u.out.now) puts).held, found ∙ check_finds held (faults file V) s t none no_more all)
+    pub check_ended : {X : Type 0} (v : Verdict) → Puts {E = X} (Ok v) (held t.out.now) (held u.out.now) (end_text t.shown t.more) → v
+        ≡ found_verdict t.shown t.more → LeavesCheck held file V (Ok v) s u
+    check_ended v puts found none no_more = (
+      (check_writes held (faults file V) s t none no_more all (Ok v) (held u.out.now) puts).held,
+      found
+          ∙ check_finds held (faults file V) s t none no_more all,
+    )
 
-  check_left : (r : Result Verdict RunError) (s t : CheckReporter O) → Leaves (HearsFaults (ShowsFault held)) (CutsFaults (CutsFault held)) (LeavesCheck held) file V r s t → LeavesCheck held file V r s t
+  check_left : (r : Result Verdict RunError) (s t : CheckReporter O)
+      → Leaves (HearsFaults (ShowsFault held)) (CutsFaults (CutsFault held)) (LeavesCheck held) file V r s t → LeavesCheck held file V r s t
   check_left r s t (inl h) = h
   check_left r s t (inr (e, is, k)) = subst (λ (r : Result Verdict RunError). LeavesCheck held file V r s t) (sym is) (check_stopped e s t k)
 
   -- the report of a check, on the Out that it was given
-  pub check_reported : (r : Result Verdict RunError) (s t : CheckReporter O) (out after : O) (limit : ℕ) → s.out.now ≡ out → s.limit ≡ limit → s.shown ≡ 0 → s.more ≡ 0 → after ≡ t.out.now → refusal file ≡ None
+  pub check_reported : (r : Result Verdict RunError) (s t : CheckReporter O) (out after : O) (limit : ℕ) → s.out.now ≡ out → s.limit ≡ limit → s.shown ≡ 0
+      → s.more ≡ 0 → after ≡ t.out.now → refusal file ≡ None
       → Leaves (HearsFaults (ShowsFault held)) (CutsFaults (CutsFault held)) (LeavesCheck held) file V r s t
       → Writes r (held out).bytes (held after).bytes (report (Check limit) file V).out × IfOk r (λ v. (report (Check limit) file V).answer ≡ Ok v)
   check_reported r s t out after limit same most none no_more end read h =

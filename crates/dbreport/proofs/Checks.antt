@@ -1,5 +1,6 @@
 -- What a check has written and found, by the findings that its reporter heard.
-use Rattle.std.proofs.Common.{◌≡◌, ℕ, zero, suc, ◌+◌, ◌-◌, ◌^◌, ◌<◌, ◌≤◌, true, false, cond, inl, inr, List, [], ◌∷◌, ◌++◌, length, take, drop, Result, Ok, refl, sym, ap, ap₂, ◌∙◌, subst, arith, length-drop}
+use Rattle.std.proofs.Common.{◌≡◌, ℕ, zero, suc, ◌+◌, ◌-◌, ◌^◌, ◌<◌, ◌≤◌, true, false, cond, inl, inr, List, [], ◌∷◌, ◌++◌, length, take, drop, Result, Ok}
+use Rattle.std.proofs.Common.{refl, sym, ap, ap₂, ◌∙◌, subst, arith, length-drop}
 use Rattle.std.specs.Prelude.{flat_map, ◌==◌, nat_lt}
 use Rattle.std.proofs.Math.Seq.{take-nil}
 use Rattle.std.proofs.lemmas.Grind.{common_steps}
@@ -82,7 +83,8 @@ module _ {O : Type 0} (held : O → OutState) where
         limit = refl;
         shown = omega arith;
         more = counted_is s.more m ∙ ap (λ k. counted (s.more + k)) (sym d);
-        puts = subst (λ l. PutsAll (held s.out.now) (held s.out.now) (flat_map fault_line l)) (sym t) (record { held = appends_nothing (held s.out.now).bytes; count = refl });
+        puts = subst (λ l. PutsAll (held s.out.now) (held s.out.now) (flat_map fault_line l)) (sym t)
+            (record { held = appends_nothing (held s.out.now).bytes; count = refl });
       }
 
   module _ (s m : CheckReporter O) (f : Fault) (shows : ShowsFault held s f m) where
@@ -102,7 +104,8 @@ module _ {O : Type 0} (held : O → OutState) where
         let rest : drop (s.limit - s.shown) (f ∷ fs) ≡ drop (m.limit - m.shown) fs = ap (λ n. drop n (f ∷ fs)) (room_less e) in record {
           same_out = k.same_out ∙ shows.same_out;
           limit = k.limit ∙ shows.limit;
-          shown = let n : length (take (s.limit - s.shown) (f ∷ fs)) ≡ suc (length (take (m.limit - m.shown) fs)) = ap length first in let e = k.shown in omega arith;
+          shown = let n : length (take (s.limit - s.shown) (f ∷ fs)) ≡ suc (length (take (m.limit - m.shown) fs)) = ap length first in let e =
+              k.shown in omega arith;
           more = k.more ∙ ap₂ (λ x l. counted (x + length l)) more (sym rest);
           puts = subst (λ l. PutsAll (held s.out.now) (held t.out.now) (flat_map fault_line l)) (sym first)
               (puts_then (Ok tt) (fault_line f) (lines (m.limit - m.shown) fs) refl put k.puts);
@@ -150,17 +153,20 @@ module _ {O : Type 0} (held : O → OutState) where
     saw_fault : (fs : List Fault) (t : CheckReporter O) → s.shown ≤ s.limit → Saw m fs t → Saw s (f ∷ fs) t
     saw_fault fs t l k = elim (cases_Bool (nat_lt s.shown s.limit)) [ inl e ↦ saw_shown fs t e k | inr e ↦ saw_counted fs t e l k ]
 
-    begins_fault : (fs : List Fault) (t : CheckReporter O) → s.shown ≤ s.limit → Begins (held m.out.now).bytes (held t.out.now).bytes (lines (m.limit - m.shown) fs)
+    begins_fault : (fs : List Fault) (t : CheckReporter O) → s.shown ≤ s.limit
+        → Begins (held m.out.now).bytes (held t.out.now).bytes (lines (m.limit - m.shown) fs)
         → Begins (held s.out.now).bytes (held t.out.now).bytes (lines (s.limit - s.shown) (f ∷ fs))
     begins_fault fs t l k = elim (cases_Bool (nat_lt s.shown s.limit)) [
       | inl e ↦
           let put : PutsAll (held s.out.now) (held m.out.now) (fault_line f) = rw e at shows.puts in
-          begins_after (held s.out.now).bytes (held m.out.now).bytes (held t.out.now).bytes (fault_line f) (lines (m.limit - m.shown) fs) (lines (s.limit - s.shown) (f ∷ fs))
+          begins_after (held s.out.now).bytes (held m.out.now).bytes (held t.out.now).bytes (fault_line f) (lines (m.limit - m.shown) fs)
+          (lines (s.limit - s.shown) (f ∷ fs))
           (ap (λ n. lines n (f ∷ fs)) (sym (room_less e))) put.held k
       | inr e ↦
           let put : PutsAll (held s.out.now) (held m.out.now) [] = rw e at shows.puts in
           let none = room_none e l in
-          begins_after (held s.out.now).bytes (held m.out.now).bytes (held t.out.now).bytes [] (lines (m.limit - m.shown) fs) (lines (s.limit - s.shown) (f ∷ fs))
+          begins_after (held s.out.now).bytes (held m.out.now).bytes (held t.out.now).bytes [] (lines (m.limit - m.shown) fs)
+          (lines (s.limit - s.shown) (f ∷ fs))
           (ap (λ n. lines n fs) none.1 ∙ ap (λ n. lines n (f ∷ fs)) (sym none.0)) put.held k
     ]
 
@@ -187,7 +193,8 @@ module _ {O : Type 0} (held : O → OutState) where
       let k = breaks_some fs h.0 t b.0 b.1 h.2 in
       (k.0 ∙ h.1.same_out, begins_fault s h.0 f h.1 fs t l k.1)
 
-  breaks_stop : (fs : List Fault) (s t : CheckReporter O) → s.shown ≤ s.limit → s.more ≤ 2 ^ 64 - 1 → Stops (ShowsFault held) (CutsFault held) s fs t → Breaks s fs t
+  breaks_stop : (fs : List Fault) (s t : CheckReporter O) → s.shown ≤ s.limit → s.more ≤ 2 ^ 64 - 1 → Stops (ShowsFault held) (CutsFault held) s fs t
+      → Breaks s fs t
   breaks_stop [] s t l m h = absurd h
   breaks_stop (f ∷ fs) s t l m (inl h) =
       let room : s.limit - s.shown ≡ suc (s.limit - s.shown - 1) = let e = h.room in let less : s.shown < s.limit = grind (arith, nat_tests) in omega arith in (
@@ -200,7 +207,8 @@ module _ {O : Type 0} (held : O → OutState) where
       let k = breaks_stop fs h.0 t b.0 b.1 h.2 in
       (k.0 ∙ h.1.same_out, begins_fault s h.0 f h.1 fs t l k.1)
 
-  breaks_by : (e : RunError) (fs : List Fault) (s t : CheckReporter O) → s.shown ≤ s.limit → s.more ≤ 2 ^ 64 - 1 → StopsBy (ShowsFault held) (CutsFault held) e s fs t → Breaks s fs t
+  breaks_by : (e : RunError) (fs : List Fault) (s t : CheckReporter O) → s.shown ≤ s.limit → s.more ≤ 2 ^ 64 - 1
+      → StopsBy (ShowsFault held) (CutsFault held) e s fs t → Breaks s fs t
   breaks_by WriteFailed fs s t l m h = breaks_stop fs s t l m h
   breaks_by ReadFailed fs s t l m h = breaks_some fs s t l m h
   breaks_by OutOfMemory fs s t l m h = breaks_some fs s t l m h
@@ -218,12 +226,15 @@ module _ {O : Type 0} (held : O → OutState) where
       saw = saw_all found s t (omega arith) (omega arith) moved
 
       shown_is : t.shown ≡ length (take s.limit found)
-      shown_is = let z : 0 + length (take s.limit found) ≡ length (take s.limit found) = omega arith in saw.shown ∙ ap₂ (λ a b. a + length (take b found)) none room ∙ z
+      shown_is = let z : 0 + length (take s.limit found) ≡ length (take s.limit found) = omega arith in saw.shown
+          ∙ ap₂ (λ a b. a + length (take b found)) none room ∙ z
 
       more_is : t.more ≡ counted (length (drop s.limit found))
-      more_is = let z : 0 + length (drop s.limit found) ≡ length (drop s.limit found) = omega arith in saw.more ∙ ap₂ (λ a b. counted (a + length (drop b found))) no_more room ∙ ap counted z
+      more_is = let z : 0 + length (drop s.limit found) ≡ length (drop s.limit found) = omega arith in saw.more
+          ∙ ap₂ (λ a b. counted (a + length (drop b found))) no_more room ∙ ap counted z
 
-      pub check_writes : {E : Type 0} (r : Result Verdict E) (u : OutState) → Puts r (held t.out.now) u (end_text t.shown t.more) → Puts r (held s.out.now) u (check_text s.limit found)
+      pub check_writes : {E : Type 0} (r : Result Verdict E) (u : OutState) → Puts r (held t.out.now) u (end_text t.shown t.more)
+          → Puts r (held s.out.now) u (check_text s.limit found)
       check_writes r u h =
           let first = subst (λ k. PutsAll (held s.out.now) (held t.out.now) (lines k found)) room saw.puts in
           let end : end_text t.shown t.more ≡ end_text (length (take s.limit found)) (counted (length (drop s.limit found))) = ap₂ end_text shown_is more_is in
@@ -239,5 +250,6 @@ module _ {O : Type 0} (held : O → OutState) where
       breaks = breaks_by e found s t (omega arith) (omega arith) stopped
 
       pub check_begins : Begins (held s.out.now).bytes (held t.out.now).bytes (check_text s.limit found)
-      check_begins = begins_more (held s.out.now).bytes (held t.out.now).bytes (lines s.limit found) (end_text (length (take s.limit found)) (counted (length (drop s.limit found)))) (check_text s.limit found)
+      check_begins = begins_more (held s.out.now).bytes (held t.out.now).bytes (lines s.limit found)
+          (end_text (length (take s.limit found)) (counted (length (drop s.limit found)))) (check_text s.limit found)
           (text_is s.limit found) (subst (λ n. Begins (held s.out.now).bytes (held t.out.now).bytes (lines n found)) room breaks.1)

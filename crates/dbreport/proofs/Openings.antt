@@ -13,7 +13,7 @@ use Rattle.dbsource.specs.declared.error.RunError.TheVariants.{OutOfMemory}
 use Rattle.dbsource.specs.declared.source.Source.{Ghosts as SourceWords}
 use Rattle.dbsource.proofs.Logs.{has_ranges, open_failures}
 use Rattle.dbsource.proofs.Runs.{read_weaker}
-use Rattle.dbscan.specs.Desks.{Things}
+use Rattle.dbscan.specs.Desks.{DeskView}
 use Rattle.dbscan.proofs.AfterHeader.{after_weaker}
 use Rattle.dbreport.specs.Opening.{IsNotOpened, IsOpened}
 use Rattle.dbreport.specs.Jobs.{HasRunJob, HasRunOver, IsNotBegun}
@@ -27,7 +27,8 @@ never_written opening.ReadFailed = refl
 
 module _ {S : Type 0} (source : SourceWords S) (old : S) where
   -- the header was not read, or is refused
-  pub header_refused : (e : OpenError) (new : S) → Opens source.step source.lengths (Err e) (source.held old) (source.held new) → IsNotOpened source (run_error e) old new
+  pub header_refused : (e : OpenError) (new : S) → Opens source.step source.lengths (Err e) (source.held old) (source.held new)
+      → IsNotOpened source (run_error e) old new
   header_refused e new opens = record {
     read = opened_run e opens (λ file h. refused_answer file e h);
     reads = opens.asks.count ∙ open_failures e (source.held old).failures;
@@ -57,10 +58,12 @@ module _ {S : Type 0} (source : SourceWords S) (old : S) where
           untouched = refused_unwritten (Err e) j;
         }
 
-    pub has_run : (d : Things) (mid new : S) → IsOpened source d.header old mid → (r : Result Verdict RunError) (j j' : J) → HasRunOver source leaves ends r d (mid, j) (new, j')
+    pub has_run : (d : DeskView) (mid new : S) → IsOpened source d.header old mid → (r : Result Verdict RunError) (j j' : J)
+        → HasRunOver source leaves ends r d (mid, j) (new, j')
         → HasRunJob source leaves ends r (old, j) (new, j')
     has_run d mid new k r j j' over = record {
-      read = whole_run {T = λ file. IsAnswerOf r file × (IsNotBegun r j j' ⊎ leaves file r j j')} d.header k.opens k.read k.accepted k.range (after_weaker _ _ over.read (λ file is left. (read_answer file r over.only is.is_read, inr left)));
+      read = whole_run {T = λ file. IsAnswerOf r file × (IsNotBegun r j j' ⊎ leaves file r j j')} d.header k.opens k.read k.accepted k.range
+          (after_weaker _ _ over.read (λ file is left. (read_answer file r over.only is.is_read, inr left)));
       reads = over.reads ∙ ap (failures_after is_read_failed r) k.opens.asks.count;
       ended = inr over.ended;
       asked = read_refused source.step r _ _ over.only;

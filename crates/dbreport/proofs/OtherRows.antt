@@ -1,5 +1,6 @@
 -- The rows of the other pages are those that the marks give.
-use Rattle.std.proofs.Common.{◌≡◌, ℕ, suc, ◌+◌, ◌-◌, ◌<◌, ◌≤◌, Bool, true, false, cond, List, [], ◌∷◌, ◌++◌, length, Option, Some, None, Result, Ok, Err, refl, ap, ap₂, subst, ◌∙◌, arith}
+use Rattle.std.proofs.Common.{◌≡◌, ℕ, suc, ◌+◌, ◌-◌, ◌<◌, ◌≤◌, Bool, true, false, cond, List, [], ◌∷◌, ◌++◌, length, Option, Some, None, Result, Ok, Err, refl}
+use Rattle.std.proofs.Common.{ap, ap₂, subst, ◌∙◌, arith}
 use Rattle.std.specs.Prelude.{flat_map, filter_map, option_map}
 use Rattle.std.specs.List.{cons_option}
 use Rattle.std.specs.Option.{option_map_or}
@@ -49,7 +50,8 @@ by_visit g p true (Some r) h = absurd (let k : true ≡ false = h r refl in cc)
 by_visit g p false (Some r) h = by_role g p (role_of r) (from_of r)
 
 -- a page's mark shows what other page it is
-pub other_by_mark : (file : List ℕ) (V : List Reference) (p : ℕ) → AreVisits (geometry file) V → marked_other (geometry file) p (mark_of (geometry file) V p) ≡ other_page file V p
+pub other_by_mark : (file : List ℕ) (V : List Reference) (p : ℕ) → AreVisits (geometry file) V → marked_other (geometry file) p (mark_of (geometry file) V p)
+    ≡ other_page file V p
 unfolding mark_of
 other_by_mark file V p h = by_visit (geometry file) p (is_fixed (geometry file) p) (visit_of V p)
     (λ r e. let k = found_in V p r e in subst (λ q. is_fixed (geometry file) q ≡ false) k.1 (h.allowed r k.0).1)
@@ -63,7 +65,8 @@ rows_text line other [] = refl
 rows_text line other (p ∷ ps) = by_case (other p) (rows_text line other ps)
   where
     by_case : (o : Option OtherPage)
-        → flat_map (λ p. option_map_or (λ what. line (other_row p what)) (other p) []) ps ≡ flat_map line (filter_map (λ p. option_map (other_row p) (other p)) ps)
+        → flat_map (λ p. option_map_or (λ what. line (other_row p what)) (other p) []) ps
+        ≡ flat_map line (filter_map (λ p. option_map (other_row p) (other p)) ps)
         → option_map_or (λ what. line (other_row p what)) o [] ++ flat_map (λ p. option_map_or (λ what. line (other_row p what)) (other p) []) ps
         ≡ flat_map line (cons_option (option_map (other_row p) o) (filter_map (λ p. option_map (other_row p) (other p)) ps))
     by_case None h = h
@@ -76,7 +79,8 @@ unfolding form_line
 others_text file V g marks e s m =
     let all : length marks ≡ (geometry file).pages = ap length m ∙ marks_of-length (geometry file) V in
     ap₂ (λ g n. marked_lines g marks 1 n) e all
-    ∙ flat_map-same (λ p. option_map_or (marked_line (geometry file) p) (page_mark marks p) []) (λ p. option_map_or (λ what. form_line file V (other_row p what)) (other_page file V p) []) (page_numbers (geometry file))
+    ∙ flat_map-same (λ p. option_map_or (marked_line (geometry file) p) (page_mark marks p) [])
+    (λ p. option_map_or (λ what. form_line file V (other_row p what)) (other_page file V p) []) (page_numbers (geometry file))
     (λ p i. let h = IsIn-from_range 1 (geometry file).pages p i in
     ap (λ o. option_map_or (marked_line (geometry file) p) o []) (ap (λ l. page_mark l p) m ∙ page_mark-in (geometry file) V p h.0 (let l = h.1 in omega arith))
     ∙ ap (λ o. option_map_or (other_line (geometry file).page_size p) o []) (other_by_mark file V p (survey_visits file V s)))
@@ -102,17 +106,20 @@ put_none o g marks =
     let e : n - 0 ≡ n = omega arith in
     record { done = []; split = ap (marked_lines g marks 1) e; put = record { held = appends_nothing o.bytes; count = refl } }
 
-pub put_next : {o m n : OutState} {s : Result (Unit {0}) WriteFailed} (g : Geometry) (marks : List Mark) (i : ℕ) (mark : Mark) → i < length marks → page_mark marks (i + 1) ≡ Some mark
+pub put_next : {o m n : OutState} {s : Result (Unit {0}) WriteFailed} (g : Geometry) (marks : List Mark) (i : ℕ) (mark : Mark) → i < length marks
+    → page_mark marks (i + 1) ≡ Some mark
     → HasPutLines o m g marks i → s ≡ Ok (tt {0}) → Puts s m n (marked_line g (i + 1) mark) → HasPutLines o n g marks (i + 1)
 put_next g marks i mark l h k p q =
     put_more (marked_line g (i + 1) mark) (marked_lines g marks (i + 1 + 1) (length marks - (i + 1))) k p q (lines_more g marks i (length marks) mark l h)
 
-pub put_failed : {o m n : OutState} {s r : Result (Unit {0}) WriteFailed} {x y : WriteFailed} (g : Geometry) (marks : List Mark) (i : ℕ) (mark : Mark) → i < length marks → page_mark marks (i + 1) ≡ Some mark
+pub put_failed : {o m n : OutState} {s r : Result (Unit {0}) WriteFailed} {x y : WriteFailed} (g : Geometry) (marks : List Mark) (i : ℕ) (mark : Mark)
+    → i < length marks → page_mark marks (i + 1) ≡ Some mark
     → HasPutLines o m g marks i → s ≡ Err x → r ≡ Err y → Puts s m n (marked_line g (i + 1) mark) → Puts r o n (marked_lines g marks 1 (length marks))
 put_failed g marks i mark l h k p e q =
     put_stop (marked_line g (i + 1) mark) (marked_lines g marks (i + 1 + 1) (length marks - (i + 1))) k p e q (lines_more g marks i (length marks) mark l h)
 
-pub put_each : {o m : OutState} (g : Geometry) (marks : List Mark) (i : ℕ) → length marks ≤ i → HasPutLines o m g marks i → Puts {E = WriteFailed} (Ok (tt {0})) o m (marked_lines g marks 1 (length marks))
+pub put_each : {o m : OutState} (g : Geometry) (marks : List Mark) (i : ℕ) → length marks ≤ i → HasPutLines o m g marks i
+    → Puts {E = WriteFailed} (Ok (tt {0})) o m (marked_lines g marks 1 (length marks))
 put_each g marks i l k =
     let n = length marks in
     let e : n - i ≡ 0 = omega arith in

@@ -22,4 +22,5 @@ module _ {O E : Type 0} (out : O → OutState) (err : E → OutState) (r : Resul
   })
 
   pub job_left : (file : List ℕ) → IsAnswerOf r file → IsNotBegun r s t ⊎ LeavesJob out err file r s t → LeavesJob out err file r s t
-  job_left file answer = in_either (LeavesJob out err file) r s t (λ e unfailed is. none_of s.command file e (out s.out.now).bytes (err s.err.now).bytes (subst (λ r. IsAnswerOf r file) is answer))
+  job_left file answer = in_either (LeavesJob out err file) r s t
+      (λ e unfailed is. none_of s.command file e (out s.out.now).bytes (err s.err.now).bytes (subst (λ r. IsAnswerOf r file) is answer))

@@ -21,13 +21,15 @@ lent_same (Err OutOfMemory) s t h = ap (λ (x : SinkState). x.lent) h
 lent_same (Err WriteFailed) s t h = h.lent
 
 -- if it borrows one Out, this failed once more exactly at a failed write
-pub one_failed : {A : Type 0} (r : Result A RunError) (a b m n : ℕ) → SinkAfter is_write_failed r (one_out a m) (one_out b n) → n ≡ failures_after is_write_failed r m
+pub one_failed : {A : Type 0} (r : Result A RunError) (a b m n : ℕ) → SinkAfter is_write_failed r (one_out a m) (one_out b n) → n
+    ≡ failures_after is_write_failed r m
 one_failed (Ok x) a b m n h = ap (λ (s : SinkState). first s.failures) h
 one_failed (Err (Refused r)) a b m n h = ap (λ (s : SinkState). first s.failures) h
 one_failed (Err ReadFailed) a b m n h = ap (λ (s : SinkState). first s.failures) h
 one_failed (Err OutOfMemory) a b m n h = ap (λ (s : SinkState). first s.failures) h
 one_failed (Err WriteFailed) a b m n h = by_once h.failures
   where
-    by_once : CountsAfter {A = Unit {0}} is_write_failed (Err WriteFailed) (m ∷ []) (n ∷ []) → n ≡ failures_after {A = Unit {0}} is_write_failed (Err WriteFailed) m
+    by_once : CountsAfter {A = Unit {0}} is_write_failed (Err WriteFailed) (m ∷ []) (n ∷ []) → n
+        ≡ failures_after {A = Unit {0}} is_write_failed (Err WriteFailed) m
     by_once (inl k) = k.0
     by_once (inr k) = absurd k.1

@@ -77,7 +77,8 @@ if_ok (Ok v) f h = f v h
 if_ok (Err e) f h = tt
 
 -- the failures of each of two Outs, where only the first one's can have changed
-pub first_failures : (r : Result Verdict RunError) (a n b : ℕ) → n ≡ failures_after is_write_failed r a → CountsAfter is_write_failed r (a ∷ b ∷ []) (n ∷ b ∷ [])
+pub first_failures : (r : Result Verdict RunError) (a n b : ℕ) → n ≡ failures_after is_write_failed r a
+    → CountsAfter is_write_failed r (a ∷ b ∷ []) (n ∷ b ∷ [])
 first_failures (Ok v) a n b e = ap (λ k. k ∷ b ∷ []) e
 first_failures (Err (Refused r)) a n b e = ap (λ k. k ∷ b ∷ []) e
 first_failures (Err ReadFailed) a n b e = ap (λ k. k ∷ b ∷ []) e
@@ -91,8 +92,10 @@ abbrev pub IsSoundRep : (List ℕ → List Reference → Report) → List ℕ �
 IsSoundRep rep file = (v : Verdict) → (rep file (survey file)).answer ≡ Ok v → v ≡ Clean ↔ Sound file
 
 -- the file was read: by any survey of it this is its report
-pub run_by : (rep : List ℕ → List Reference → Report) (file : List ℕ) (r : Result Verdict RunError) (out_old out_new err_old err_new : Option (List ℕ)) → IfErr r IsReadWriteOrMemory → refusal file ≡ None
-    → IsSoundRep rep file → ((V : List Reference) → Survey file V → IsReportedBy (rep file V) r out_old out_new err_old err_new) → IsRunBy rep file r out_old out_new err_old err_new
+pub run_by : (rep : List ℕ → List Reference → Report) (file : List ℕ) (r : Result Verdict RunError) (out_old out_new err_old err_new : Option (List ℕ))
+    → IfErr r IsReadWriteOrMemory → refusal file ≡ None
+    → IsSoundRep rep file → ((V : List Reference) → Survey file V → IsReportedBy (rep file V) r out_old out_new err_old err_new)
+    → IsRunBy rep file r out_old out_new err_old err_new
 run_by rep file r out_old out_new err_old err_new only read sound told = record {
   survey = (one_survey file).0;
   reported = told;
@@ -101,7 +104,8 @@ run_by rep file r out_old out_new err_old err_new only read sound told = record 
 }
 
 -- nothing was written, and no verdict found
-pub none_by : (rep : List ℕ → List Reference → Report) (file : List ℕ) (e : RunError) (out err : Option (List ℕ)) → IsAnswerOf {A = Verdict} (Err e) file → IsRunBy rep file (Err e) out out err err
+pub none_by : (rep : List ℕ → List Reference → Report) (file : List ℕ) (e : RunError) (out err : Option (List ℕ)) → IsAnswerOf {A = Verdict} (Err e) file
+    → IsRunBy rep file (Err e) out out err err
 none_by rep file e out err answer = record {
   survey = (one_survey file).0;
   reported = λ V s. record { out = begins_nothing out (rep file V).out; err = begins_nothing err (rep file V).err; verdict = tt };
@@ -127,15 +131,19 @@ ok_by command file (Ok v) out_old out_new err_old err_new k = says_ok command fi
 ok_by command file (Err e) out_old out_new err_old err_new k = tt
 
 -- the same of a run of a command
-pub run_of : (command : Command) (file : List ℕ) (r : Result Verdict RunError) (out_old out_new err_old err_new : Option (List ℕ)) → IfErr r IsReadWriteOrMemory → refusal file ≡ None
-    → ((V : List Reference) → Survey file V → IsReported command file V r out_old out_new err_old err_new) → IsRunOf command file r out_old out_new err_old err_new
+pub run_of : (command : Command) (file : List ℕ) (r : Result Verdict RunError) (out_old out_new err_old err_new : Option (List ℕ)) → IfErr r IsReadWriteOrMemory
+    → refusal file ≡ None
+    → ((V : List Reference) → Survey file V → IsReported command file V r out_old out_new err_old err_new)
+    → IsRunOf command file r out_old out_new err_old err_new
 run_of command file r out_old out_new err_old err_new only read told = record {
-  run = run_by (report command) file r out_old out_new err_old err_new only read (λ v e. sound_by_verdict file command (survey file) (one_survey file).0 v e) told;
+  run = run_by (report command) file r out_old out_new err_old err_new only read (λ v e. sound_by_verdict file command (survey file) (one_survey file).0 v e)
+      told;
   counts = λ V s. counts_pages command file V s;
   ok = ok_by command file r out_old out_new err_old err_new (told (survey file) (one_survey file).0);
 }
 
-pub none_of : (command : Command) (file : List ℕ) (e : RunError) (out err : Option (List ℕ)) → IsAnswerOf {A = Verdict} (Err e) file → IsRunOf command file (Err e) out out err err
+pub none_of : (command : Command) (file : List ℕ) (e : RunError) (out err : Option (List ℕ)) → IsAnswerOf {A = Verdict} (Err e) file
+    → IsRunOf command file (Err e) out out err err
 none_of command file e out err answer = record {
   run = none_by (report command) file e out err answer;
   counts = λ V s. counts_pages command file V s;

@@ -64,16 +64,19 @@ after_none h s file is q = record {
 }
 
 -- the header, and what was read after it, of a run
-pub whole_run : {step : Step} {lengths : Lengths} {T : List ℕ → Type 0} (h : HeaderBytes) {old mid new : SourceState} → Opens step lengths (Ok h) old mid → step old.trail (given 0 h.bytes) mid.trail
+pub whole_run : {step : Step} {lengths : Lengths} {T : List ℕ → Type 0} (h : HeaderBytes) {old mid new : SourceState} → Opens step lengths (Ok h) old mid
+    → step old.trail (given 0 h.bytes) mid.trail
     → (refusal_of h.bytes h.file_len ≡ None) × (length h.bytes ≡ 100) → IsInRange (geometry_of h.bytes h.file_len)
-    → HasReadAfterHeader step (IsPageLog (geometry_of h.bytes h.file_len)) h T mid new → HasRead step lengths IsSomeRunLog (λ file ranges. IsRunLog (geometry file) ranges × T file) old new
+    → HasReadAfterHeader step (IsPageLog (geometry_of h.bytes h.file_len)) h T mid new
+    → HasRead step lengths IsSomeRunLog (λ file ranges. IsRunLog (geometry file) ranges × T file) old new
 whole_run {step} {lengths} {T} h {old} {mid} {new} opens first accepted range behind =
     let g = geometry_of h.bytes h.file_len in
     read_weaker (IsRunLog g) _ (ran step lengths h T old mid new accepted.0 accepted.1 opens first behind)
     (λ ranges p. (g, range, p)) (λ file ranges p t. (subst (λ s. IsRunLog s ranges) t.0.shape p, t.1))
 
 -- a run that asked for nothing after the header
-pub header_run : {step : Step} {lengths : Lengths} {T : List ℕ → Type 0} (h : HeaderBytes) {old mid : SourceState} → Opens step lengths (Ok h) old mid → step old.trail (given 0 h.bytes) mid.trail
+pub header_run : {step : Step} {lengths : Lengths} {T : List ℕ → Type 0} (h : HeaderBytes) {old mid : SourceState} → Opens step lengths (Ok h) old mid
+    → step old.trail (given 0 h.bytes) mid.trail
     → (refusal_of h.bytes h.file_len ≡ None) × (length h.bytes ≡ 100) → IsInRange (geometry_of h.bytes h.file_len)
     → ((file : List ℕ) → IsHeaderOf h file → T file) → HasRead step lengths IsSomeRunLog (λ file ranges. IsRunLog (geometry file) ranges × T file) old mid
 header_run h {mid = mid} opens first accepted range q =
@@ -81,7 +84,9 @@ header_run h {mid = mid} opens first accepted range q =
     whole_run h opens first accepted range (after_none h mid here.0 (opens.asks.log.files here.0 here.2 here.1) q)
 
 -- a run whose header was not read, or is refused
-pub opened_run : {step : Step} {lengths : Lengths} {T : List ℕ → Type 0} (e : OpenError) {old new : SourceState} → Opens step lengths (Err e) old new → ((file : List ℕ) → IsRefusalOf e file → T file)
+pub opened_run : {step : Step} {lengths : Lengths} {T : List ℕ → Type 0} (e : OpenError) {old new : SourceState} → Opens step lengths (Err e) old new
+    → ((file : List ℕ) → IsRefusalOf e file → T file)
     → HasRead step lengths IsSomeRunLog (λ file ranges. IsRunLog (geometry file) ranges × T file) old new
 opened_run {step} {lengths} {T} e {old} {new} opens q =
-    read_weaker (IsOpenLog (Err e)) _ (opened step lengths e T old new opens q) (opened_some_log (Err e)) (λ file ranges p t. (opened_log (geometry file) (Err e) ranges p, t))
+    read_weaker (IsOpenLog (Err e)) _ (opened step lengths e T old new opens q) (opened_some_log (Err e))
+    (λ file ranges p t. (opened_log (geometry file) (Err e) ranges p, t))

@@ -29,7 +29,8 @@ module _ (limit : ℕ) (file : List ℕ) (V : List Reference) (read : refusal fi
   unfolding report
   check_is = rw read refl
 
-  pub check_out : (r : Result Verdict RunError) (old new : Option (List ℕ)) → Writes r old new (check_text limit (faults file V)) → Writes r old new (report (Check limit) file V).out
+  pub check_out : (r : Result Verdict RunError) (old new : Option (List ℕ)) → Writes r old new (check_text limit (faults file V))
+      → Writes r old new (report (Check limit) file V).out
   check_out r old new w = let P : List ℕ → Type 0 = Writes r old new in subst P (sym (ap (λ (r : Report). r.out) check_is)) w
 
   pub check_err : (r : Result Verdict RunError) (held : Option (List ℕ)) → Writes r held held (report (Check limit) file V).err
@@ -43,10 +44,12 @@ module _ (form : Form) (file : List ℕ) (V : List Reference) (read : refusal fi
   unfolding report
   stat_is = rw read refl
 
-  pub stat_out : (r : Result Verdict RunError) (old new : Option (List ℕ)) → Writes r old new (flat_map (form_line file V) (form_rows (form_of form) file V)) → Writes r old new (report (Stat form.aggregate form.all) file V).out
+  pub stat_out : (r : Result Verdict RunError) (old new : Option (List ℕ)) → Writes r old new (flat_map (form_line file V) (form_rows (form_of form) file V))
+      → Writes r old new (report (Stat form.aggregate form.all) file V).out
   stat_out r old new w = let P : List ℕ → Type 0 = Writes r old new in subst P (sym (ap (λ (r : Report). r.out) stat_is)) w
 
-  pub stat_err : (r : Result Verdict RunError) (old new : Option (List ℕ)) → Writes r old new (flat_map fault_line (faults file V)) → Writes r old new (report (Stat form.aggregate form.all) file V).err
+  pub stat_err : (r : Result Verdict RunError) (old new : Option (List ℕ)) → Writes r old new (flat_map fault_line (faults file V))
+      → Writes r old new (report (Stat form.aggregate form.all) file V).err
   stat_err r old new w = let P : List ℕ → Type 0 = Writes r old new in subst P (sym (ap (λ (r : Report). r.err) stat_is)) w
 
   pub stat_answer : (v : Verdict) → v ≡ verdict (faults file V) → (report (Stat form.aggregate form.all) file V).answer ≡ Ok v

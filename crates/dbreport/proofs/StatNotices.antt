@@ -14,7 +14,8 @@ use Rattle.dbsource.proofs.Puts.{appends_nothing, kept_appends}
 use Rattle.dbwalk.specs.Telling.{Tells}
 use Rattle.dbscan.specs.Notices.{Notice, heard_fault, heard_row, ended, walked, faults_heard}
 use Rattle.dbscan.specs.Starts.{At}
-use Rattle.dbreport.specs.StatReporter.{tree_end_text, other_lines, pages_text, CutsStatFault, CutsStat, HasBegun, HasWritten, HearsStat, IsFlushedIf, IsSameReporter, TakesFault, WritesBoth}
+use Rattle.dbreport.specs.StatReporter.{tree_end_text, other_lines, pages_text, CutsStatFault, CutsStat, HasBegun, HasWritten, HearsStat, IsFlushedIf}
+use Rattle.dbreport.specs.StatReporter.{IsSameReporter, TakesFault, WritesBoth}
 use Rattle.dbreport.specs.Sums.{sums_of}
 use Rattle.dbreport.specs.TreeNames.{name_at}
 use Rattle.dbreport.specs.declared.statistics.Form.{Form}
@@ -32,7 +33,8 @@ nothing_more n = omega arith
 abbrev Cut : {S I : Type 0} → (S → I → S → Type 0) → (S → I → S → Type 0) → S → List I → S → Type 0
 Cut move fail s items t = MovesBySome move s items t ⊎ Stops move fail s items t
 
-cut_of : {S I : Type 0} (move fail : S → I → S → Type 0) (e : RunError) (s : S) (items : List I) (t : S) → Tells {A = Unit {0}} move fail (Err e) s items t → Cut move fail s items t
+cut_of : {S I : Type 0} (move fail : S → I → S → Type 0) (e : RunError) (s : S) (items : List I) (t : S) → Tells {A = Unit {0}} move fail (Err e) s items t
+    → Cut move fail s items t
 cut_of move fail (Refused r) s items t h = inl h
 cut_of move fail ReadFailed s items t h = inl h
 cut_of move fail OutOfMemory s items t h = inl h
@@ -43,7 +45,8 @@ cut_none move fail s t (inl e) = e
 cut_none move fail s t (inr h) = absurd h
 
 -- before the first item, in it, or after it
-cut_first : {S I : Type 0} (move fail : S → I → S → Type 0) (s : S) (i : I) (L : List I) (t : S) → Cut move fail s (i ∷ L) t → (s ≡ t) ⊎ fail s i t ⊎ ((m : S) × move s i m × Cut move fail m L t)
+cut_first : {S I : Type 0} (move fail : S → I → S → Type 0) (s : S) (i : I) (L : List I) (t : S) → Cut move fail s (i ∷ L) t → (s ≡ t) ⊎ fail s i t
+    ⊎ ((m : S) × move s i m × Cut move fail m L t)
 cut_first move fail s i L t (inl (inl e)) = inl e
 cut_first move fail s i L t (inl (inr h)) = inr (inr (h.0, h.1, inl h.2))
 cut_first move fail s i L t (inr (inl h)) = inr (inl h)
@@ -118,7 +121,8 @@ module _ {O E : Type 0} (held : O → OutState) (held' : E → OutState) where
 
   -- ---- rows alone: no fault is counted, and the other Out has the bytes that it had
 
-  rows_written : (flushed : Bool) (s m : StatReporter O E) (text : List ℕ) → IsSameReporter s m → m.found ≡ s.found → IsFlushedIf flushed (held' s.err.now) (held' m.err.now)
+  rows_written : (flushed : Bool) (s m : StatReporter O E) (text : List ℕ) → IsSameReporter s m → m.found ≡ s.found
+      → IsFlushedIf flushed (held' s.err.now) (held' m.err.now)
       → Appends (held s.out.now).bytes (held m.out.now).bytes text → HasWritten held held' s m text []
   rows_written flushed s m text same as_many err out = record {
     form = same.form;
@@ -126,15 +130,18 @@ module _ {O E : Type 0} (held : O → OutState) (held' : E → OutState) where
     page_size = same.page_size;
     found = λ n e. as_many ∙ e ∙ ap counted (nothing_more n);
     out = out;
-    err = kept_appends (held' s.err.now).bytes (held' m.err.now).bytes (held' m.err.now).bytes [] (kept_if flushed (held' s.err.now) (held' m.err.now) err) (appends_nothing (held' m.err.now).bytes);
+    err = kept_appends (held' s.err.now).bytes (held' m.err.now).bytes (held' m.err.now).bytes [] (kept_if flushed (held' s.err.now) (held' m.err.now) err)
+        (appends_nothing (held' m.err.now).bytes);
   }
 
   -- ---- one notice
 
   module _ (p : Sheet) (s : StatReporter O E) (on : IsOn p s) where
-    by_sheet : (P : List ℕ → Type 0) (f : Bool → List ℕ → ℕ → List ℕ) (at : At) → P (f s.form.aggregate (name_at s.encoding at) s.page_size) → P (f p.form.aggregate (name_at p.encoding at) p.size)
+    by_sheet : (P : List ℕ → Type 0) (f : Bool → List ℕ → ℕ → List ℕ) (at : At) → P (f s.form.aggregate (name_at s.encoding at) s.page_size)
+        → P (f p.form.aggregate (name_at p.encoding at) p.size)
     by_sheet P f at h =
-        subst (λ (a : Form). P (f a.aggregate (name_at p.encoding at) p.size)) on.form (subst (λ e. P (f s.form.aggregate (name_at e at) p.size)) on.encoding (subst (λ z. P (f s.form.aggregate (name_at s.encoding at) z)) on.size h))
+        subst (λ (a : Form). P (f a.aggregate (name_at p.encoding at) p.size)) on.form
+        (subst (λ e. P (f s.form.aggregate (name_at e at) p.size)) on.encoding (subst (λ z. P (f s.form.aggregate (name_at s.encoding at) z)) on.size h))
 
     -- after a notice that changes at most the rows of the tree
     on_same : (m : StatReporter O E) → IsSameReporter s m → (rows : List StatRow) → m.sums ≡ sums_of rows → IsOn (record p { rows = rows }) m
@@ -149,7 +156,8 @@ module _ {O E : Type 0} (held : O → OutState) (held' : E → OutState) where
     )
     one_written (ended at) m a = (
       rows_written s.form.aggregate s m (lines p (ended at)) a.same a.found a.err
-          (by_sheet (Appends (held s.out.now).bytes (held m.out.now).bytes) (λ form name size. tree_end_text form name size p.rows) at (a.writes p.rows on.summed)),
+          (by_sheet (Appends (held s.out.now).bytes (held m.out.now).bytes) (λ form name size. tree_end_text form name size p.rows) at
+          (a.writes p.rows on.summed)),
       on_same m a.same [] a.sums,
     )
     one_written (walked g marks) m a = (
@@ -165,7 +173,8 @@ module _ {O E : Type 0} (held : O → OutState) (held' : E → OutState) where
       err = keeps_begins (held' s.err.now).bytes (held' t.err.now).bytes [] a.err;
     }
     one_begun (ended at) t a = record {
-      out = by_sheet (Begins (held s.out.now).bytes (held t.out.now).bytes) (λ form name size. tree_end_text form name size p.rows) at (a.writes p.rows on.summed);
+      out = by_sheet (Begins (held s.out.now).bytes (held t.out.now).bytes) (λ form name size. tree_end_text form name size p.rows) at
+          (a.writes p.rows on.summed);
       err = keeps_begins (held' s.err.now).bytes (held' t.err.now).bytes [] a.kept;
     }
     one_begun (walked g marks) t a = record {
@@ -175,14 +184,17 @@ module _ {O E : Type 0} (held : O → OutState) (held' : E → OutState) where
 
   -- ---- notice after notice
 
-  all_written : (p : Sheet) (ns : List Notice) (s t : StatReporter O E) → IsOn p s → Moves all s ns t → HasWritten held held' s t (all_lines p ns) (faults_of ns)
+  all_written : (p : Sheet) (ns : List Notice) (s t : StatReporter O E) → IsOn p s → Moves all s ns t
+      → HasWritten held held' s t (all_lines p ns) (faults_of ns)
   all_written p [] s t on h = subst (λ u. HasWritten held held' s u [] []) h (written_none held held' s)
   all_written p (n ∷ ns) s t on h =
       let one = one_written p s on n h.0 h.1 in
       subst (λ fs. HasWritten held held' s t (all_lines p (n ∷ ns)) fs) (one_more n ns)
-      (written_then held held' s h.0 t (lines p n) (all_lines (next p n) ns) (faults_of (n ∷ [])) (faults_of ns) one.0 (all_written (next p n) ns h.0 t one.1 h.2))
+      (written_then held held' s h.0 t (lines p n) (all_lines (next p n) ns) (faults_of (n ∷ [])) (faults_of ns) one.0
+      (all_written (next p n) ns h.0 t one.1 h.2))
 
-  some_written : (p : Sheet) (ns : List Notice) (s t : StatReporter O E) → IsOn p s → Cut all part s ns t → HasBegun held held' s t (all_lines p ns) (faults_of ns)
+  some_written : (p : Sheet) (ns : List Notice) (s t : StatReporter O E) → IsOn p s → Cut all part s ns t
+      → HasBegun held held' s t (all_lines p ns) (faults_of ns)
   some_written p [] s t on h = begun_none held held' s t [] [] (cut_none all part s t h)
   some_written p (n ∷ ns) s t on h =
       subst (λ fs. HasBegun held held' s t (all_lines p (n ∷ ns)) fs) (one_more n ns)
@@ -191,7 +203,8 @@ module _ {O E : Type 0} (held : O → OutState) (held' : E → OutState) where
         | inr (inl c) ↦ begun_first held held' s t (lines p n) (all_lines (next p n) ns) (faults_of (n ∷ [])) (faults_of ns) (one_begun p s on n t c)
         | inr (inr k) ↦ (
             let one = one_written p s on n k.0 k.1 in
-            begun_then held held' s k.0 t (lines p n) (all_lines (next p n) ns) (faults_of (n ∷ [])) (faults_of ns) one.0 (some_written (next p n) ns k.0 t one.1 k.2))
+            begun_then held held' s k.0 t (lines p n) (all_lines (next p n) ns) (faults_of (n ∷ [])) (faults_of ns) one.0
+            (some_written (next p n) ns k.0 t one.1 k.2))
       ])
 
   pub notices_written : {A : Type 0} (r : Result A RunError) (p : Sheet) (ns : List Notice) (s t : StatReporter O E) → IsOn p s → Tells all part r s ns t

@@ -3,7 +3,8 @@ use Rattle.std.proofs.Common.{◌≡◌, ℕ, ◌+◌, ◌-◌, ◌*◌, ◌<◌
 use Rattle.std.specs.Prelude.{codes, decimal}
 use Rattle.std.specs.List.{flat_map, join_with_byte}
 use Rattle.dbformat.specs.Counts.{no_counts}
-use Rattle.dbformat.specs.Lines.{chain_text, columns, counted, counts_columns, line_feed, no_text, other_line, other_text, page_line, pagetype_text, path_text, tab, tree_line}
+use Rattle.dbformat.specs.Lines.{chain_text, columns, counted, counts_columns, line_feed, no_text, other_line, other_text, page_line, pagetype_text, path_text}
+use Rattle.dbformat.specs.Lines.{tab, tree_line}
 use Rattle.dbformat.specs.Rows.{StatRow, OtherPage}
 use Rattle.dbreport.specs.Columns.{column, counts_text, offset_text, child_text, page_end, tree_end}
 use Rattle.dbreport.specs.Sums.{sums_of}
@@ -26,7 +27,8 @@ ended-append [] ys = refl
 ended-append (x ∷ xs) ys = ap (λ w. column x ++ w) (ended-append xs ys) ∙ sym (append_assoc (column x) (flat_map column xs) (ended ys))
 
 -- parts of a line, one after another
-page_parts : (kids chain a b counts g h z : List ℕ) → (kids ++ chain) ++ (a ++ (b ++ (counts ++ (g ++ (h ++ z))))) ≡ kids ++ (chain ++ a ++ b ++ counts ++ (g ++ h ++ z))
+page_parts : (kids chain a b counts g h z : List ℕ) → (kids ++ chain) ++ (a ++ (b ++ (counts ++ (g ++ (h ++ z))))) ≡ kids
+    ++ (chain ++ a ++ b ++ counts ++ (g ++ h ++ z))
 page_parts kids chain a b counts g h z = simp append_assoc
 
 tree_parts : (a b c counts g h z : List ℕ) → a ++ (b ++ (c ++ (counts ++ (g ++ (h ++ z))))) ≡ a ++ b ++ c ++ counts ++ g ++ h ++ z
@@ -45,7 +47,8 @@ page_pieces name size row =
     let page = column (decimal row.page) in
     let type = column (pagetype_text row.pagetype) in
     let offset = decimal ((row.page - 1) * size) in
-    columns_first name (path_text row.path row.chain ∷ decimal row.page ∷ pagetype_text row.pagetype ∷ (counts_columns row.counts ++ offset ∷ decimal size ∷ []))
+    columns_first name (path_text row.path row.chain ∷ decimal row.page ∷ pagetype_text row.pagetype
+    ∷ (counts_columns row.counts ++ offset ∷ decimal size ∷ []))
     ∙ ap (λ w. name ++ (tab ∷ 47 ∷ ((kids ++ chain) ++ (page ++ (type ++ w))))) (ended-append (counts_columns row.counts) (offset ∷ decimal size ∷ []))
     ∙ ap (λ w. name ++ (tab ∷ 47 ∷ w)) (page_parts kids chain page type (counts_text row.counts) (column offset) (column (decimal size)) (line_feed ∷ []))
 
@@ -61,7 +64,8 @@ tree_pieces name size rows sums e =
     columns_first name (tree_columns s (counted (length rows * size)))
     ∙ ap (λ n. name ++ ended (tree_columns s n)) (sym (counted-mul (length rows) size))
     ∙ ap (λ w. name ++ (column no_text ++ (column (decimal s.pages) ++ (column no_text ++ w)))) (ended-append (counts_columns s.counts) (no_text ∷ bytes ∷ []))
-    ∙ ap (λ w. name ++ w) (tree_parts (column no_text) (column (decimal s.pages)) (column no_text) (counts_text s.counts) (column no_text) (column bytes) (line_feed ∷ []))
+    ∙ ap (λ w. name ++ w) (tree_parts (column no_text) (column (decimal s.pages)) (column no_text) (counts_text s.counts) (column no_text) (column bytes)
+    (line_feed ∷ []))
     ∙ ap (λ (s : Sums). name ++ tree_end size s) (sym e)
 
 -- what is left of a path, by its next child
@@ -75,6 +79,8 @@ pub other_pieces : (size page : ℕ) (what : OtherPage)
 other_pieces size page what =
     let offset = decimal ((page - 1) * size) in
     let others = counts_columns no_counts ++ offset ∷ decimal size ∷ [] in
-    other_parts (codes "-\t-") (column (decimal page)) (column (other_text what)) (counts_text no_counts) (column offset) (column (decimal size)) (line_feed ∷ [])
-    ∙ ap (λ w. codes "-\t-" ++ (column (decimal page) ++ (column (other_text what) ++ w))) (sym (ended-append (counts_columns no_counts) (offset ∷ decimal size ∷ [])))
+    other_parts (codes "-\t-") (column (decimal page)) (column (other_text what)) (counts_text no_counts) (column offset) (column (decimal size))
+    (line_feed ∷ [])
+    ∙ ap (λ w. codes "-\t-" ++ (column (decimal page) ++ (column (other_text what) ++ w)))
+    (sym (ended-append (counts_columns no_counts) (offset ∷ decimal size ∷ [])))
     ∙ sym (columns_first no_text (no_text ∷ decimal page ∷ other_text what ∷ others))

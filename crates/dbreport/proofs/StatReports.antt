@@ -35,7 +35,8 @@ use Rattle.dbreport.proofs.StatStarts.{run_written}
 use Rattle.dbreport.proofs.StatTexts.{trees_written}
 
 -- all rows are those of the form
-form_text : (form : Form) (file : List ℕ) (V : List Reference) → Survey file V → rows_text form.aggregate form.all file V ≡ flat_map (form_line file V) (form_rows (form_of form) file V)
+form_text : (form : Form) (file : List ℕ) (V : List Reference) → Survey file V → rows_text form.aggregate form.all file V
+    ≡ flat_map (form_line file V) (form_rows (form_of form) file V)
 unfolding form_rows
 form_text form file V s =
     ap (λ l. l ++ flat_map (form_line file V) (if form.all then other_rows file V else [])) (trees_written form.aggregate file V s)
@@ -46,11 +47,13 @@ from_none n = omega arith
 
 module _ {O E : Type 0} (held : O → OutState) (held' : E → OutState) (file : List ℕ) (V : List Reference) (survey : Survey file V) where
   -- it was cut off
-  begun : (e : RunError) (s t : StatReporter O E) → HasBegun held held' s t (rows_text s.form.aggregate s.form.all file V) (faults file V) → LeavesStat held held' file V (Err e) s t
+  begun : (e : RunError) (s t : StatReporter O E) → HasBegun held held' s t (rows_text s.form.aggregate s.form.all file V) (faults file V)
+      → LeavesStat held held' file V (Err e) s t
   begun e s t h for none = ((subst (λ l. HasBegun held held' s t l (faults file V)) (form_text s.form file V survey) h).out, h.err, tt)
 
   -- all was written
-  whole : (v : Verdict) (s t : StatReporter O E) → HasWritten held held' s t (rows_text s.form.aggregate s.form.all file V) (faults file V) → v ≡ verdict_of t.found
+  whole : (v : Verdict) (s t : StatReporter O E) → HasWritten held held' s t (rows_text s.form.aggregate s.form.all file V) (faults file V) → v
+      ≡ verdict_of t.found
       → LeavesStat held held' file V (Ok v) s t
   whole v s t h found for none = (
     (subst (λ l. HasWritten held held' s t l (faults file V)) (form_text s.form file V survey) h).out,
@@ -59,15 +62,18 @@ module _ {O E : Type 0} (held : O → OutState) (held' : E → OutState) (file :
   )
 
   -- a beginning of what is reported was heard
-  stat_stopped : (e : RunError) (s t : StatReporter O E) → StopsBy (HearsStat held held') (CutsStat held held') e s (run_notices file V) t → LeavesStat held held' file V (Err e) s t
+  stat_stopped : (e : RunError) (s t : StatReporter O E) → StopsBy (HearsStat held held') (CutsStat held held') e s (run_notices file V) t
+      → LeavesStat held held' file V (Err e) s t
   stat_stopped e s t k for none = begun e s t (run_written {A = Verdict} held held' file V survey s t for (Err e) k) for none
 
-  stat_left : (r : Result Verdict RunError) (s t : StatReporter O E) → Leaves (HearsStat held held') (CutsStat held held') (LeavesStat held held') file V r s t → LeavesStat held held' file V r s t
+  stat_left : (r : Result Verdict RunError) (s t : StatReporter O E) → Leaves (HearsStat held held') (CutsStat held held') (LeavesStat held held') file V r s t
+      → LeavesStat held held' file V r s t
   stat_left r s t (inl h) = h
   stat_left r s t (inr (e, is, k)) = subst (λ (r : Result Verdict RunError). LeavesStat held held' file V r s t) (sym is) (stat_stopped e s t k)
 
   -- the report of the statistics, on the Outs that they were given
-  pub stat_reported : (r : Result Verdict RunError) (s t : StatReporter O E) (out after : O) (err behind : E) (form : Form) → s.out.now ≡ out → s.err.now ≡ err → s.form ≡ form → s.found ≡ 0 → IsForFile file s
+  pub stat_reported : (r : Result Verdict RunError) (s t : StatReporter O E) (out after : O) (err behind : E) (form : Form) → s.out.now ≡ out → s.err.now ≡ err
+      → s.form ≡ form → s.found ≡ 0 → IsForFile file s
       → after ≡ t.out.now → behind ≡ t.err.now → refusal file ≡ None
       → Leaves (HearsStat held held') (CutsStat held held') (LeavesStat held held') file V r s t
       → IsReported (Stat form.aggregate form.all) file V r (held out).bytes (held after).bytes (held' err).bytes (held' behind).bytes
@@ -84,7 +90,8 @@ module _ {O E : Type 0} (held : O → OutState) (held' : E → OutState) (file :
       }
 
   -- all was heard
-  pub stat_ended : (s t : StatReporter O E) → Moves (HearsStat held held') s (run_notices file V) t → (v : Verdict) → v ≡ verdict_of t.found → LeavesStat held held' file V (Ok v) s t
+  pub stat_ended : (s t : StatReporter O E) → Moves (HearsStat held held') s (run_notices file V) t → (v : Verdict) → v ≡ verdict_of t.found
+      → LeavesStat held held' file V (Ok v) s t
   stat_ended s t told v found for none = whole v s t (run_written {A = Unit {0}} held held' file V survey s t for (Ok tt) told) found for none
 
 -- a reporter by the header of a file is as the file asks for

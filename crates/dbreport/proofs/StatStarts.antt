@@ -1,5 +1,6 @@
 -- What the statistics write of the starts of a file, by what is reported of them.
-use Rattle.std.proofs.Common.{◌≡◌, ℕ, suc, ◌+◌, Bool, true, false, cond, List, [], ◌∷◌, ◌++◌, length, map, Some, Result, refl, sym, ap, ap₂, ◌∙◌, subst, arith, append_assoc, append-nil}
+use Rattle.std.proofs.Common.{◌≡◌, ℕ, suc, ◌+◌, Bool, true, false, cond, List, [], ◌∷◌, ◌++◌, length, map, Some, Result, refl, sym, ap, ap₂, ◌∙◌, subst, arith}
+use Rattle.std.proofs.Common.{append_assoc, append-nil}
 use Rattle.std.specs.Prelude.{flat_map, slice_get, codes, ◌==◌, if◌then◌else◌}
 use Rattle.std.specs.List.{enumerate_from}
 use Rattle.dbsurvey.specs.Story.{Errand, Go, Follow, errands_at}
@@ -28,7 +29,8 @@ use Rattle.dbwalk.specs.Telling.{Tells}
 use Rattle.dbwalk.proofs.Telling.Belows.{told_none}
 use Rattle.dbtrace.specs.declared.Part.{Part}
 use Rattle.dbtrace.specs.declared.Part.TheVariants as part
-use Rattle.dbscan.specs.Notices.{Notice, heard_fault, heard_row, whole, found, ended, walked, errands_left, root_reference, tree_notices, later_notices, start_notices, end_notices, run_notices}
+use Rattle.dbscan.specs.Notices.{Notice, heard_fault, heard_row, whole, found, ended, walked, errands_left, root_reference, tree_notices, later_notices}
+use Rattle.dbscan.specs.Notices.{start_notices, end_notices, run_notices}
 use Rattle.dbscan.specs.Roots.{listed_rows}
 use Rattle.dbscan.specs.Starts.{At, at_freelist, at_row, at_schema, schema_reference}
 use Rattle.dbscan.specs.Findings.{found_rows}
@@ -66,7 +68,8 @@ pages_more : (form : Bool) (name : List ℕ) (size : ℕ) (r : StatRow) (rows : 
 pages_more true name size r rows = refl
 pages_more false name size r rows = ap (λ l. l ++ flat_map (page_line name size) rows) (append-nil (page_line name size r))
 
-pages_ended : (form : Bool) (name : List ℕ) (size : ℕ) (rows : List StatRow) → pages_text form name size rows ++ tree_end_text form name size rows ≡ tree_rows_text form name size rows
+pages_ended : (form : Bool) (name : List ℕ) (size : ℕ) (rows : List StatRow) → pages_text form name size rows ++ tree_end_text form name size rows
+    ≡ tree_rows_text form name size rows
 pages_ended true name size [] = refl
 pages_ended true name size (r ∷ rows) = refl
 pages_ended false name size rows = append-nil (pages_text false name size rows)
@@ -74,7 +77,8 @@ pages_ended false name size rows = append-nil (pages_text false name size rows)
 -- ---- the lines of what is reported
 
 found_lines : (p : Sheet) (at : At) (items : List Finding) (rest : List Notice)
-    → all_lines p (map (found at) items ++ rest) ≡ pages_text p.form.aggregate (name_at p.encoding at) p.size (found_rows items) ++ all_lines (record p { rows = p.rows ++ found_rows items }) rest
+    → all_lines p (map (found at) items ++ rest) ≡ pages_text p.form.aggregate (name_at p.encoding at) p.size (found_rows items)
+    ++ all_lines (record p { rows = p.rows ++ found_rows items }) rest
 found_lines p at [] rest =
     ap (λ rows. all_lines (record p { rows = rows }) rest) (sym (append-nil p.rows))
     ∙ ap (λ l. l ++ all_lines (record p { rows = p.rows ++ [] }) rest) (sym (no_pages p.form.aggregate (name_at p.encoding at) p.size))
@@ -82,7 +86,8 @@ found_lines p at (told_row r ∷ items) rest =
     let name = name_at p.encoding at in
     let q : Sheet = record p { rows = p.rows ++ r ∷ [] } in
     let others = pages_text p.form.aggregate name p.size (found_rows items) in
-    ap (λ l. pages_text p.form.aggregate name p.size (r ∷ []) ++ l) (found_lines q at items rest ∙ ap (λ rows. others ++ all_lines (record p { rows = rows }) rest) (append_assoc p.rows (r ∷ []) (found_rows items)))
+    ap (λ l. pages_text p.form.aggregate name p.size (r ∷ []) ++ l)
+    (found_lines q at items rest ∙ ap (λ rows. others ++ all_lines (record p { rows = rows }) rest) (append_assoc p.rows (r ∷ []) (found_rows items)))
     ∙ sym (append_assoc (pages_text p.form.aggregate name p.size (r ∷ [])) others _)
     ∙ ap (λ l. l ++ all_lines (record p { rows = p.rows ++ (r ∷ found_rows items) }) rest) (pages_more p.form.aggregate name p.size r (found_rows items))
 found_lines p at (told_fault f why ∷ items) rest = found_lines p at items rest
@@ -96,7 +101,8 @@ module _ (file : List ℕ) (V : List Reference) (form all : Bool) where
   shown at = name_at (encoding_of file) at
 
   tree_lines : (at : At) (W : List Reference) (c : Reference) (rest : List Notice)
-      → all_lines sheet (tree_notices at file W c ++ rest) ≡ tree_rows_text form (shown at) (page_size file) (found_rows (told_below file W (Go c ∷ []))) ++ all_lines sheet rest
+      → all_lines sheet (tree_notices at file W c ++ rest) ≡ tree_rows_text form (shown at) (page_size file) (found_rows (told_below file W (Go c ∷ [])))
+      ++ all_lines sheet rest
   tree_lines at W c rest =
       let items = told_below file W (Go c ∷ []) in
       let rows = found_rows items in
@@ -112,7 +118,8 @@ module _ (file : List ℕ) (V : List Reference) (form all : Bool) where
   freelist_lines : (W : List Reference) → all_lines sheet (later_notices file W []) ≡ starts_text form file V W (errands_left file [])
   freelist_lines W =
       let items = told_below file W (errands_left file []) in
-      ap (all_lines sheet) (sym (append-nil (map (found at_freelist) items))) ∙ found_lines sheet at_freelist items [] ∙ append-nil _ ∙ by_case (first_trunk file == 0)
+      ap (all_lines sheet) (sym (append-nil (map (found at_freelist) items))) ∙ found_lines sheet at_freelist items [] ∙ append-nil _
+      ∙ by_case (first_trunk file == 0)
     where
       d : Reference
       d = freelist_reference (first_trunk file)
@@ -120,11 +127,14 @@ module _ (file : List ℕ) (V : List Reference) (form all : Bool) where
       none : found_rows (told_below file W (Go d ∷ [])) ≡ []
       none = rows_below file W (Go d ∷ []) (quiet_go d) ∙ freelist_rows file W (start freelist_start trunk (first_trunk file)) refl
 
-      by_case : (b : Bool) → pages_text form (shown at_freelist) (page_size file) (found_rows (told_below file W (if_none b))) ≡ starts_text form file V W (if_none b)
-      by_case true = ap (λ l. pages_text form (shown at_freelist) (page_size file) (found_rows l)) (told_none file W) ∙ no_pages form (shown at_freelist) (page_size file)
+      by_case : (b : Bool) → pages_text form (shown at_freelist) (page_size file) (found_rows (told_below file W (if_none b)))
+          ≡ starts_text form file V W (if_none b)
+      by_case true = ap (λ l. pages_text form (shown at_freelist) (page_size file) (found_rows l)) (told_none file W)
+          ∙ no_pages form (shown at_freelist) (page_size file)
       by_case false =
           ap (pages_text form (shown at_freelist) (page_size file)) none ∙ no_pages form (shown at_freelist) (page_size file)
-          ∙ sym (append-nil _ ∙ ap (tree_rows_text form (tree_name file V freelist_start) (page_size file)) none ∙ no_tree form (tree_name file V freelist_start) (page_size file))
+          ∙ sym (append-nil _ ∙ ap (tree_rows_text form (tree_name file V freelist_start) (page_size file)) none
+          ∙ no_tree form (tree_name file V freelist_start) (page_size file))
 
   -- the names of the rows are those of the trees from start k on
   abbrev AreNamed : ℕ → List SchemaRow → Type 0
@@ -181,7 +191,8 @@ module _ (file : List ℕ) (V : List Reference) (form all : Bool) where
       ∙ ap (λ (f : Form). lines p n ++ (all_lines (next p n) ns ++ other_lines f.all g marks)) (same_form p n)
       ∙ sym (append_assoc (lines p n) (all_lines (next p n) ns) (other_lines p.form.all g marks))
 
-  others_shown : (b : Bool) → Survey file V → other_lines b (geometry file) (marks_of (geometry file) V) ≡ flat_map (form_line file V) (if b then other_rows file V else [])
+  others_shown : (b : Bool) → Survey file V → other_lines b (geometry file) (marks_of (geometry file) V)
+      ≡ flat_map (form_line file V) (if b then other_rows file V else [])
   others_shown true survey = others_text file V (geometry file) (marks_of (geometry file) V) refl survey refl
   others_shown false survey = refl
 
@@ -192,7 +203,8 @@ module _ (file : List ℕ) (V : List Reference) (form all : Bool) where
       ∙ ap₂ (λ a b. a ++ b) (start_lines survey) (others_shown all survey)
 
 -- All of a file was reported, or a beginning: its rows and faults were written accordingly.
-pub run_written : {A O E : Type 0} (held : O → OutState) (held' : E → OutState) (file : List ℕ) (V : List Reference) → Survey file V → (s t : StatReporter O E) → IsForFile file s
+pub run_written : {A O E : Type 0} (held : O → OutState) (held' : E → OutState) (file : List ℕ) (V : List Reference) → Survey file V → (s t : StatReporter O E)
+    → IsForFile file s
     → (r : Result A RunError) → Tells (HearsStat held held') (CutsStat held held') r s (run_notices file V) t
     → WritesBoth held held' r s t (rows_text s.form.aggregate s.form.all file V) (faults file V)
 run_written held held' file V survey s t is r told =

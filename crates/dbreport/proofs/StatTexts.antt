@@ -1,5 +1,6 @@
 -- The text of the statistics, written start by start, is that of the rows of the form; and what is reported comes by parts too.
-use Rattle.std.proofs.Common.{◌≡◌, ℕ, inl, inr, Bool, true, false, cond, if◌then◌else◌, List, [], ◌∷◌, ◌++◌, map, Option, Some, None, refl, sym, ap, ap₂, subst, ◌∙◌, append-nil}
+use Rattle.std.proofs.Common.{◌≡◌, ℕ, inl, inr, Bool, true, false, cond, if◌then◌else◌, List, [], ◌∷◌, ◌++◌, map, Option, Some, None, refl, sym, ap, ap₂, subst}
+use Rattle.std.proofs.Common.{◌∙◌, append-nil}
 use Rattle.std.specs.Prelude.{filter, filter_map, flat_map, option_to_list, ◌==◌}
 use Rattle.std.specs.List.{cons_option}
 use Rattle.std.proofs.lemmas.Bool.{eq-eqb}
@@ -39,7 +40,8 @@ use Rattle.dbreport.specs.StatLines.{tree_rows_text, starts_text}
 use Rattle.dbscan.proofs.RunItems.{all_visited, goes_named}
 use Rattle.dbscan.proofs.Starts.{quiet_go}
 use Rattle.dbsound.proofs.RowCounts.FormRows.{start_role}
-use Rattle.dbreport.proofs.StatTrees.{rows_none, rows_join, row_of_tree, HasLaterStarts, trees_apart, IsTree, no_tree, tree, IsStart, below_links, later_starts_below, row_start, one_tree}
+use Rattle.dbreport.proofs.StatTrees.{rows_none, rows_join, row_of_tree, HasLaterStarts, trees_apart, IsTree, no_tree, tree, IsStart, below_links}
+use Rattle.dbreport.proofs.StatTrees.{later_starts_below, row_start, one_tree}
 
 -- ---- what is reported
 
@@ -59,7 +61,8 @@ at_event file U e =
     ∙ ap₂ (λ a b. a ++ b) (all_found_rows (option_to_list (event_row file e))) (no_found_rows (cause_of file U e) (event_faults file U e))
     ∙ append-nil (option_to_list (event_row file e))
 
-in_list : (file : List ℕ) (W : List Reference) (L : List (Told Event)) → found_rows (read_back own_visit (told_at file) W L) ≡ stat_rows file (visits_in own_visit L)
+in_list : (file : List ℕ) (W : List Reference) (L : List (Told Event)) → found_rows (read_back own_visit (told_at file) W L)
+    ≡ stat_rows file (visits_in own_visit L)
 unfolding stat_rows
 in_list file W [] = refl
 in_list file W (t ∷ L) =
@@ -72,15 +75,18 @@ in_list file W (t ∷ L) =
     one_more None xs = refl
     one_more (Some x) xs = refl
 
-    by_event : (e : Event) (V : List Reference) → option_to_list (event_row file e) ++ filter_map (λ r. row_in (role_of r) file r) V ≡ filter_map (λ r. row_in (role_of r) file r) (cons_option (own_visit e) V)
+    by_event : (e : Event) (V : List Reference) → option_to_list (event_row file e) ++ filter_map (λ r. row_in (role_of r) file r) V
+        ≡ filter_map (λ r. row_in (role_of r) file r) (cons_option (own_visit e) V)
     by_event (at_page r) V = one_more (row_in (role_of r) file r) (filter_map (λ r. row_in (role_of r) file r) V)
     by_event (at_key r v cell) V = refl
     by_event (at_refused r) V = refl
 
-pub rows_below : (file : List ℕ) (W : List Reference) (es : List (Errand Way Event)) → AreQuiet own_visit es → found_rows (told_below file W es) ≡ stat_rows file (visited_below file W es)
+pub rows_below : (file : List ℕ) (W : List Reference) (es : List (Errand Way Event)) → AreQuiet own_visit es → found_rows (told_below file W es)
+    ≡ stat_rows file (visited_below file W es)
 rows_below file W es quiet =
     in_list file W (telling_of (rules_of file) (story_of file) (geometry file).pages W es)
-    ∙ ap (stat_rows file) (visits_of (rules_of file) (story_of file) (geometry file).pages (are_rules file) (is_story file) own_visit (shows_visits file) W es quiet)
+    ∙ ap (stat_rows file) (visits_of (rules_of file) (story_of file) (geometry file).pages (are_rules file) (is_story file) own_visit (shows_visits file) W es
+    quiet)
 
 -- ---- what is written
 
@@ -102,7 +108,8 @@ module _ (file : List ℕ) (V : List Reference) where
 
   -- the rows of one tree, page by page or added up
 
-  pages_text : (k : ℕ) (rows : List StatRow) → ((row : StatRow) → IsIn row rows → row.start ≡ k) → flat_map (page_line (tree_name file V k) (page_size file)) rows ≡ flat_map (form_line file V) (map page_row rows)
+  pages_text : (k : ℕ) (rows : List StatRow) → ((row : StatRow) → IsIn row rows → row.start ≡ k)
+      → flat_map (page_line (tree_name file V k) (page_size file)) rows ≡ flat_map (form_line file V) (map page_row rows)
   unfolding form_line
   pages_text k [] h = refl
   pages_text k (row ∷ rows) h =
@@ -133,7 +140,8 @@ module _ (file : List ℕ) (V : List Reference) where
       let Q = visited_below file (W ++ P) es in
       let named : Q ≡ below_links file (W ++ P) [] ls = ap (part_of (rules_of file) (geometry file).pages (W ++ P)) (goes_named [] ls) in
       ap₂ (λ a b. a ++ b)
-      (ap (tree_rows_text aggregate (tree_name file V l.step) (page_size file)) (rows_below file W (Go c ∷ []) (quiet_go c)) ∙ one_text aggregate l.step P (row_start file W l) (one_tree file W l (h l (inl refl))))
+      (ap (tree_rows_text aggregate (tree_name file V l.step) (page_size file)) (rows_below file W (Go c ∷ []) (quiet_go c))
+      ∙ one_text aggregate l.step P (row_start file W l) (one_tree file W l (h l (inl refl))))
       (texts_below aggregate (W ++ P) ls rising.1 (λ m i. h m (inr i)))
       ∙ sym (text_join aggregate P Q (subst (HasLaterStarts P) (sym named) (later_starts_below file W (W ++ P) l ls rising)))
       ∙ ap (text_of aggregate) (sym (rest_join (rules_of file) (geometry file).pages (are_rules file) W (c ∷ []) (goes es)))

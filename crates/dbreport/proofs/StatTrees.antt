@@ -1,5 +1,6 @@
 -- What is visited below a start: it has this start, and the rows of at most one tree.
-use Rattle.std.proofs.Common.{◌≡◌, ℕ, zero, suc, ◌+◌, ◌<◌, ◌⊎◌, inl, inr, true, false, cond, List, [], ◌∷◌, ◌++◌, map, length, Some, None, refl, sym, ap, ap₂, subst, ◌∙◌, arith, length-append, append-nil}
+use Rattle.std.proofs.Common.{◌≡◌, ℕ, zero, suc, ◌+◌, ◌<◌, ◌⊎◌, inl, inr, true, false, cond, List, [], ◌∷◌, ◌++◌, map, length, Some, None, refl, sym, ap, ap₂}
+use Rattle.std.proofs.Common.{subst, ◌∙◌, arith, length-append, append-nil}
 use Rattle.std.specs.Prelude.{filter, filter_map, ◌==◌}
 use Rattle.std.specs.List.{cons_option}
 use Rattle.std.proofs.lemmas.Bool.{cases_Bool, ne_eqb}
@@ -32,7 +33,8 @@ pub rows_join : (file : List ℕ) (A B : List Reference) → stat_rows file (A +
 unfolding stat_rows
 rows_join file A B = filter_map-append (λ r. row_in (role_of r) file r) A B
 
-first_row : (file : List ℕ) (r : Reference) (V : List Reference) (row : StatRow) → row_in (role_of r) file r ≡ Some row → stat_rows file (r ∷ V) ≡ row ∷ stat_rows file V
+first_row : (file : List ℕ) (r : Reference) (V : List Reference) (row : StatRow) → row_in (role_of r) file r ≡ Some row → stat_rows file (r ∷ V) ≡ row
+    ∷ stat_rows file V
 unfolding stat_rows
 first_row file r V row e = ap (λ o. cons_option o (filter_map (λ r. row_in (role_of r) file r) V)) e
 
@@ -55,7 +57,8 @@ no_row file r free_leaf e = refl
 no_rows : (file : List ℕ) (V : List Reference) → ((t : Reference) → IsIn t V → is_on_freelist (role_of t) ≡ true) → stat_rows file V ≡ []
 unfolding stat_rows
 no_rows file [] h = refl
-no_rows file (t ∷ V) h = ap (λ o. cons_option o (filter_map (λ r. row_in (role_of r) file r) V)) (no_row file t (role_of t) (h t (inl refl))) ∙ no_rows file V (λ u i. h u (inr i))
+no_rows file (t ∷ V) h = ap (λ o. cons_option o (filter_map (λ r. row_in (role_of r) file r) V)) (no_row file t (role_of t) (h t (inl refl)))
+    ∙ no_rows file V (λ u i. h u (inr i))
 
 trees_join : (A B : List Reference) → trees_reached (A ++ B) ≡ trees_reached A ++ trees_reached B
 trees_join A B =
@@ -82,13 +85,15 @@ map_same f g (x ∷ xs) h = ap₂ (λ y ys. y ∷ ys) (h x (inl refl)) (map_same
 in_left : (rows more : List StatRow) (k : ℕ) → ((row : StatRow) → IsIn row more → row.start ≡ k → ⊥) → row_of_tree (rows ++ more) k ≡ row_of_tree rows k
 in_left rows more k h = ap (tree_row k) (
     filter-append (λ (row : StatRow). row.start == k) rows more
-    ∙ ap (λ l. filter (λ (row : StatRow). row.start == k) rows ++ l) (filter-none (λ (row : StatRow). row.start == k) more (λ row i. ne_eqb row.start k (h row i)))
+    ∙ ap (λ l. filter (λ (row : StatRow). row.start == k) rows ++ l)
+    (filter-none (λ (row : StatRow). row.start == k) more (λ row i. ne_eqb row.start k (h row i)))
     ∙ append-nil (filter (λ (row : StatRow). row.start == k) rows))
 
 in_right : (rows more : List StatRow) (k : ℕ) → ((row : StatRow) → IsIn row rows → row.start ≡ k → ⊥) → row_of_tree (rows ++ more) k ≡ row_of_tree more k
 in_right rows more k h = ap (tree_row k) (
     filter-append (λ (row : StatRow). row.start == k) rows more
-    ∙ ap (λ l. l ++ filter (λ (row : StatRow). row.start == k) more) (filter-none (λ (row : StatRow). row.start == k) rows (λ row i. ne_eqb row.start k (h row i))))
+    ∙ ap (λ l. l ++ filter (λ (row : StatRow). row.start == k) more)
+    (filter-none (λ (row : StatRow). row.start == k) rows (λ row i. ne_eqb row.start k (h row i))))
 
 -- the visits of Q have later starts than those of P
 abbrev pub HasLaterStarts : List Reference → List Reference → Type 0
@@ -134,10 +139,12 @@ module _ (file : List ℕ) where
   below_links W a ls = part_of (rules_of file) (geometry file).pages W (named_at a ls)
 
   is_part : (W : List Reference) (a : Address) (ls : List (Link Way)) → IsRising ls → IsPart (rules_of file) W (named_at a ls) (below_links W a ls)
-  is_part W a ls rising = traverse_part (rules_of file) (geometry file).pages (are_rules file) (geometry file).pages W (named_at a ls) (free_at_most (geometry file).pages W) (named_at-apart a ls rising)
+  is_part W a ls rising = traverse_part (rules_of file) (geometry file).pages (are_rules file) (geometry file).pages W (named_at a ls)
+      (free_at_most (geometry file).pages W) (named_at-apart a ls rising)
 
   -- a visit has the start that it is below
-  start_among : (W : List Reference) (ls : List (Link Way)) → IsRising ls → (t : Reference) → IsIn t (below_links W [] ls) → (l : Link Way) × IsIn l ls × (start_of t.address ≡ l.step)
+  start_among : (W : List Reference) (ls : List (Link Way)) → IsRising ls → (t : Reference) → IsIn t (below_links W [] ls) → (l : Link Way) × IsIn l ls
+      × (start_of t.address ≡ l.step)
   start_among W ls rising t i =
       let b = part_below (rules_of file) W (named_at [] ls) (below_links W [] ls) (is_part W [] ls rising) t i in
       let m = named_at-from [] ls b.0 b.1 in
@@ -152,7 +159,8 @@ module _ (file : List ℕ) where
       let e : m.0 ≡ l = elim m.1 [ inl e ↦ e | inr j ↦ absurd j ] in
       m.2 ∙ ap (λ (l : Link Way). l.step) e
 
-  pub later_starts_below : (W U : List Reference) (l : Link Way) (ls : List (Link Way)) → IsRising (l ∷ ls) → HasLaterStarts (below_links W [] (l ∷ [])) (below_links U [] ls)
+  pub later_starts_below : (W U : List Reference) (l : Link Way) (ls : List (Link Way)) → IsRising (l ∷ ls)
+      → HasLaterStarts (below_links W [] (l ∷ [])) (below_links U [] ls)
   later_starts_below W U l ls rising t u i j =
       let e : start_of t.address ≡ l.step = only_start W l t i in
       let m = start_among U ls rising.1 u j in
@@ -164,7 +172,8 @@ module _ (file : List ℕ) where
   row_start W l row i = let m = row_from file (below_links W [] (l ∷ [])) row i in m.2 ∙ only_start W l m.0 m.1
 
   -- below a page there is no root
-  no_root_below : (W : List Reference) (c t : Reference) → IsIn t (part_of (rules_of file) (geometry file).pages W (children (rules_of file) c)) → is_root (role_of t) ≡ false
+  no_root_below : (W : List Reference) (c t : Reference) → IsIn t (part_of (rules_of file) (geometry file).pages W (children (rules_of file) c))
+      → is_root (role_of t) ≡ false
   no_root_below W c t i = elim (((is_part W c.address ((rules_of file).links c.page c.role) ((are_rules file).rising c.page c.role)).exact t).0 i).0 [
     | inl j ↦ (child_leads file c t j).0
     | inr u ↦ (child_leads file u.0 t u.2).0
@@ -182,8 +191,10 @@ module _ (file : List ℕ) where
         (child_leads file u.0 t u.2).1 ∙ on_freelist W ls rising h n u.0 (omega arith) u.1)
   ]
 
-  all_on_freelist : (W : List Reference) (l : Link Way) → is_on_freelist l.role.role ≡ true → (t : Reference) → IsIn t (below_links W [] (l ∷ [])) → is_on_freelist (role_of t) ≡ true
-  all_on_freelist W l e t i = on_freelist W (l ∷ []) (one_rising l) (λ c j. elim j [ inl f ↦ ap (λ c. is_on_freelist (role_of c)) f ∙ e | inr k ↦ absurd k ]) (suc (length t.address)) t (omega arith) i
+  all_on_freelist : (W : List Reference) (l : Link Way) → is_on_freelist l.role.role ≡ true → (t : Reference) → IsIn t (below_links W [] (l ∷ []))
+      → is_on_freelist (role_of t) ≡ true
+  all_on_freelist W l e t i = on_freelist W (l ∷ []) (one_rising l) (λ c j. elim j [ inl f ↦ ap (λ c. is_on_freelist (role_of c)) f ∙ e | inr k ↦ absurd k ])
+      (suc (length t.address)) t (omega arith) i
 
   pub freelist_rows : (W : List Reference) (l : Link Way) → is_on_freelist l.role.role ≡ true → stat_rows file (below_links W [] (l ∷ [])) ≡ []
   freelist_rows W l e = no_rows file (below_links W [] (l ∷ [])) (all_on_freelist W l e)
@@ -191,12 +202,14 @@ module _ (file : List ℕ) where
   freelist_tree : (W : List Reference) (l : Link Way) → is_on_freelist l.role.role ≡ true → IsTree file l.step (below_links W [] (l ∷ []))
   freelist_tree W l e =
       let P = below_links W [] (l ∷ []) in
-      no_tree (freelist_rows W l e) (ap (map (λ (r : Reference). start_of r.address)) (filter-none (λ (r : Reference). is_root (role_of r)) P (λ t i. no_root_on (role_of t) (all_on_freelist W l e t i))))
+      no_tree (freelist_rows W l e) (ap (map (λ (r : Reference). start_of r.address))
+      (filter-none (λ (r : Reference). is_root (role_of r)) P (λ t i. no_root_on (role_of t) (all_on_freelist W l e t i))))
 
   root_tree : (W : List Reference) (l : Link Way) → is_root l.role.role ≡ true → IsTree file l.step (below_links W [] (l ∷ []))
   root_tree W l e = elim (cases_Bool (is_followed (rules_of file) W c)) [
     | inl f ↦ subst (IsTree file l.step) (sym (rest_one (rules_of file) (geometry file).pages (are_rules file) W c f)) visited
-    | inr f ↦ subst (IsTree file l.step) (sym (rest_skip (rules_of file) (geometry file).pages (are_rules file) W c [] f ∙ rest_none (rules_of file) (geometry file).pages (are_rules file) W)) (no_tree (rows_none file) refl)
+    | inr f ↦ subst (IsTree file l.step) (sym (rest_skip (rules_of file) (geometry file).pages (are_rules file) W c [] f
+        ∙ rest_none (rules_of file) (geometry file).pages (are_rules file) W)) (no_tree (rows_none file) refl)
   ]
     where
       c : Reference
@@ -209,7 +222,8 @@ module _ (file : List ℕ) where
           let others = filter (λ (r : Reference). is_root (role_of r)) X in
           tree row.0 (stat_rows file X) (first_row file c X row.0 row.1) (
           ap (λ b. map (λ (r : Reference). start_of r.address) (cond b (c ∷ others) others)) e
-          ∙ ap (λ rs. map (λ (r : Reference). start_of r.address) (c ∷ rs)) (filter-none (λ (r : Reference). is_root (role_of r)) X (no_root_below (W ++ (c ∷ [])) c)))
+          ∙ ap (λ rs. map (λ (r : Reference). start_of r.address) (c ∷ rs))
+          (filter-none (λ (r : Reference). is_root (role_of r)) X (no_root_below (W ++ (c ∷ [])) c)))
 
   -- below a start there is at most its tree
   pub one_tree : (W : List Reference) (l : Link Way) → IsStart l → IsTree file l.step (below_links W [] (l ∷ []))

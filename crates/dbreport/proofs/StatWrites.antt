@@ -40,20 +40,23 @@ module _ {O E : Type 0} (held : O → OutState) (held' : E → OutState) where
       found = λ n e. h.found (n + length xs) (first.found n e) ∙ ap counted (count_more n xs ys);
       out = appends_append (held s.out.now).bytes (held m.out.now).bytes (held t.out.now).bytes a b first.out h.out;
       err = subst (λ l. Appends (held' s.err.now).bytes (held' t.err.now).bytes l) (lines_more xs ys)
-          (appends_append (held' s.err.now).bytes (held' m.err.now).bytes (held' t.err.now).bytes (flat_map fault_line xs) (flat_map fault_line ys) first.err h.err);
+          (appends_append (held' s.err.now).bytes (held' m.err.now).bytes (held' t.err.now).bytes (flat_map fault_line xs) (flat_map fault_line ys) first.err
+          h.err);
     }
 
     pub begun_then : HasBegun held held' m t b ys → HasBegun held held' s t (a ++ b) (xs ++ ys)
     begun_then h = record {
       out = begins_after (held s.out.now).bytes (held m.out.now).bytes (held t.out.now).bytes a b (a ++ b) refl first.out h.out;
-      err = begins_after (held' s.err.now).bytes (held' m.err.now).bytes (held' t.err.now).bytes (flat_map fault_line xs) (flat_map fault_line ys) (flat_map fault_line (xs ++ ys)) (lines_more xs ys) first.err h.err;
+      err = begins_after (held' s.err.now).bytes (held' m.err.now).bytes (held' t.err.now).bytes (flat_map fault_line xs) (flat_map fault_line ys)
+          (flat_map fault_line (xs ++ ys)) (lines_more xs ys) first.err h.err;
     }
 
   -- a beginning of the first part
   pub begun_first : (s t : StatReporter O E) (a b : List ℕ) (xs ys : List Fault) → HasBegun held held' s t a xs → HasBegun held held' s t (a ++ b) (xs ++ ys)
   begun_first s t a b xs ys h = record {
     out = begins_more (held s.out.now).bytes (held t.out.now).bytes a b (a ++ b) refl h.out;
-    err = begins_more (held' s.err.now).bytes (held' t.err.now).bytes (flat_map fault_line xs) (flat_map fault_line ys) (flat_map fault_line (xs ++ ys)) (lines_more xs ys) h.err;
+    err = begins_more (held' s.err.now).bytes (held' t.err.now).bytes (flat_map fault_line xs) (flat_map fault_line ys) (flat_map fault_line (xs ++ ys))
+        (lines_more xs ys) h.err;
   }
 
   -- nothing is a beginning

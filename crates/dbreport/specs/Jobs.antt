@@ -9,7 +9,7 @@ use Rattle.dbsource.specs.Snapshots.{HasRead, HasReadAfterHeader}
 use Rattle.dbsource.specs.declared.error.RunError.{RunError}
 use Rattle.dbsource.specs.declared.source.Source.{Ghosts as SourceWords}
 use Rattle.dbwalk.specs.Telling.{IsReadWriteOrMemory}
-use Rattle.dbscan.specs.Desks.{Things, shape_of}
+use Rattle.dbscan.specs.Desks.{DeskView, shape_of}
 use Rattle.dbreport.specs.Runs.{AsksHeaderAlone, IsAnswerOf, IsUnwritten}
 
 -- Nothing was done to a job: it is as it was, and the answer is an error other than a failed write.
@@ -22,7 +22,7 @@ pub record IsNotBegun {J : Type 0} (r : Result Verdict RunError) (old new : J) :
 module _ {S J : Type 0} (source : SourceWords S) (leaves : List ℕ → Result Verdict RunError → J → J → Type 0) (ends : Result Verdict RunError → J → J → Type 0) where
   -- A run over a desk, whatever the source answered: there is a file of the desk's header that agrees with all that was read after
   -- it, and of each such file this is what the run leaves. The source failed, once, exactly at a failed read.
-  pub record HasRunOver (r : Result Verdict RunError) (d : Things) (old new : S × J) : Type 0 where
+  pub record HasRunOver (r : Result Verdict RunError) (d : DeskView) (old new : S × J) : Type 0 where
     pub read : HasReadAfterHeader source.step (IsPageLog (shape_of d)) d.header (λ file. leaves file r old.1 new.1) (source.held old.0) (source.held new.0)
     pub reads : (source.held new.0).failures ≡ failures_after is_read_failed r (source.held old.0).failures
     pub ended : ends r old.1 new.1

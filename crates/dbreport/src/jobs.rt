@@ -51,8 +51,8 @@ pub trait Job<A, D: Viewed> {
         kept: &mut Self::Kept,
         source: &mut S,
     ) -> Result<Verdict, RunError>
-        requires { begins (shape_of (D.things desk.old)) self.old kept.old }
-        ensures { HasRunOver S.Source leaves ends result (D.things desk.old) (source.old, self.old) (source.new, self.new) };
+        requires { begins (shape_of (D.desk_view desk.old)) self.old kept.old }
+        ensures { HasRunOver S.Source leaves ends result (D.desk_view desk.old) (source.old, self.old) (source.new, self.new) };
 }
 
 /// Runs a job over the file that `source` gives: reads its header, makes a desk and what the job keeps beside it, in memory from any

@@ -38,5 +38,6 @@ all_told file V =
     let last = map (of_file part.End) (end_faults file V) in
     map-append (λ t. t.fault) (first ++ walk_told file V) last
     ∙ ap₂ (λ a b. a ++ b)
-    (map-append (λ t. t.fault) first (walk_told file V) ∙ ap₂ (λ a b. a ++ b) (bare (of_file part.Header) (λ f. refl) (header_faults file (length file))) (of_walk file V))
+    (map-append (λ t. t.fault) first (walk_told file V)
+    ∙ ap₂ (λ a b. a ++ b) (bare (of_file part.Header) (λ f. refl) (header_faults file (length file))) (of_walk file V))
     (bare (of_file part.End) (λ f. refl) (end_faults file V))

@@ -1,5 +1,6 @@
 -- What marks count, one more at a time.
-use Rattle.std.proofs.Common.{◌≡◌, ℕ, zero, suc, ◌+◌, ◌-◌, ◌<◌, ◌≤◌, Bool, true, false, cond, max, List, [], ◌∷◌, ◌++◌, length, take, filter, get_or, Some, None, refl, sym, ap, ◌∙◌, arith, rules, inl, inr}
+use Rattle.std.proofs.Common.{◌≡◌, ℕ, zero, suc, ◌+◌, ◌-◌, ◌<◌, ◌≤◌, Bool, true, false, cond, max, List, [], ◌∷◌, ◌++◌, length, take, filter, get_or, Some}
+use Rattle.std.proofs.Common.{None, refl, sym, ap, ◌∙◌, arith, rules, inl, inr}
 use Rattle.std.specs.Prelude.{count_by, fold, find, ◌==◌, slice_get}
 use Rattle.std.specs.List.{range_with_len}
 use Rattle.std.specs.Option.{option_map_or, option_or}
@@ -48,11 +49,13 @@ passes : (test : Mark → Bool) (marks : List Mark) (i : ℕ) (mark : Mark) → 
 passes test marks i mark h = ap (λ o. option_map_or test o false) h
 
 pub greatest_more : (test : Mark → Bool) (marks : List Mark) (i : ℕ) (mark : Mark) → page_mark marks (i + 1) ≡ Some mark
-    → cond (test mark) (max (fold max 1 (filter (is_marked test marks) (range_with_len 1 i))) (i + 1)) (fold max 1 (filter (is_marked test marks) (range_with_len 1 i)))
+    → cond (test mark) (max (fold max 1 (filter (is_marked test marks) (range_with_len 1 i))) (i + 1))
+    (fold max 1 (filter (is_marked test marks) (range_with_len 1 i)))
     ≡ fold max 1 (filter (is_marked test marks) (range_with_len 1 (i + 1)))
 greatest_more test marks i mark h =
     let p = is_marked test marks in
-    sym (ap (λ l. fold max 1 (filter p l)) (numbers_more i) ∙ ap (fold max 1) (filter-append p (range_with_len 1 i) ((i + 1) ∷ [])) ∙ fold-append max 1 (filter p (range_with_len 1 i)) (filter p ((i + 1) ∷ []))
+    sym (ap (λ l. fold max 1 (filter p l)) (numbers_more i) ∙ ap (fold max 1) (filter-append p (range_with_len 1 i) ((i + 1) ∷ []))
+    ∙ fold-append max 1 (filter p (range_with_len 1 i)) (filter p ((i + 1) ∷ []))
     ∙ ap (λ b. fold max (fold max 1 (filter p (range_with_len 1 i))) (cond b ((i + 1) ∷ []) [])) (passes test marks i mark h)
     ∙ either (test mark) (fold max 1 (filter p (range_with_len 1 i))))
   where
@@ -61,7 +64,8 @@ greatest_more test marks i mark h =
     either false n = refl
 
 pub least_more : (test : Mark → Bool) (marks : List Mark) (i : ℕ) (mark : Mark) → page_mark marks (i + 1) ≡ Some mark
-    → option_or (find (is_marked test marks) (range_with_len 1 i)) (cond (test mark) (Some (i + 1)) None) ≡ find (is_marked test marks) (range_with_len 1 (i + 1))
+    → option_or (find (is_marked test marks) (range_with_len 1 i)) (cond (test mark) (Some (i + 1)) None)
+    ≡ find (is_marked test marks) (range_with_len 1 (i + 1))
 least_more test marks i mark h =
     let p = is_marked test marks in
     sym (ap (find p) (numbers_more i) ∙ find-append p (range_with_len 1 i) ((i + 1) ∷ [])

@@ -1,5 +1,6 @@
 -- What is reported at the end: page after page by the marks, and all of it by the visits.
-use Rattle.std.proofs.Common.{◌≡◌, ℕ, ◌+◌, ◌-◌, ◌≤◌, Bool, true, false, cond, ◌&&◌, List, [], ◌∷◌, ◌++◌, map, Option, Some, None, Result, Ok, Err, refl, sym, ap, ap₂, subst, ◌∙◌, arith}
+use Rattle.std.proofs.Common.{◌≡◌, ℕ, ◌+◌, ◌-◌, ◌≤◌, Bool, true, false, cond, ◌&&◌, List, [], ◌∷◌, ◌++◌, map, Option, Some, None, Result, Ok, Err, refl, sym}
+use Rattle.std.proofs.Common.{ap, ap₂, subst, ◌∙◌, arith}
 use Rattle.std.specs.Prelude.{count_by, flat_map, option_to_list, nat_lt, pos}
 use Rattle.std.specs.List.{range_with_len}
 use Rattle.std.specs.Option.{option_map_or}
@@ -56,7 +57,8 @@ fixed_items file least p (LaterOverflow from) h = cc
 fixed_items file least p (Child from) h = cc
 
 -- what is reported of another page, from its two faults
-pub other_items : (file : List ℕ) (least : Option ℕ) (p : ℕ) (m : Mark) (a b : Option Fault) (e : Option MapEntry) (has : Bool) → e ≡ map_entry file p → has ≡ (geometry file).has_map
+pub other_items : (file : List ℕ) (least : Option ℕ) (p : ℕ) (m : Mark) (a b : Option Fault) (e : Option MapEntry) (has : Bool) → e ≡ map_entry file p → has
+    ≡ (geometry file).has_map
     → option_to_list a ≡ mark_fault p e m → option_to_list b ≡ late_fault has p m least → items_of part.End (a ∷ b ∷ []) ≡ page_notices file least p m
 other_items file least p m a b e has is own ea eb =
     ap (λ l. map (whole part.End) (option_to_list a ++ l)) (append-nil (option_to_list b))
@@ -82,26 +84,34 @@ fixed_by_mark g V p = by_case (is_fixed g p) (visit_of V p)
 
 -- ---- the first pages
 
-pub items_one_more : (file : List ℕ) (V : List Reference) (least : Option ℕ) (n : ℕ) → pages_items file V least (n + 1) ≡ pages_items file V least n ++ page_notices file least (n + 1) (mark_of (geometry file) V (n + 1))
+pub items_one_more : (file : List ℕ) (V : List Reference) (least : Option ℕ) (n : ℕ) → pages_items file V least (n + 1) ≡ pages_items file V least n
+    ++ page_notices file least (n + 1) (mark_of (geometry file) V (n + 1))
 items_one_more file V least n =
     let f : ℕ → List Notice = λ p. page_notices file least p (mark_of (geometry file) V p) in
-    ap (flat_map f) (numbers_more n) ∙ flat_map-append f (range_with_len 1 n) ((n + 1) ∷ []) ∙ ap (λ l. flat_map f (range_with_len 1 n) ++ l) (append-nil (f (n + 1)))
+    ap (flat_map f) (numbers_more n) ∙ flat_map-append f (range_with_len 1 n) ((n + 1) ∷ [])
+    ∙ ap (λ l. flat_map f (range_with_len 1 n) ++ l) (append-nil (f (n + 1)))
 
 -- what is reported of the first pages is the beginning of what is reported of all
-pub items_begin : (file : List ℕ) (V : List Reference) (least : Option ℕ) (n m : ℕ) → n ≤ m → (rest : List Notice) × (pages_items file V least n ++ rest ≡ pages_items file V least m)
+pub items_begin : (file : List ℕ) (V : List Reference) (least : Option ℕ) (n m : ℕ) → n ≤ m → (rest : List Notice)
+    × (pages_items file V least n ++ rest ≡ pages_items file V least m)
 items_begin file V least n m l =
     let f : ℕ → List Notice = λ p. page_notices file least p (mark_of (geometry file) V p) in
-    let e : n + (m - n) ≡ m = omega arith in
-    (flat_map f (range_with_len (1 + n) (m - n)), sym (ap (λ x. flat_map f (range_with_len 1 x)) (sym e) ∙ ap (flat_map f) (range-parts 1 n (m - n)) ∙ flat_map-append f (range_with_len 1 n) (range_with_len (1 + n) (m - n))))
+    let e : n + (m - n) ≡ m = omega arith in (
+      flat_map f (range_with_len (1 + n) (m - n)),
+      sym (ap (λ x. flat_map f (range_with_len 1 x)) (sym e) ∙ ap (flat_map f) (range-parts 1 n (m - n))
+          ∙ flat_map-append f (range_with_len 1 n) (range_with_len (1 + n) (m - n))),
+    )
 
 -- ---- all of it, by the visits
 
 module _ (file : List ℕ) (V : List Reference) (s : Survey file V) where
-  pages_are : pages_items file V (least_other_marked (marks_of (geometry file) V)) (geometry file).pages ≡ map (whole part.End) (flat_map (page_end_faults file V) (page_numbers (geometry file)))
+  pages_are : pages_items file V (least_other_marked (marks_of (geometry file) V)) (geometry file).pages
+      ≡ map (whole part.End) (flat_map (page_end_faults file V) (page_numbers (geometry file)))
   pages_are =
       let told = marks_tell_the_end file V s in
       sym (map-flat_map (page_end_faults file V) (whole part.End) (page_numbers (geometry file))
-      ∙ flat_map-same _ (λ p. page_notices file (least_other_marked (marks_of (geometry file) V)) p (mark_of (geometry file) V p)) (page_numbers (geometry file))
+      ∙ flat_map-same _ (λ p. page_notices file (least_other_marked (marks_of (geometry file) V)) p (mark_of (geometry file) V p))
+      (page_numbers (geometry file))
       (λ p i. ap (map (whole part.End)) (ap₂ (λ a b. a ++ b) (told.uses p) (told.late p))))
 
   sums_are : (h : HeaderBytes) (rows : Bool) → IsHeaderOf h file → rows ≡ has_rows file V
@@ -119,20 +129,25 @@ module _ (file : List ℕ) (V : List Reference) (s : Survey file V) where
   pub all_items : (h : HeaderBytes) (rows : Bool) (marks : List Mark) (greatest free : ℕ) (faults : List (Option Fault))
       → IsHeaderOf h file → AreMarksOf file V marks → rows ≡ has_rows file V → greatest ≡ greatest_root_marked marks → free ≡ count_by is_free_mark marks
       → flat_map option_to_list faults ≡ counted_faults h.bytes rows greatest free
-      → items_of part.End faults ++ pages_items file V (least_other_marked (marks_of (geometry file) V)) (geometry file).pages ≡ map (whole part.End) (end_faults file V)
+      → items_of part.End faults ++ pages_items file V (least_other_marked (marks_of (geometry file) V)) (geometry file).pages
+      ≡ map (whole part.End) (end_faults file V)
   all_items h rows marks greatest free faults header m e g f k =
       ap₂ (λ a b. map (whole part.End) a ++ b)
       (k ∙ ap₂ (counted_faults h.bytes rows) (g ∙ ap greatest_root_marked m) (f ∙ ap (count_by is_free_mark) m) ∙ sums_are h rows header e) pages_are
       ∙ sym (map-append (whole part.End) (sum_faults file V) (flat_map (page_end_faults file V) (page_numbers (geometry file))))
 
 -- some items, and then others
-pub tells_then : {S I A : Type 0} (takes drops : S → I → S → Type 0) (r : Result A RunError) (s m t : S) (L M : List I) → Moves takes s L m → Tells takes drops r m M t → Tells takes drops r s (L ++ M) t
+pub tells_then : {S I A : Type 0} (takes drops : S → I → S → Type 0) (r : Result A RunError) (s m t : S) (L M : List I) → Moves takes s L m
+    → Tells takes drops r m M t → Tells takes drops r s (L ++ M) t
 tells_then takes drops (Ok a) s m t L M h k = Moves-append takes s m t L M h k
 tells_then takes drops (Err e) s m t L M h k = stops_by_after takes drops e s m t L M h k
 
 -- the marks, and then the faults at the end
-pub walked_then : {S A : Type 0} (hears cuts : S → Notice → S → Type 0) (file : List ℕ) (V : List Reference) (r : Result A RunError) (s m t : S) (g : Geometry) (marks : List Mark)
-    → g ≡ geometry file → AreMarksOf file V marks → hears s (walked g marks) m → Tells hears cuts r m (map (whole part.End) (end_faults file V)) t → Tells hears cuts r s (end_notices file V) t
+pub walked_then : {S A : Type 0} (hears cuts : S → Notice → S → Type 0) (file : List ℕ) (V : List Reference) (r : Result A RunError) (s m t : S) (g : Geometry)
+    (marks : List Mark)
+    → g ≡ geometry file → AreMarksOf file V marks → hears s (walked g marks) m → Tells hears cuts r m (map (whole part.End) (end_faults file V)) t
+    → Tells hears cuts r s (end_notices file V) t
 walked_then hears cuts file V r s m t g marks same marked told k =
     let n = walked (geometry file) (marks_of (geometry file) V) in
-    tells_then hears cuts r s m t (n ∷ []) (map (whole part.End) (end_faults file V)) (Moves-one hears s m n (subst (λ n. hears s n m) (ap₂ walked same marked) told)) k
+    tells_then hears cuts r s m t (n ∷ []) (map (whole part.End) (end_faults file V))
+    (Moves-one hears s m n (subst (λ n. hears s n m) (ap₂ walked same marked) told)) k

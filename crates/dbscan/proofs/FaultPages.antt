@@ -1,5 +1,6 @@
 -- The faults of an event are of its page: of the one that is visited, or that a reference is found on.
-use Rattle.std.proofs.Common.{◌≡◌, ℕ, inl, inr, Bool, true, false, cond, not, ◌&&◌, List, [], ◌∷◌, ◌++◌, map, length, Option, Some, None, Result, Ok, Err, refl, sym, ap, subst, ◌∙◌}
+use Rattle.std.proofs.Common.{◌≡◌, ℕ, inl, inr, Bool, true, false, cond, not, ◌&&◌, List, [], ◌∷◌, ◌++◌, map, length, Option, Some, None, Result, Ok, Err, refl}
+use Rattle.std.proofs.Common.{sym, ap, subst, ◌∙◌}
 use Rattle.std.specs.Prelude.{flat_map, is_none, nat_le, pos, ℤ, ◌==◌}
 use Rattle.std.specs.List.{range_with_len}
 use Rattle.dbsurvey.specs.Address.{IsIn}
@@ -14,8 +15,10 @@ use Rattle.dbformat.specs.File.{page_bytes}
 use Rattle.dbformat.specs.Head.{View, view, view_of_kind, type_byte, page_kind, pointers_end, content_start, undamaged, is_interior, is_same_tree, tree_of}
 use Rattle.dbformat.specs.Header.{usable_size}
 use Rattle.dbformat.specs.KeyFaults.{Key, key_of, key_faults, earlier_roots, row_faults, row_faults_if, row_faults_at, cell_place_faults}
-use Rattle.dbformat.specs.PageFaults.{cell_fault, cell_faults, freeblock_fault, coverage_fault, fragment_fault, empty_fault, inner_faults, faults_of_view, tree_page_faults, depth_fault, role_faults, page_faults}
-use Rattle.dbformat.specs.Reference.{Role, root, child, first_overflow, later_overflow, trunk, free_leaf, Way, Reference, role_of, from_of, cell_links, right_links, overflow_links, trunk_links}
+use Rattle.dbformat.specs.PageFaults.{cell_fault, cell_faults, freeblock_fault, coverage_fault, fragment_fault, empty_fault, inner_faults, faults_of_view}
+use Rattle.dbformat.specs.PageFaults.{tree_page_faults, depth_fault, role_faults, page_faults}
+use Rattle.dbformat.specs.Reference.{Role, root, child, first_overflow, later_overflow, trunk, free_leaf, Way, Reference, role_of, from_of, cell_links}
+use Rattle.dbformat.specs.Reference.{right_links, overflow_links, trunk_links}
 use Rattle.dbformat.specs.ReferenceFaults.{refusal_fault, reference_faults}
 use Rattle.dbformat.specs.Report.{event_faults}
 use Rattle.dbformat.specs.Schema.{SchemaCell, schema_cell}
@@ -39,7 +42,8 @@ use Rattle.dbformat.specs.declared.TreeKind.{TreeKind}
 use Rattle.dbformat.proofs.Theory.{no_place}
 
 -- what holds of each fault of two lists holds of each of both together
-pub each_both : (P : Fault → Type 0) (xs ys : List Fault) → ((f : Fault) → IsIn f xs → P f) → ((f : Fault) → IsIn f ys → P f) → (f : Fault) → IsIn f (xs ++ ys) → P f
+pub each_both : (P : Fault → Type 0) (xs ys : List Fault) → ((f : Fault) → IsIn f xs → P f) → ((f : Fault) → IsIn f ys → P f) → (f : Fault) → IsIn f (xs ++ ys)
+    → P f
 each_both P xs ys h k f i = elim (IsIn-cases f xs ys i) [ inl j ↦ h f j | inr j ↦ k f j ]
 
 -- a fault is of page p
@@ -200,21 +204,25 @@ event_in : Event → PageStep Way Event → Event
 event_in none (Follow l) = none
 event_in none (Place step event) = event
 
-accepted_cell : (r : Reference) (kind : TreeKind) (v : View) (x : ℕ × Cell) (step : ℕ) (event : Event) → IsIn (Place step event) (cell_items r kind v x) → is_refusal event ≡ false
+accepted_cell : (r : Reference) (kind : TreeKind) (v : View) (x : ℕ × Cell) (step : ℕ) (event : Event) → IsIn (Place step event) (cell_items r kind v x)
+    → is_refusal event ≡ false
 unfolding event_in
 accepted_cell r kind v (i, c) step event h = elim (IsIn-cases (Place step event) (map Follow (cell_links r.page kind (i, c))) _ h) [
   | inl k ↦ absurd (no_place (cell_links r.page kind (i, c)) step event k)
   | inr k ↦ (elim k [ inl e ↦ ap (λ x. is_refusal (event_in event x)) e | inr n ↦ absurd n ])
 ]
 
-accepted_page : (r : Reference) (kind : TreeKind) (o : Option View) (step : ℕ) (event : Event) → IsIn (Place step event) (page_items r kind o) → is_refusal event ≡ false
+accepted_page : (r : Reference) (kind : TreeKind) (o : Option View) (step : ℕ) (event : Event) → IsIn (Place step event) (page_items r kind o)
+    → is_refusal event ≡ false
 accepted_page r kind None step event h = absurd h
-accepted_page r kind (Some v) step event h = elim (IsIn-cases (Place step event) (flat_map (cell_items r kind v) (cells v)) (map Follow (right_links r.page kind v)) h) [
-  | inl k ↦ (let m = IsIn-from_flat_map (cell_items r kind v) (cells v) (Place step event) k in accepted_cell r kind v m.0 step event m.2)
-  | inr k ↦ absurd (no_place (right_links r.page kind v) step event k)
-]
+accepted_page r kind (Some v) step event h = elim (IsIn-cases (Place step event) (flat_map (cell_items r kind v) (cells v))
+    (map Follow (right_links r.page kind v)) h) [
+      | inl k ↦ (let m = IsIn-from_flat_map (cell_items r kind v) (cells v) (Place step event) k in accepted_cell r kind v m.0 step event m.2)
+      | inr k ↦ absurd (no_place (right_links r.page kind v) step event k)
+    ]
 
-accepted_items : (role : Role) (r : Reference) (usable : ℕ) (page : List ℕ) (step : ℕ) (event : Event) → IsIn (Place step event) (role_items role r usable page) → is_refusal event ≡ false
+accepted_items : (role : Role) (r : Reference) (usable : ℕ) (page : List ℕ) (step : ℕ) (event : Event) → IsIn (Place step event) (role_items role r usable page)
+    → is_refusal event ≡ false
 accepted_items (root kind) r usable page step event h = accepted_page r kind (undamaged kind r.page usable page) step event h
 accepted_items (child kind) r usable page step event h = accepted_page r kind (undamaged kind r.page usable page) step event h
 accepted_items (first_overflow left) r usable page step event h = absurd (no_place (overflow_links r.page usable left page) step event h)

@@ -39,7 +39,8 @@ module _ {S : Type 0} (takes cuts : S → Fault → S → Type 0) where
   stops_heard (ended at ∷ ns) s t (inr h) = subst (λ m. Stops takes cuts m (faults_heard ns) t) h.1 (stops_heard ns h.0 t h.2)
   stops_heard (walked g marks ∷ ns) s t (inr h) = subst (λ m. Stops takes cuts m (faults_heard ns) t) h.1 (stops_heard ns h.0 t h.2)
 
-  heard_by : {A : Type 0} (r : Result A RunError) (ns : List Notice) (s t : S) → Tells (HearsFaults takes) (CutsFaults cuts) r s ns t → Tells takes cuts r s (faults_heard ns) t
+  heard_by : {A : Type 0} (r : Result A RunError) (ns : List Notice) (s t : S) → Tells (HearsFaults takes) (CutsFaults cuts) r s ns t
+      → Tells takes cuts r s (faults_heard ns) t
   heard_by (Ok a) ns s t h = all_heard ns s t h
   heard_by (Err (Refused r)) ns s t h = some_heard ns s t h
   heard_by (Err ReadFailed) ns s t h = some_heard ns s t h

@@ -8,7 +8,7 @@ use Rattle.dbsource.specs.declared.error.RunError.{RunError}
 use Rattle.dbsource.specs.declared.error.RunError.TheVariants.{WriteFailed}
 use Rattle.dbsource.specs.declared.source.Source.{Ghosts as SourceWords}
 use Rattle.dbwalk.specs.Telling.{IsReadOrWrite, SinkAfter, SinkState}
-use Rattle.dbscan.specs.Desks.{Things, shape_of}
+use Rattle.dbscan.specs.Desks.{DeskView, shape_of}
 use Rattle.dbscan.specs.Finishes.{HasFinished, HasHeard}
 use Rattle.dbscan.specs.Looks.{IsUnmarked}
 use Rattle.dbscan.specs.Notices.{Notice}
@@ -18,10 +18,13 @@ of_write : {A : Type 0} (r : Result A RunError) → IfErr r (λ e. e ≡ WriteFa
 of_write (Ok a) h = tt
 of_write (Err e) h = inr h
 
-pub finished : {S K : Type 0} (source : SourceWords S) (hears : K → Notice → K → Type 0) (held : K → SinkState) (leaves : List ℕ → List Reference → Result Verdict RunError → K → K → Type 0)
-    (r : Result Verdict RunError) (d : Things) (s : S) (old new : K) → IfErr r (λ e. e ≡ WriteFailed) → SinkAfter is_write_failed r (held old) (held new)
-    → ((file : List ℕ) (V : List Reference) (first : K) → HasHeard hears d file V first old → leaves file V r first new) → HasFinished source hears held leaves r d d (s, old) (s, new)
+pub finished : {S K : Type 0} (source : SourceWords S) (hears : K → Notice → K → Type 0) (held : K → SinkState)
+    (leaves : List ℕ → List Reference → Result Verdict RunError → K → K → Type 0)
+    (r : Result Verdict RunError) (d : DeskView) (s : S) (old new : K) → IfErr r (λ e. e ≡ WriteFailed) → SinkAfter is_write_failed r (held old) (held new)
+    → ((file : List ℕ) (V : List Reference) (first : K) → HasHeard hears d file V first old → leaves file V r first new)
+    → HasFinished source hears held leaves r d d (s, old) (s, new)
 finished source hears held leaves r d s old new only writes left = record {
-  asks = asks_nothing source.step _ r (source.held s) only (reads_none (shape_of d).page_size (IsUnmarked d.marks) 1).reads (λ file V first heard. left file V first heard);
+  asks = asks_nothing source.step _ r (source.held s) only (reads_none (shape_of d).page_size (IsUnmarked d.marks) 1).reads
+      (λ file V first heard. left file V first heard);
   keeps = record { header = refl; roots = refl; writes = writes; only = of_write r only };
 }

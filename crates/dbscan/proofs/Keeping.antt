@@ -5,7 +5,7 @@ use Rattle.dbsource.specs.Errors.{is_write_failed}
 use Rattle.dbsource.specs.declared.error.RunError.{RunError}
 use Rattle.dbwalk.specs.Telling.{IsReadOrWrite, IsReadWriteOrMemory, SinkAfter, SinkState}
 use Rattle.dbwalk.proofs.Underway.Walks.{none_refused}
-use Rattle.dbscan.specs.Desks.{Things}
+use Rattle.dbscan.specs.Desks.{DeskView}
 use Rattle.dbscan.specs.Kept.{KeepsHeader, KeepsRoots}
 use Rattle.dbscan.specs.Roots.{Listed}
 
@@ -14,7 +14,8 @@ read_or_write : {A : Type 0} (r : Result A RunError) → IfErr r IsReadOrWrite �
 read_or_write (Ok u) only = tt
 read_or_write (Err e) only = inl only
 
-pub keeps_then : {A B : Type 0} {a : A} {r : Result B RunError} {before mid after : Things} {old now new : SinkState} → KeepsHeader (Ok a) before mid old now → KeepsRoots r mid after now new → KeepsHeader r before after old new
+pub keeps_then : {A B : Type 0} {a : A} {r : Result B RunError} {before mid after : DeskView} {old now new : SinkState} → KeepsHeader (Ok a) before mid old now
+    → KeepsRoots r mid after now new → KeepsHeader r before after old new
 keeps_then {r = r} {before = before} {new = new} h k = record {
   desk = record {
     header = k.header ∙ h.desk.header;

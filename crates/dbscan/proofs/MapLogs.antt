@@ -1,5 +1,6 @@
 -- What is read of the pointer map: page after page, and after what walks read.
-use Rattle.std.proofs.Common.{◌≡◌, ◌≢◌, ℕ, ◌+◌, ◌<◌, ◌≤◌, Bool, true, false, cond, ◌&&◌, inl, inr, List, [], ◌∷◌, ◌++◌, Some, None, Result, Ok, Err, refl, sym, ap, ap₂, ◌∙◌, subst, arith}
+use Rattle.std.proofs.Common.{◌≡◌, ◌≢◌, ℕ, ◌+◌, ◌<◌, ◌≤◌, Bool, true, false, cond, ◌&&◌, inl, inr, List, [], ◌∷◌, ◌++◌, Some, None, Result, Ok, Err, refl, sym}
+use Rattle.std.proofs.Common.{ap, ap₂, ◌∙◌, subst, arith}
 use Rattle.std.specs.Prelude.{IfErr, is_some, ◌==◌}
 use Rattle.std.proofs.lemmas.Bool.{both_ways, cases_Bool, eq-eqb}
 use Rattle.std.proofs.lemmas.List.{append-nil, map-append}
@@ -103,7 +104,8 @@ walk_then_map_log g old new walked mapped m h k = record {
       | inr j ↦ map_is_readable g p (k.each p j)
     ];
     distinct = EachPair-append (λ p q. p ≢ q) h.pages k.pages h.distinct (each_weaker (λ p q. p < q) (λ p q. p ≢ q) k.pages apart k.rising)
-        (λ p q i j e. both_ways (is_fixed g q) (subst (λ x. is_fixed g x ≡ false) e (unmarked_unfixed g old p m (h.fresh p i)).1) (map_is_fixed g q (k.each q j)));
+        (λ p q i j e. both_ways (is_fixed g q) (subst (λ x. is_fixed g x ≡ false) e (unmarked_unfixed g old p m (h.fresh p i)).1)
+        (map_is_fixed g q (k.each q j)));
   };
   marked = λ p i. elim (IsIn-cases p h.pages k.pages i) [
     | inl j ↦ h.marked p j
@@ -127,7 +129,8 @@ walk_log g old new walked m h =
 
 -- of no walk
 pub no_log : (g : Geometry) (marks : List Mark) → AreMarksFor g marks → ReadsMarked g marks []
-no_log g marks m = walk_log g marks marks [] m (record { pages = []; ranges = refl; distinct = tt; fresh = λ p i. absurd i; marked = λ p i. absurd i; kept = keeps_same marks })
+no_log g marks m = walk_log g marks marks [] m (record
+    { pages = []; ranges = refl; distinct = tt; fresh = λ p i. absurd i; marked = λ p i. absurd i; kept = keeps_same marks })
 
 -- and after these, pages that have no mark
 pub looks_log : (g : Geometry) (marks : List Mark) (log looks : List ByteRange)

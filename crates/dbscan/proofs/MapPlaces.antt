@@ -1,5 +1,6 @@
 -- The position of the entry of a page in the pointer map; and the map page that was read last is the one that has it.
-use Rattle.std.proofs.Common.{◌≡◌, ℕ, ◌+◌, ◌-◌, ◌*◌, ◌/◌, ◌%◌, ◌<◌, ◌≤◌, Bool, true, false, cond, not, ◌&&◌, List, length, Some, None, Result, Ok, Err, refl, sym, ap, ap₂, ◌∙◌, subst, arith, inl, inr, rules}
+use Rattle.std.proofs.Common.{◌≡◌, ℕ, ◌+◌, ◌-◌, ◌*◌, ◌/◌, ◌%◌, ◌<◌, ◌≤◌, Bool, true, false, cond, not, ◌&&◌, List, length, Some, None, Result, Ok, Err, refl}
+use Rattle.std.proofs.Common.{sym, ap, ap₂, ◌∙◌, subst, arith, inl, inr, rules}
 use Rattle.std.specs.Prelude.{◌==◌, nat_lt, nat_le, option_map, is_some, slice_index, OnOk}
 use Rattle.std.proofs.lemmas.Bool.{cases_Bool, and_parts, eqb-true, not-true}
 use Rattle.std.proofs.lemmas.Bool.Decides.{nat_tests}
@@ -61,9 +62,11 @@ place_of g p m h =
     let r : 1 ≤ (p - 2) % (entries_per_map g + 1) = grind (arith, nat_tests) in
     let w : 0 < entries_per_map g + 1 = omega arith in
     let l : (p - 2) % (entries_per_map g + 1) < entries_per_map g + 1 = mod-lt (p - 2) w in
-    let e : (p - 2) / (entries_per_map g + 1) * (entries_per_map g + 1) + (p - 2) % (entries_per_map g + 1) ≡ p - 2 = div-add-mod' (p - 2) (entries_per_map g + 1) in
+    let e : (p - 2) / (entries_per_map g + 1) * (entries_per_map g + 1) + (p - 2) % (entries_per_map g + 1) ≡ p - 2 =
+    div-add-mod' (p - 2) (entries_per_map g + 1) in
     let n : p - 2 - 1 ≡ p - 1 - 2 = omega arith in
-    let s : (p - 1 - 2) / (entries_per_map g + 1) ≡ (p - 2) / (entries_per_map g + 1) = ap (λ x. x / (entries_per_map g + 1)) (sym n) ∙ div_before (p - 2) (entries_per_map g + 1) w r in
+    let s : (p - 1 - 2) / (entries_per_map g + 1) ≡ (p - 2) / (entries_per_map g + 1) = ap (λ x. x / (entries_per_map g + 1)) (sym n)
+    ∙ div_before (p - 2) (entries_per_map g + 1) w r in
     let five : g.usable / 5 * 5 + g.usable % 5 ≡ g.usable = div-add-mod' g.usable 5 in record {
       has = a.0;
       low = low;
@@ -96,7 +99,8 @@ pub at_position : (g : Geometry) (p : ℕ) → fixed_use g p ≡ Some Map → (2
 unfolding fixed_use
 at_position g p h = by_case (is_page g p) (p == lock_page g.page_size) (g.has_map && is_map_position g p) refl h
   where
-    by_case : (a l b : Bool) → (g.has_map && is_map_position g p) ≡ b → cond a (cond l (Some Lock) (cond b (Some Map) None)) None ≡ Some Map → (2 ≤ p) × (last_map g p ≡ p)
+    by_case : (a l b : Bool) → (g.has_map && is_map_position g p) ≡ b → cond a (cond l (Some Lock) (cond b (Some Map) None)) None ≡ Some Map → (2 ≤ p)
+        × (last_map g p ≡ p)
     by_case false l b e f = absurd (let k : None ≡ Some Map = f in cc)
     by_case true true b e f = absurd (let k : Lock ≡ Map = cc in cc)
     by_case true false false e f = absurd (let k : None ≡ Some Map = f in cc)
@@ -105,24 +109,28 @@ at_position g p h = by_case (is_page g p) (p == lock_page g.page_size) (g.has_ma
         let b = and_parts (nat_le 2 p) ((p - 2) % (entries_per_map g + 1) == 0) a.1 in
         let l : 2 ≤ p = let z = b.0 in grind (arith, nat_tests) in
         let r : (p - 2) % (entries_per_map g + 1) ≡ 0 = let z = b.1 in grind (arith, nat_tests) in
-        let d : (p - 2) / (entries_per_map g + 1) * (entries_per_map g + 1) + (p - 2) % (entries_per_map g + 1) ≡ p - 2 = div-add-mod' (p - 2) (entries_per_map g + 1) in
+        let d : (p - 2) / (entries_per_map g + 1) * (entries_per_map g + 1) + (p - 2) % (entries_per_map g + 1) ≡ p - 2 =
+        div-add-mod' (p - 2) (entries_per_map g + 1) in
         (l, omega arith)
 
-pub next_read : (file bytes : List ℕ) (p : ℕ) → fixed_use (geometry file) p ≡ Some Map → bytes ≡ page_bytes file p → HasMapFor file (geometry file) (p + 1) bytes
+pub next_read : (file bytes : List ℕ) (p : ℕ) → fixed_use (geometry file) p ≡ Some Map → bytes ≡ page_bytes file p
+    → HasMapFor file (geometry file) (p + 1) bytes
 next_read file bytes p h e = λ has low high.
     let k = at_position (geometry file) p h in
     let n : p + 1 - 1 ≡ p = omega arith in
     e ∙ ap (page_bytes file) (sym (ap (last_map (geometry file)) n ∙ k.1))
 
 -- the lock-byte page is never a map page
-lock_no_position : (file : List ℕ) → refusal file ≡ None → (geometry file).has_map ≡ true → nat_le (lock_page (geometry file).page_size) (geometry file).pages ≡ true
+lock_no_position : (file : List ℕ) → refusal file ≡ None → (geometry file).has_map ≡ true → nat_le (lock_page (geometry file).page_size) (geometry file).pages
+    ≡ true
     → is_map_position (geometry file) (lock_page (geometry file).page_size) ≡ false
 unfolding refusal_of
 lock_no_position file h has l =
     let tests = AllFalse-from_none (refusal_tests file (length file)) h in
     rw (has, l) at tests.1.1.1.1.1.1.0
 
-position_is_map : (file : List ℕ) (p : ℕ) → refusal file ≡ None → (geometry file).has_map ≡ true → is_page (geometry file) p ≡ true → is_map_position (geometry file) p ≡ true
+position_is_map : (file : List ℕ) (p : ℕ) → refusal file ≡ None → (geometry file).has_map ≡ true → is_page (geometry file) p ≡ true
+    → is_map_position (geometry file) p ≡ true
     → fixed_use (geometry file) p ≡ Some Map
 unfolding fixed_use
 position_is_map file p h has page pos = rw (page, has, pos) (by_case (p == lock_page (geometry file).page_size) refl)
@@ -149,13 +157,16 @@ next_kept file bytes p h one last k = λ has low high.
     let r : 1 ≤ (p - 2) % (entries_per_map g + 1) = grind (arith, nat_tests) in
     let w : 0 < entries_per_map g + 1 = omega arith in
     let three : 3 ≤ p = elim (cases_Bool (p == 2)) [
-      | inl e ↦ absurd (let q : p ≡ 2 = eqb-true p 2 e in let z : p - 2 ≡ 0 = omega arith in let m : (p - 2) % (entries_per_map g + 1) ≡ 0 % (entries_per_map g + 1) = ap (λ x. x % (entries_per_map g + 1)) z in
+      | inl e ↦ absurd (let q : p ≡ 2 = eqb-true p 2 e in let z : p - 2 ≡ 0 = omega arith in let m : (p - 2) % (entries_per_map g + 1)
+          ≡ 0 % (entries_per_map g + 1) = ap (λ x. x % (entries_per_map g + 1)) z in
           let o : 0 % (entries_per_map g + 1) ≡ 0 = mod-eq_of_lt w in omega arith)
       | inr e ↦ grind (arith, nat_tests)
     ] in
     let n : p - 2 - 1 ≡ p - 1 - 2 = omega arith in
-    let s : (p - 1 - 2) / (entries_per_map g + 1) ≡ (p - 2) / (entries_per_map g + 1) = ap (λ x. x / (entries_per_map g + 1)) (sym n) ∙ div_before (p - 2) (entries_per_map g + 1) w r in
-    let same : last_map g (p - 1) ≡ last_map g (p + 1 - 1) = let q : p + 1 - 1 ≡ p = omega arith in ap (λ x. 2 + x * (entries_per_map g + 1)) s ∙ ap (last_map g) (sym q) in
+    let s : (p - 1 - 2) / (entries_per_map g + 1) ≡ (p - 2) / (entries_per_map g + 1) = ap (λ x. x / (entries_per_map g + 1)) (sym n)
+    ∙ div_before (p - 2) (entries_per_map g + 1) w r in
+    let same : last_map g (p - 1) ≡ last_map g (p + 1 - 1) = let q : p + 1 - 1 ≡ p = omega arith in ap (λ x. 2 + x * (entries_per_map g + 1)) s
+    ∙ ap (last_map g) (sym q) in
     k has three (omega arith) ∙ ap (page_bytes file) same
 
 pub not_map : (g : Geometry) (p : ℕ) → is_fixed g p ≡ false → fixed_use g p ≡ Some Map → ⊥

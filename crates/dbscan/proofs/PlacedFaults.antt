@@ -24,7 +24,8 @@ use Rattle.dbscan.proofs.ToldStarts.{start_errands_listed}
 freelist_begins : (file : List ℕ) (e : Errand Way Event) → IsIn e (errands_left file []) → BeginsWith freelist_start (errand_key e)
 freelist_begins file e i = by_case (first_trunk file == 0) i
   where
-    by_case : (b : Bool) → IsIn e (errands_at [] (map Follow (cond b [] (start freelist_start trunk (first_trunk file) ∷ [])))) → BeginsWith freelist_start (errand_key e)
+    by_case : (b : Bool) → IsIn e (errands_at [] (map Follow (cond b [] (start freelist_start trunk (first_trunk file) ∷ []))))
+        → BeginsWith freelist_start (errand_key e)
     by_case true i = absurd i
     by_case false (inl f) = subst (λ e. BeginsWith freelist_start (errand_key e)) (sym f) ([], refl)
     by_case false (inr i) = absurd i
@@ -53,7 +54,8 @@ module _ (file : List ℕ) where
   later_read : (rows : List SchemaRow) (W : List Reference)
       → reported_in (later_notices file W (enumerate_from 1 rows)) ≡ made_below at_start file W (errands_left file (enumerate_from 1 rows))
   later_read rows W = of_later file (λ k rows W ns es. reported_in ns ≡ made_below at_start file W es)
-      (λ k W. found_read at_freelist (told_below file W (errands_left file [])) ∙ sym (below_start at_start file freelist_start W (errands_left file []) (freelist_begins file)))
+      (λ k W. found_read at_freelist (told_below file W (errands_left file []))
+      ∙ sym (below_start at_start file freelist_start W (errands_left file []) (freelist_begins file)))
       (λ k row rows W ns es h. tree_then (at_row k row) W (root_reference file k row) es ns refl h) 1 rows W
 
   -- they are those of the walk

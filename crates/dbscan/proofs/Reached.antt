@@ -97,7 +97,8 @@ module _ (file : List ℕ) (V : List Reference) (s : Survey file V) where
   of_visit : (r : Reference) (place : Address) → IsIn r V → start_of place ≡ start_of r.address → IsPlaced place r.page
   of_visit r place i e = record { step = subst (λ k. IsIn k steps) (sym e) (visit_step r i); reached = λ d. start_here file V s r i ∙ ap Some (sym e) }
 
-  of_event : (place : Address) (e : Event) → IsOf file V place e → ((r : Reference) → e ≡ at_refused r → IsPlaced place (from_of r)) → IsPlaced place (page_of_event e)
+  of_event : (place : Address) (e : Event) → IsOf file V place e → ((r : Reference) → e ≡ at_refused r → IsPlaced place (from_of r))
+      → IsPlaced place (page_of_event e)
   of_event place (at_page r) h refusal = of_visit r place h.0 (ap start_of h.1)
   of_event place (at_key r v x) h refusal = of_visit r place h.0 (ap start_of h.3 ∙ start_of-step r.address _ (has_address file V s r h.0))
   of_event place (at_refused r) h refusal = refusal r refl
@@ -118,7 +119,8 @@ module _ (file : List ℕ) (V : List Reference) (s : Survey file V) where
       let from : from_of r ≡ u.page = ap from_of m.2 ∙ of_role (role_of u) u.page (usable_size file) (page_bytes file u.page) m.0 m.1 in
       subst (IsPlaced r.address) (sym from) (of_visit u r.address i (one_below file V s u r i c).0)
 
-  refused_at : (t : Told Event) → IsTold (rules_of file) (story_of file) (start_errands file V) V t → (r : Reference) → t.event ≡ at_refused r → IsPlaced t.key (from_of r)
+  refused_at : (t : Told Event) → IsTold (rules_of file) (story_of file) (start_errands file V) V t → (r : Reference) → t.event ≡ at_refused r
+      → IsPlaced t.key (from_of r)
   unfolding story_of
   refused_at t (of_errand i) r e = absurd (no_tell [] (starts file V) t i)
   refused_at t (of_page u i f) r e = absurd (let x : at_page u ≡ at_refused r = sym (ap (λ (t : Told Event). t.event) f) ∙ e in cc)
@@ -139,7 +141,8 @@ module _ (file : List ℕ) (V : List Reference) (s : Survey file V) where
   -- so are the faults of the walk
   of_walk : (x : Reported) → IsIn x (walk_told file V) → IsOfStart file V x
   of_walk x i =
-      let m = IsIn-from_flat_map (λ t. map (λ f. at_start (start_of t.key) f (cause_of file V t.event f.code)) (event_faults file V t.event)) (telling file V) x i in
+      let m = IsIn-from_flat_map (λ t. map (λ f. at_start (start_of t.key) f (cause_of file V t.event f.code)) (event_faults file V t.event)) (telling file V) x
+      i in
       let t = m.0 in
       let n = IsIn-from_map (λ f. at_start (start_of t.key) f (cause_of file V t.event f.code)) (event_faults file V t.event) x m.2 in
       let at = placed t m.1 in

@@ -17,10 +17,12 @@ name_kept names more (Some s) h =
     let k : s.len ≤ length (drop s.start names) = omega arith in
     ap Some (ap (take s.len) d ∙ take-append-le s.len (drop s.start names) more k)
 
-pub rows_kept : (names more : List ℕ) (es : List RootRow) → All (λ e. IsWithin (length names) e.name) es → map (entry_row (names ++ more)) es ≡ map (entry_row names) es
+pub rows_kept : (names more : List ℕ) (es : List RootRow) → All (λ e. IsWithin (length names) e.name) es → map (entry_row (names ++ more)) es
+    ≡ map (entry_row names) es
 rows_kept names more [] h = refl
 rows_kept names more (e ∷ es) h =
-    let one : entry_row (names ++ more) e ≡ entry_row names e = ap (λ n. record { kind = e.kind; root = e.page; name = n }) (name_kept names more e.name (All-head (λ e. IsWithin (length names) e.name) e es h)) in
+    let one : entry_row (names ++ more) e ≡ entry_row names e =
+    ap (λ n. record { kind = e.kind; root = e.page; name = n }) (name_kept names more e.name (All-head (λ e. IsWithin (length names) e.name) e es h)) in
     ap₂ (λ x xs. x ∷ xs) one (rows_kept names more es (All-tail (λ e. IsWithin (length names) e.name) e es h))
 
 -- the rows with one more

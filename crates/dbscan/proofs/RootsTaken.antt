@@ -1,5 +1,6 @@
 -- What a list of roots holds by the rows that it was given, and the starts that this makes.
-use Rattle.std.proofs.Common.{◌≡◌, ℕ, Bool, true, false, cond, not, List, [], ◌∷◌, ◌++◌, length, take, map, filter_map, None, Some, Result, Ok, Err, refl, sym, ap, ◌∙◌, append_assoc}
+use Rattle.std.proofs.Common.{◌≡◌, ℕ, Bool, true, false, cond, not, List, [], ◌∷◌, ◌++◌, length, take, map, filter_map, None, Some, Result, Ok, Err, refl, sym}
+use Rattle.std.proofs.Common.{ap, ◌∙◌, append_assoc}
 use Rattle.std.specs.Prelude.{◌==◌}
 use Rattle.std.specs.Result.{result_ok}
 use Rattle.std.specs.List.{enumerate_from, cons_option, take-map}
@@ -27,10 +28,12 @@ pub roots_start_empty : (first : Listed) → first.rows ≡ [] → StartsEmpty T
 roots_start_empty first e = record { room = roots_have_room; none = ap length e }
 
 -- row after row, after those that have come
-rows_after : (rows came : List SchemaRow) (s t : Listed) → s.rows ≡ first_roots kept_row came → Moves (gives TakesRow) s rows t → t.rows ≡ first_roots kept_row (came ++ with_root rows)
+rows_after : (rows came : List SchemaRow) (s t : Listed) → s.rows ≡ first_roots kept_row came → Moves (gives TakesRow) s rows t → t.rows
+    ≡ first_roots kept_row (came ++ with_root rows)
 rows_after [] came s t h e = ap (λ (l : Listed). l.rows) (sym e) ∙ h ∙ ap (first_roots kept_row) (sym (append-nil came))
 rows_after (row ∷ rows) came s t h m =
-    let one : m.0.rows ≡ first_roots kept_row (came ++ cond (row.root == 0) [] (row ∷ [])) = m.1.1.0.1 ∙ ap (λ l. roots_after kept_row l row) h ∙ first_more kept_row came row in
+    let one : m.0.rows ≡ first_roots kept_row (came ++ cond (row.root == 0) [] (row ∷ [])) = m.1.1.0.1 ∙ ap (λ l. roots_after kept_row l row) h
+    ∙ first_more kept_row came row in
     rows_after rows (came ++ cond (row.root == 0) [] (row ∷ [])) m.0 t one m.2
     ∙ ap (first_roots kept_row) (append_assoc came (cond (row.root == 0) [] (row ∷ [])) (with_root rows) ∙ ap (λ l. came ++ l) (by_root (row.root == 0)))
   where

@@ -12,7 +12,7 @@ use Rattle.dbmarks.specs.Marking.{AreMarksOf}
 use Rattle.dbscan.specs.Roots.{AreListed}
 use Rattle.dbwalk.specs.Telling.{StopsBy, Tells}
 use Rattle.dbwalk.proofs.Telling.Belows.{stops_by_first, stops_by_after}
-use Rattle.dbscan.specs.Desks.{Things}
+use Rattle.dbscan.specs.Desks.{DeskView}
 use Rattle.dbtrace.specs.declared.Part.TheVariants as part
 use Rattle.dbscan.specs.Notices.{Notice, whole, start_notices, end_notices, run_notices}
 use Rattle.dbscan.specs.Scans.{IsScanned}
@@ -32,7 +32,8 @@ module _ {S : Type 0} (hears cuts : S → Notice → S → Type 0) (file : List 
   last = end_notices file V
 
   -- it stopped within the header's faults
-  pub header_stopped : (e : RunError) (t : S) → StopsBy hears cuts e s (map (whole part.Header) (header_faults h.bytes h.file_len)) t → StopsBy hears cuts e s (run_notices file V) t
+  pub header_stopped : (e : RunError) (t : S) → StopsBy hears cuts e s (map (whole part.Header) (header_faults h.bytes h.file_len)) t
+      → StopsBy hears cuts e s (run_notices file V) t
   header_stopped e t k = stops_by_first hears cuts e s t first (start_notices file V ++ last)
       (subst (λ items. StopsBy hears cuts e s items t) (header_items file h is) k)
 
@@ -52,11 +53,12 @@ module _ {S : Type 0} (hears cuts : S → Notice → S → Type 0) (file : List 
         (tells_then hears cuts r a b t (start_notices file V) last walked k)
 
     -- after the walks all is known of the file, and the report of the end does not change it
-    pub scan_ended : (r : Result (Unit {0}) RunError) (any : Bool) (b t : S) (walked ended : Things) → AreWalked hears cuts file V (Ok any) walked.marks walked.roots.rows a b → ended ≡ record walked { pages = ended.pages }
+    pub scan_ended : (r : Result (Unit {0}) RunError) (any : Bool) (b t : S) (walked ended : DeskView)
+        → AreWalked hears cuts file V (Ok any) walked.marks walked.roots.rows a b → ended ≡ record walked { pages = ended.pages }
         → Tells hears cuts r b last t → IsScanned hears cuts file V r ended.marks ended.roots.rows s t
     scan_ended (Ok u) any b t walked ended w same k = record {
       told = all_told (Ok u) b t w.all.told k;
-      marked = subst (AreMarksOf file V) (sym (ap (λ (d : Things). d.marks) same)) w.all.marked;
-      listed = subst (AreListed file V) (sym (ap (λ (d : Things). d.roots.rows) same)) w.listed;
+      marked = subst (AreMarksOf file V) (sym (ap (λ (d : DeskView). d.marks) same)) w.all.marked;
+      listed = subst (AreListed file V) (sym (ap (λ (d : DeskView). d.roots.rows) same)) w.listed;
     }
     scan_ended (Err e) any b t walked ended w same k = record { told = all_told {A = Unit {0}} (Err e) b t w.all.told k; marked = tt; listed = tt }

@@ -45,7 +45,8 @@ none_by_faults : (why : FaultCode → Cause) (fs : List Fault) → list_any is_s
 none_by_faults why [] = refl
 none_by_faults why (f ∷ fs) = none_by_faults why fs
 
-by_row_alone : (why : FaultCode → Cause) (o : Option StatRow) (fs : List Fault) → list_any is_schema_row (map told_row (option_to_list o) ++ told_by why fs) ≡ option_map_or is_schema_leaf o false
+by_row_alone : (why : FaultCode → Cause) (o : Option StatRow) (fs : List Fault) → list_any is_schema_row (map told_row (option_to_list o) ++ told_by why fs)
+    ≡ option_map_or is_schema_leaf o false
 by_row_alone why None fs = none_by_faults why fs
 by_row_alone why (Some x) fs = or_none (is_schema_leaf x) (list_any is_schema_row (told_by why fs)) (none_by_faults why fs)
 
@@ -62,7 +63,8 @@ at_event file U (at_key r v cell) = none_by_faults (cause_of file U (at_key r v 
 at_event file U (at_refused r) = none_by_faults (cause_of file U (at_refused r)) (event_faults file U (at_refused r))
 
 -- all that is reported, by its visits
-in_list : (file : List ℕ) (W : List Reference) (L : List (Told Event)) → list_any is_schema_row (read_back own_visit (told_at file) W L) ≡ list_any (by_told file) (visits_in own_visit L)
+in_list : (file : List ℕ) (W : List Reference) (L : List (Told Event)) → list_any is_schema_row (read_back own_visit (told_at file) W L)
+    ≡ list_any (by_told file) (visits_in own_visit L)
 in_list file W [] = refl
 in_list file W (t ∷ L) =
     let U = W ++ option_to_list (own_visit t.event) in
@@ -70,7 +72,8 @@ in_list file W (t ∷ L) =
     ∙ ap₂ (λ a b. a || b) (at_event file U t.event) (in_list file U L)
     ∙ by_visit (own_visit t.event) (visits_in own_visit L)
   where
-    by_visit : (o : Option Reference) (V : List Reference) → (option_map_or (by_told file) o false || list_any (by_told file) V) ≡ list_any (by_told file) (cons_option o V)
+    by_visit : (o : Option Reference) (V : List Reference) → (option_map_or (by_told file) o false || list_any (by_told file) V)
+        ≡ list_any (by_told file) (cons_option o V)
     by_visit None V = refl
     by_visit (Some r) V = refl
 
@@ -114,11 +117,13 @@ any_same p q h (x ∷ xs) = ap₂ (λ a b. a || b) (h x) (any_same p q h xs)
 
 -- only the pages below the schema's start count
 
-any_under : (p : Reference → Bool) (V : List Reference) → ((r : Reference) → IsIn r V → p r ≡ true → start_words.starts_with schema_start r.address ≡ true) → list_any p V ≡ list_any p (under schema_start V)
+any_under : (p : Reference → Bool) (V : List Reference) → ((r : Reference) → IsIn r V → p r ≡ true → start_words.starts_with schema_start r.address ≡ true)
+    → list_any p V ≡ list_any p (under schema_start V)
 any_under p [] h = refl
 any_under p (r ∷ V) h = by_case (p r) (start_words.starts_with schema_start r.address) refl (h r (inl refl)) (any_under p V (λ q i. h q (inr i)))
   where
-    by_case : (a b : Bool) → p r ≡ a → (p r ≡ true → b ≡ true) → list_any p V ≡ list_any p (under schema_start V) → (a || list_any p V) ≡ list_any p (cond b (r ∷ under schema_start V) (under schema_start V))
+    by_case : (a b : Bool) → p r ≡ a → (p r ≡ true → b ≡ true) → list_any p V ≡ list_any p (under schema_start V) → (a || list_any p V)
+        ≡ list_any p (cond b (r ∷ under schema_start V) (under schema_start V))
     by_case a true e f k = ap₂ (λ x y. x || y) (sym e) k
     by_case false false e f k = k
     by_case true false e f k = let g = f e in cc
@@ -128,17 +133,21 @@ at_schema [] some e = absurd (some refl)
 at_schema (x ∷ a) some e = e
 
 -- By all that is reported below page 1: whether the schema has a row.
-pub schema_rows_told : (file : List ℕ) (V : List Reference) → Survey file V → list_any is_schema_row (told_below file [] (errands_at [] (Follow schema_link ∷ []))) ≡ has_rows file V
+pub schema_rows_told : (file : List ℕ) (V : List Reference) → Survey file V
+    → list_any is_schema_row (told_below file [] (errands_at [] (Follow schema_link ∷ []))) ≡ has_rows file V
 schema_rows_told file V s =
     let errands = errands_at [] (Follow schema_link ∷ []) in
     in_list file [] (telling_of (rules_of file) (story_of file) (geometry file).pages [] errands)
     ∙ ap (list_any (by_told file))
-    (visits_of (rules_of file) (story_of file) (geometry file).pages (are_rules file) (is_story file) own_visit (shows_visits file) [] errands (λ e i. absurd (no_tell [] (schema_link ∷ []) e i)))
+    (visits_of (rules_of file) (story_of file) (geometry file).pages (are_rules file) (is_story file) own_visit (shows_visits file) [] errands
+    (λ e i. absurd (no_tell [] (schema_link ∷ []) e i)))
     ∙ any_same (by_told file) (by_page file) (same_test file) (schema_part file)
-    ∙ ap (list_any (by_page file)) (sym (survey_from_first (rules_of file) (geometry file).pages (are_rules file) schema_link (later_starts file) (starts_rise file) V s))
+    ∙ ap (list_any (by_page file)) (sym (survey_from_first (rules_of file) (geometry file).pages (are_rules file) schema_link (later_starts file)
+    (starts_rise file) V s))
     ∙ sym (any_under (by_page file) V below)
   where
     below : (r : Reference) → IsIn r V → by_page file r ≡ true → start_words.starts_with schema_start r.address ≡ true
     below r i e =
         let leaf = (and_parts (is_leaf_of file schema_start r) (has_cell (tree_view file r)) e).0 in
-        at_schema r.address (has_address file V s r i) (and_parts (start_of r.address == schema_start) (option_map_or (λ v. not (is_interior v.kind)) (tree_view file r) false) leaf).0
+        at_schema r.address (has_address file V s r i) (and_parts (start_of r.address == schema_start)
+        (option_map_or (λ v. not (is_interior v.kind)) (tree_view file r) false) leaf).0

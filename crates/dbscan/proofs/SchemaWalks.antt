@@ -32,7 +32,8 @@ use Rattle.dbscan.proofs.SchemaTold.{schema_rows_told}
 use Rattle.dbformat.proofs.HeaderPrefix.{encoding_within}
 
 -- page 1 comes first
-pub schema_first : (file : List ℕ) (encoding : Encoding) (marks : List Mark) → AreMarksOf file [] marks → IsRootAfter file (root_of_schema encoding) [] schema_reference marks
+pub schema_first : (file : List ℕ) (encoding : Encoding) (marks : List Mark) → AreMarksOf file [] marks
+    → IsRootAfter file (root_of_schema encoding) [] schema_reference marks
 schema_first file encoding marks h = record {
   candidate = record { page = refl; way = refl; start = refl; depth = refl; path = refl; chain = refl };
   early = λ u i. absurd i;
@@ -40,10 +41,16 @@ schema_first file encoding marks h = record {
 }
 
 -- The walk over the schema's tree with a teller to which nothing was reported before, and what it has found.
-module _ {S : Type 0} (hears cuts : S → Notice → S → Type 0) (file : List ℕ) (marks : List Mark) (w t : Teller S) (old new : Listed) (start : w.start.now ≡ at_schema) (unseen : w.has_rows ≡ false) (empty : old.rows ≡ []) where
+module _ {S : Type 0} (hears cuts : S → Notice → S → Type 0) (file : List ℕ) (marks : List Mark) (w t : Teller S) (old new : Listed)
+    (start : w.start.now ≡ at_schema) (unseen : w.has_rows ≡ false) (empty : old.rows ≡ []) where
   by_result : (r : Result (Unit {0}) RunError) → IsWalkedOver {A = Unit {0}} hears cuts TakesRow file [] schema_reference r marks w t old new
-      → IsTreeWalked {A = Unit {0}} hears cuts at_schema file [] schema_reference r marks w.reporter.now t.reporter.now × ((V : List Reference) → Survey file V → OnOk r (IsSchemaOf file V new.rows t.has_rows))
-  by_result (Err e) d = (subst (λ at. IsTreeWalked {A = Unit {0}} hears cuts at file [] schema_reference (Err e) marks w.reporter.now t.reporter.now) start d.tree, λ V s. tt)
+      → IsTreeWalked {A = Unit {0}} hears cuts at_schema file [] schema_reference r marks w.reporter.now t.reporter.now
+      × ((V : List Reference) → Survey file V → OnOk r (IsSchemaOf file V new.rows t.has_rows))
+  by_result (Err e) d = (
+    subst (λ at. IsTreeWalked {A = Unit {0}} hears cuts at file [] schema_reference (Err e) marks w.reporter.now t.reporter.now) start
+        d.tree,
+    λ V s. tt,
+  )
   by_result (Ok u) d =
       let items = told_below file [] (Go schema_reference ∷ []) in
       let P = schema_part file in (
@@ -59,21 +66,26 @@ module _ {S : Type 0} (hears cuts : S → Notice → S → Type 0) (file : List 
       )
 
   -- by the header
-  module _ (h : HeaderBytes) (is : IsHeaderOf h file) (code : Encoding) (coded : code ≡ encoding_of h.bytes) (named : Root) (root : named ≡ root_of_schema code) (first : List Mark) (fresh : AreMarksOf file [] first) where
+  module _ (h : HeaderBytes) (is : IsHeaderOf h file) (code : Encoding) (coded : code ≡ encoding_of h.bytes) (named : Root) (root : named ≡ root_of_schema code)
+      (first : List Mark) (fresh : AreMarksOf file [] first) where
     abbrev IsWalked : Result (Unit {0}) RunError → Type 0
-    IsWalked r = named.encoding ≡ encoding_of file → (W : List Reference) (c : Reference) → IsRootAfter file named W c first → (held : Listed → ℕ) → (named.kind ≡ Schema → StartsEmpty TakesRow held old)
+    IsWalked r = named.encoding ≡ encoding_of file → (W : List Reference) (c : Reference) → IsRootAfter file named W c first → (held : Listed → ℕ)
+        → (named.kind ≡ Schema → StartsEmpty TakesRow held old)
         → IsWalkedOver hears cuts TakesRow file W c r marks w t old new
 
     from_schema : (r : Result (Unit {0}) RunError) → IsWalked r
-        → IsTreeWalked hears cuts at_schema file [] schema_reference r marks w.reporter.now t.reporter.now × ((V : List Reference) → Survey file V → OnOk r (IsSchemaOf file V new.rows t.has_rows))
+        → IsTreeWalked hears cuts at_schema file [] schema_reference r marks w.reporter.now t.reporter.now
+        × ((V : List Reference) → Survey file V → OnOk r (IsSchemaOf file V new.rows t.has_rows))
     from_schema r walked =
         by_result r (walked (ap (λ (r : Root). r.encoding) root ∙ coded ∙ ap encoding_of is.begins ∙ encoding_within file) [] schema_reference
-        (subst (λ r. IsRootAfter file r [] schema_reference first) (sym root) (schema_first file code first fresh)) (λ l. length l.rows) (λ k. roots_start_empty old empty))
+        (subst (λ r. IsRootAfter file r [] schema_reference first) (sym root) (schema_first file code first fresh)) (λ l. length l.rows)
+        (λ k. roots_start_empty old empty))
 
     pub schema_stopped : (e : RunError) → IsWalked (Err e) → IsSchemaWalked hears cuts file (Err e) marks new.rows w.reporter.now t.reporter.now
     schema_stopped e walked = let d = from_schema (Err e) walked in record { tree = record { marked = tt; told = d.0.told }; schema = λ V s. tt }
 
-    pub schema_walked : (any : Bool) → any ≡ t.has_rows → IsWalked (Ok tt) → IsSchemaWalked hears cuts file (Ok any) marks new.rows w.reporter.now t.reporter.now
+    pub schema_walked : (any : Bool) → any ≡ t.has_rows → IsWalked (Ok tt)
+        → IsSchemaWalked hears cuts file (Ok any) marks new.rows w.reporter.now t.reporter.now
     schema_walked any e walked =
         let d = from_schema (Ok tt) walked in
         record { tree = record { marked = d.0.marked; told = d.0.told }; schema = λ V s. subst (IsSchemaOf file V new.rows) (sym e) (d.1 V s) }

@@ -1,5 +1,6 @@
 -- The rows of the schema have only short names, so that a list of roots keeps them as they are.
-use Rattle.std.proofs.Common.{◌≡◌, ℕ, Bool, true, false, cond, ◌&&◌, List, [], ◌∷◌, ◌++◌, length, map, Option, Some, None, Result, Ok, Err, ℤ, pos, negsuc, refl, sym, ap, ap₂, ◌∙◌}
+use Rattle.std.proofs.Common.{◌≡◌, ℕ, Bool, true, false, cond, ◌&&◌, List, [], ◌∷◌, ◌++◌, length, map, Option, Some, None, Result, Ok, Err, ℤ, pos, negsuc}
+use Rattle.std.proofs.Common.{refl, sym, ap, ap₂, ◌∙◌}
 use Rattle.std.specs.Prelude.{flat_map, nat_le, ◌==◌}
 use Rattle.std.specs.List.{cons_option}
 use Rattle.std.proofs.lemmas.List.{map-append}
@@ -76,11 +77,13 @@ kept_one : (c : SchemaCell) (rows : List SchemaCell) → HasShortName c.row → 
 unfolding AreKept
 kept_one c rows h k = by_row c.row h
   where
-    by_root : (r : SchemaRow) (b : Bool) → short_name r.name ≡ r.name → map kept_row (cons_option (cond b None (Some r)) (rooted_rows rows)) ≡ cons_option (cond b None (Some r)) (rooted_rows rows)
+    by_root : (r : SchemaRow) (b : Bool) → short_name r.name ≡ r.name → map kept_row (cons_option (cond b None (Some r)) (rooted_rows rows))
+        ≡ cons_option (cond b None (Some r)) (rooted_rows rows)
     by_root r true h = k
     by_root r false h = ap₂ (λ x l. x ∷ l) (ap (λ n. record { kind = r.kind; root = r.root; name = n }) h) k
 
-    by_row : (o : Result SchemaRow RowFault) → HasShortName o → map kept_row (cons_option (rooted o) (rooted_rows rows)) ≡ cons_option (rooted o) (rooted_rows rows)
+    by_row : (o : Result SchemaRow RowFault) → HasShortName o → map kept_row (cons_option (rooted o) (rooted_rows rows))
+        ≡ cons_option (rooted o) (rooted_rows rows)
     by_row (Err e) h = k
     by_row (Ok r) h = by_root r (r.root == 0) h
 
@@ -92,7 +95,8 @@ kept_both xs ys h k =
 
 kept_leaf : (file : List ℕ) (V : List Reference) (r : Reference) (xs : List (ℕ × Cell)) → AreKept (map (schema_cell file V r) xs)
 kept_leaf file V r [] = kept_none
-kept_leaf file V r ((i, c) ∷ xs) = kept_one (schema_cell file V r (i, c)) (map (schema_cell file V r) xs) (row_short (payload file V r.address i c) c.size (encoding file)) (kept_leaf file V r xs)
+kept_leaf file V r ((i, c) ∷ xs) = kept_one (schema_cell file V r (i, c)) (map (schema_cell file V r) xs)
+    (row_short (payload file V r.address i c) c.size (encoding file)) (kept_leaf file V r xs)
 
 kept_at : (file : List ℕ) (V : List Reference) (r : Reference) → AreKept (rows_at file V r)
 kept_at file V r = by_start (start_of r.address == schema_start) (tree_view file r)

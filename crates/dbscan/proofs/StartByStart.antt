@@ -17,7 +17,8 @@ module _ (file : List ℕ) (Holds : ℕ → List SchemaRow → List Reference �
     → Holds (k + 1) rows (W ++ visited_below file W (Go (root_reference file k row) ∷ [])) ns es
     → Holds k (row ∷ rows) W (tree_notices (at_row k row) file W (root_reference file k row) ++ ns) (Go (root_reference file k row) ∷ es)) where
   -- then it holds of all
-  pub of_later : (k : ℕ) (rows : List SchemaRow) (W : List Reference) → Holds k rows W (later_notices file W (enumerate_from k rows)) (errands_left file (enumerate_from k rows))
+  pub of_later : (k : ℕ) (rows : List SchemaRow) (W : List Reference)
+      → Holds k rows W (later_notices file W (enumerate_from k rows)) (errands_left file (enumerate_from k rows))
   of_later k [] W = of_freelist k W
   of_later k (row ∷ rows) W =
       let U = W ++ visited_below file W (Go (root_reference file k row) ∷ []) in

@@ -69,7 +69,8 @@ root_next file V U marks encoding k r es below h = record {
     path = refl;
     chain = refl;
   };
-  early = λ u i. early_of k u.address (below u (subst (λ V. IsIn u V) h.visits (IsIn-left u U (visited_below file U (Go (root_reference file k r) ∷ es)) i))) (h.past u (Go (root_reference file k r)) i (inl refl));
+  early = λ u i. early_of k u.address (below u (subst (λ V. IsIn u V) h.visits (IsIn-left u U (visited_below file U (Go (root_reference file k r) ∷ es)) i)))
+      (h.past u (Go (root_reference file k r)) i (inl refl));
   marked = h.marked;
 }
 

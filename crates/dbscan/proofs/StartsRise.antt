@@ -35,7 +35,8 @@ found_rise at (told_fault f why ∷ items) = ((λ k i. let e = of_found at items
 of_tree : (at : At) (file : List ℕ) (W : List Reference) (c : Reference) (k : ℕ) → IsIn k (numbers (tree_notices at file W c)) → k ≡ at.number
 of_tree at file W c k i =
     let items = told_below file W (Go c ∷ []) in
-    elim (IsIn-cases k (numbers (map (found at) items)) (at.number ∷ []) (subst (λ l. IsIn k l) (filter_map-append number_of (map (found at) items) (ended at ∷ [])) i)) [
+    elim (IsIn-cases k (numbers (map (found at) items)) (at.number ∷ [])
+    (subst (λ l. IsIn k l) (filter_map-append number_of (map (found at) items) (ended at ∷ [])) i)) [
       | inl j ↦ of_found at items k j
       | inr j ↦ (elim j [ inl e ↦ e | inr n ↦ absurd n ])
     ]
@@ -65,10 +66,11 @@ later_rises file (row ∷ rows) k W few =
     let ns = later_notices file U (enumerate_from (k + 1) rows) in
     let rest = later_rises file rows (k + 1) U (omega (arith, few)) in (
       tree_rises (at_row k row) file W c ns rest.0 (λ j i. let l = rest.1 j i in omega (arith, l)),
-      λ j i. elim (IsIn-cases j (numbers (tree_notices (at_row k row) file W c)) (numbers ns) (subst (λ l. IsIn j l) (filter_map-append number_of (tree_notices (at_row k row) file W c) ns) i)) [
-        | inl m ↦ (let e = of_tree (at_row k row) file W c j m in omega (arith, e))
-        | inr m ↦ (let l = rest.1 j m in omega (arith, l))
-      ],
+      λ j i. elim (IsIn-cases j (numbers (tree_notices (at_row k row) file W c)) (numbers ns)
+          (subst (λ l. IsIn j l) (filter_map-append number_of (tree_notices (at_row k row) file W c) ns) i)) [
+            | inl m ↦ (let e = of_tree (at_row k row) file W c j m in omega (arith, e))
+            | inr m ↦ (let l = rest.1 j m in omega (arith, l))
+          ],
     )
 
 pub starts_rise : (file : List ℕ) (V : List Reference) → StartsRise (start_notices file V)
@@ -83,19 +85,23 @@ starts_rise file V =
 
 -- ---- and each is a start
 
-tree_starts : (at : At) (file : List ℕ) (W : List Reference) (c : Reference) (ns : List Notice) → at.number ≤ freelist_start → AreStarts ns → AreStarts (tree_notices at file W c ++ ns)
+tree_starts : (at : At) (file : List ℕ) (W : List Reference) (c : Reference) (ns : List Notice) → at.number ≤ freelist_start → AreStarts ns
+    → AreStarts (tree_notices at file W c ++ ns)
 tree_starts at file W c ns most rest k i =
-    elim (IsIn-cases k (numbers (tree_notices at file W c)) (numbers ns) (subst (λ l. IsIn k l) (filter_map-append number_of (tree_notices at file W c) ns) i)) [
+    let here = subst (λ l. IsIn k l) (filter_map-append number_of (tree_notices at file W c) ns) i in
+    elim (IsIn-cases k (numbers (tree_notices at file W c)) (numbers ns) here) [
       | inl j ↦ (let e = of_tree at file W c k j in omega (arith, e, most))
       | inr j ↦ rest k j
     ]
 
-later_starts : (file : List ℕ) (rows : List SchemaRow) (k : ℕ) (W : List Reference) → k + length rows ≤ freelist_start → AreStarts (later_notices file W (enumerate_from k rows))
+later_starts : (file : List ℕ) (rows : List SchemaRow) (k : ℕ) (W : List Reference) → k + length rows ≤ freelist_start
+    → AreStarts (later_notices file W (enumerate_from k rows))
 later_starts file [] k W few = λ j i. (let e = of_found at_freelist (told_below file W (errands_left file [])) j i in omega (arith, e))
 later_starts file (row ∷ rows) k W few =
     let c = root_reference file k row in
     let U = W ++ visited_below file W (Go c ∷ []) in
-    tree_starts (at_row k row) file W c (later_notices file U (enumerate_from (k + 1) rows)) (omega (arith, few)) (later_starts file rows (k + 1) U (omega (arith, few)))
+    tree_starts (at_row k row) file W c (later_notices file U (enumerate_from (k + 1) rows)) (omega (arith, few))
+    (later_starts file rows (k + 1) U (omega (arith, few)))
 
 pub are_starts : (file : List ℕ) (V : List Reference) → AreStarts (start_notices file V)
 are_starts file V =

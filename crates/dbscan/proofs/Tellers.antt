@@ -19,7 +19,8 @@ use Rattle.dbscan.specs.declared.teller.Teller.{Teller}
 module _ {K : Type 0} (hears cuts : K → Notice → K → Type 0) where
   -- all was taken: the reporter heard the same at the start, and rows of the schema were noted
   pub teller_moves : (items : List Finding) (s t : Teller K) → Moves (HandsOn hears) s items t
-      → Moves hears s.reporter.now (map (found s.start.now) items) t.reporter.now × (t.start.now ≡ s.start.now) × (t.has_rows ≡ (s.has_rows || list_any is_schema_row items))
+      → Moves hears s.reporter.now (map (found s.start.now) items) t.reporter.now × (t.start.now ≡ s.start.now)
+      × (t.has_rows ≡ (s.has_rows || list_any is_schema_row items))
   teller_moves [] s t h = (
     ap (λ (w : Teller K). w.reporter.now) h,
     ap (λ (w : Teller K). w.start.now) (sym h),
@@ -32,17 +33,29 @@ module _ {K : Type 0} (hears cuts : K → Notice → K → Type 0) where
         k.2 ∙ ap (λ b. b || list_any is_schema_row items) h.1.has_rows ∙ or_assoc s.has_rows (is_schema_row i) (list_any is_schema_row items),
       )
 
-  teller_some : (items : List Finding) (s t : Teller K) → MovesBySome (HandsOn hears) s items t → MovesBySome hears s.reporter.now (map (found s.start.now) items) t.reporter.now
+  teller_some : (items : List Finding) (s t : Teller K) → MovesBySome (HandsOn hears) s items t
+      → MovesBySome hears s.reporter.now (map (found s.start.now) items) t.reporter.now
   teller_some [] s t h = ap (λ (w : Teller K). w.reporter.now) h
   teller_some (i ∷ items) s t (inl h) = inl (ap (λ (w : Teller K). w.reporter.now) h)
   teller_some (i ∷ items) s t (inr h) =
-      inr (h.0.reporter.now, h.1.moved, subst (λ at. MovesBySome hears h.0.reporter.now (map (found at) items) t.reporter.now) h.1.start (teller_some items h.0 t h.2))
+      inr (
+        h.0.reporter.now,
+        h.1.moved,
+        subst (λ at. MovesBySome hears h.0.reporter.now (map (found at) items) t.reporter.now) h.1.start
+            (teller_some items h.0 t h.2),
+      )
 
-  teller_fails : (items : List Finding) (s t : Teller K) → Stops (HandsOn hears) (HandsOn cuts) s items t → Stops hears cuts s.reporter.now (map (found s.start.now) items) t.reporter.now
+  teller_fails : (items : List Finding) (s t : Teller K) → Stops (HandsOn hears) (HandsOn cuts) s items t
+      → Stops hears cuts s.reporter.now (map (found s.start.now) items) t.reporter.now
   teller_fails [] s t h = absurd h
   teller_fails (i ∷ items) s t (inl h) = inl h.moved
   teller_fails (i ∷ items) s t (inr h) =
-      inr (h.0.reporter.now, h.1.moved, subst (λ at. Stops hears cuts h.0.reporter.now (map (found at) items) t.reporter.now) h.1.start (teller_fails items h.0 t h.2))
+      inr (
+        h.0.reporter.now,
+        h.1.moved,
+        subst (λ at. Stops hears cuts h.0.reporter.now (map (found at) items) t.reporter.now) h.1.start
+            (teller_fails items h.0 t h.2),
+      )
 
   -- it stopped: so did the reporter, in the same way
   pub teller_stops : (e : RunError) (items : List Finding) (s t : Teller K) → StopsBy (HandsOn hears) (HandsOn cuts) e s items t
@@ -67,7 +80,8 @@ abbrev of_reporter : SinkState → SinkState
 of_reporter s = record { lent = rest s.lent; failures = s.failures }
 
 -- after an answer the teller hands on to the same reporter, which failed where the teller did
-pub reporter_after : {A K : Type 0} (held : K → SinkState) (r : Result A RunError) (s t : Teller K) → SinkAfter is_write_failed r (lent_by held s) (lent_by held t)
+pub reporter_after : {A K : Type 0} (held : K → SinkState) (r : Result A RunError) (s t : Teller K)
+    → SinkAfter is_write_failed r (lent_by held s) (lent_by held t)
     → (t.reporter.ghost_name ≡ s.reporter.ghost_name) × SinkAfter is_write_failed r (held s.reporter.now) (held t.reporter.now)
 reporter_after held (Ok a) s t h = (ap (λ (x : SinkState). first x.lent) h, ap of_reporter h)
 reporter_after held (Err (Refused r)) s t h = (ap (λ (x : SinkState). first x.lent) h, ap of_reporter h)

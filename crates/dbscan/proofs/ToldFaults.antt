@@ -9,7 +9,8 @@ use Rattle.dbscan.specs.Notices.{whole}
 use Rattle.dbscan.specs.Telling.{items_of}
 
 pub items_append : (p : Part) (xs ys : List (Option Fault)) → items_of p (xs ++ ys) ≡ items_of p xs ++ items_of p ys
-items_append p xs ys = ap (map (whole p)) (flat_map-append option_to_list xs ys) ∙ map-append (whole p) (flat_map option_to_list xs) (flat_map option_to_list ys)
+items_append p xs ys = ap (map (whole p)) (flat_map-append option_to_list xs ys)
+    ∙ map-append (whole p) (flat_map option_to_list xs) (flat_map option_to_list ys)
 
 pub items_more : (p : Part) (faults : List (Option Fault)) (i : ℕ) (o : Option Fault) → i < length faults → get_or faults i None ≡ o
     → items_of p (take (i + 1) faults) ≡ items_of p (take i faults) ++ items_of p (o ∷ [])

@@ -13,4 +13,5 @@ use Rattle.dbscan.proofs.RunItems.{starts_are}
 
 pub start_errands_listed : (file : List ℕ) (V : List Reference) → Survey file V
     → start_errands file V ≡ Go schema_reference ∷ errands_left file (enumerate_from 1 (listed_rows file V))
-start_errands_listed file V s = starts_are file V s ∙ ap (λ ls. Go schema_reference ∷ errands_at [] (map Follow ls)) (starts_listed file V (listed_rows file V) refl)
+start_errands_listed file V s = starts_are file V s
+    ∙ ap (λ ls. Go schema_reference ∷ errands_at [] (map Follow ls)) (starts_listed file V (listed_rows file V) refl)

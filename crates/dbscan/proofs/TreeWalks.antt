@@ -1,5 +1,6 @@
 -- The walks from the starts, one after another: what a walk over the next tree leaves to be reported.
-use Rattle.std.proofs.Common.{◌≡◌, ◌↔◌, ℕ, suc, ◌+◌, ◌-◌, ◌<◌, Bool, false, cond, inl, List, [], ◌∷◌, ◌++◌, drop, length, map, Some, Result, Ok, Err, refl, sym, ap, subst, ◌∙◌, arith, append_assoc, append-nil}
+use Rattle.std.proofs.Common.{◌≡◌, ◌↔◌, ℕ, suc, ◌+◌, ◌-◌, ◌<◌, Bool, false, cond, inl, List, [], ◌∷◌, ◌++◌, drop, length, map, Some, Result, Ok, Err, refl, sym}
+use Rattle.std.proofs.Common.{ap, subst, ◌∙◌, arith, append_assoc, append-nil}
 use Rattle.std.specs.Prelude.{OnOk, slice_get, ◌==◌}
 use Rattle.std.specs.List.{enumerate_from}
 use Rattle.dbsurvey.specs.Moves.{Moves}
@@ -44,13 +45,16 @@ any_moves [] = refl
 any_moves (i ∷ items) = (tt, tt, any_moves items)
 
 -- one start is done: the next ones are left
-at_next : (file : List ℕ) (V U : List Reference) (c : Reference) (es : List (Errand Way Event)) (marks marks' : List Mark) → IsAtStarts file V U (Go c ∷ es) marks
+at_next : (file : List ℕ) (V U : List Reference) (c : Reference) (es : List (Errand Way Event)) (marks marks' : List Mark)
+    → IsAtStarts file V U (Go c ∷ es) marks
     → AreMarksOf file (U ++ visited_below file U (Go c ∷ [])) marks' → IsAtStarts file V (U ++ visited_below file U (Go c ∷ [])) es marks'
-at_next file V U c es marks marks' h m = left_call Any file [] (start_errands file V) tt U marks tt {A = Unit {0}} Any tt marks' tt (Go c ∷ []) es h (quiet_go c)
+at_next file V U c es marks marks' h m = left_call Any file [] (start_errands file V) tt U marks tt {A = Unit {0}} Any tt marks' tt (Go c ∷ []) es h
+    (quiet_go c)
     (record { marked = m; told = any_moves (told_below file U (Go c ∷ [])) })
 
 -- none is left
-at_end : (file : List ℕ) (V : List Reference) (survey : Survey file V) (U : List Reference) (marks : List Mark) → IsAtStarts file V U [] marks → AreMarksOf file V marks
+at_end : (file : List ℕ) (V : List Reference) (survey : Survey file V) (U : List Reference) (marks : List Mark) → IsAtStarts file V U [] marks
+    → AreMarksOf file V marks
 at_end file V survey U marks h =
     subst (λ W. AreMarksOf file W marks) (all_visited file V survey) (left_none Any file [] (start_errands file V) tt U marks tt {A = Unit {0}} Any tt h).marked
 
@@ -61,12 +65,14 @@ module _ {S : Type 0} (hears cuts : S → Notice → S → Type 0) where
     moved : Moves (HandsOn hears) w items t → Moves hears w.reporter.now (map (found w.start.now) items) t.reporter.now
     moved h = (teller_moves hears cuts items w t h).0
 
-    stopped : (e : RunError) → StopsBy (HandsOn hears) (HandsOn cuts) e w items t → StopsBy hears cuts e w.reporter.now (map (found w.start.now) items) t.reporter.now
+    stopped : (e : RunError) → StopsBy (HandsOn hears) (HandsOn cuts) e w items t
+        → StopsBy hears cuts e w.reporter.now (map (found w.start.now) items) t.reporter.now
     stopped e h = teller_stops hears cuts e items w t h
 
   -- ---- one tree
 
-  module _ {T : Type 0} (keeps : T → SchemaRow → Taken → T → Type 0) (refuses : T → SchemaRow → T → Type 0) (file : List ℕ) (W : List Reference) (c : Reference) (marks : List Mark) (w m : Teller S) (first u : T) where
+  module _ {T : Type 0} (keeps : T → SchemaRow → Taken → T → Type 0) (refuses : T → SchemaRow → T → Type 0) (file : List ℕ) (W : List Reference) (c : Reference)
+      (marks : List Mark) (w m : Teller S) (first u : T) where
     abbrev items : List Finding
     items = told_below file W (Go c ∷ [])
 
@@ -76,7 +82,8 @@ module _ {S : Type 0} (hears cuts : S → Notice → S → Type 0) where
         × (start_of c.address ≡ schema_start → OnOk r (Moves (gives keeps) first (readable_rows file (W ++ visited_below file W (Go c ∷ []))) u))
 
     -- with a taker that starts empty, if the tree is the schema's
-    pub root_done : (r : Result (Unit {0}) RunError) (root : Root) (old : List Mark) → IsRootAfter file root W c old → ((root.kind ≡ Schema) ↔ (root.start ≡ schema_start)) → (held : T → ℕ) → (root.kind ≡ Schema → StartsEmpty keeps held first)
+    pub root_done : (r : Result (Unit {0}) RunError) (root : Root) (old : List Mark) → IsRootAfter file root W c old
+        → ((root.kind ≡ Schema) ↔ (root.start ≡ schema_start)) → (held : T → ℕ) → (root.kind ≡ Schema → StartsEmpty keeps held first)
         → IsTreeDone (HandsOn hears) (HandsOn cuts) keeps refuses file W c r marks (w, first) (m, u) → IsDoneBy r
     root_done r root old after schema held empty done =
         let at = root_address c.address root.start after.candidate.depth after.candidate.start in
@@ -88,7 +95,11 @@ module _ {S : Type 0} (hears cuts : S → Notice → S → Type 0) where
     -- an error stopped the walk
     pub tree_stopped : (e : RunError) → IsDoneBy (Err e) → IsWalkedOver {A = Unit {0}} hears cuts keeps file W c (Err e) marks w m first u
     tree_stopped e d = record {
-      tree = record { marked = tt; told = stops_by_first hears cuts e w.reporter.now m.reporter.now (map (found w.start.now) items) (ended w.start.now ∷ []) (stopped items w m e d.0.told) };
+      tree = record {
+        marked = tt;
+        told = stops_by_first hears cuts e w.reporter.now m.reporter.now (map (found w.start.now) items) (ended w.start.now ∷ [])
+            (stopped items w m e d.0.told);
+      };
       has_rows = tt;
       given = λ k. tt;
     }
@@ -98,22 +109,26 @@ module _ {S : Type 0} (hears cuts : S → Notice → S → Type 0) where
       start_kept = (teller_moves hears cuts items w m d.0.told).1
 
       -- all was reported, and then the tree ended
-      pub tree_ended : hears m.reporter.now (ended m.start.now) t.reporter.now → t.has_rows ≡ m.has_rows → IsWalkedOver {A = Unit {0}} hears cuts keeps file W c (Ok tt) marks w t first u
+      pub tree_ended : hears m.reporter.now (ended m.start.now) t.reporter.now → t.has_rows ≡ m.has_rows
+          → IsWalkedOver {A = Unit {0}} hears cuts keeps file W c (Ok tt) marks w t first u
       tree_ended e rows = record {
         tree = record {
           marked = d.0.marked;
-          told = Moves-append hears w.reporter.now m.reporter.now t.reporter.now (map (found w.start.now) items) (ended w.start.now ∷ []) (moved items w m d.0.told)
+          told = Moves-append hears w.reporter.now m.reporter.now t.reporter.now (map (found w.start.now) items) (ended w.start.now ∷ [])
+              (moved items w m d.0.told)
               (t.reporter.now, subst (λ at. hears m.reporter.now (ended at) t.reporter.now) start_kept e, refl);
         };
         has_rows = rows ∙ (teller_moves hears cuts items w m d.0.told).2;
         given = d.1;
       }
 
-      pub tree_cut : cuts m.reporter.now (ended m.start.now) t.reporter.now → IsWalkedOver {A = Unit {0}} hears cuts keeps file W c (Err WriteFailed) marks w t first u
+      pub tree_cut : cuts m.reporter.now (ended m.start.now) t.reporter.now
+          → IsWalkedOver {A = Unit {0}} hears cuts keeps file W c (Err WriteFailed) marks w t first u
       tree_cut e = record {
         tree = record {
           marked = tt;
-          told = stops_by_after hears cuts WriteFailed w.reporter.now m.reporter.now t.reporter.now (map (found w.start.now) items) (ended w.start.now ∷ []) (moved items w m d.0.told)
+          told = stops_by_after hears cuts WriteFailed w.reporter.now m.reporter.now t.reporter.now (map (found w.start.now) items) (ended w.start.now ∷ [])
+              (moved items w m d.0.told)
               (inl (subst (λ at. cuts m.reporter.now (ended at) t.reporter.now) start_kept e));
         };
         has_rows = tt;
@@ -124,14 +139,16 @@ module _ {S : Type 0} (hears cuts : S → Notice → S → Type 0) where
     -- ---- the schema's tree
 
     -- it is done, and the trees of its rows are left
-    pub schema_told : (marks marks' : List Mark) (rows : List SchemaRow) (any : Bool) (t : S) → AreMarksOf file [] marks → IsSchemaWalked hears cuts file (Ok any) marks' rows before t
+    pub schema_told : (marks marks' : List Mark) (rows : List SchemaRow) (any : Bool) (t : S) → AreMarksOf file [] marks
+        → IsSchemaWalked hears cuts file (Ok any) marks' rows before t
         → IsBetweenStarts hears cuts file V before (enumerate_from 1 rows) marks' t
     schema_told marks marks' rows any t fresh d =
         let U = [] ++ visited_below file [] (Go schema_reference ∷ []) in
         let of = d.schema V survey in
         record {
           visits = U;
-          at = subst (λ es. IsAtStarts file V U es marks') (sym of.left) (at_next file V [] schema_reference (later_errands file V) marks marks' (starts_left file V survey marks fresh) d.tree.marked);
+          at = subst (λ es. IsAtStarts file V U es marks') (sym of.left)
+              (at_next file V [] schema_reference (later_errands file V) marks marks' (starts_left file V survey marks fresh) d.tree.marked);
           notices = tree_notices at_schema file [] schema_reference;
           told = d.tree.told;
           rest = ap (λ l. tree_notices at_schema file [] schema_reference ++ later_notices file U (enumerate_from 1 l)) of.listed;
@@ -141,7 +158,8 @@ module _ {S : Type 0} (hears cuts : S → Notice → S → Type 0) where
 
     module _ (marks marks' : List Mark) (s t : S) where
       next_told : (k : ℕ) (row : SchemaRow) (left : List (ℕ × SchemaRow)) (h : IsBetweenStarts hears cuts file V before ((k, row) ∷ left) marks s)
-          → (r : Result (Unit {0}) RunError) → IsTreeWalked hears cuts (at_row k row) file h.visits (root_reference file k row) r marks' s t → StopsTelling hears cuts file V before left r marks' t
+          → (r : Result (Unit {0}) RunError) → IsTreeWalked hears cuts (at_row k row) file h.visits (root_reference file k row) r marks' s t
+          → StopsTelling hears cuts file V before left r marks' t
       next_told k row left h (Ok u) d =
           let c = root_reference file k row in
           let its = tree_notices (at_row k row) file h.visits c in
@@ -161,7 +179,8 @@ module _ {S : Type 0} (hears cuts : S → Notice → S → Type 0) where
 
       pub root_told : (rows : List SchemaRow) (i : ℕ) (r : Result (Unit {0}) RunError) → i < length rows
           → IsBetweenStarts hears cuts file V before (enumerate_from (i + 1) (drop i rows)) marks s
-          → ((row : SchemaRow) → slice_get rows (i + 1 - 1) ≡ Some row → (U : List Reference) (d : Reference) → IsRootAfter file (root_of (encoding file) (i + 1) row) U d marks
+          → ((row : SchemaRow) → slice_get rows (i + 1 - 1) ≡ Some row → (U : List Reference) (d : Reference)
+          → IsRootAfter file (root_of (encoding file) (i + 1) row) U d marks
           → IsTreeWalked hears cuts (at_row (i + 1) row) file U d r marks' s t)
           → StopsTelling hears cuts file V before (enumerate_from (i + 1 + 1) (drop (i + 1) rows)) r marks' t
       root_told rows i r l h walked =
@@ -170,17 +189,21 @@ module _ {S : Type 0} (hears cuts : S → Notice → S → Type 0) where
           let there = row_there rows i l in
           let here : drop i rows ≡ there.0 ∷ drop (i + 1) rows = drop_more rows i there.0 there.1 ∙ ap (λ j. there.0 ∷ drop j rows) k in
           let rest = enumerate_from (i + 1 + 1) (drop (i + 1) rows) in
-          let left : IsBetweenStarts hears cuts file V before ((i + 1, there.0) ∷ rest) marks s = subst (λ l. IsBetweenStarts hears cuts file V before (enumerate_from (i + 1) l) marks s) here h in
+          let left : IsBetweenStarts hears cuts file V before ((i + 1, there.0) ∷ rest) marks s =
+          subst (λ l. IsBetweenStarts hears cuts file V before (enumerate_from (i + 1) l) marks s) here h in
           let next = root_next file V left.visits marks (encoding file) (i + 1) there.0 (errands_left file rest) (survey_below_starts file V survey) left.at in
           next_told (i + 1) there.0 rest left r (walked there.0 (ap (slice_get rows) n ∙ there.1) left.visits (root_reference file (i + 1) there.0) next)
 
     -- ---- the freelist, which is the last
 
-    pub freelist_told : (marks marks' : List Mark) (w t : Teller S) (first : ℕ) (r : Result (Unit {0}) RunError) → w.start.now ≡ at_freelist → (first == 0) ≡ false → first ≡ first_trunk file
+    pub freelist_told : (marks marks' : List Mark) (w t : Teller S) (first : ℕ) (r : Result (Unit {0}) RunError) → w.start.now ≡ at_freelist → (first == 0)
+        ≡ false → first ≡ first_trunk file
         → IsBetweenStarts hears cuts file V before [] marks w.reporter.now
-        → ((U : List Reference) (d : Reference) → IsFirstTrunk first d → IsNext U d → AreMarksOf file U marks → IsDone (HandsOn hears) (HandsOn cuts) file U (Go d ∷ []) r marks' w t)
+        → ((U : List Reference) (d : Reference) → IsFirstTrunk first d → IsNext U d → AreMarksOf file U marks
+        → IsDone (HandsOn hears) (HandsOn cuts) file U (Go d ∷ []) r marks' w t)
         → AreTold hears cuts file V r marks' before t.reporter.now
-    freelist_told marks marks' w t first r start some e h walked = by_result r (walked h.visits d (record { page = refl; role = refl; from = refl; item = refl }) at.past at.marked)
+    freelist_told marks marks' w t first r start some e h walked =
+        by_result r (walked h.visits d (record { page = refl; role = refl; from = refl; item = refl }) at.past at.marked)
       where
         d : Reference
         d = freelist_reference first
@@ -196,9 +219,11 @@ module _ {S : Type 0} (hears cuts : S → Notice → S → Type 0) where
         items = told_below file h.visits (Go d ∷ [])
 
         all : h.notices ++ map (found w.start.now) items ≡ start_notices file V
-        all = ap (λ at. h.notices ++ map (found at) items) start ∙ ap (λ es. h.notices ++ map (found at_freelist) (told_below file h.visits es)) (sym one) ∙ h.rest
+        all = ap (λ at. h.notices ++ map (found at) items) start ∙ ap (λ es. h.notices ++ map (found at_freelist) (told_below file h.visits es)) (sym one)
+            ∙ h.rest
 
-        by_result : (r : Result (Unit {0}) RunError) → IsDone (HandsOn hears) (HandsOn cuts) file h.visits (Go d ∷ []) r marks' w t → AreTold hears cuts file V r marks' before t.reporter.now
+        by_result : (r : Result (Unit {0}) RunError) → IsDone (HandsOn hears) (HandsOn cuts) file h.visits (Go d ∷ []) r marks' w t
+            → AreTold hears cuts file V r marks' before t.reporter.now
         by_result (Ok u) k = record {
           marked = at_end file V survey _ marks' (at_next file V h.visits d [] marks marks' at k.marked);
           told = subst (λ L. Moves hears before L t.reporter.now) all
@@ -211,7 +236,8 @@ module _ {S : Type 0} (hears cuts : S → Notice → S → Type 0) where
         }
 
     -- there is none
-    pub no_freelist_told : (marks : List Mark) (s : S) → first_trunk file ≡ 0 → IsBetweenStarts hears cuts file V before [] marks s → AreTold {A = Unit {0}} hears cuts file V (Ok tt) marks before s
+    pub no_freelist_told : (marks : List Mark) (s : S) → first_trunk file ≡ 0 → IsBetweenStarts hears cuts file V before [] marks s
+        → AreTold {A = Unit {0}} hears cuts file V (Ok tt) marks before s
     no_freelist_told marks s e h = record {
       marked = at_end file V survey h.visits marks (subst (λ es. IsAtStarts file V h.visits es marks) none h.at);
       told = subst (λ L. Moves hears before L s) all h.told;
@@ -228,7 +254,8 @@ module _ {S : Type 0} (hears cuts : S → Notice → S → Type 0) where
 
   module _ (file : List ℕ) (V : List Reference) (marks : List Mark) (rows : List SchemaRow) (s t : S) where
     -- an error stopped the walk over the schema's tree, or those after it
-    pub schema_stopped : (e : RunError) → IsTreeWalked {A = Bool} hears cuts at_schema file [] schema_reference (Err e) marks s t → AreWalked hears cuts file V (Err e) marks rows s t
+    pub schema_stopped : (e : RunError) → IsTreeWalked {A = Bool} hears cuts at_schema file [] schema_reference (Err e) marks s t
+        → AreWalked hears cuts file V (Err e) marks rows s t
     schema_stopped e d = record {
       all = record { marked = tt; told = stops_by_first hears cuts e s t (tree_notices at_schema file [] schema_reference) _ d.told };
       has_rows = tt;
@@ -239,5 +266,6 @@ module _ {S : Type 0} (hears cuts : S → Notice → S → Type 0) where
     later_stopped e d = record { all = record { marked = tt; told = d.told }; has_rows = tt; listed = tt }
 
     -- all was walked over
-    pub all_walked : (any : Bool) → IsSchemaOf file V rows any → AreTold {A = Unit {0}} hears cuts file V (Ok tt) marks s t → AreWalked hears cuts file V (Ok any) marks rows s t
+    pub all_walked : (any : Bool) → IsSchemaOf file V rows any → AreTold {A = Unit {0}} hears cuts file V (Ok tt) marks s t
+        → AreWalked hears cuts file V (Ok any) marks rows s t
     all_walked any of d = record { all = record { marked = d.marked; told = d.told }; has_rows = of.has_rows; listed = of.listed }

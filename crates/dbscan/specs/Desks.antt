@@ -17,14 +17,14 @@ use Rattle.dbscan.specs.Roots.{Listed}
 use Rattle.dbscan.specs.declared.desk.Desk.TheInside.{Inside}
 
 -- a desk as contracts see it
-pub record Things : Type 0 where
+pub record DeskView : Type 0 where
   pub header : HeaderBytes
   pub pages : Pages
   pub marks : List Mark
   pub roots : Listed
 
-abbrev pub things : {A : Type 0} → Inside A → Things
-things d = record { header = d.header; pages = d.bench; marks = d.marks; roots = d.roots }
+abbrev pub desk_view : {A : Type 0} → Inside A → DeskView
+desk_view d = record { header = d.header; pages = d.bench; marks = d.marks; roots = d.roots }
 
 -- the header is accepted, and page buffers and marks are those for its file
 pub record AreForHeader {A : Type 0} (d : Inside A) : Type 0 where
@@ -33,15 +33,15 @@ pub record AreForHeader {A : Type 0} (d : Inside A) : Type 0 where
   pub marks : AreMarksFor d.bench.geometry d.marks
 
 -- the shape of the file of a desk
-abbrev pub shape_of : Things → Geometry
+abbrev pub shape_of : DeskView → Geometry
 shape_of d = geometry_of d.header.bytes d.header.file_len
 
 -- no page was visited, and no root taken
-pub record IsFresh (d : Things) : Type 0 where
+pub record IsFresh (d : DeskView) : Type 0 where
   pub marks : d.marks ≡ marks_of (shape_of d) []
   pub roots : d.roots.rows ≡ []
 
 -- What walks over a desk asked for: pages of its file, none twice, each of which got its mark in between. What was left holds
 -- of each file with its header that agrees with what was read. The source failed exactly where that is answered.
-abbrev pub AsksOver : {A : Type 0} → Step → Things → Things → (List ℕ → Type 0) → Result A RunError → SourceState → SourceState → Type 0
+abbrev pub AsksOver : {A : Type 0} → Step → DeskView → DeskView → (List ℕ → Type 0) → Result A RunError → SourceState → SourceState → Type 0
 AsksOver step old new T r before after = Asks step (Reads (shape_of old).page_size old.marks new.marks) (λ file. IsHeaderOf old.header file → T file) is_read_failed r before after

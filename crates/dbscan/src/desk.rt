@@ -20,13 +20,13 @@ pub struct Desk<A: Allocator = Global> {
 }
 
 impl<A: Allocator> Model for Desk<A> {
-    ghost use Rattle.dbscan.specs.Desks.{Things};
+    ghost use Rattle.dbscan.specs.Desks.{DeskView};
 
-    ghost Value = { Things };
+    ghost Value = { DeskView };
 
-    ghost use Rattle.dbscan.specs.Desks.{things, AreForHeader};
+    ghost use Rattle.dbscan.specs.Desks.{desk_view, AreForHeader};
 
-    ghost view = { things };
+    ghost view = { desk_view };
 
     ghost invariant = { AreForHeader };
 }

@@ -19,14 +19,14 @@ use std::alloc::Allocator;
 
 /// A desk, as the contract of [`Finish`] sees it. It is a trait, since a trait's method with a `&mut Desk<A>` gets no clauses yet.
 pub trait Viewed {
-    ghost use Rattle.dbscan.specs.Desks.{Things};
+    ghost use Rattle.dbscan.specs.Desks.{DeskView};
 
     // What is on it.
-    ghost things: { Self → Things };
+    ghost desk_view: { Self → DeskView };
 }
 
 impl<A: Allocator> Viewed for Desk<A> {
-    ghost things = { λ d. d };
+    ghost desk_view = { λ d. d };
 }
 
 /// A reporter that ends its report when it has heard all of a file, and answers what was found. `D` is a [`Desk`].
@@ -46,7 +46,7 @@ pub trait Finish<D: Viewed>: Reporter {
     ///
     /// [`RunError::ReadFailed`] exactly where the source failed, and [`RunError::WriteFailed`] exactly where an Out failed.
     fn finish<S: Source>(&mut self, desk: &mut D, source: &mut S) -> Result<Verdict, RunError>
-        ensures { HasFinished S.Source Self.hears Self.held leaves result (D.things desk.old) (D.things desk.new)
+        ensures { HasFinished S.Source Self.hears Self.held leaves result (D.desk_view desk.old) (D.desk_view desk.new)
             (source.old, self.old) (source.new, self.new) };
 }
 

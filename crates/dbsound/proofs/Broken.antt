@@ -20,7 +20,8 @@ refused_beside {broken = broken} {why = why} sound e = (sound, e, none)
     none : Sound broken → ⊥
     none s = let h = sym e ∙ s.is_read in cc
 
-pub fails_beside : {whole broken : List ℕ} {f : Fault} → Sound whole → refusal broken ≡ None → faults broken (survey broken) ≡ f ∷ [] → FailsBeside whole broken f
+pub fails_beside : {whole broken : List ℕ} {f : Fault} → Sound whole → refusal broken ≡ None → faults broken (survey broken) ≡ f ∷ []
+    → FailsBeside whole broken f
 fails_beside {broken = broken} {f = f} sound read e = (sound, read, e, none)
   where
     none : Sound broken → ⊥

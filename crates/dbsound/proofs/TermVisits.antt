@@ -20,7 +20,8 @@ use Rattle.dbformat.specs.File.{page_bytes}
 use Rattle.dbformat.specs.Cell.{Cell}
 use Rattle.dbformat.specs.SchemaRow.{SchemaRow}
 use Rattle.dbformat.specs.Reference.{Role, trunk, free_leaf, Reference, leaf_count, free_leaves}
-use Rattle.dbformat.specs.Terms.{Use, Chain, last, full, Payload, whole, split, Payloads, none, more, role_in_tree, Tree, leaf, interior, Children, right_only, and_left, Freelist, no_trunk, and_trunk}
+use Rattle.dbformat.specs.Terms.{Use, Chain, last, full, Payload, whole, split, Payloads, none, more, role_in_tree, Tree, leaf, interior, Children, right_only}
+use Rattle.dbformat.specs.Terms.{and_left, Freelist, no_trunk, and_trunk}
 use Rattle.dbformat.specs.Sound.{Forest, no_tree, and_tree}
 use Rattle.dbformat.specs.declared.TreeKind.{TreeKind}
 
@@ -47,13 +48,15 @@ payloads_visits none i a = []
 payloads_visits (more t ts) i a = payload_visits t i a ++ payloads_visits ts (i + 1) a
 
 abbrev mutual
-  pub tree_visits : {file : List ℕ} {is_child : Bool} {from p : ℕ} {kind : TreeKind} {height : ℕ} {low high : Option ℤ} {uses : List Use} {payloads : List (List ℕ)}
+  pub tree_visits : {file : List ℕ} {is_child : Bool} {from p : ℕ} {kind : TreeKind} {height : ℕ} {low high : Option ℤ} {uses : List Use}
+      {payloads : List (List ℕ)}
       → Tree file is_child from p kind height low high uses payloads → ℕ → Address → List Reference
   tree_visits (leaf {is_child} {from} {p} {kind} v w l r ps) item a = visit_at (role_in_tree is_child kind) from item p a ∷ payloads_visits ps 0 a
   tree_visits (interior {is_child} {from} {p} {kind} v w r cs) item a = visit_at (role_in_tree is_child kind) from item p a ∷ children_visits cs 0 a
 
   -- what hangs at the cells from i on, and the right child
-  pub children_visits : {file : List ℕ} {p : ℕ} {kind : TreeKind} {height : ℕ} {low high : Option ℤ} {cs : List Cell} {right : ℕ} {uses : List Use} {payloads : List (List ℕ)}
+  pub children_visits : {file : List ℕ} {p : ℕ} {kind : TreeKind} {height : ℕ} {low high : Option ℤ} {cs : List Cell} {right : ℕ} {uses : List Use}
+      {payloads : List (List ℕ)}
       → Children file p kind height low high cs right uses payloads → ℕ → Address → List Reference
   children_visits (right_only t) i a = tree_visits t i (a ++ child_step i ∷ [])
   children_visits (and_left ps l lo hi t cs) i a = payload_visits ps i a ++ tree_visits t i (a ++ child_step i ∷ []) ++ children_visits cs (i + 1) a

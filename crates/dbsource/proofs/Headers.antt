@@ -1,5 +1,6 @@
 -- What length and bytes say of a file whose first 100 they are.
-use Rattle.std.proofs.Common.{Option, ◌≡◌, ℕ, ◌+◌, ◌-◌, ◌<◌, ◌≤◌, List, [], ◌∷◌, ◌++◌, length, take, true, false, refl, sym, ap, ◌∙◌, arith, subst, Some, None, Err, Result, length-append}
+use Rattle.std.proofs.Common.{Option, ◌≡◌, ℕ, ◌+◌, ◌-◌, ◌<◌, ◌≤◌, List, [], ◌∷◌, ◌++◌, length, take, true, false, refl, sym, ap, ◌∙◌, arith, subst, Some, None}
+use Rattle.std.proofs.Common.{Err, Result, length-append}
 use Rattle.std.specs.Prelude.{nat_lt, IfSome}
 use Rattle.std.proofs.Math.ListN.{replicate}
 use Rattle.std.proofs.lemmas.List.{length-replicate}
@@ -55,7 +56,8 @@ header_of file bytes n h e size read accepted same_bytes same_len =
     let first : h.bytes ≡ take 100 file = same_bytes ∙ begins file bytes size read in
     let all : h.file_len ≡ length file = same_len ∙ e in
     record {
-      is_read = sym (ap (refusal_of bytes) e ∙ ap (λ b. refusal_of b (length file)) (begins file bytes size read) ∙ refusal_within file (length file)) ∙ accepted;
+      is_read = sym (ap (refusal_of bytes) e ∙ ap (λ b. refusal_of b (length file)) (begins file bytes size read) ∙ refusal_within file (length file))
+          ∙ accepted;
       begins = first;
       whole = all;
       shape = ap (λ b. geometry_of b h.file_len) first ∙ ap (geometry_of (take 100 file)) all ∙ geometry_within file (length file);
@@ -94,9 +96,11 @@ told_len_is (Some file) = refl
 pub beginning : (bytes : List ℕ) (len : ℕ) → length bytes ≤ len → (file : List ℕ) × (length file ≡ len) × IsRangeOf file 0 bytes
 beginning bytes len h =
     let zeros : List ℕ = replicate (len - length bytes) 0 in
-    let whole : length (bytes ++ zeros) ≡ len = length-append bytes zeros ∙ ap (λ n. length bytes + n) (length-replicate (len - length bytes) 0) ∙ omega arith in
+    let whole : length (bytes ++ zeros) ≡ len = length-append bytes zeros ∙ ap (λ n. length bytes + n) (length-replicate (len - length bytes) 0)
+    ∙ omega arith in
     (bytes ++ zeros, whole, (omega arith, sym (take-append_seam bytes zeros)))
 
 -- so it holds of told bytes
-pub opens_told : {step : Step} {lengths : Lengths} (r : Result HeaderBytes OpenError) {old new : SourceState} → Opens step lengths r old new → IfSome old.bytes (IsOpenOf r)
+pub opens_told : {step : Step} {lengths : Lengths} (r : Result HeaderBytes OpenError) {old new : SourceState} → Opens step lengths r old new
+    → IfSome old.bytes (IsOpenOf r)
 opens_told r {old = old} o = if_told_both old.bytes (λ file f e. f e) (has_told o.asks.log) o.same

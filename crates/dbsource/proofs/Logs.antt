@@ -1,5 +1,6 @@
 -- Lemmas on logs.
-use Rattle.std.proofs.Common.{◌≡◌, ℕ, ◌+◌, ◌<◌, ◌≤◌, ap, subst, Bool, Result, Ok, Err, List, [], ◌∷◌, ◌++◌, length, map, refl, sym, ◌∙◌, arith, append_assoc, append-nil, length-append}
+use Rattle.std.proofs.Common.{◌≡◌, ℕ, ◌+◌, ◌<◌, ◌≤◌, ap, subst, Bool, Result, Ok, Err, List, [], ◌∷◌, ◌++◌, length, map, refl, sym, ◌∙◌, arith, append_assoc}
+use Rattle.std.proofs.Common.{append-nil, length-append}
 use Rattle.std.specs.Prelude.{Option, IfSome, OnOk}
 use Rattle.std.proofs.lemmas.List.{map-append}
 use Rattle.std.proofs.lemmas.Grind.{common_steps}
@@ -14,16 +15,19 @@ use Rattle.dbsource.specs.Sources.{Asks, HasLog, HasRanges, SourceState, kept_st
 use Rattle.dbsource.proofs.Told.{if_told, if_told_both, told_all}
 
 -- a trail with room takes the range
-pub kept_room : (old : Trail) (a : Answer) (new : Trail) → length old.ranges < 1024 → kept_step old a new → new ≡ (record old { ranges = old.ranges ++ asked a ∷ [] })
+pub kept_room : (old : Trail) (a : Answer) (new : Trail) → length old.ranges < 1024 → kept_step old a new → new
+    ≡ (record old { ranges = old.ranges ++ asked a ∷ [] })
 kept_room old a new h e = grind (arith, common_steps)
 
 -- a trail that has room for the log grows by it
-pub kept_log : (old : Trail) (log : List Answer) (new : Trail) → length old.ranges + length log ≤ 1024 → Leads kept_step old log new → new ≡ (record old { ranges = old.ranges ++ map asked log })
+pub kept_log : (old : Trail) (log : List Answer) (new : Trail) → length old.ranges + length log ≤ 1024 → Leads kept_step old log new → new
+    ≡ (record old { ranges = old.ranges ++ map asked log })
 kept_log old [] new h e = e ∙ ap (λ l. record old { ranges = l }) (sym (append-nil old.ranges))
 kept_log old (a ∷ log) new h (mid, e, k) =
     let here : mid ≡ (record old { ranges = old.ranges ++ asked a ∷ [] }) = kept_room old a mid (omega arith) e in
     let room : length mid.ranges + length log ≤ 1024 = omega (arith, ap (λ (t : Trail). length t.ranges) here, length-append old.ranges (asked a ∷ [])) in
-    kept_log mid log new room k ∙ ap (λ (t : Trail). record t { ranges = t.ranges ++ map asked log }) here ∙ ap (λ l. record old { ranges = l }) (append_assoc old.ranges (asked a ∷ []) (map asked log))
+    kept_log mid log new room k ∙ ap (λ (t : Trail). record t { ranges = t.ranges ++ map asked log }) here
+    ∙ ap (λ l. record old { ranges = l }) (append_assoc old.ranges (asked a ∷ []) (map asked log))
 
 -- ---- what was answered, one log after another
 
@@ -60,7 +64,8 @@ has_none s t b e p q = record { log = []; leads = e; told = b; tells = told_all 
 
 -- one range was read
 abbrev pub has_one : {A E : Type 0} {step : Step} {P : List ByteRange → Type 0} {Q : List ℕ → Type 0} {old new : SourceState}
-    (r : Result A E) (offset : ℕ) (buf : List ℕ) → new.bytes ≡ old.bytes → step old.trail (answer r offset buf) new.trail → OnOk r (IfSome old.bytes (λ file. IsRangeOf file offset buf))
+    (r : Result A E) (offset : ℕ) (buf : List ℕ) → new.bytes ≡ old.bytes → step old.trail (answer r offset buf) new.trail
+    → OnOk r (IfSome old.bytes (λ file. IsRangeOf file offset buf))
     → P (range offset (length buf) ∷ []) → ((file : List ℕ) → OnOk r (IsRangeOf file offset buf) → Q file) → HasLog step P Q old new
 has_one {step = step} {P = P} {Q = Q} {old = old} {new = new} r offset buf b e t p q = record {
   log = answer r offset buf ∷ [];
@@ -76,8 +81,10 @@ has_one {step = step} {P = P} {Q = Q} {old = old} {new = new} r offset buf b e t
     fits_one file (Err e) h = tt
 
 -- one log after another
-pub has_append : {step : Step} (P P' : List ByteRange → Type 0) {R : List ByteRange → Type 0} (Q Q' : List ℕ → Type 0) {T : List ℕ → Type 0} {old mid new : SourceState}
-    → HasLog step P Q old mid → HasLog step P' Q' mid new → ((a b : List ByteRange) → P a → P' b → R (a ++ b)) → ((file : List ℕ) → Q file → Q' file → T file) → HasLog step R T old new
+pub has_append : {step : Step} (P P' : List ByteRange → Type 0) {R : List ByteRange → Type 0} (Q Q' : List ℕ → Type 0) {T : List ℕ → Type 0}
+    {old mid new : SourceState}
+    → HasLog step P Q old mid → HasLog step P' Q' mid new → ((a b : List ByteRange) → P a → P' b → R (a ++ b)) → ((file : List ℕ) → Q file → Q' file → T file)
+    → HasLog step R T old new
 has_append {step} P P' {R} Q Q' {T} {old} {mid} {new} h k f q = record {
   log = h.log ++ k.log;
   leads = leads_append step old.trail mid.trail new.trail h.log k.log h.leads k.leads;
@@ -90,7 +97,15 @@ has_append {step} P P' {R} Q Q' {T} {old} {mid} {new} h k f q = record {
 -- of what was read, something weaker
 pub has_weaker : {step : Step} (P : List ByteRange → Type 0) {P' : List ByteRange → Type 0} (Q : List ℕ → Type 0) {Q' : List ℕ → Type 0} {old new : SourceState}
     → HasLog step P Q old new → ((log : List ByteRange) → P log → P' log) → ((file : List ℕ) → Q file → Q' file) → HasLog step P' Q' old new
-has_weaker P Q h f q = record { log = h.log; leads = h.leads; told = h.told; tells = h.tells; holds = f (map asked h.log) h.holds; files = λ file g. q file (h.files file g) }
+has_weaker P Q h f q = record {
+  log = h.log;
+  leads = h.leads;
+  told = h.told;
+  tells = h.tells;
+  holds = f (map asked h.log) h.holds;
+  files =
+      λ file g. q file (h.files file g);
+}
 
 -- its ranges
 pub has_ranges : {step : Step} {P : List ByteRange → Type 0} {Q : List ℕ → Type 0} {old new : SourceState}
@@ -121,11 +136,13 @@ asks_one {step = step} {is_failure = is_failure} r s old mid new offset buf told
 pub asks_weaker : {A B E F : Type 0} {step : Step} (P : List ByteRange → Type 0) {P' : List ByteRange → Type 0} (Q : List ℕ → Type 0) {Q' : List ℕ → Type 0}
     {is_failure : E → Bool} {is_failure' : F → Bool} {r : Result A E} (s : Result B F) {old new : SourceState}
     → ((n : ℕ) → failures_after is_failure r n ≡ failures_after is_failure' s n)
-    → Asks step P Q is_failure r old new → ((log : List ByteRange) → P log → P' log) → ((file : List ℕ) → Q file → Q' file) → Asks step P' Q' is_failure' s old new
+    → Asks step P Q is_failure r old new → ((log : List ByteRange) → P log → P' log) → ((file : List ℕ) → Q file → Q' file)
+    → Asks step P' Q' is_failure' s old new
 asks_weaker P Q s {old = old} same h f q = record { log = has_weaker P Q h.log f q; count = h.count ∙ same old.failures }
 
 -- A call in which nothing failed, and then another, where the failures of this one are counted by another answer.
-pub asks_then : {A B C E F G : Type 0} {step : Step} (P P' : List ByteRange → Type 0) {R : List ByteRange → Type 0} (Q Q' : List ℕ → Type 0) {T : List ℕ → Type 0}
+pub asks_then : {A B C E F G : Type 0} {step : Step} (P P' : List ByteRange → Type 0) {R : List ByteRange → Type 0} (Q Q' : List ℕ → Type 0)
+    {T : List ℕ → Type 0}
     {is_first : E → Bool} {is_second : F → Bool} {is_failure : G → Bool} {r : Result A E} {s : Result B F} (t : Result C G) {old mid new : SourceState}
     → ((n : ℕ) → failures_after is_first r n ≡ n) → ((n : ℕ) → failures_after is_second s n ≡ failures_after is_failure t n)
     → Asks step P Q is_first r old mid → Asks step P' Q' is_second s mid new
@@ -136,6 +153,7 @@ asks_then P P' Q Q' {is_failure = is_failure} t {old = old} {mid = mid} none sam
 }
 
 -- a failed read of the header, as an error of a run
-pub open_failures : (e : OpenError) (n : ℕ) → failures_after {A = Unit {0}} is_open_failed (Err e) n ≡ failures_after {A = Unit {0}} is_read_failed (Err (run_error e)) n
+pub open_failures : (e : OpenError) (n : ℕ) → failures_after {A = Unit {0}} is_open_failed (Err e) n
+    ≡ failures_after {A = Unit {0}} is_read_failed (Err (run_error e)) n
 open_failures (Refused refusal) n = refl
 open_failures ReadFailed n = refl

@@ -1,5 +1,6 @@
 -- A header that is put over what was read.
-use Rattle.std.proofs.Common.{◌≡◌, ℕ, ◌≤◌, Bool, true, false, cond, List, ◌++◌, length, take, drop, refl, sym, ap, subst, ◌∙◌, ◌<◌, append-nil, arith, Option, Some, None, inl, inr}
+use Rattle.std.proofs.Common.{◌≡◌, ℕ, ◌≤◌, Bool, true, false, cond, List, ◌++◌, length, take, drop, refl, sym, ap, subst, ◌∙◌, ◌<◌, append-nil, arith, Option}
+use Rattle.std.proofs.Common.{Some, None, inl, inr}
 use Rattle.std.specs.Prelude.{min, nat_lt, IfSome, ◌==◌, ◌⊎◌}
 use Rattle.std.specs.Str.{bytes_eq}
 use Rattle.std.proofs.Math.ListN.{drop_of_length-le}
@@ -16,7 +17,8 @@ pub over_first : (head buf new : List ℕ) (offset count : ℕ) → offset ≡ 0
 over_first head buf new offset count z h c n =
     ap (λ xs. xs ++ drop count buf) n ∙ by_length (cases_Bool (nat_lt (length buf) 100)) ∙ sym (ap (λ o. over head o buf) z)
   where
-    by_length : (nat_lt (length buf) 100 ≡ true) ⊎ (nat_lt (length buf) 100 ≡ false) → take count head ++ drop count buf ≡ take (length buf) head ++ drop 100 buf
+    by_length : (nat_lt (length buf) 100 ≡ true) ⊎ (nat_lt (length buf) 100 ≡ false) → take count head ++ drop count buf ≡ take (length buf) head
+        ++ drop 100 buf
     by_length (inl e) =
         let l : length buf < 100 = grind (arith, nat_tests) in
         let k : count ≡ length buf = omega arith in
@@ -52,7 +54,8 @@ over_range head file offset buf e k = by_offset (offset == 0) refl
         ap (λ h. take (length buf) h ++ drop 100 buf) (sym e) ∙ over_same file buf (k.1 ∙ ap (λ n. take (length buf) (drop n file)) z)
 
 -- told bytes that begin with the header are not changed by it
-pub over_told : (head : List ℕ) (o : Option (List ℕ)) (offset : ℕ) (buf new : List ℕ) → new ≡ over head offset buf → IfSome o (λ file. IsRangeOf file offset buf) → IfSome (begun head o) (λ file. IsRangeOf file offset new)
+pub over_told : (head : List ℕ) (o : Option (List ℕ)) (offset : ℕ) (buf new : List ℕ) → new ≡ over head offset buf
+    → IfSome o (λ file. IsRangeOf file offset buf) → IfSome (begun head o) (λ file. IsRangeOf file offset new)
 over_told head None offset buf new e k = tt
 over_told head (Some file) offset buf new e k = by_head (bytes_eq (take 100 file) head) refl
   where

@@ -1,5 +1,6 @@
 -- What a run read: its header, and then pages through a source that gives the header again.
-use Rattle.std.proofs.Common.{◌≡◌, ℕ, ◌*◌, ◌/◌, ◌<◌, ◌≤◌, Bool, true, false, cond, List, [], ◌∷◌, ◌++◌, length, map, take, drop, refl, sym, ap, ap₂, subst, ◌∙◌, arith, Option, Some, None, Err, inl, inr, length-append, Ok, Result}
+use Rattle.std.proofs.Common.{◌≡◌, ℕ, ◌*◌, ◌/◌, ◌<◌, ◌≤◌, Bool, true, false, cond, List, [], ◌∷◌, ◌++◌, length, map, take, drop, refl, sym, ap, ap₂, subst, ◌∙◌}
+use Rattle.std.proofs.Common.{arith, Option, Some, None, Err, inl, inr, length-append, Ok, Result}
 use Rattle.std.specs.Prelude.{IfSome, min, ◌==◌, ◌⊎◌}
 use Rattle.std.proofs.Math.Nat.{mul-le-mul_right, min-le_right, div-mul-le_self}
 use Rattle.std.proofs.Math.Seq.{take-append_seam}
@@ -26,7 +27,8 @@ use Rattle.dbsource.proofs.Headers.{header_of, opens_told}
 use Rattle.dbsource.proofs.Snapshots.{BeginsSo, snapshot}
 use Rattle.dbsource.proofs.Told.{if_told, if_told_both}
 
-pub same_trail : (n m : ℕ) (a b : List ℕ) (o p : Option (List ℕ)) (s t : Trail) → headed_trail n a o s ≡ headed_trail m b p t → (n ≡ m) × (a ≡ b) × (o ≡ p) × (s ≡ t)
+pub same_trail : (n m : ℕ) (a b : List ℕ) (o p : Option (List ℕ)) (s t : Trail) → headed_trail n a o s ≡ headed_trail m b p t → (n ≡ m) × (a ≡ b) × (o ≡ p)
+    × (s ≡ t)
 same_trail n m a b o p s t e =
     let fronts : front n a o ∷ s.fronts ≡ front m b p ∷ t.fronts = ap (λ (x : Trail). x.fronts) e in
     let first : front n a o ≡ front m b p = cc in
@@ -53,7 +55,8 @@ behind step name head told old new [] e = record { raw = []; after = old; is = e
 behind step name head told old new (a ∷ log) (mid, s, k) =
     let m = same_trail name s.name head s.head told s.told old s.before s.was in
     let here : mid ≡ headed_trail name head told s.after =
-    s.is ∙ ap (λ o. headed_trail s.name s.head o s.after) (sym m.2) ∙ ap (λ d. headed_trail s.name d told s.after) (sym m.1) ∙ ap (λ n. headed_trail n head told s.after) (sym m.0) in
+    s.is ∙ ap (λ o. headed_trail s.name s.head o s.after) (sym m.2) ∙ ap (λ d. headed_trail s.name d told s.after) (sym m.1)
+    ∙ ap (λ n. headed_trail n head told s.after) (sym m.0) in
     let rest = behind step name head told s.after new log (subst (λ t. Leads (HeadedStep step) t log new) here k) in
     record {
       raw = s.raw ∷ rest.raw;
@@ -72,7 +75,8 @@ over_length head bytes o h = by_offset (o == 0)
 
 over_asked : (head : List ℕ) (log : List Answer) → length head ≡ 100 → map asked (map (over_answer head) log) ≡ map asked log
 over_asked head [] h = refl
-over_asked head (given o bytes ∷ log) h = ap (λ n. range o n ∷ map asked (map (over_answer head) log)) (over_length head bytes o h) ∙ ap (λ l. range o (length bytes) ∷ l) (over_asked head log h)
+over_asked head (given o bytes ∷ log) h = ap (λ n. range o n ∷ map asked (map (over_answer head) log)) (over_length head bytes o h)
+    ∙ ap (λ l. range o (length bytes) ∷ l) (over_asked head log h)
 over_asked head (failed r ∷ log) h = ap (λ l. r ∷ l) (over_asked head log h)
 
 over_fits : (head file : List ℕ) (log : List Answer) → take 100 file ≡ head → FitsAfterHeader file log → Fits file (map (over_answer head) log)
@@ -84,10 +88,12 @@ fits_over head file [] e f = tt
 fits_over head file (a ∷ log) e f = (subst (λ d. FitsAnswer file (over_answer d a)) (sym e) f.0, fits_over head file log e f.1)
 
 -- an answer from the beginning of the file on begins with the header that was put over it
-over_begins : (head : List ℕ) (log : List Answer) (size : ℕ) (pages : List ℕ) → length head ≡ 100 → 100 ≤ size → map asked log ≡ map (page_range size) pages → BeginsSo head (map (over_answer head) log)
+over_begins : (head : List ℕ) (log : List Answer) (size : ℕ) (pages : List ℕ) → length head ≡ 100 → 100 ≤ size → map asked log ≡ map (page_range size) pages
+    → BeginsSo head (map (over_answer head) log)
 over_begins head [] size pages h big e = tt
 over_begins head (a ∷ log) size [] h big e = cc
-over_begins head (failed r ∷ log) size (p ∷ pages) h big e = over_begins head log size pages h big (let k : map asked log ≡ map (page_range size) pages = cc in k)
+over_begins head (failed r ∷ log) size (p ∷ pages) h big e =
+    over_begins head log size pages h big (let k : map asked log ≡ map (page_range size) pages = cc in k)
 over_begins head (given o bytes ∷ log) size (p ∷ pages) h big e = (
   λ z.
       let n : length bytes ≡ size = ap (λ (r : ByteRange). r.len) (let k : range o (length bytes) ≡ page_range size p = cc in k) in
@@ -98,7 +104,11 @@ over_begins head (given o bytes ∷ log) size (p ∷ pages) h big e = (
 
 pages_within : (bytes : List ℕ) (len : ℕ) → page_count bytes len * page_size bytes ≤ len
 unfolding page_count whole_pages
-pages_within bytes len = omega (arith, div-mul-le_self len (page_size bytes), mul-le-mul_right {m = least} {n = len / page_size bytes} (page_size bytes) (by_valid (is_size_valid bytes)))
+pages_within bytes len = omega (
+  arith,
+  div-mul-le_self len (page_size bytes),
+  mul-le-mul_right {m = least} {n = len / page_size bytes} (page_size bytes) (by_valid (is_size_valid bytes)),
+)
   where
     least : ℕ
     least = page_count bytes len
@@ -125,7 +135,8 @@ same_front step name name' head head' P Q old new log =
 -- what was asked of a source with its header over it, as it was asked of the inner source
 pub read_after : (step : Step) (name name' : ℕ) (h : HeaderBytes) (head' : List ℕ) (T : List ℕ → Type 0) (old new : SourceState)
     → refusal_of h.bytes h.file_len ≡ None → length h.bytes ≡ 100
-    → HasLog (HeadedStep step) (IsPageLog (geometry_of h.bytes h.file_len)) (λ file. IsHeaderOf h file → T file) (headed name h.bytes old) (headed name' head' new)
+    → HasLog (HeadedStep step) (IsPageLog (geometry_of h.bytes h.file_len)) (λ file. IsHeaderOf h file → T file) (headed name h.bytes old)
+    (headed name' head' new)
     → HasReadAfterHeader step (IsPageLog (geometry_of h.bytes h.file_len)) h T old new
 read_after step name name' h head' T old new accepted size log =
     let g = geometry_of h.bytes h.file_len in
@@ -144,7 +155,8 @@ read_after step name name' h head' T old new accepted size log =
       holds = subst (IsPageLog g) ranges log.holds;
       there_is = (
         f.0,
-        header_of f.0 h.bytes h.file_len h (sym f.1.length) size (begin_range h.bytes f.0 size (sym f.1.begins) (omega (arith, f.1.length, ok.long))) accepted refl refl,
+        header_of f.0 h.bytes h.file_len h (sym f.1.length) size (begin_range h.bytes f.0 size (sym f.1.begins) (omega (arith, f.1.length, ok.long))) accepted
+            refl refl,
         fits_over h.bytes f.0 b.raw f.1.begins (subst (Fits f.0) b.given_as f.1.fits),
       );
       files = λ file is k. log.files file (subst (Fits file) (sym b.given_as) (over_fits h.bytes file b.raw (sym is.begins) k)) is;
@@ -164,7 +176,8 @@ read_after step name name' h head' T old new accepted size log =
 -- the header's read, and then what was read after it
 pub ran : (step : Step) (lengths : Lengths) (h : HeaderBytes) (T : List ℕ → Type 0) (old mid new : SourceState)
     → refusal_of h.bytes h.file_len ≡ None → length h.bytes ≡ 100 → Opens step lengths (Ok h) old mid → step old.trail (given 0 h.bytes) mid.trail
-    → HasReadAfterHeader step (IsPageLog (geometry_of h.bytes h.file_len)) h T mid new → HasRead step lengths (IsRunLog (geometry_of h.bytes h.file_len)) (λ file ranges. IsHeaderOf h file × T file) old new
+    → HasReadAfterHeader step (IsPageLog (geometry_of h.bytes h.file_len)) h T mid new
+    → HasRead step lengths (IsRunLog (geometry_of h.bytes h.file_len)) (λ file ranges. IsHeaderOf h file × T file) old new
 ran step lengths h T old mid new accepted size opens first behind =
     let ok = is_accepted h.bytes h.file_len accepted in
     let f = behind.there_is in
@@ -220,7 +233,8 @@ run_fits file (a ∷ b ∷ log) h k = absurd (two_answers a b log h)
 
 -- what was read then, and of each file that agrees what is so of one that is refused for that reason
 pub opened : (step : Step) (lengths : Lengths) (e : OpenError) (T : List ℕ → Type 0) (old new : SourceState)
-    → Opens step lengths (Err e) old new → ((file : List ℕ) → IsRefusalOf e file → T file) → HasRead step lengths (IsOpenLog (Err e)) (λ file ranges. T file) old new
+    → Opens step lengths (Err e) old new → ((file : List ℕ) → IsRefusalOf e file → T file)
+    → HasRead step lengths (IsOpenLog (Err e)) (λ file ranges. T file) old new
 opened step lengths e T old new h q =
     let log = h.asks.log in
     let short = opened_short e log.log log.holds in
@@ -237,12 +251,15 @@ opened step lengths e T old new h q =
       short = h.short;
     }
   where
-    failed_once : (r : Result HeaderBytes OpenError) → r ≡ Err ReadFailed → new.failures ≡ failures_after is_open_failed r old.failures → new.failures ≡ one_more old.failures
+    failed_once : (r : Result HeaderBytes OpenError) → r ≡ Err ReadFailed → new.failures ≡ failures_after is_open_failed r old.failures → new.failures
+        ≡ one_more old.failures
     failed_once r k count = subst (λ (x : Result HeaderBytes OpenError). new.failures ≡ failures_after is_open_failed x old.failures) k count
 
 -- of what was read, something weaker
-pub read_weaker : {step : Step} {lengths : Lengths} (P : List ByteRange → Type 0) {P' : List ByteRange → Type 0} (Q : List ℕ → List ByteRange → Type 0) {Q' : List ℕ → List ByteRange → Type 0} {old new : SourceState}
-    → HasRead step lengths P Q old new → ((ranges : List ByteRange) → P ranges → P' ranges) → ((file : List ℕ) (ranges : List ByteRange) → P ranges → Q file ranges → Q' file ranges) → HasRead step lengths P' Q' old new
+pub read_weaker : {step : Step} {lengths : Lengths} (P : List ByteRange → Type 0) {P' : List ByteRange → Type 0} (Q : List ℕ → List ByteRange → Type 0)
+    {Q' : List ℕ → List ByteRange → Type 0} {old new : SourceState}
+    → HasRead step lengths P Q old new → ((ranges : List ByteRange) → P ranges → P' ranges)
+    → ((file : List ℕ) (ranges : List ByteRange) → P ranges → Q file ranges → Q' file ranges) → HasRead step lengths P' Q' old new
 read_weaker P Q h f q = record {
   len = h.len;
   log = h.log;
@@ -257,7 +274,8 @@ read_weaker P Q h f q = record {
 }
 
 -- What holds of each file that agrees holds of told bytes, which stay; and of a file that is too short nothing was read.
-pub told_file : (step : Step) (lengths : Lengths) (P : List ByteRange → Type 0) (Q : List ℕ → List ByteRange → Type 0) (old new : SourceState) → ToldFileIsRead step lengths P Q old new
+pub told_file : (step : Step) (lengths : Lengths) (P : List ByteRange → Type 0) (Q : List ℕ → List ByteRange → Type 0) (old new : SourceState)
+    → ToldFileIsRead step lengths P Q old new
 told_file step lengths P Q old new h = by_told old.bytes h.tells refl
   where
     by_told : (o : Option (List ℕ)) → IfSome o (λ file. (length file ≡ h.len) × FitsRun file h.log) → o ≡ old.bytes → IfSome o (HasReadTold step P Q old new)
@@ -269,11 +287,13 @@ told_file step lengths P Q old new h = by_told old.bytes h.tells refl
       fits = k.1;
       claimed = h.files file k.0 k.1;
       stay = h.told ∙ sym e;
-      unread = λ l. let leads : Leads step old.trail [] new.trail = subst (λ log. Leads step old.trail log new.trail) (h.short (subst (λ n. n < 100) k.0 l)) h.leads in leads;
+      unread = λ l. let leads : Leads step old.trail [] new.trail =
+          subst (λ log. Leads step old.trail log new.trail) (h.short (subst (λ n. n < 100) k.0 l)) h.leads in leads;
     }
 
 -- the same after a header
-pub told_file_after : (step : Step) (P : List ByteRange → Type 0) (h : HeaderBytes) (Q : List ℕ → Type 0) (old new : SourceState) → ToldFileIsReadAfter step P h Q old new
+pub told_file_after : (step : Step) (P : List ByteRange → Type 0) (h : HeaderBytes) (Q : List ℕ → Type 0) (old new : SourceState)
+    → ToldFileIsReadAfter step P h Q old new
 told_file_after step P h Q old new k = by_told old.bytes k.tells refl
   where
     by_told : (o : Option (List ℕ)) → IfSome o (λ file. IsHeaderOf h file → FitsAfterHeader file k.log) → o ≡ old.bytes
@@ -289,9 +309,11 @@ told_file_after step P h Q old new k = by_told old.bytes k.tells refl
     }
 
 -- what holds of each file that agrees holds of told bytes
-pub of_told : {step : Step} {lengths : Lengths} {P : List ByteRange → Type 0} (T : List ℕ → Type 0) {old new : SourceState} → HasRead step lengths P (λ file ranges. T file) old new → IfSome old.bytes T
+pub of_told : {step : Step} {lengths : Lengths} {P : List ByteRange → Type 0} (T : List ℕ → Type 0) {old new : SourceState}
+    → HasRead step lengths P (λ file ranges. T file) old new → IfSome old.bytes T
 of_told T {old = old} h = if_told old.bytes (λ file k. h.files file k.0 k.1) h.tells
 
 -- and of told bytes of this header
-pub of_told_after : {step : Step} {P : List ByteRange → Type 0} (h : HeaderBytes) (T : List ℕ → Type 0) {old new : SourceState} → HasReadAfterHeader step P h T old new → IfSome old.bytes (λ file. IsHeaderOf h file → T file)
+pub of_told_after : {step : Step} {P : List ByteRange → Type 0} (h : HeaderBytes) (T : List ℕ → Type 0) {old new : SourceState}
+    → HasReadAfterHeader step P h T old new → IfSome old.bytes (λ file. IsHeaderOf h file → T file)
 of_told_after h T {old = old} k = if_told old.bytes (λ file fits is. k.files file is (fits is)) k.tells

@@ -1,5 +1,6 @@
 -- A file that agrees with a log of whole pages, put together of the pages as they were when each was read.
-use Rattle.std.proofs.Common.{◌≡◌, ◌≢◌, ℕ, suc, ◌+◌, ◌-◌, ◌*◌, ◌<◌, ◌≤◌, List, [], ◌∷◌, ◌++◌, length, map, take, drop, refl, sym, ap, subst, ◌∙◌, ◌⊎◌, inl, inr, arith, append_assoc, length-append}
+use Rattle.std.proofs.Common.{◌≡◌, ◌≢◌, ℕ, suc, ◌+◌, ◌-◌, ◌*◌, ◌<◌, ◌≤◌, List, [], ◌∷◌, ◌++◌, length, map, take, drop, refl, sym, ap, subst, ◌∙◌, ◌⊎◌, inl, inr}
+use Rattle.std.proofs.Common.{arith, append_assoc, length-append}
 use Rattle.std.proofs.Math.Nat.{mul-le-mul_right, suc-mul}
 use Rattle.std.proofs.Math.Seq.{drop-append-add, drop-append_seam, take-append_seam}
 use Rattle.std.proofs.lemmas.Bool.{cases_Bool}
@@ -55,11 +56,13 @@ put_other file bytes piece offset o h (inl l) r =
 put_other file bytes piece offset o h (inr l) r =
     let n = offset + length bytes in
     let front : length (take offset file) ≡ offset = front_length file offset (omega arith) in
-    let fronts : length (take n file) ≡ length (take offset file ++ bytes) = front_length file n h ∙ sym (length-append (take offset file) bytes ∙ ap (λ m. m + length bytes) front) in
+    let fronts : length (take n file) ≡ length (take offset file ++ bytes) = front_length file n h
+    ∙ sym (length-append (take offset file) bytes ∙ ap (λ m. m + length bytes) front) in
     let small : length (take n file) ≤ o = omega (arith, front_length file n h) in (
       omega (arith, r.0, put_length file bytes offset h),
       r.1 ∙ ap (λ f. take (length piece) (drop o f)) (sym (take-append-drop n file))
-          ∙ ap (take (length piece)) (behind (take n file) (take offset file ++ bytes) (drop n file) o fronts small ∙ ap (drop o) (append_assoc (take offset file) bytes (drop n file))),
+          ∙ ap (take (length piece)) (behind (take n file) (take offset file ++ bytes) (drop n file) o fronts small
+          ∙ ap (drop o) (append_assoc (take offset file) bytes (drop n file))),
     )
 
 -- ---- pages
@@ -114,7 +117,8 @@ front_put : (file bytes : List ℕ) (o : ℕ) → o ≡ 0 → take 100 (put file
 front_put file bytes o e = let k : 0 + length bytes ≡ length bytes = omega arith in
     ap (λ n. take 100 (put file n bytes)) e ∙ ap (λ n. take 100 (bytes ++ drop n file)) k
 
-put_begins : (size p len : ℕ) (head file bytes : List ℕ) → 100 ≤ size → 1 ≤ p → length bytes ≡ size → (p - 1) * size + size ≤ length file → ((p - 1) * size ≡ 0 → take 100 bytes ≡ head) → take 100 file ≡ head
+put_begins : (size p len : ℕ) (head file bytes : List ℕ) → 100 ≤ size → 1 ≤ p → length bytes ≡ size → (p - 1) * size + size ≤ length file
+    → ((p - 1) * size ≡ 0 → take 100 bytes ≡ head) → take 100 file ≡ head
     → take 100 (put file ((p - 1) * size) bytes) ≡ head
 put_begins size p len head file bytes big one s h first old = elim (first_or_later p one) [
   | inl e ↦ (let z : (p - 1) * size ≡ 0 = ap (λ q. (q - 1) * size) e ∙ omega arith in
@@ -149,7 +153,10 @@ snapshot size len head (given o bytes ∷ log) (p ∷ pages) big long h e ok d b
       record {
         length = put_length f.0 bytes ((p - 1) * size) room' ∙ f.1.length;
         begins = put_begins size p len head f.0 bytes big c.0 m.1 room (λ z. b.0 (m.0 ∙ z)) f.1.begins;
-        fits = (subst (λ n. IsRangeOf (put f.0 ((p - 1) * size) bytes) n bytes) (sym m.0) (put_there f.0 bytes ((p - 1) * size) room'), fits_put size p f.0 bytes log pages k.1 c.0 m.1 room (λ q i. ((ok q (inr i)).0, λ x. d.0 q i (sym x))) f.1.fits);
+        fits = (
+          subst (λ n. IsRangeOf (put f.0 ((p - 1) * size) bytes) n bytes) (sym m.0) (put_there f.0 bytes ((p - 1) * size) room'),
+          fits_put size p f.0 bytes log pages k.1 c.0 m.1 room (λ q i. ((ok q (inr i)).0, λ x. d.0 q i (sym x))) f.1.fits,
+        );
       },
     )
   where

@@ -25,7 +25,8 @@ pub begins-apart : (a c b : Address) → IsLeftOf a c → starts_with nat_eq b a
 begins-apart a c b h k l =
     let m = begins-from a b k in
     let n = begins-from c b l in
-    IsBefore-irreflexive b (IsLeftOf-before b b (subst (λ d. IsLeftOf d b) (sym m.1) (subst (λ d. IsLeftOf (a ++ m.0) d) (sym n.1) (IsLeftOf-longer a c m.0 n.0 h))))
+    IsBefore-irreflexive b (IsLeftOf-before b b (subst (λ d. IsLeftOf d b) (sym m.1)
+    (subst (λ d. IsLeftOf (a ++ m.0) d) (sym n.1) (IsLeftOf-longer a c m.0 n.0 h))))
 
 -- what begins with a longer address begins with its beginning
 pub begins-shorter : (a s b : Address) → starts_with nat_eq b (a ++ s) ≡ true → starts_with nat_eq b a ≡ true

@@ -1,5 +1,6 @@
 -- Lists in which each element occurs once, and ranges of numbers.
-use Rattle.std.proofs.Common.{◌≡◌, ℕ, zero, suc, ◌+◌, ◌<◌, ◌≤◌, ◌⊎◌, inl, inr, Bool, true, false, cond, List, [], ◌∷◌, map, ◌∙◌, refl, sym, ap, arith, flat_map, subst}
+use Rattle.std.proofs.Common.{◌≡◌, ℕ, zero, suc, ◌+◌, ◌<◌, ◌≤◌, ◌⊎◌, inl, inr, Bool, true, false, cond, List, [], ◌∷◌, map, ◌∙◌, refl, sym, ap, arith, flat_map}
+use Rattle.std.proofs.Common.{subst}
 use Rattle.std.specs.Prelude.{filter, All, Contains}
 use Rattle.std.specs.List.{range_with_len}
 use Rattle.std.proofs.lemmas.List.Elements.{All-nil, All-cons, All-contains}
@@ -78,6 +79,7 @@ each_weaker rel also [] h k = tt
 each_weaker rel also (x ∷ xs) h k = ((λ y i. h x y (k.0 y i)), each_weaker rel also xs h k.1)
 
 -- so where all elements are of the list
-pub each_within : {X : Type 0} (rel also : X → X → Type 0) (xs : List X) → ((x y : X) → IsIn x xs → IsIn y xs → rel x y → also x y) → EachPair rel xs → EachPair also xs
+pub each_within : {X : Type 0} (rel also : X → X → Type 0) (xs : List X) → ((x y : X) → IsIn x xs → IsIn y xs → rel x y → also x y) → EachPair rel xs
+    → EachPair also xs
 each_within rel also [] h each = tt
 each_within rel also (x ∷ xs) h each = ((λ y i. h x y (inl refl) (inr i) (each.0 y i)), each_within rel also xs (λ y z i j. h y z (inr i) (inr j)) each.1)

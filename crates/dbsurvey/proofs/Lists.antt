@@ -1,5 +1,6 @@
 -- Lists that are filtered, searched, joined and counted, by their elements.
-use Rattle.std.proofs.Common.{◌≡◌, Bool, true, false, cond, List, [], ◌∷◌, ◌++◌, Option, ◌||◌, length, map, Some, None, ◌≤◌, inl, inr, refl, sym, ap, ◌∙◌, arith, length-append, count_by, ℕ, ◌+◌, zero-add, ◌<◌}
+use Rattle.std.proofs.Common.{◌≡◌, Bool, true, false, cond, List, [], ◌∷◌, ◌++◌, Option, ◌||◌, length, map, Some, None, ◌≤◌, inl, inr, refl, sym, ap, ◌∙◌}
+use Rattle.std.proofs.Common.{arith, length-append, count_by, ℕ, ◌+◌, zero-add, ◌<◌}
 use Rattle.std.specs.Prelude.{filter, filter_map, find, flat_map}
 use Rattle.std.specs.List.{list_any, cons_option}
 use Rattle.std.proofs.lemmas.List.{map-append}
@@ -20,7 +21,8 @@ module _ {X : Type 0} (p : X → Bool) where
   filter-from [] x i = absurd i
   filter-from (y ∷ xs) x i = by_case (p y) refl (filter-from xs x) i
     where
-      by_case : (b : Bool) → p y ≡ b → (IsIn x (filter p xs) → IsIn x xs × (p x ≡ true)) → IsIn x (cond b (y ∷ filter p xs) (filter p xs)) → IsIn x (y ∷ xs) × (p x ≡ true)
+      by_case : (b : Bool) → p y ≡ b → (IsIn x (filter p xs) → IsIn x xs × (p x ≡ true)) → IsIn x (cond b (y ∷ filter p xs) (filter p xs)) → IsIn x (y ∷ xs)
+          × (p x ≡ true)
       by_case true e more (inl f) = (inl f, ap p f ∙ e)
       by_case true e more (inr j) = let k = more j in (inr k.0, k.1)
       by_case false e more j = let k = more j in (inr k.0, k.1)
@@ -96,7 +98,8 @@ pub any_one : {X : Type 0} (p : X → Bool) (xs : List X) → list_any p xs ≡ 
 any_one {X} p [] e = cc
 any_one {X} p (y ∷ xs) e = by_case (p y) refl (any_one p xs) e
   where
-    by_case : (b : Bool) → p y ≡ b → (list_any p xs ≡ true → (x : X) × IsIn x xs × (p x ≡ true)) → (b || list_any p xs) ≡ true → (x : X) × IsIn x (y ∷ xs) × (p x ≡ true)
+    by_case : (b : Bool) → p y ≡ b → (list_any p xs ≡ true → (x : X) × IsIn x xs × (p x ≡ true)) → (b || list_any p xs) ≡ true → (x : X) × IsIn x (y ∷ xs)
+        × (p x ≡ true)
     by_case true f on e = (y, inl refl, f)
     by_case false f on e = let h = on e in (h.0, inr h.1, h.2)
 
@@ -110,7 +113,8 @@ module _ {X Y : Type 0} (g : X → Option Y) where
   filter_map-from [] y i = absurd i
   filter_map-from (x ∷ xs) y i = by_case (g x) refl (filter_map-from xs y) i
     where
-      by_case : (o : Option Y) → g x ≡ o → (IsIn y (filter_map g xs) → (x : X) × IsIn x xs × (g x ≡ Some y)) → IsIn y (cons_option o (filter_map g xs)) → (z : X) × IsIn z (x ∷ xs) × (g z ≡ Some y)
+      by_case : (o : Option Y) → g x ≡ o → (IsIn y (filter_map g xs) → (x : X) × IsIn x xs × (g x ≡ Some y)) → IsIn y (cons_option o (filter_map g xs))
+          → (z : X) × IsIn z (x ∷ xs) × (g z ≡ Some y)
       by_case None e more i = let h = more i in (h.0, inr h.1, h.2)
       by_case (Some w) e more (inl f) = (x, inl refl, e ∙ ap (λ w. Some w) (sym f))
       by_case (Some w) e more (inr i) = let h = more i in (h.0, inr h.1, h.2)
@@ -156,7 +160,8 @@ list_any-false {X} p (y ∷ xs) e x i = by_case (p y) refl e (list_any-false p x
     by_case false f e more (inr j) = more e x j
 
 -- the elements that pass a test, each by its list
-pub kept_lists : {X Y : Type 0} (p : X → Bool) (f g : X → List Y) (xs : List X) → ((x : X) → IsIn x xs → f x ≡ cond (p x) (g x) []) → flat_map f xs ≡ flat_map g (filter p xs)
+pub kept_lists : {X Y : Type 0} (p : X → Bool) (f g : X → List Y) (xs : List X) → ((x : X) → IsIn x xs → f x ≡ cond (p x) (g x) []) → flat_map f xs
+    ≡ flat_map g (filter p xs)
 kept_lists p f g [] h = refl
 kept_lists {X} p f g (x ∷ xs) h = ap (λ l. l ++ flat_map f xs) (h x (inl refl)) ∙ by_case (p x) (kept_lists p f g xs (λ y i. h y (inr i)))
   where

@@ -72,7 +72,8 @@ once_pairs (x ∷ xs) h = (
 module _ (pages : List ℕ) (fixed : ℕ → Bool) (n : ℕ) (once : IsPermutation (pages ++ filter fixed (range_with_len 1 n)) (range_with_len 1 n)) where
   counted : (p : ℕ) → times p (range_with_len 1 n) ≡ times p pages + times p (filter fixed (range_with_len 1 n))
   unfolding times
-  counted p = sum_by-IsPermutation (one_at p) (pages ++ filter fixed (range_with_len 1 n)) (range_with_len 1 n) once ∙ sum_by-append (one_at p) pages (filter fixed (range_with_len 1 n))
+  counted p = sum_by-IsPermutation (one_at p) (pages ++ filter fixed (range_with_len 1 n)) (range_with_len 1 n) once
+      ∙ sum_by-append (one_at p) pages (filter fixed (range_with_len 1 n))
 
   pub page_in_range : (p : ℕ) → IsIn p pages → (1 ≤ p) × (p ≤ n)
   page_in_range p i =
@@ -101,7 +102,8 @@ module _ (pages : List ℕ) (fixed : ℕ → Bool) (n : ℕ) (once : IsPermutati
   pub page_or_fixed : (p : ℕ) → IsIn p (range_with_len 1 n) → IsIn p pages ⊎ (fixed p ≡ true)
   page_or_fixed p i = elim (least (times p pages)) [
     | inr m ↦ inl (of-times p pages m)
-    | inl z ↦ inr ((filter-from fixed (range_with_len 1 n) p (of-times p (filter fixed (range_with_len 1 n)) (let t = times-of p (range_with_len 1 n) i in let c = counted p in omega arith))).1)
+    | inl z ↦ inr ((filter-from fixed (range_with_len 1 n) p
+        (of-times p (filter fixed (range_with_len 1 n)) (let t = times-of p (range_with_len 1 n) i in let c = counted p in omega arith))).1)
   ]
     where
       least : (k : ℕ) → (k ≡ 0) ⊎ (1 ≤ k)

@@ -37,7 +37,8 @@ in_whole front x z back i = elim (IsIn-cases z front back i) [
   | inr j ↦ IsIn-right z front (x ∷ back) (inr j)
 ]
 
-pub rearranged : {X : Type 0} (xs ys : List X) → IsOnce xs → IsOnce ys → ((x : X) → IsIn x xs → IsIn x ys) → ((x : X) → IsIn x ys → IsIn x xs) → IsPermutation xs ys
+pub rearranged : {X : Type 0} (xs ys : List X) → IsOnce xs → IsOnce ys → ((x : X) → IsIn x xs → IsIn x ys) → ((x : X) → IsIn x ys → IsIn x xs)
+    → IsPermutation xs ys
 rearranged [] [] a b h k = IsPermutation-refl []
 rearranged [] (y ∷ ys) a b h k = absurd (k y (inl refl))
 rearranged {X} (x ∷ xs) ys a b h k =

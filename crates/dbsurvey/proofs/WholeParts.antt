@@ -21,7 +21,8 @@ pub below-append : {R : Type 0} (A B : List (Triple R)) (a : Address) → below 
 below-append A B a = filter-append (λ t. starts_with nat_eq t.address a) A B
 
 -- what candidates lead to, put together
-pub whole_one : {R : Type 0} (rules : Rules R) (c : Triple R) (V : List (Triple R)) → rules.may c ≡ true → IsWhole rules (children rules c) V → IsWhole rules (c ∷ []) (c ∷ V)
+pub whole_one : {R : Type 0} (rules : Rules R) (c : Triple R) (V : List (Triple R)) → rules.may c ≡ true → IsWhole rules (children rules c) V
+    → IsWhole rules (c ∷ []) (c ∷ V)
 whole_one rules c V m w = subst (λ U. IsWhole rules (c ∷ []) (c ∷ U)) (append-nil V) (all_of m w nothing)
 
 pub whole_both : {R : Type 0} (rules : Rules R) (cs ds V U : List (Triple R)) → IsWhole rules cs V → IsWhole rules ds U → IsWhole rules (cs ++ ds) (V ++ U)
@@ -31,7 +32,8 @@ whole_both rules cs ds V U (all_of {c} {cs = rest} {V = A} {U = B} m w u) k =
 
 module _ {R : Type 0} (rules : Rules R) where
   -- each triple begins with the address of a candidate
-  pub whole_below : {cs U : List (Triple R)} → IsWhole rules cs U → (t : Triple R) → IsIn t U → (c : Triple R) × IsIn c cs × (s : Address) × (t.address ≡ c.address ++ s)
+  pub whole_below : {cs U : List (Triple R)} → IsWhole rules cs U → (t : Triple R) → IsIn t U → (c : Triple R) × IsIn c cs × (s : Address)
+      × (t.address ≡ c.address ++ s)
   whole_below nothing t i = absurd i
   whole_below (all_of {c = c} {cs = cs} {V = A} {U = B} m a b) t i = elim i [
     | inl e ↦ (c, inl refl, [], ap (λ t. t.address) e ∙ sym (append-nil c.address))
@@ -42,11 +44,14 @@ module _ {R : Type 0} (rules : Rules R) where
     ])
   ]
 
-  whole_begins : {cs U : List (Triple R)} → IsWhole rules cs U → (t : Triple R) → IsIn t U → (c : Triple R) × IsIn c cs × (starts_with nat_eq t.address c.address ≡ true)
+  whole_begins : {cs U : List (Triple R)} → IsWhole rules cs U → (t : Triple R) → IsIn t U → (c : Triple R) × IsIn c cs
+      × (starts_with nat_eq t.address c.address ≡ true)
   whole_begins w t i = let d = whole_below w t i in (d.0, d.1, subst (λ b. starts_with nat_eq b d.0.address ≡ true) (sym d.3) (begins d.0.address d.2))
 
   -- where all begin with addresses that are apart from one, none begins with what begins with that
-  others_apart : (U : List (Triple R)) (a : Address) → ((t : Triple R) → IsIn t U → (b : Address) × (IsLeftOf a b ⊎ IsLeftOf b a) × (starts_with nat_eq t.address b ≡ true)) → (s : Address) → below U (a ++ s) ≡ []
+  others_apart : (U : List (Triple R)) (a : Address)
+      → ((t : Triple R) → IsIn t U → (b : Address) × (IsLeftOf a b ⊎ IsLeftOf b a) × (starts_with nat_eq t.address b ≡ true)) → (s : Address) → below U (a ++ s)
+      ≡ []
   others_apart U a h s = filter-none (λ t. starts_with nat_eq t.address (a ++ s)) U (λ t i.
       let d = h t i in
       not_begins t.address (a ++ s) (λ k. elim d.1 [
@@ -59,11 +64,13 @@ module _ {R : Type 0} (rules : Rules R) where
     children_apart t = named_at-apart t.address (rules.links t.page t.role) (rising t.page t.role)
 
     -- all that is below one candidate begins with it
-    first_begins : (c : Triple R) {A : List (Triple R)} → IsWhole rules (children rules c) A → (t : Triple R) → IsIn t (c ∷ A) → starts_with nat_eq t.address c.address ≡ true
+    first_begins : (c : Triple R) {A : List (Triple R)} → IsWhole rules (children rules c) A → (t : Triple R) → IsIn t (c ∷ A)
+        → starts_with nat_eq t.address c.address ≡ true
     first_begins c a t (inl e) = subst (λ b. starts_with nat_eq b c.address ≡ true) (append-nil c.address ∙ sym (ap (λ t. t.address) e)) (begins c.address [])
     first_begins c a t (inr j) =
         let d = whole_below a t j in let n = named_at-step c.address (rules.links c.page c.role) d.0 d.1 in
-        subst (λ b. starts_with nat_eq b c.address ≡ true) (sym (d.3 ∙ ap (λ l. l ++ d.2) n.1 ∙ append_assoc c.address (n.0 ∷ []) d.2)) (begins c.address (n.0 ∷ d.2))
+        subst (λ b. starts_with nat_eq b c.address ≡ true) (sym (d.3 ∙ ap (λ l. l ++ d.2) n.1 ∙ append_assoc c.address (n.0 ∷ []) d.2))
+        (begins c.address (n.0 ∷ d.2))
 
     first_all : (c : Triple R) (A : List (Triple R)) → IsWhole rules (children rules c) A → below (c ∷ A) c.address ≡ c ∷ A
     first_all c A a = filter-all (λ t. starts_with nat_eq t.address c.address) (c ∷ A) (first_begins c a)
@@ -72,7 +79,8 @@ module _ {R : Type 0} (rules : Rules R) where
       -- below the candidate there is nothing of the others
       at_first : (s : Address) → below (c ∷ (A ++ B)) (c.address ++ s) ≡ below (c ∷ A) (c.address ++ s)
       at_first s = below-append (c ∷ A) B (c.address ++ s)
-          ∙ ap (λ l. below (c ∷ A) (c.address ++ s) ++ l) (others_apart B c.address (λ t i. let d = whole_begins b t i in (d.0.address, inl (apart.0 d.0 d.1), d.2)) s)
+          ∙ ap (λ l. below (c ∷ A) (c.address ++ s) ++ l) (others_apart B c.address
+          (λ t i. let d = whole_begins b t i in (d.0.address, inl (apart.0 d.0 d.1), d.2)) s)
           ∙ append-nil (below (c ∷ A) (c.address ++ s))
 
       -- and further on not the candidate itself
@@ -113,11 +121,13 @@ module _ {R : Type 0} (rules : Rules R) where
     pub by_candidates : {cs U : List (Triple R)} → IsWhole rules cs U → AreApart cs → U ≡ flat_map (λ d. below U d.address) cs
     by_candidates nothing apart = refl
     by_candidates (all_of {c = c} {cs = cs} {V = A} {U = B} m a b) apart =
-        ap (λ l. c ∷ (A ++ l)) (by_candidates b apart.1 ∙ flat_map-same (λ d. below B d.address) (λ d. below (c ∷ (A ++ B)) d.address) cs (λ d i. sym (at_other_itself c apart a b d i)))
+        ap (λ l. c ∷ (A ++ l)) (by_candidates b apart.1 ∙ flat_map-same (λ d. below B d.address) (λ d. below (c ∷ (A ++ B)) d.address) cs
+        (λ d i. sym (at_other_itself c apart a b d i)))
         ∙ ap (λ l. l ++ flat_map (λ d. below (c ∷ (A ++ B)) d.address) cs) (sym (at_first_itself c apart a b))
 
     -- and below each triple is the triple, and then what is below its references
-    pub by_links : {cs U : List (Triple R)} → IsWhole rules cs U → AreApart cs → (t : Triple R) → IsIn t U → below U t.address ≡ t ∷ flat_map (λ d. below U d.address) (children rules t)
+    pub by_links : {cs U : List (Triple R)} → IsWhole rules cs U → AreApart cs → (t : Triple R) → IsIn t U → below U t.address ≡ t
+        ∷ flat_map (λ d. below U d.address) (children rules t)
     by_links nothing apart t i = absurd i
     by_links (all_of {c = c} {cs = cs} {V = A} {U = B} m a b) apart t i = elim i [
       | inl e ↦ subst (λ t. below (c ∷ (A ++ B)) t.address ≡ t ∷ flat_map (λ d. below (c ∷ (A ++ B)) d.address) (children rules t)) (sym e)
@@ -135,7 +145,8 @@ module _ {R : Type 0} (rules : Rules R) where
             → below (c ∷ (A ++ B)) t.address ≡ t ∷ flat_map (λ d. below (c ∷ (A ++ B)) d.address) (children rules t)
         through D t k same e = sym (itself c apart a b t (c ∷ (A ++ B))) ∙ same [] ∙ itself c apart a b t D ∙ e
             ∙ ap (λ l. t ∷ l) (flat_map-same (λ d. below D d.address) (λ d. below (c ∷ (A ++ B)) d.address) (children rules t)
-            (λ d j. let n = named_at-step t.address (rules.links t.page t.role) d j in subst (λ x. below D x ≡ below (c ∷ (A ++ B)) x) (sym n.1) (sym (same (n.0 ∷ [])))))
+            (λ d j. let n = named_at-step t.address (rules.links t.page t.role) d j in subst (λ x. below D x ≡ below (c ∷ (A ++ B)) x) (sym n.1)
+            (sym (same (n.0 ∷ [])))))
 
     -- what is below one candidate is all that it leads to
     pub parts_whole : {cs U : List (Triple R)} → IsWhole rules cs U → AreApart cs → (d : Triple R) → IsIn d cs → IsWhole rules (d ∷ []) (below U d.address)

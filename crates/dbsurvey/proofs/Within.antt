@@ -2,7 +2,8 @@
 use Rattle.std.proofs.Common.{◌≡◌, ℕ, zero, suc, Bool, true, false, cond, inl, inr, List, [], ◌∷◌, ◌++◌, refl, sym, subst}
 use Rattle.dbsurvey.specs.Address.{IsIn, Address}
 use Rattle.dbsurvey.specs.Survey.{Triple, Rules}
-use Rattle.dbsurvey.specs.Story.{Told, Story, PageStep, Follow, Place, Errand, Go, Tell, errand_key, errands_at, errands_of, told_own, told_refused, tell_one, tell_each, tell_below, telling_of, visited}
+use Rattle.dbsurvey.specs.Story.{Told, Story, PageStep, Follow, Place, Errand, Go, Tell, errand_key, errands_at, errands_of, told_own, told_refused, tell_one}
+use Rattle.dbsurvey.specs.Story.{tell_each, tell_below, telling_of, visited}
 use Rattle.dbsurvey.specs.Traverse.{is_followed}
 use Rattle.dbsurvey.proofs.Order.{IsIn-cases}
 
@@ -18,7 +19,8 @@ module _ {R E : Type 0} (rules : Rules R) (story : Story R E) (pages : ℕ) (P :
   at_items a p (Place step event ∷ is) e (inl f) = subst (λ e. P (errand_key e)) (sym f) (more a step p)
   at_items a p (Place step event ∷ is) e (inr i) = at_items a p is e i
 
-  module _ (deeper : List (Triple R) → List (Errand R E) → List (Told E)) (h : (W : List (Triple R)) (es : List (Errand R E)) → AreWithin es → (t : Told E) → IsIn t (deeper W es) → P t.key) where
+  module _ (deeper : List (Triple R) → List (Errand R E) → List (Told E))
+      (h : (W : List (Triple R)) (es : List (Errand R E)) → AreWithin es → (t : Told E) → IsIn t (deeper W es) → P t.key) where
     of_one : (W : List (Triple R)) (e : Errand R E) → P (errand_key e) → (t : Told E) → IsIn t (tell_one rules story deeper W e) → P t.key
     of_one W (Tell e) p t (inl f) = subst (λ t. P t.key) (sym f) p
     of_one W (Tell e) p t (inr i) = absurd i

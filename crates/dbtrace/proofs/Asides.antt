@@ -1,5 +1,6 @@
 -- Below a page that is in no tree there is no page of a tree; so what is reported there leaves the progress as it is.
-use Rattle.std.proofs.Common.{◌≡◌, ℕ, zero, suc, ◌<◌, inl, inr, cond, not, ◌&&◌, List, [], ◌∷◌, ◌++◌, map, length, Option, Some, None, refl, sym, ap, arith, ◌∙◌, append_assoc}
+use Rattle.std.proofs.Common.{◌≡◌, ℕ, zero, suc, ◌<◌, inl, inr, cond, not, ◌&&◌, List, [], ◌∷◌, ◌++◌, map, length, Option, Some, None, refl, sym, ap, arith}
+use Rattle.std.proofs.Common.{◌∙◌, append_assoc}
 use Rattle.std.specs.Prelude.{option_to_list, pos, ◌==◌}
 use Rattle.std.proofs.lemmas.List.{append-nil, length-append, map-append}
 use Rattle.dbsurvey.specs.Address.{IsIn, Address}
@@ -52,13 +53,17 @@ module _ (file : List ℕ) where
   step_off U p (at_key r v x) h = absurd h
   step_off U p (at_refused r) h = refl
 
-  faults_off : (U : List Reference) (p : Progress) (e : Event) → IsOff e → told_by (cause_by file U p e) (faults_at file U p e) ≡ told_by (cause_of file U e) (event_faults file U e)
-  faults_off U p (at_page r) h = ap (λ l. told_by (cause_by file U p (at_page r)) (page_faults file [] r ++ l)) quiet ∙ ap (told_by (cause_by file U p (at_page r))) (append-nil (page_faults file [] r))
+  faults_off : (U : List Reference) (p : Progress) (e : Event) → IsOff e → told_by (cause_by file U p e) (faults_at file U p e)
+      ≡ told_by (cause_of file U e) (event_faults file U e)
+  faults_off U p (at_page r) h = ap (λ l. told_by (cause_by file U p (at_page r)) (page_faults file [] r ++ l)) quiet
+      ∙ ap (told_by (cause_by file U p (at_page r))) (append-nil (page_faults file [] r))
       ∙ page_same (cause_by file U p (at_page r)) (cause_of file U (at_page r)) refl file refl refl r
-      ∙ ap (told_by (cause_of file U (at_page r))) (sym (page_parts file U r ∙ ap (λ l. page_faults file [] r ++ l) (no_leaf file U r h) ∙ append-nil (page_faults file [] r)))
+      ∙ ap (told_by (cause_of file U (at_page r))) (sym (page_parts file U r ∙ ap (λ l. page_faults file [] r ++ l) (no_leaf file U r h)
+      ∙ append-nil (page_faults file [] r)))
     where
       quiet : depth_faults file p.leaf r ≡ []
-      quiet = ap (λ b. told_if (b && not (depth r.address == depth_of p.leaf (depth r.address))) (fault T05 r.page 0 (pos (depth r.address)))) (not_leaf file (start_of r.address) r h)
+      quiet = ap (λ b. told_if (b && not (depth r.address == depth_of p.leaf (depth r.address))) (fault T05 r.page 0 (pos (depth r.address))))
+          (not_leaf file (start_of r.address) r h)
   faults_off U p (at_key r v x) h = absurd h
   faults_off U p (at_refused r) h = refl
 
@@ -70,13 +75,16 @@ module _ (file : List ℕ) where
   -- along a trace of such events
   state_off : (now : Walk) (L : List (Told Event)) → ((t : Told Event) → IsIn t L → IsOff t.event) → (run (machine file) now L).state ≡ now.state
   state_off now [] h = refl
-  state_off now (t ∷ L) h = state_off (advance file now t.event) L (λ u i. h u (inr i)) ∙ step_off (advance file now t.event).visits now.state t.event (h t (inl refl))
+  state_off now (t ∷ L) h = state_off (advance file now t.event) L (λ u i. h u (inr i))
+      ∙ step_off (advance file now t.event).visits now.state t.event (h t (inl refl))
 
   item_off : (U : List Reference) (p : Progress) (e : Event) → IsOff e → items_at file U p e ≡ map found (told_at file U e)
-  item_off U p e h = ap (λ rows. map given rows ++ map found (map told_row (option_to_list (event_row file e)) ++ told_by (cause_by file U p e) (faults_at file U p e))) (rows_off U e h)
+  item_off U p e h = ap (λ rows. map given rows ++ map found
+      (map told_row (option_to_list (event_row file e)) ++ told_by (cause_by file U p e) (faults_at file U p e))) (rows_off U e h)
       ∙ ap (λ fs. map found (map told_row (option_to_list (event_row file e)) ++ fs)) (faults_off U p e h)
 
-  items_off : (now : Walk) (L : List (Told Event)) → ((t : Told Event) → IsIn t L → IsOff t.event) → (run (machine file) now L).items ≡ now.items ++ map found (read_back own_visit (told_at file) now.visits L)
+  items_off : (now : Walk) (L : List (Told Event)) → ((t : Told Event) → IsIn t L → IsOff t.event) → (run (machine file) now L).items ≡ now.items
+      ++ map found (read_back own_visit (told_at file) now.visits L)
   items_off now [] h = sym (append-nil now.items)
   items_off now (t ∷ L) h =
       let U = up_to (machine file) now t.event in
@@ -98,7 +106,8 @@ module _ (file : List ℕ) (W : List Reference) (c : Reference) (none : tree_kin
             by_kind m.0 m.2 (tree_kind (role_of r)) refl (go n m.0 m.1 (omega arith)))
       ]
         where
-          by_kind : (p : Reference) → IsIn r (children (rules_of file) p) → (o : Option TreeKind) → tree_kind (role_of r) ≡ o → tree_kind (role_of p) ≡ None → tree_kind (role_of r) ≡ None
+          by_kind : (p : Reference) → IsIn r (children (rules_of file) p) → (o : Option TreeKind) → tree_kind (role_of r) ≡ o → tree_kind (role_of p) ≡ None
+              → tree_kind (role_of r) ≡ None
           by_kind p h None e f = e
           by_kind p h (Some kind) e f = let v = parent_inside file p r kind h e in let k = kind_of_view file p v.0 v.1 in let g = sym f ∙ k.1 in cc
 

@@ -56,7 +56,8 @@ module _ {X : Type 0} (make : ℕ → Fault → Cause → X) where
     -- of a list of reported events, each at the start of its key, where W has the visits before the list
     abbrev by_keys : List Reference → List (Told Event) → List X
     by_keys W [] = []
-    by_keys W (t ∷ L) = made_at (start_of t.key) (told_at file (W ++ option_to_list (own_visit t.event)) t.event) ++ by_keys (W ++ option_to_list (own_visit t.event)) L
+    by_keys W (t ∷ L) = made_at (start_of t.key) (told_at file (W ++ option_to_list (own_visit t.event)) t.event)
+        ++ by_keys (W ++ option_to_list (own_visit t.event)) L
 
     -- of all that is reported below some errands
     abbrev pub made_below : List Reference → List (Errand Way Event) → List X
@@ -72,16 +73,19 @@ module _ {X : Type 0} (make : ℕ → Fault → Cause → X) where
         ∙ ap (λ V. (here ++ by_keys U L) ++ by_keys V M) (joined (own_visit t.event) W (visits_in own_visit L))
 
     -- where all keys are those of one start
-    by_one_key : (k : ℕ) (W : List Reference) (L : List (Told Event)) → ((t : Told Event) → IsIn t L → start_of t.key ≡ k) → by_keys W L ≡ made_at k (read_back own_visit (told_at file) W L)
+    by_one_key : (k : ℕ) (W : List Reference) (L : List (Told Event)) → ((t : Told Event) → IsIn t L → start_of t.key ≡ k) → by_keys W L
+        ≡ made_at k (read_back own_visit (told_at file) W L)
     by_one_key k W [] h = refl
     by_one_key k W (t ∷ L) h =
         let U = W ++ option_to_list (own_visit t.event) in
         ap₂ (λ j l. made_at j (told_at file U t.event) ++ l) (h t (inl refl)) (by_one_key k U L (λ u i. h u (inr i)))
         ∙ sym (filter_map-append (made_of k) (told_at file U t.event) (read_back own_visit (told_at file) U L))
 
-    pub below_start : (k : ℕ) (W : List Reference) (es : List (Errand Way Event)) → ((e : Errand Way Event) → IsIn e es → BeginsWith k (errand_key e)) → made_below W es ≡ made_at k (told_below file W es)
+    pub below_start : (k : ℕ) (W : List Reference) (es : List (Errand Way Event)) → ((e : Errand Way Event) → IsIn e es → BeginsWith k (errand_key e))
+        → made_below W es ≡ made_at k (told_below file W es)
     below_start k W es h = by_one_key k W (telling_of (rules_of file) (story_of file) (geometry file).pages W es)
-        (λ t i. let b = told_within (rules_of file) (story_of file) (geometry file).pages (BeginsWith k) (λ a x p. (p.0 ++ (x ∷ []), ap (λ a. a ++ (x ∷ [])) p.1)) W es h t i in ap start_of b.1)
+        (λ t i. let b = told_within (rules_of file) (story_of file) (geometry file).pages (BeginsWith k)
+        (λ a x p. (p.0 ++ (x ∷ []), ap (λ a. a ++ (x ∷ [])) p.1)) W es h t i in ap start_of b.1)
 
     -- below the root of a start, and then below others
     pub root_then : (k : ℕ) (W : List Reference) (c : Reference) (es : List (Errand Way Event)) → c.address ≡ k ∷ []
@@ -94,7 +98,8 @@ module _ {X : Type 0} (make : ℕ → Fault → Cause → X) where
         let rest = telling_of rules (story_of file) pages U es in
         ap (by_keys W) (telling_join_law rules (story_of file) pages (are_rules file) W (Go c ∷ []) es)
         ∙ by_keys_both W first rest
-        ∙ ap (λ X. by_keys W first ++ by_keys (W ++ X) rest) (visits_of rules (story_of file) pages (are_rules file) (is_story file) own_visit (shows_visits file) W (Go c ∷ []) quiet)
+        ∙ ap (λ X. by_keys W first ++ by_keys (W ++ X) rest)
+        (visits_of rules (story_of file) pages (are_rules file) (is_story file) own_visit (shows_visits file) W (Go c ∷ []) quiet)
         ∙ ap (λ l. l ++ by_keys U rest) (below_start k W (Go c ∷ []) root)
       where
         quiet : AreQuiet own_visit (Go c ∷ [])
@@ -114,7 +119,8 @@ module _ {X : Type 0} (make : ℕ → Fault → Cause → X) where
       from_here A [] e = refl
       from_here A (t ∷ L) e =
           ap (λ l. l ++ flat_map here L) (sym (of_event (start_of t.key) V t.event) ∙ ap (made_at (start_of t.key)) (findings_here file V s A t L e))
-          ∙ ap (λ l. made_at (start_of t.key) (told_at file (visits_up_to A t) t.event) ++ l) (from_here (A ++ t ∷ []) L (append_assoc A (t ∷ []) L ∙ e) ∙ ap (λ X. by_keys X L) (visits_more file V s A t))
+          ∙ ap (λ l. made_at (start_of t.key) (told_at file (visits_up_to A t) t.event) ++ l)
+          (from_here (A ++ t ∷ []) L (append_assoc A (t ∷ []) L ∙ e) ∙ ap (λ X. by_keys X L) (visits_more file V s A t))
 
       pub all_made : flat_map here (telling file V) ≡ made_below [] (start_errands file V)
       all_made = from_here [] (telling file V) refl ∙ ap (by_keys []) (told_in_order file V s).1

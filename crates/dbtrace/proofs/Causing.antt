@@ -1,5 +1,6 @@
 -- Faults with the causes of their codes: where two readings agree on the codes, they report the faults alike.
-use Rattle.std.proofs.Common.{◌≡◌, ℕ, Bool, true, false, cond, List, [], ◌∷◌, ◌++◌, map, length, drop, get_or, Option, Some, None, Result, Ok, Err, refl, sym, ap, ap₂, ◌∙◌}
+use Rattle.std.proofs.Common.{◌≡◌, ℕ, Bool, true, false, cond, List, [], ◌∷◌, ◌++◌, map, length, drop, get_or, Option, Some, None, Result, Ok, Err, refl, sym}
+use Rattle.std.proofs.Common.{ap, ap₂, ◌∙◌}
 use Rattle.std.specs.Prelude.{flat_map, is_none, ◌==◌}
 use Rattle.std.specs.List.{range_with_len}
 use Rattle.std.proofs.lemmas.List.{append-nil, map-append}
@@ -11,7 +12,8 @@ use Rattle.dbformat.specs.Head.{View, view, tree_of, is_same_tree}
 use Rattle.dbformat.specs.Cell.{Cell, cell, count}
 use Rattle.dbformat.specs.Coverage.{bad_freeblock, coverage}
 use Rattle.dbformat.specs.Reference.{Role, root, child, first_overflow, later_overflow, trunk, free_leaf, Reference, role_of}
-use Rattle.dbformat.specs.PageFaults.{fragment_fault, cell_fault, cell_faults, freeblock_fault, coverage_fault, empty_fault, inner_faults, faults_of_view, tree_page_faults, depth_fault, role_faults, page_faults}
+use Rattle.dbformat.specs.PageFaults.{fragment_fault, cell_fault, cell_faults, freeblock_fault, coverage_fault, empty_fault, inner_faults, faults_of_view}
+use Rattle.dbformat.specs.PageFaults.{tree_page_faults, depth_fault, role_faults, page_faults}
 use Rattle.dbformat.specs.Schema.{SchemaCell}
 use Rattle.dbformat.specs.SchemaRow.{SchemaRow}
 use Rattle.dbformat.specs.KeyFaults.{row_faults_if}
@@ -79,7 +81,8 @@ module _ (why other : FaultCode → Cause) where
         same-append (fragment_fault v ++ cell_faults v ++ freeblock_fault v ++ coverage_fault v good) (empty_fault v is_child)
         (same-append (fragment_fault v ++ cell_faults v ++ freeblock_fault v) (coverage_fault v good)
         (same-append (fragment_fault v ++ cell_faults v) (freeblock_fault v)
-        (same-append (fragment_fault v) (cell_faults v) (told_same why other _ _ (cause_at 0 h)) (same-each (cell_fault v) (range_with_len 0 (count v)) at_cell))
+        (same-append (fragment_fault v) (cell_faults v) (told_same why other _ _ (cause_at 0 h))
+        (same-each (cell_fault v) (range_with_len 0 (count v)) at_cell))
         (at_freeblock (bad_freeblock v) refl))
         (at_coverage good (coverage v) refl))
         (told_same why other _ _ (cause_at 6 h))
@@ -109,7 +112,8 @@ module _ (why other : FaultCode → Cause) where
       by_row : (row : Result SchemaRow RowFault) → AreSame (row_faults_if is_full (record c { row = row }))
       by_row (Err Malformed) = same_one _ (cause_at 0 h)
       by_row (Err (Root value)) = same_one _ (cause_at 2 h)
-      by_row (Ok r) = same-append (told_if (is_none r.name) (fault S02 c.page c.item c.rowid)) _ (told_same why other _ _ (cause_at 1 h)) (told_same why other _ _ (cause_at 3 h))
+      by_row (Ok r) = same-append (told_if (is_none r.name) (fault S02 c.page c.item c.rowid)) _ (told_same why other _ _ (cause_at 1 h))
+          (told_same why other _ _ (cause_at 3 h))
 
   -- The faults of a page for itself.
 
@@ -133,7 +137,8 @@ module _ (why other : FaultCode → Cause) where
     unfolding page_faults
     page_same file chains trunks r = by_role (role_of r)
       where
-        tree_page : (kind : TreeKind) (is_child : Bool) → AreSame (tree_page_faults kind is_child r.page (usable_size file) (page_bytes file r.page) ++ depth_fault file [] r)
+        tree_page : (kind : TreeKind) (is_child : Bool) → AreSame
+            (tree_page_faults kind is_child r.page (usable_size file) (page_bytes file r.page) ++ depth_fault file [] r)
         tree_page kind is_child =
             let fs = tree_page_faults kind is_child r.page (usable_size file) (page_bytes file r.page) in
             let none : fs ++ depth_fault file [] r ≡ fs = ap (λ l. fs ++ l) (no_depth file r) ∙ append-nil fs in

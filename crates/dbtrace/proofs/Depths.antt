@@ -45,7 +45,8 @@ module _ (file : List ℕ) (k : ℕ) where
   -- earlier starts have no leaf of this one
   past_earlier : (W X : List Reference) → AreOfEarlierStarts k W → find (is_leaf_of file k) (W ++ X) ≡ find (is_leaf_of file k) X
   past_earlier [] X early = refl
-  past_earlier (u ∷ W) X early = ap (λ b. cond (b && option_map_or (λ v. not (is_interior v.kind)) (tree_view file u) false) (Some u) (find (is_leaf_of file k) (W ++ X))) (other_start k u.address (early u (inl refl)))
+  past_earlier (u ∷ W) X early = ap (λ b. cond (b && option_map_or (λ v. not (is_interior v.kind)) (tree_view file u) false) (Some u)
+      (find (is_leaf_of file k) (W ++ X))) (other_start k u.address (early u (inl refl)))
       ∙ past_earlier W X (λ w i. early w (inr i))
 
   leaf_kept : (d : TreeLeaf) (X : List Reference) → leaf_from file (Some d) X ≡ Some d
@@ -103,14 +104,16 @@ module _ (file : List ℕ) (k : ℕ) where
             (told_same why' why (is_leaf_of file (start_of r.address) r && not (d == depth u.address)) (fault T05 r.page 0 (pos d)) causes))
         by_leaf true f None g =
             let itself : find (is_leaf_of file k) (r ∷ []) ≡ Some r = ap (λ b. cond b (Some r) None) (subst (λ s. is_leaf_of file s r ≡ true) at f) in
-            let first : find (is_leaf_of file (start_of r.address)) U ≡ Some r = first_found ∙ ap (λ o. option_or o (find (is_leaf_of file k) (r ∷ []))) g ∙ itself in
+            let first : find (is_leaf_of file (start_of r.address)) U ≡ Some r = first_found ∙ ap (λ o. option_or o (find (is_leaf_of file k) (r ∷ []))) g
+            ∙ itself in
             let kept : leaf_from file None X ≡ None = sym (found_is X same) ∙ ap (option_map leaf_at) g in
             subst (λ l. Same (is_leaf_of file (start_of r.address) r) l (find (is_leaf_of file (start_of r.address)) U)) (sym kept)
             (subst (λ o. Same (is_leaf_of file (start_of r.address) r) None o) (sym first)
             (none why' ∙ sym (none why)))
           where
             none : (w : FaultCode → Cause) → told_by w (told_if (is_leaf_of file (start_of r.address) r && not (d == d)) (fault T05 r.page 0 (pos d))) ≡ []
-            none w = ap (λ b. told_by w (told_if (b && not (d == d)) (fault T05 r.page 0 (pos d)))) f ∙ ap (λ b. told_by w (told_if (not b) (fault T05 r.page 0 (pos d)))) (eq-eqb d d refl)
+            none w = ap (λ b. told_by w (told_if (b && not (d == d)) (fault T05 r.page 0 (pos d)))) f
+                ∙ ap (λ b. told_by w (told_if (not b) (fault T05 r.page 0 (pos d)))) (eq-eqb d d refl)
 
 -- the faults of a page for itself, and that of its depth
 module _ (file : List ℕ) where
@@ -131,7 +134,8 @@ module _ (file : List ℕ) where
 
   pub no_leaf : (V : List Reference) (r : Reference) → tree_view file r ≡ None → depth_fault file V r ≡ []
   unfolding depth_fault
-  no_leaf V r e = ap (λ b. told_if (b && not (depth r.address == leaf_depth file V (start_of r.address) (depth r.address))) (fault T05 r.page 0 (pos (depth r.address)))) (not_leaf (start_of r.address) r e)
+  no_leaf V r e = ap (λ b. told_if (b && not (depth r.address == leaf_depth file V (start_of r.address) (depth r.address)))
+      (fault T05 r.page 0 (pos (depth r.address)))) (not_leaf (start_of r.address) r e)
 
   pub page_parts : (V : List Reference) (r : Reference) → page_faults file V r ≡ page_faults file [] r ++ depth_fault file V r
   unfolding page_faults tree_view

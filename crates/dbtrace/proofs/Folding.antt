@@ -1,5 +1,6 @@
 -- What is reported of a start follows from the progress of its walk.
-use Rattle.std.proofs.Common.{◌≡◌, ℕ, ◌+◌, inl, inr, Bool, true, false, cond, not, ◌&&◌, List, [], ◌∷◌, ◌++◌, map, length, ℤ, Option, Some, None, refl, sym, ap, subst, arith, ◌∙◌, append_assoc}
+use Rattle.std.proofs.Common.{◌≡◌, ℕ, ◌+◌, inl, inr, Bool, true, false, cond, not, ◌&&◌, List, [], ◌∷◌, ◌++◌, map, length, ℤ, Option, Some, None, refl, sym, ap}
+use Rattle.std.proofs.Common.{subst, arith, ◌∙◌, append_assoc}
 use Rattle.std.specs.Prelude.{flat_map, option_map, option_to_list, nat_le, ◌==◌}
 use Rattle.std.specs.Option.{option_map_or}
 use Rattle.std.proofs.lemmas.Bool.{and_parts, eqb-true}
@@ -47,7 +48,8 @@ use Rattle.dbtrace.proofs.Told.{visited, trace, tells, IsOf, told_as, below_star
 
 -- which codes have a cause at an event
 
-pub row_of_progress : (file : List ℕ) (U : List Reference) (p : Progress) (r : Reference) (v : View) (x : ℕ × Cell) → AgreeOn row_codes (cause_by file U p (at_key r v x)) alone
+pub row_of_progress : (file : List ℕ) (U : List Reference) (p : Progress) (r : Reference) (v : View) (x : ℕ × Cell)
+    → AgreeOn row_codes (cause_by file U p (at_key r v x)) alone
 row_of_progress file U p r v x = refl
 
 pub row_of_visits : (file : List ℕ) (U : List Reference) (r : Reference) (v : View) (x : ℕ × Cell) → AgreeOn row_codes (cause_of file U (at_key r v x)) alone
@@ -74,7 +76,8 @@ counted-append roots (found f ∷ L) M = ap (λ l. f ∷ l) (counted-append root
 counted-append roots (given d ∷ L) M =
     let here = map told_alone (row_faults_if (nat_le last_root_start roots) d) in
     let one = length (rooted_rows (d ∷ [])) in
-    let both : length (rooted_rows (d ∷ given_cells L)) ≡ one + roots_in L = ap length (filter_map-append (λ c. rooted c.row) (d ∷ []) (given_cells L)) ∙ length-append (rooted_rows (d ∷ [])) (rooted_rows (given_cells L)) in
+    let both : length (rooted_rows (d ∷ given_cells L)) ≡ one + roots_in L = ap length (filter_map-append (λ c. rooted c.row) (d ∷ []) (given_cells L))
+    ∙ length-append (rooted_rows (d ∷ [])) (rooted_rows (given_cells L)) in
     let sum : roots + one + roots_in L ≡ roots + length (rooted_rows (d ∷ given_cells L)) = omega (arith, both) in
     ap (λ l. here ++ l) (counted-append (roots + one) L M ∙ ap (λ n. counted_findings (roots + one) L ++ counted_findings n M) sum)
     ∙ sym (append_assoc here (counted_findings (roots + one) L) (counted_findings (roots + roots_in (given d ∷ L)) M))
@@ -83,11 +86,13 @@ module _ (file : List ℕ) where
   -- the faults of an event, where this many rows with a root page came before
   abbrev counted_faults : ℕ → List Reference → Progress → Event → List Fault
   counted_faults roots U p (at_page r) = faults_at file U p (at_page r)
-  counted_faults roots U p (at_key r v x) = flat_map (row_faults_if (nat_le last_root_start roots)) (rows_of file U r v x) ++ flat_map (late_faults p.greatest) (key_of r v x)
+  counted_faults roots U p (at_key r v x) = flat_map (row_faults_if (nat_le last_root_start roots)) (rows_of file U r v x)
+      ++ flat_map (late_faults p.greatest) (key_of r v x)
   counted_faults roots U p (at_refused r) = faults_at file U p (at_refused r)
 
   findings_at : (roots : ℕ) (U : List Reference) (p : Progress) (e : Event)
-      → counted_findings roots (items_at file U p e) ≡ map told_row (option_to_list (event_row file e)) ++ told_by (cause_by file U p e) (counted_faults roots U p e)
+      → counted_findings roots (items_at file U p e) ≡ map told_row (option_to_list (event_row file e))
+      ++ told_by (cause_by file U p e) (counted_faults roots U p e)
   findings_at roots U p (at_page r) = counted_found roots _
   findings_at roots U p (at_refused r) = counted_found roots _
   findings_at roots U p (at_key r v x) =
@@ -96,18 +101,22 @@ module _ (file : List ℕ) where
       let K = flat_map (late_faults p.greatest) (key_of r v x) in
       counted-append roots (map given R) (map found (told_by why K))
       ∙ ap (λ l. counted_findings roots (map given R) ++ l) (counted_found (roots + roots_in (map given R)) (told_by why K))
-      ∙ ap (λ l. l ++ told_by why K) (one_row ((start_of r.address == schema_start) && not (is_interior v.kind)) (schema_cell file U r x) ∙ sym (rows_alone why (row_of_progress file U p r v x) (nat_le last_root_start roots) R))
+      ∙ ap (λ l. l ++ told_by why K) (one_row ((start_of r.address == schema_start) && not (is_interior v.kind)) (schema_cell file U r x)
+      ∙ sym (rows_alone why (row_of_progress file U p r v x) (nat_le last_root_start roots) R))
       ∙ sym (told_by-append why (flat_map (row_faults_if (nat_le last_root_start roots)) R) K)
     where
-      one_row : (b : Bool) (d : SchemaCell) → counted_findings roots (map given (cond b (d ∷ []) [])) ≡ map told_alone (flat_map (row_faults_if (nat_le last_root_start roots)) (cond b (d ∷ []) []))
-      one_row true d = append-nil (map told_alone (row_faults_if (nat_le last_root_start roots) d)) ∙ ap (map told_alone) (sym (append-nil (row_faults_if (nat_le last_root_start roots) d)))
+      one_row : (b : Bool) (d : SchemaCell) → counted_findings roots (map given (cond b (d ∷ []) []))
+          ≡ map told_alone (flat_map (row_faults_if (nat_le last_root_start roots)) (cond b (d ∷ []) []))
+      one_row true d = append-nil (map told_alone (row_faults_if (nat_le last_root_start roots) d))
+          ∙ ap (map told_alone) (sym (append-nil (row_faults_if (nat_le last_root_start roots) d)))
       one_row false d = refl
 
   rows_at_item : (U : List Reference) (p : Progress) (e : Event) → given_cells (items_at file U p e) ≡ rows_at_event file U e
   rows_at_item U p e =
       let rows = rows_at_event file U e in
       let fs = map told_row (option_to_list (event_row file e)) ++ told_by (cause_by file U p e) (faults_at file U p e) in
-      filter_map-append given_cell (map given rows) (map found fs) ∙ ap (λ l. given_cells (map given rows) ++ l) (cells_found fs) ∙ append-nil (given_cells (map given rows)) ∙ cells_given rows
+      filter_map-append given_cell (map given rows) (map found fs) ∙ ap (λ l. given_cells (map given rows) ++ l) (cells_found fs)
+      ∙ append-nil (given_cells (map given rows)) ∙ cells_given rows
 
   -- the rows that were given
   given_are : (now : Walk) (A : List (Told Event)) → given_cells (run (machine file) now A).items ≡ given_cells now.items ++ rows_told file now.visits A
@@ -116,7 +125,8 @@ module _ (file : List ℕ) where
       let U = up_to (machine file) now t.event in
       let R = rows_at_event file U t.event in
       given_are (advance file now t.event) A
-      ∙ ap (λ l. l ++ rows_told file U A) (filter_map-append given_cell now.items (items_at file U now.state t.event) ∙ ap (λ l. given_cells now.items ++ l) (rows_at_item U now.state t.event))
+      ∙ ap (λ l. l ++ rows_told file U A) (filter_map-append given_cell now.items (items_at file U now.state t.event)
+      ∙ ap (λ l. given_cells now.items ++ l) (rows_at_item U now.state t.event))
       ∙ append_assoc (given_cells now.items) R (rows_told file U A)
 
   -- what is reported of the items, event after event
@@ -132,7 +142,8 @@ module _ (file : List ℕ) where
       let z : 0 + roots_in now.items ≡ roots_in now.items = omega arith in
       reads (advance file now t.event) L (λ A B u e. h (t ∷ A) B u (ap (λ l. t ∷ l) e))
       ∙ ap (λ l. l ++ read_back own_visit (told_at file) U L)
-      (counted-append 0 now.items items ∙ ap (λ n. counted_findings 0 now.items ++ counted_findings n items) z ∙ ap (λ l. counted_findings 0 now.items ++ l) (h [] L t refl))
+      (counted-append 0 now.items items ∙ ap (λ n. counted_findings 0 now.items ++ counted_findings n items) z
+      ∙ ap (λ l. counted_findings 0 now.items ++ l) (h [] L t refl))
       ∙ append_assoc (counted_findings 0 now.items) (told_at file U t.event) (read_back own_visit (told_at file) U L)
 
   -- the depth of the first leaf
@@ -191,7 +202,8 @@ module _ (file : List ℕ) (k : ℕ) (W : List Reference) (c : Reference) (at : 
     by_visits e fs = told_by (cause_of file (at_event e) e) fs
 
     -- a page: by the first leaf
-    page : (r : Reference) → IsIn r (visited file W c) → by_progress (at_page r) (faults_at file (at_event (at_page r)) (after A).state (at_page r)) ≡ by_visits (at_page r) (page_faults file (at_event (at_page r)) r)
+    page : (r : Reference) → IsIn r (visited file W c) → by_progress (at_page r) (faults_at file (at_event (at_page r)) (after A).state (at_page r))
+        ≡ by_visits (at_page r) (page_faults file (at_event (at_page r)) r)
     page r i =
         told_by-append (cause_by file (at_event (at_page r)) (after A).state (at_page r)) (page_faults file [] r) (depth_faults file (after A).state.leaf r)
         ∙ ap (λ l. l ++ by_progress (at_page r) (depth_faults file (after A).state.leaf r))
@@ -257,11 +269,14 @@ module _ (file : List ℕ) (k : ℕ) (W : List Reference) (c : Reference) (at : 
 
     -- rows and keys, with their causes
     cell_told : (r : Reference) (v : View) (x : ℕ × Cell) → t.event ≡ at_key r v x → IsIn r (visited file W c) → t.key ≡ then_step r.address (key_step x.0)
-        → told_by (cause_by file (W ++ X) (after A).state (at_key r v x)) (flat_map (row_faults_if (nat_le last_root_start (roots_in (after A).items))) (rows_of file (W ++ X) r v x) ++ flat_map (late_faults (after A).state.greatest) (key_of r v x))
+        → told_by (cause_by file (W ++ X) (after A).state (at_key r v x))
+        (flat_map (row_faults_if (nat_le last_root_start (roots_in (after A).items))) (rows_of file (W ++ X) r v x)
+        ++ flat_map (late_faults (after A).state.greatest) (key_of r v x))
         ≡ told_by (cause_of file (W ++ X) (at_key r v x)) (cell_place_faults file (W ++ X) r v x)
     unfolding key_faults
     cell_told r v x f i place =
-        told_by-append why' R K ∙ ap (λ l. l ++ told_by why' K) row_told ∙ ap (λ l. told_by why R ++ l) (ap (told_by why') (keys r v x i place) ∙ by_keys (key_of r v x) refl)
+        told_by-append why' R K ∙ ap (λ l. l ++ told_by why' K) row_told
+        ∙ ap (λ l. told_by why R ++ l) (ap (told_by why') (keys r v x i place) ∙ by_keys (key_of r v x) refl)
         ∙ ap (λ l. told_by why l ++ told_by why K') (rows r v x f i place) ∙ sym (told_by-append why (row_faults_at file (W ++ X) r v x) K')
       where
         why : FaultCode → Cause
@@ -280,27 +295,35 @@ module _ (file : List ℕ) (k : ℕ) (W : List Reference) (c : Reference) (at : 
         K' = flat_map (key_faults file (W ++ X)) (key_of r v x)
 
         row_told : told_by why' R ≡ told_by why R
-        row_told = rows_alone why' (row_of_progress file (W ++ X) (after A).state r v x) (nat_le last_root_start (roots_in (after A).items)) (rows_of file (W ++ X) r v x)
+        row_told = rows_alone why' (row_of_progress file (W ++ X) (after A).state r v x) (nat_le last_root_start (roots_in (after A).items))
+            (rows_of file (W ++ X) r v x)
             ∙ sym (rows_alone why (row_of_visits file (W ++ X) r v x) (nat_le last_root_start (roots_in (after A).items)) (rows_of file (W ++ X) r v x))
 
         causes : (key : Key) → key_of r v x ≡ key ∷ [] → why' T06 ≡ why T06
-        causes key e = ap (λ top. option_map_or cause.Key top cause.Itself) (sym (key_cause r v x i place key e)) ∙ mapped (top_before file (W ++ X) (key_of r v x))
+        causes key e = ap (λ top. option_map_or cause.Key top cause.Itself) (sym (key_cause r v x i place key e))
+            ∙ mapped (top_before file (W ++ X) (key_of r v x))
           where
-            mapped : (o : Option Key) → option_map_or cause.Key (option_map cell_key o) cause.Itself ≡ option_map_or (λ k. cause.Key (cell_key k)) o cause.Itself
+            mapped : (o : Option Key) → option_map_or cause.Key (option_map cell_key o) cause.Itself
+                ≡ option_map_or (λ k. cause.Key (cell_key k)) o cause.Itself
             mapped None = refl
             mapped (Some k) = refl
 
-        by_keys : (ks : List Key) → key_of r v x ≡ ks → told_by why' (flat_map (key_faults file (W ++ X)) (key_of r v x)) ≡ told_by why (flat_map (key_faults file (W ++ X)) (key_of r v x))
+        by_keys : (ks : List Key) → key_of r v x ≡ ks → told_by why' (flat_map (key_faults file (W ++ X)) (key_of r v x))
+            ≡ told_by why (flat_map (key_faults file (W ++ X)) (key_of r v x))
         by_keys [] e = subst (λ ks. told_by why' (flat_map (key_faults file (W ++ X)) ks) ≡ told_by why (flat_map (key_faults file (W ++ X)) ks)) (sym e) refl
-        by_keys (key ∷ []) e = subst (λ ks. told_by why' (flat_map (key_faults file (W ++ X)) ks) ≡ told_by why (flat_map (key_faults file (W ++ X)) ks)) (sym e)
-            (ap (told_by why') (append-nil (key_faults file (W ++ X) key)) ∙ told_same why' why _ _ (causes key e) ∙ sym (ap (told_by why) (append-nil (key_faults file (W ++ X) key))))
+        by_keys (key ∷ []) e = subst (λ ks. told_by why' (flat_map (key_faults file (W ++ X)) ks) ≡ told_by why (flat_map (key_faults file (W ++ X)) ks))
+            (sym e)
+            (ap (told_by why') (append-nil (key_faults file (W ++ X) key)) ∙ told_same why' why _ _ (causes key e)
+            ∙ sym (ap (told_by why) (append-nil (key_faults file (W ++ X) key))))
         by_keys (key ∷ other ∷ ks) e = absurd (one_key r v x key other ks e)
 
     faults : (e : Event) → t.event ≡ e → IsOf file (visited file W c) t.key e
         → by_progress e (counted_faults file (roots_in (after A).items) (at_event e) (after A).state e) ≡ by_visits e (event_faults file (at_event e) e)
     faults (at_page r) f h = page r h.0
     faults (at_refused r) f h = refl
-    faults (at_key r v x) f h = subst (λ U. told_by (cause_by file U (after A).state (at_key r v x)) (flat_map (row_faults_if (nat_le last_root_start (roots_in (after A).items))) (rows_of file U r v x) ++ flat_map (late_faults (after A).state.greatest) (key_of r v x))
+    faults (at_key r v x) f h = subst (λ U. told_by (cause_by file U (after A).state (at_key r v x))
+        (flat_map (row_faults_if (nat_le last_root_start (roots_in (after A).items))) (rows_of file U r v x)
+        ++ flat_map (late_faults (after A).state.greatest) (key_of r v x))
         ≡ told_by (cause_of file U (at_key r v x)) (cell_place_faults file U r v x))
         (sym (append-nil (after A).visits ∙ visits_so_far))
         (cell_told r v x f h.0 h.3)
@@ -314,7 +337,8 @@ module _ (file : List ℕ) (k : ℕ) (W : List Reference) (c : Reference) (at : 
   no_rows other = read_as own_visit (rows_at_event file) (λ e. []) W (trace file W c) (λ A B t split. by_event A t.key t.event (here A B t split))
       ∙ flat_map-none (λ t. []) (trace file W c) (λ t i. refl)
     where
-      by_event : (A : List (Told Event)) (place : Address) (e : Event) → IsOf file (visited file W c) place e → rows_at_event file ((W ++ visits_in own_visit A) ++ option_to_list (own_visit e)) e ≡ []
+      by_event : (A : List (Told Event)) (place : Address) (e : Event) → IsOf file (visited file W c) place e
+          → rows_at_event file ((W ++ visits_in own_visit A) ++ option_to_list (own_visit e)) e ≡ []
       by_event A place (at_page r) h = refl
       by_event A place (at_refused r) h = refl
       by_event A place (at_key r v x) h = ap (λ b. cond (b && not (is_interior v.kind)) (schema_cell file ((W ++ visits_in own_visit A) ++ []) r x ∷ []) [])
@@ -336,6 +360,7 @@ pub is_fold : (file : List ℕ) → IsFold file
 is_fold file = record {
   findings_are = λ k W c at early. reads file (begin W) (trace file W c) (told file k W c at early);
   rows_are = λ k W c at early. all_rows file k W c at early;
-  visits_are = λ k W c at early. run_below_visits (rules_of file) (story_of file) (geometry file).pages (are_rules file) (machine file) (is_story file) (shows_visits file) (begin W) (Go c ∷ [])
+  visits_are = λ k W c at early. run_below_visits (rules_of file) (story_of file) (geometry file).pages (are_rules file) (machine file) (is_story file)
+      (shows_visits file) (begin W) (Go c ∷ [])
       (λ e i. elim i [ inl f ↦ cc | inr n ↦ absurd n ]);
 }

@@ -1,6 +1,7 @@
 -- The greatest key so far is a fold over the events, and by it a key is found to be out of order exactly where it is so after
 -- a key of the tree at a smaller place.
-use Rattle.std.proofs.Common.{◌≡◌, ℕ, ℤ, int_lt, ◌↔◌, inl, inr, Bool, true, false, cond, not, ◌&&◌, List, [], ◌∷◌, ◌++◌, map, Option, Some, None, refl, sym, ap, subst, arith, ◌∙◌}
+use Rattle.std.proofs.Common.{◌≡◌, ℕ, ℤ, int_lt, ◌↔◌, inl, inr, Bool, true, false, cond, not, ◌&&◌, List, [], ◌∷◌, ◌++◌, map, Option, Some, None, refl, sym, ap}
+use Rattle.std.proofs.Common.{subst, arith, ◌∙◌}
 use Rattle.std.specs.Prelude.{flat_map, int_le, option_map, ◌==◌}
 use Rattle.std.specs.List.{list_any}
 use Rattle.std.proofs.lemmas.Bool.{and_parts, and_from, eqb-true, eq-eqb, both_ways}
@@ -46,7 +47,8 @@ greatest_both : (top : Option CellKey) (ks js : List Key) → greatest_after top
 greatest_both top [] js = refl
 greatest_both top (k ∷ ks) js = greatest_both (greatest_after top (k ∷ [])) ks js
 
-pub greatest_is : (file : List ℕ) (now : Walk) (A : List (Told Event)) → (run (machine file) now A).state.greatest ≡ greatest_after now.state.greatest (keys_told A)
+pub greatest_is : (file : List ℕ) (now : Walk) (A : List (Told Event)) → (run (machine file) now A).state.greatest
+    ≡ greatest_after now.state.greatest (keys_told A)
 greatest_is file now [] = refl
 greatest_is file now (t ∷ A) = by_event t.event (λ m. greatest_is file m A)
   where
@@ -57,10 +59,12 @@ greatest_is file now (t ∷ A) = by_event t.event (λ m. greatest_is file m A)
     by_event (at_refused r) h = h (advance file now (at_refused r))
 
 -- keys that are reported at rising places, at most one at each
-ascending_keys : (A : List (Told Event)) → IsAscending (λ (t : Told Event). t.key) A → ((m : Told Event) → IsIn m A → (j : Key) → IsIn j (keys_told_at m.event) → j.place ≡ m.key)
+ascending_keys : (A : List (Told Event)) → IsAscending (λ (t : Told Event). t.key) A
+    → ((m : Told Event) → IsIn m A → (j : Key) → IsIn j (keys_told_at m.event) → j.place ≡ m.key)
     → IsAscending (λ (k : Key). k.place) (keys_told A)
 ascending_keys [] asc at = tt
-ascending_keys (t ∷ A) asc at = EachPair-append (λ (j : Key) (k : Key). IsBefore j.place k.place) (keys_told_at t.event) (keys_told A) (one t.event) (ascending_keys A asc.1 (λ m i. at m (inr i)))
+ascending_keys (t ∷ A) asc at = EachPair-append (λ (j : Key) (k : Key). IsBefore j.place k.place) (keys_told_at t.event) (keys_told A) (one t.event)
+    (ascending_keys A asc.1 (λ m i. at m (inr i)))
     (λ j k i l. let m = IsIn-from_flat_map (λ t. keys_told_at t.event) A k l in
     subst (λ a. IsBefore a k.place) (sym (at t (inl refl) j i)) (subst (IsBefore t.key) (sym (at m.0 (inr m.1) k m.2)) (asc.0 m.0 m.1)))
   where
@@ -94,7 +98,8 @@ module _ (file : List ℕ) (k : ℕ) (W : List Reference) (c : Reference) (at : 
   pub started : (r : Reference) (s : ℕ) → IsIn r (visited file W c) → start_of (then_step r.address s) ≡ k
   started r s i = let b = below_start file W c k at r i in ap (λ a. start_of (then_step a s)) b.1
 
-  module _ (A B : List (Told Event)) (t : Told Event) (split : trace file W c ≡ A ++ (t ∷ B)) (key : Key) (is_at : key.place ≡ t.key) (start : start_of key.place ≡ k) where
+  module _ (A B : List (Told Event)) (t : Told Event) (split : trace file W c ≡ A ++ (t ∷ B)) (key : Key) (is_at : key.place ≡ t.key)
+      (start : start_of key.place ≡ k) where
     abbrev U : List Reference
     U = W ++ visits_in own_visit A
 
@@ -108,14 +113,18 @@ module _ (file : List ℕ) (k : ℕ) (W : List Reference) (c : Reference) (at : 
         let f = filter-from is_earlier (keys file U) j i in
         let p = and_parts (start_of j.place == start_of key.place) (is_before j.place key.place) f.1 in
         let m = IsIn-from_flat_map (keys_at file) U j f.0 in
-        by_view m.0 m.1 (tree_view file m.0) refl m.2 (eqb-true (start_of j.place) (start_of key.place) p.0 ∙ start) (subst (IsBefore j.place) is_at (is_before-means j.place key.place p.1))
+        by_view m.0 m.1 (tree_view file m.0) refl m.2 (eqb-true (start_of j.place) (start_of key.place) p.0 ∙ start)
+        (subst (IsBefore j.place) is_at (is_before-means j.place key.place p.1))
       where
-        by_view : (r : Reference) → IsIn r U → (o : Option View) → tree_view file r ≡ o → IsIn j (keys_of_view r o) → start_of j.place ≡ k → IsBefore j.place t.key → IsIn j (keys_told A)
+        by_view : (r : Reference) → IsIn r U → (o : Option View) → tree_view file r ≡ o → IsIn j (keys_of_view r o) → start_of j.place ≡ k
+            → IsBefore j.place t.key → IsIn j (keys_told A)
         by_view r i None e h s b = absurd h
         by_view r i (Some v) e h s b =
             let m = IsIn-from_flat_map (key_of r v) (cells v) j h in
             let place = key_place r v m.0 j m.2 in elim (IsIn-cases r W (visits_in own_visit A) i) [
-              | inl w ↦ absurd (both_ways (start_of j.place == k) (other_start k j.place (subst (IsOfEarlierStart k) (sym place) (earlier_longer k r.address (key_step m.0.0 ∷ []) (early r w)))) (eq-eqb (start_of j.place) k s))
+              | inl w ↦ absurd (both_ways (start_of j.place == k)
+                  (other_start k j.place (subst (IsOfEarlierStart k) (sym place) (earlier_longer k r.address (key_step m.0.0 ∷ []) (early r w))))
+                  (eq-eqb (start_of j.place) k s))
               | inr w ↦ IsIn-flat_map (λ t. keys_told_at t.event) A (record { key = then_step r.address (key_step m.0.0); event = at_key r v m.0 }) j
                   ((before file W c A B t split (record { key = then_step r.address (key_step m.0.0); event = at_key r v m.0 })).1
                   (key_told file W c r v m.0 ((visited_before file W c A B t split r).0 w).0 e m.1, subst (λ a. IsBefore a t.key) place b))
@@ -130,7 +139,8 @@ module _ (file : List ℕ) (k : ℕ) (W : List Reference) (c : Reference) (at : 
         let b = (before file W c A B t split m.0).0 m.1 in
         by_event m.0.key m.0.event (told_as file W c m.0 b.0) b.1 m.2
       where
-        by_event : (place : Address) (e : Event) → IsOf file (visited file W c) place e → IsBefore place t.key → IsIn j (keys_told_at e) → IsIn j (earlier_keys file U key)
+        by_event : (place : Address) (e : Event) → IsOf file (visited file W c) place e → IsBefore place t.key → IsIn j (keys_told_at e)
+            → IsIn j (earlier_keys file U key)
         by_event place (at_page r) h b l = absurd l
         by_event place (at_refused r) h b l = absurd l
         by_event place (at_key r v x) h b l =
@@ -148,7 +158,8 @@ module _ (file : List ℕ) (k : ℕ) (W : List Reference) (c : Reference) (at : 
 
     -- by the greatest key so far
     late : list_any (is_out_of_order key) (earlier_keys file U key) ≡ is_out int_lt (key_value top) (key_entry key)
-    late = same_tests (list_any (is_out_of_order key) (earlier_keys file U key)) (is_out int_lt (key_value top) (key_entry key)) (λ e. by_value.1 (exact.1 (there e))) (λ e. back (exact.0 (by_value.0 e)))
+    late = same_tests (list_any (is_out_of_order key) (earlier_keys file U key)) (is_out int_lt (key_value top) (key_entry key))
+        (λ e. by_value.1 (exact.1 (there e))) (λ e. back (exact.0 (by_value.0 e)))
       where
         out : Option ℤ → Type 0
         out v = is_out int_lt v (key_entry key) ≡ true
@@ -165,11 +176,13 @@ module _ (file : List ℕ) (k : ℕ) (W : List Reference) (c : Reference) (at : 
 
         back : IsOut int_lt (map key_entry (keys_told A)) (key_entry key) → list_any (is_out_of_order key) (earlier_keys file U key) ≡ true
         back h = let m = IsIn-from_map key_entry (keys_told A) h.0 h.1 in
-            any_true (is_out_of_order key) (earlier_keys file U key) m.0 (was_earlier m.0 m.1) (same_test key m.0 ∙ subst (λ d. IsOutAfter int_lt d (key_entry key)) m.2 h.2)
+            any_true (is_out_of_order key) (earlier_keys file U key) m.0 (was_earlier m.0 m.1)
+            (same_test key m.0 ∙ subst (λ d. IsOutAfter int_lt d (key_entry key)) m.2 h.2)
 
     -- the reported keys rise by place
     rising : IsAscending (λ (k : Key). k.place) (keys_told A)
-    rising = ascending_keys A (EachPair-left (λ (s : Told Event) (t : Told Event). IsBefore s.key t.key) A (t ∷ B) (subst (IsAscending (λ (t : Told Event). t.key)) split (tells file W c).ascending))
+    rising = ascending_keys A (EachPair-left (λ (s : Told Event) (t : Told Event). IsBefore s.key t.key) A (t ∷ B)
+        (subst (IsAscending (λ (t : Told Event). t.key)) split (tells file W c).ascending))
         (λ m i j l. at_place m.key m.event (told_as file W c m ((before file W c A B t split m).0 i).0) j l)
       where
         at_place : (place : Address) (e : Event) → IsOf file (visited file W c) place e → (j : Key) → IsIn j (keys_told_at e) → j.place ≡ place

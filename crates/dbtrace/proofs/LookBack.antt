@@ -1,5 +1,6 @@
 -- Causes look back alone: the cause of a fault rests on the pages that were visited before it.
-use Rattle.std.proofs.Common.{◌≡◌, ℕ, zero, suc, ◌+◌, ◌-◌, inl, inr, Bool, true, false, cond, not, ◌&&◌, List, [], ◌∷◌, ◌++◌, map, length, take, Option, Some, None, refl, sym, ap, ap₂, subst, ◌∙◌, append_assoc}
+use Rattle.std.proofs.Common.{◌≡◌, ℕ, zero, suc, ◌+◌, ◌-◌, inl, inr, Bool, true, false, cond, not, ◌&&◌, List, [], ◌∷◌, ◌++◌, map, length, take, Option, Some}
+use Rattle.std.proofs.Common.{None, refl, sym, ap, ap₂, subst, ◌∙◌, append_assoc}
 use Rattle.std.specs.Prelude.{find, flat_map, option_to_list, ◌==◌}
 use Rattle.std.specs.Option.{option_map_or}
 use Rattle.dbsurvey.specs.Address.{IsIn, Address, IsBefore}
@@ -24,7 +25,8 @@ use Rattle.dbformat.proofs.LookBack.{find_front, keys_front, tells, all_of, late
 use Rattle.dbformat.proofs.Places.{key_place}
 use Rattle.dbformat.proofs.Theory.{no_tell, told_in_order}
 use Rattle.dbformat.specs.Schema.{starts}
-use Rattle.dbtrace.specs.Causes.{cell_key, leaf_at, top_key, top_before, first_leaf, chain_number, head_address, is_same, chain_head, chain_of, chain_cause, is_from_zeros, cause_of}
+use Rattle.dbtrace.specs.Causes.{cell_key, leaf_at, top_key, top_before, first_leaf, chain_number, head_address, is_same, chain_head, chain_of, chain_cause}
+use Rattle.dbtrace.specs.Causes.{is_from_zeros, cause_of}
 use Rattle.dbtrace.specs.Finding.{Finding, told_row, told_fault, told_by, told_at}
 use Rattle.dbtrace.specs.LookBack.{visits_up_to, CausesLookBack, FindingsLookBack}
 use Rattle.dbtrace.specs.declared.Cause.{Cause}
@@ -89,12 +91,15 @@ module _ (file : List ℕ) (U T : List Reference) (place : Address) (after : (t 
   -- the first page of a chain is at a beginning of the address
   head_front : (r : Reference) → r.address ≡ place → chain_head (U ++ T) r ≡ chain_head U r
   head_front r e = ap (cond (chain_number r.address == 0) (Some r)) (none_after (λ u. is_same u.address (head_address r.address)) U T
-      (λ t i. not_same t.address (head_address r.address) (begins_before (length r.address - chain_number r.address) r.address t.address (subst (λ a. IsBefore a t.address) (sym e) (after t i)))))
+      (λ t i. not_same t.address (head_address r.address)
+      (begins_before (length r.address - chain_number r.address) r.address t.address (subst (λ a. IsBefore a t.address) (sym e) (after t i)))))
 
-  chain_front : (r : Reference) → r.address ≡ place → (left : Option ℕ) (more : ℕ) (in_zeros : Bool) → chain_cause file (U ++ T) r left more in_zeros ≡ chain_cause file U r left more in_zeros
+  chain_front : (r : Reference) → r.address ≡ place → (left : Option ℕ) (more : ℕ) (in_zeros : Bool) → chain_cause file (U ++ T) r left more in_zeros
+      ≡ chain_cause file U r left more in_zeros
   chain_front r e None more in_zeros = refl
   chain_front r e (Some left) more in_zeros =
-      ap (λ head. option_map_or (λ head. cause.Chain (chain_of file head (chain_number r.address) left (chain_number r.address + more) in_zeros)) head cause.Itself) (head_front r e)
+      ap (λ head. option_map_or (λ head. cause.Chain (chain_of file head (chain_number r.address) left (chain_number r.address + more) in_zeros)) head
+      cause.Itself) (head_front r e)
 
   abbrev by_all : Event → FaultCode → Cause
   by_all e = cause_of file (U ++ T) e
@@ -107,11 +112,14 @@ module _ (file : List ℕ) (U T : List Reference) (place : Address) (after : (t 
   unfolding depth_fault
   depth_front r i = by_leaf (is_leaf_of file (start_of r.address) r) refl
     where
-      by_leaf : (b : Bool) → is_leaf_of file (start_of r.address) r ≡ b → told_by (by_all (at_page r)) (depth_fault file U r) ≡ told_by (by_front (at_page r)) (depth_fault file U r)
-      by_leaf true e = told_same (by_all (at_page r)) (by_front (at_page r)) _ _ (ap (λ l. option_map_or (λ l. cause.Leaf l.page) l cause.Itself) (leaf_front r i e))
+      by_leaf : (b : Bool) → is_leaf_of file (start_of r.address) r ≡ b → told_by (by_all (at_page r)) (depth_fault file U r)
+          ≡ told_by (by_front (at_page r)) (depth_fault file U r)
+      by_leaf true e = told_same (by_all (at_page r)) (by_front (at_page r)) _ _
+          (ap (λ l. option_map_or (λ l. cause.Leaf l.page) l cause.Itself) (leaf_front r i e))
       by_leaf false e = rw e refl
 
-  page_front : (r : Reference) → r.address ≡ place → IsIn r U → told_by (by_all (at_page r)) (page_faults file U r) ≡ told_by (by_front (at_page r)) (page_faults file U r)
+  page_front : (r : Reference) → r.address ≡ place → IsIn r U → told_by (by_all (at_page r)) (page_faults file U r)
+      ≡ told_by (by_front (at_page r)) (page_faults file U r)
   page_front r e i =
       ap (told_by (by_all (at_page r))) (page_parts file U r)
       ∙ told_by-append (by_all (at_page r)) (page_faults file [] r) (depth_fault file U r)
@@ -120,42 +128,50 @@ module _ (file : List ℕ) (U T : List Reference) (place : Address) (after : (t 
       (depth_front r i)
       ∙ sym (ap (told_by (by_front (at_page r))) (page_parts file U r) ∙ told_by-append (by_front (at_page r)) (page_faults file [] r) (depth_fault file U r))
 
-  key_front : (r : Reference) (v : View) (x : ℕ × Cell) → then_step r.address (key_step x.0) ≡ place → (code : FaultCode) → by_all (at_key r v x) code ≡ by_front (at_key r v x) code
+  key_front : (r : Reference) (v : View) (x : ℕ × Cell) → then_step r.address (key_step x.0) ≡ place → (code : FaultCode) → by_all (at_key r v x) code
+      ≡ by_front (at_key r v x) code
   key_front r v x e T06 = ap (λ k. option_map_or (λ k. cause.Key (cell_key k)) k cause.Itself) (top_front (key_of r v x) (λ k i. key_place r v x k i ∙ e))
   key_front r v x e _ = refl
 
   event_front : (V : List Reference) (e : Event) → IsOf file V place e → ((r : Reference) → own_visit e ≡ Some r → IsIn r U)
       → told_by (by_all e) (event_faults file U e) ≡ told_by (by_front e) (event_faults file U e)
   event_front V (at_page r) h own = page_front r (sym h.1) (own r refl)
-  event_front V (at_key r v x) h own = same_by (by_all (at_key r v x)) (by_front (at_key r v x)) (key_front r v x (sym h.3)) (event_faults file U (at_key r v x))
-  event_front V (at_refused r) h own = same_by (by_all (at_refused r)) (by_front (at_refused r)) (λ code. chain_front r (sym h) (bytes_left (role_of r)) 0 (is_from_zeros file r)) (event_faults file U (at_refused r))
+  event_front V (at_key r v x) h own = same_by (by_all (at_key r v x)) (by_front (at_key r v x)) (key_front r v x (sym h.3))
+      (event_faults file U (at_key r v x))
+  event_front V (at_refused r) h own = same_by (by_all (at_refused r)) (by_front (at_refused r))
+      (λ code. chain_front r (sym h) (bytes_left (role_of r)) 0 (is_from_zeros file r)) (event_faults file U (at_refused r))
 
 -- at an event of all that is reported
 
 module _ (file : List ℕ) (V : List Reference) (s : Survey file V) where
   -- its faults with their causes
   told_here : (A : List (Told Event)) (t : Told Event) (L : List (Told Event)) → A ++ t ∷ L ≡ telling file V
-      → told_by (cause_of file V t.event) (event_faults file V t.event) ≡ told_by (cause_of file (visits_up_to A t) t.event) (event_faults file (visits_up_to A t) t.event)
+      → told_by (cause_of file V t.event) (event_faults file V t.event)
+      ≡ told_by (cause_of file (visits_up_to A t) t.event) (event_faults file (visits_up_to A t) t.event)
   told_here A t L e =
       ap (told_by (cause_of file V t.event)) (here file V s A t L e)
       ∙ ap (λ X. told_by (cause_of file X t.event) (event_faults file (visits_up_to A t) t.event)) (sym (all_of file V s A t L e))
       ∙ event_front file (visits_up_to A t) (visits_in own_visit L) t.key (later file V s A t L e) V t.event
-      (told_of file (start_errands file V) V (no_tell [] (starts file V)) t (((tells file V s).exact t).0 (subst (λ l. IsIn t l) e (IsIn-right t A (t ∷ L) (inl refl)))))
+      (told_of file (start_errands file V) V (no_tell [] (starts file V)) t
+      (((tells file V s).exact t).0 (subst (λ l. IsIn t l) e (IsIn-right t A (t ∷ L) (inl refl)))))
       (λ r f. IsIn-right r (visits_in own_visit A) (option_to_list (own_visit t.event)) (listed (own_visit t.event) r f))
 
   -- its row, and these
-  pub findings_here : (A : List (Told Event)) (t : Told Event) (L : List (Told Event)) → A ++ t ∷ L ≡ telling file V → told_at file V t.event ≡ told_at file (visits_up_to A t) t.event
+  pub findings_here : (A : List (Told Event)) (t : Told Event) (L : List (Told Event)) → A ++ t ∷ L ≡ telling file V → told_at file V t.event
+      ≡ told_at file (visits_up_to A t) t.event
   findings_here A t L e = ap (λ fs. map told_row (option_to_list (event_row file t.event)) ++ fs) (told_here A t L e)
 
   -- the visits before the rest
   pub visits_more : (A : List (Told Event)) (t : Told Event) → visits_in own_visit (A ++ t ∷ []) ≡ visits_up_to A t
   visits_more A t = visits-append A (t ∷ []) ∙ ap (λ l. visits_in own_visit A ++ l) (one_of (own_visit t.event))
 
-  from_here : (A L : List (Told Event)) → A ++ L ≡ telling file V → flat_map (λ t. told_at file V t.event) L ≡ read_back own_visit (told_at file) (visits_in own_visit A) L
+  from_here : (A L : List (Told Event)) → A ++ L ≡ telling file V → flat_map (λ t. told_at file V t.event) L
+      ≡ read_back own_visit (told_at file) (visits_in own_visit A) L
   from_here A [] e = refl
   from_here A (t ∷ L) e =
       ap (λ l. l ++ flat_map (λ t. told_at file V t.event) L) (findings_here A t L e)
-      ∙ ap (λ l. told_at file (visits_up_to A t) t.event ++ l) (from_here (A ++ t ∷ []) L (append_assoc A (t ∷ []) L ∙ e) ∙ ap (λ X. read_back own_visit (told_at file) X L) (visits_more A t))
+      ∙ ap (λ l. told_at file (visits_up_to A t) t.event ++ l)
+      (from_here (A ++ t ∷ []) L (append_assoc A (t ∷ []) L ∙ e) ∙ ap (λ X. read_back own_visit (told_at file) X L) (visits_more A t))
 
 pub causes_look_back : (file : List ℕ) → CausesLookBack file
 causes_look_back file V s A L t e f i =

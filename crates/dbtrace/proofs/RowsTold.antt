@@ -1,5 +1,6 @@
 -- The rows of the schema are those of the events, in their order; and those at smaller places are those of the events before.
-use Rattle.std.proofs.Common.{◌≡◌, ℕ, inl, inr, Bool, true, false, cond, not, ◌&&◌, List, [], ◌∷◌, ◌++◌, map, Some, None, refl, sym, ap, subst, ◌∙◌, append_assoc}
+use Rattle.std.proofs.Common.{◌≡◌, ℕ, inl, inr, Bool, true, false, cond, not, ◌&&◌, List, [], ◌∷◌, ◌++◌, map, Some, None, refl, sym, ap, subst, ◌∙◌}
+use Rattle.std.proofs.Common.{append_assoc}
 use Rattle.std.specs.Prelude.{flat_map, filter, option_to_list, ◌==◌}
 use Rattle.std.specs.List.{cons_option}
 use Rattle.std.proofs.lemmas.List.{append-nil}
@@ -35,7 +36,8 @@ abbrev pub rows_told : List ℕ → List Reference → List (Told Event) → Lis
 rows_told file W A = read_back own_visit (rows_at_event file) W A
 
 -- a row is at the place of its event
-row_place : (file : List ℕ) (V X : List Reference) (place : Address) (e : Event) → IsOf file V place e → (d : SchemaCell) → IsIn d (rows_at_event file X e) → d.place ≡ place
+row_place : (file : List ℕ) (V X : List Reference) (place : Address) (e : Event) → IsOf file V place e → (d : SchemaCell) → IsIn d (rows_at_event file X e)
+    → d.place ≡ place
 row_place file V X place (at_page r) h d i = absurd i
 row_place file V X place (at_refused r) h d i = absurd i
 row_place file V X place (at_key r v x) h d i = by_test ((start_of r.address == schema_start) && not (is_interior v.kind)) i
@@ -46,8 +48,10 @@ row_place file V X place (at_key r v x) h d i = by_test ((start_of r.address == 
     by_test false n = absurd n
 
 -- the row of an event is one of its page, and the other way
-in_page : (file : List ℕ) (V : List Reference) (r : Reference) (v : View) (x : ℕ × Cell) (d : SchemaCell) → tree_view file r ≡ Some v → IsIn x (cells v) → IsIn d (rows_of file V r v x) → IsIn d (rows_at file V r)
-in_page file V r v x d e j i = subst (λ o. IsIn d (cond (start_of r.address == schema_start) (leaf_rows file V r o) [])) (sym e) (by_test (start_of r.address == schema_start) (is_interior v.kind) i)
+in_page : (file : List ℕ) (V : List Reference) (r : Reference) (v : View) (x : ℕ × Cell) (d : SchemaCell) → tree_view file r ≡ Some v → IsIn x (cells v)
+    → IsIn d (rows_of file V r v x) → IsIn d (rows_at file V r)
+in_page file V r v x d e j i = subst (λ o. IsIn d (cond (start_of r.address == schema_start) (leaf_rows file V r o) [])) (sym e)
+    (by_test (start_of r.address == schema_start) (is_interior v.kind) i)
   where
     by_test : (a b : Bool) → IsIn d (cond (a && not b) (schema_cell file V r x ∷ []) []) → IsIn d (cond a (cond b [] (map (schema_cell file V r) (cells v))) [])
     by_test true false (inl f) = subst (λ d. IsIn d (map (schema_cell file V r) (cells v))) (sym f) (IsIn-map (schema_cell file V r) (cells v) x j)
@@ -77,12 +81,14 @@ module _ (file : List ℕ) (c : Reference) (at : c.address ≡ schema_start ∷ 
   row_key t i d j = row_place file V V t.key t.event (told_as file [] c t (told_in t i)) d j
 
   all_visits : visits_in own_visit L ≡ V
-  all_visits = visits_of (rules_of file) (story_of file) (geometry file).pages (are_rules file) (is_story file) own_visit (shows_visits file) [] (Go c ∷ []) (λ e j. elim j [ inl f ↦ cc | inr n ↦ absurd n ])
+  all_visits = visits_of (rules_of file) (story_of file) (geometry file).pages (are_rules file) (is_story file) own_visit (shows_visits file) [] (Go c ∷ [])
+      (λ e j. elim j [ inl f ↦ cc | inr n ↦ absurd n ])
 
   rows_ascend : IsAscending (λ d. d.place) (flat_map at_event L)
   rows_ascend = each_list (λ d e. IsBefore d.place e.place) at_event L (λ t. of_event t.event)
       (each_within (λ t u. IsBefore t.key u.key) (λ t u. (d e : SchemaCell) → IsIn d (at_event t) → IsIn e (at_event u) → IsBefore d.place e.place) L
-      (λ t u i j l d e m n. subst (λ p. IsBefore p e.place) (sym (row_key t i d m)) (subst (IsBefore t.key) (sym (row_key u j e n)) l)) (tells file [] c).ascending)
+      (λ t u i j l d e m n. subst (λ p. IsBefore p e.place) (sym (row_key t i d m)) (subst (IsBefore t.key) (sym (row_key u j e n)) l))
+      (tells file [] c).ascending)
     where
       one : (b : Bool) (d : SchemaCell) → EachPair (λ d e. IsBefore d.place e.place) (cond b (d ∷ []) [])
       one true d = ((λ y i. absurd i), tt)
@@ -119,7 +125,8 @@ module _ (file : List ℕ) (c : Reference) (at : c.address ≡ schema_start ∷ 
         ∙ sym (filter_map-append (λ u. own_visit u.event) A (t ∷ B)) ∙ ap (visits_in own_visit) (sym split) ∙ all_visits
 
     -- the row that the visits so far spell is that of all visits
-    row_is : (e : Event) → t.event ≡ e → IsOf file V t.key e → rows_at_event file (visits_in own_visit A ++ option_to_list (own_visit e)) e ≡ rows_at_event file V e
+    row_is : (e : Event) → t.event ≡ e → IsOf file V t.key e → rows_at_event file (visits_in own_visit A ++ option_to_list (own_visit e)) e
+        ≡ rows_at_event file V e
     row_is (at_page r) f h = refl
     row_is (at_refused r) f h = refl
     row_is (at_key r v x) f h = ap (λ d. cond ((start_of r.address == schema_start) && not (is_interior v.kind)) (d ∷ []) [])
@@ -140,7 +147,8 @@ module _ (file : List ℕ) (c : Reference) (at : c.address ≡ schema_start ∷ 
   pub rows_before : (A B : List (Told Event)) (t : Told Event) → L ≡ A ++ (t ∷ B) → own_visit t.event ≡ None
       → filter (λ d. is_before d.place t.key) (schema file (visits_in own_visit A)) ≡ rows_told file [] A
   rows_before A B t split quiet = sym (schema_front file (visits_in own_visit A) (visits_in own_visit B) t.key (visited_after file [] c A B t split))
-      ∙ ap (λ U. filter is_earlier (schema file U)) (ap (λ o. visits_in own_visit A ++ cons_option o (visits_in own_visit B)) (sym quiet) ∙ parted A B t split t.event refl)
+      ∙ ap (λ U. filter is_earlier (schema file U)) (ap (λ o. visits_in own_visit A ++ cons_option o (visits_in own_visit B)) (sym quiet)
+      ∙ parted A B t split t.event refl)
       ∙ ap (filter is_earlier) (schema_is ∙ ap (flat_map at_event) split ∙ flat_map-append at_event A (t ∷ B))
       ∙ filter-append is_earlier (flat_map at_event A) (flat_map at_event (t ∷ B))
       ∙ ap (λ l. l ++ filter is_earlier (flat_map at_event (t ∷ B))) (filter-all is_earlier (flat_map at_event A) front)
@@ -161,5 +169,6 @@ module _ (file : List ℕ) (c : Reference) (at : c.address ≡ schema_start ∷ 
           let m = IsIn-from_flat_map at_event (t ∷ B) d i in
           ap (λ p. is_before p t.key) (row_key m.0 (subst (IsIn m.0) (sym split) (IsIn-right m.0 A (t ∷ B) m.1)) d m.2) ∙ (elim m.1 [
             | inl e ↦ ap (λ u. is_before u.key t.key) e ∙ is_before-itself t.key
-            | inr j ↦ not_before m.0.key t.key ((EachPair-right (λ x y. IsBefore x.key y.key) A (t ∷ B) (subst (IsAscending (λ e. e.key)) split (tells file [] c).ascending)).0 m.0 j)
+            | inr j ↦ not_before m.0.key t.key ((EachPair-right (λ x y. IsBefore x.key y.key) A (t ∷ B)
+                (subst (IsAscending (λ e. e.key)) split (tells file [] c).ascending)).0 m.0 j)
           ])

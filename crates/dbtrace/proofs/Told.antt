@@ -4,7 +4,8 @@ use Rattle.std.specs.Prelude.{flat_map}
 use Rattle.dbsurvey.specs.Address.{IsIn, Address, IsBefore, IsAscending}
 use Rattle.dbsurvey.specs.Survey.{IsPart}
 use Rattle.dbsurvey.specs.Traverse.{part_of}
-use Rattle.dbsurvey.specs.Story.{Told, PageStep, Follow, Place, Errand, Go, Tell, told_own, IsTold, of_errand, of_page, of_place, of_refused, IsTelling, telling_of}
+use Rattle.dbsurvey.specs.Story.{Told, PageStep, Follow, Place, Errand, Go, Tell, told_own, IsTold, of_errand, of_page, of_place, of_refused, IsTelling}
+use Rattle.dbsurvey.specs.Story.{telling_of}
 use Rattle.dbsurvey.specs.InOrder.{visits_in}
 use Rattle.dbsurvey.proofs.Order.{IsIn-cases, IsIn-right, EachPair-right, IsBefore-trans, IsBefore-beginning}
 use Rattle.dbsurvey.proofs.Ordering.{IsIn-from_flat_map}
@@ -18,7 +19,8 @@ use Rattle.dbformat.specs.File.{geometry, page_bytes}
 use Rattle.dbformat.specs.Address.{then_step, key_step}
 use Rattle.dbformat.specs.Head.{View, undamaged}
 use Rattle.dbformat.specs.Cell.{Cell, cells}
-use Rattle.dbformat.specs.Reference.{Role, root, child, first_overflow, later_overflow, trunk, free_leaf, Way, Reference, role_of, cell_links, right_links, overflow_links, trunk_links, tree_view}
+use Rattle.dbformat.specs.Reference.{Role, root, child, first_overflow, later_overflow, trunk, free_leaf, Way, Reference, role_of, cell_links, right_links}
+use Rattle.dbformat.specs.Reference.{overflow_links, trunk_links, tree_view}
 use Rattle.dbformat.specs.Survey.{rules_of}
 use Rattle.dbformat.specs.Story.{Event, at_page, at_key, at_refused, own_visit, cell_items, page_items, role_items, story_of}
 use Rattle.dbformat.specs.declared.TreeKind.{TreeKind}
@@ -34,12 +36,14 @@ module _ (file : List ℕ) where
   IsOfPage u (Place step (at_key r v x)) = (r ≡ u) × (tree_view file u ≡ Some v) × IsIn x (cells v) × (step ≡ key_step x.0)
   IsOfPage u (Place step (at_refused r)) = ⊥
 
-  of_view : (u : Reference) (kind : TreeKind) (o : Option View) → tree_view file u ≡ o → (step : ℕ) (event : Event) → IsIn (Place step event) (page_items u kind o) → IsOfPage u (Place step event)
+  of_view : (u : Reference) (kind : TreeKind) (o : Option View) → tree_view file u ≡ o → (step : ℕ) (event : Event)
+      → IsIn (Place step event) (page_items u kind o) → IsOfPage u (Place step event)
   of_view u kind None e step event h = absurd h
-  of_view u kind (Some v) e step event h = elim (IsIn-cases (Place step event) (flat_map (cell_items u kind v) (cells v)) (map Follow (right_links u.page kind v)) h) [
-    | inr i ↦ absurd (no_place (right_links u.page kind v) step event i)
-    | inl i ↦ (let m = IsIn-from_flat_map (cell_items u kind v) (cells v) (Place step event) i in of_cell m.0 m.1 m.2)
-  ]
+  of_view u kind (Some v) e step event h = elim (IsIn-cases (Place step event) (flat_map (cell_items u kind v) (cells v))
+      (map Follow (right_links u.page kind v)) h) [
+        | inr i ↦ absurd (no_place (right_links u.page kind v) step event i)
+        | inl i ↦ (let m = IsIn-from_flat_map (cell_items u kind v) (cells v) (Place step event) i in of_cell m.0 m.1 m.2)
+      ]
     where
       of_cell : (x : ℕ × Cell) → IsIn x (cells v) → IsIn (Place step event) (cell_items u kind v x) → IsOfPage u (Place step event)
       of_cell (i, c) j h = elim (IsIn-cases (Place step event) (map Follow (cell_links u.page kind (i, c))) _ h) [
@@ -51,7 +55,8 @@ module _ (file : List ℕ) where
   unfolding story_of tree_view
   of_items u step event h = by_role (role_of u) refl h
     where
-      by_role : (role : Role) → role_of u ≡ role → IsIn (Place step event) (role_items role u (usable_size file) (page_bytes file u.page)) → IsOfPage u (Place step event)
+      by_role : (role : Role) → role_of u ≡ role → IsIn (Place step event) (role_items role u (usable_size file) (page_bytes file u.page))
+          → IsOfPage u (Place step event)
       by_role (root kind) e h = of_view u kind (undamaged kind u.page (usable_size file) (page_bytes file u.page)) (rw e refl) step event h
       by_role (child kind) e h = of_view u kind (undamaged kind u.page (usable_size file) (page_bytes file u.page)) (rw e refl) step event h
       by_role (first_overflow left) e h = absurd (no_place (overflow_links u.page (usable_size file) left (page_bytes file u.page)) step event h)
@@ -65,7 +70,8 @@ module _ (file : List ℕ) where
   IsOf V place (at_key r v x) = IsIn r V × (tree_view file r ≡ Some v) × IsIn x (cells v) × (place ≡ then_step r.address (key_step x.0))
   IsOf V place (at_refused r) = place ≡ r.address
 
-  of_place_at : (V : List Reference) (u : Reference) (step : ℕ) (event : Event) → IsIn u V → IsOfPage u (Place step event) → IsOf V (then_step u.address step) event
+  of_place_at : (V : List Reference) (u : Reference) (step : ℕ) (event : Event) → IsIn u V → IsOfPage u (Place step event)
+      → IsOf V (then_step u.address step) event
   of_place_at V u step (at_page r) i h = absurd h
   of_place_at V u step (at_key r v x) i h = (
     subst (λ w. IsIn w V) (sym h.0) i,
@@ -98,10 +104,12 @@ module _ (file : List ℕ) (W : List Reference) (c : Reference) where
   IsToldBelow e = IsTold (rules_of file) (story_of file) (Go c ∷ []) visited e
 
   pub part : IsPart (rules_of file) W (c ∷ []) visited
-  part = traverse_part (rules_of file) (geometry file).pages (are_rules file) (geometry file).pages W (c ∷ []) (free_at_most (geometry file).pages W) ((λ y i. absurd i), tt)
+  part = traverse_part (rules_of file) (geometry file).pages (are_rules file) (geometry file).pages W (c ∷ []) (free_at_most (geometry file).pages W)
+      ((λ y i. absurd i), tt)
 
   pub tells : IsTelling (rules_of file) (story_of file) (Go c ∷ []) visited trace
-  tells = telling_is (rules_of file) (story_of file) (geometry file).pages (are_rules file) (is_story file) (geometry file).pages W (Go c ∷ []) (free_at_most (geometry file).pages W) ((λ y i. absurd i), tt)
+  tells = telling_is (rules_of file) (story_of file) (geometry file).pages (are_rules file) (is_story file) (geometry file).pages W (Go c ∷ [])
+      (free_at_most (geometry file).pages W) ((λ y i. absurd i), tt)
 
   pub below_start : (k : ℕ) → c.address ≡ k ∷ [] → (r : Reference) → IsIn r visited → (a : Address) × (r.address ≡ k ∷ a)
   below_start k at r i =
@@ -111,14 +119,16 @@ module _ (file : List ℕ) (W : List Reference) (c : Reference) where
   pub told_as : (e : Told Event) → IsToldBelow e → IsOf file visited e.key e.event
   told_as e t = told_of file (Go c ∷ []) visited (λ e j. elim j [ inl f ↦ cc | inr n ↦ n ]) e t
 
-  pub key_told : (r : Reference) (v : View) (x : ℕ × Cell) → IsIn r visited → tree_view file r ≡ Some v → IsIn x (cells v) → IsToldBelow (record { key = then_step r.address (key_step x.0); event = at_key r v x })
+  pub key_told : (r : Reference) (v : View) (x : ℕ × Cell) → IsIn r visited → tree_view file r ≡ Some v → IsIn x (cells v)
+      → IsToldBelow (record { key = then_step r.address (key_step x.0); event = at_key r v x })
   unfolding story_of
   key_told r v x i e j = of_place r i (placed r.address ((story_of file).items r) (key_step x.0) (at_key r v x) (cell_in_items file r v e x j))
 
   -- at an event of the trace
   module _ (A B : List (Told Event)) (t : Told Event) (split : trace ≡ A ++ (t ∷ B)) where
     pub before : (d : Told Event) → IsIn d A ↔ (IsToldBelow d × IsBefore d.key t.key)
-    before = told_before (rules_of file) (story_of file) (Go c ∷ []) visited A B t (subst (IsTelling (rules_of file) (story_of file) (Go c ∷ []) visited) split tells)
+    before = told_before (rules_of file) (story_of file) (Go c ∷ []) visited A B t
+        (subst (IsTelling (rules_of file) (story_of file) (Go c ∷ []) visited) split tells)
 
     -- the visits before it
     pub visited_before : (r : Reference) → IsIn r (visits_in own_visit A) ↔ (IsIn r visited × IsBefore r.address t.key)
@@ -128,11 +138,13 @@ module _ (file : List ℕ) (W : List Reference) (c : Reference) where
         there i =
             let m = visits-from own_visit A r i in
             let b = (before m.0).0 m.1 in
-            let o = own_of (rules_of file) (story_of file) own_visit (shows_visits file) (Go c ∷ []) (λ e j. elim j [ inl f ↦ cc | inr n ↦ absurd n ]) visited m.0 r b.0 m.2 in
+            let o = own_of (rules_of file) (story_of file) own_visit (shows_visits file) (Go c ∷ []) (λ e j. elim j [ inl f ↦ cc | inr n ↦ absurd n ]) visited
+            m.0 r b.0 m.2 in
             (o.0, subst (λ a. IsBefore a t.key) o.1 b.1)
 
         back : IsIn r visited × IsBefore r.address t.key → IsIn r (visits_in own_visit A)
-        back h = visits-has own_visit A r (told_own (story_of file) r) ((before (told_own (story_of file) r)).1 (of_page r h.0 refl, h.1)) ((shows_visits file).of_page r)
+        back h = visits-has own_visit A r (told_own (story_of file) r) ((before (told_own (story_of file) r)).1 (of_page r h.0 refl, h.1))
+            ((shows_visits file).of_page r)
 
     -- the page of a key that was reported before it was visited before it
     pub page_before : (r : Reference) (s : ℕ) → IsIn r visited → IsBefore (then_step r.address s) t.key → IsIn r (visits_in own_visit A)
@@ -143,7 +155,8 @@ module _ (file : List ℕ) (W : List Reference) (c : Reference) where
     visited_after r i =
         let m = visits-from own_visit B r i in
         let here = subst (IsIn m.0) (sym split) (IsIn-right m.0 A (t ∷ B) (inr m.1)) in
-        let o = own_of (rules_of file) (story_of file) own_visit (shows_visits file) (Go c ∷ []) (λ e j. elim j [ inl f ↦ cc | inr n ↦ absurd n ]) visited m.0 r (((tells.exact) m.0).0 here) m.2 in
+        let o = own_of (rules_of file) (story_of file) own_visit (shows_visits file) (Go c ∷ []) (λ e j. elim j [ inl f ↦ cc | inr n ↦ absurd n ]) visited m.0 r
+        (((tells.exact) m.0).0 here) m.2 in
         subst (IsBefore t.key) o.1 (after m.0 m.1)
       where
         after : (e : Told Event) → IsIn e B → IsBefore t.key e.key

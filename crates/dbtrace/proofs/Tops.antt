@@ -1,5 +1,6 @@
 -- The greatest key so far is the first of the greatest keys.
-use Rattle.std.proofs.Common.{◌≡◌, ℤ, int_lt, ◌↔◌, inl, inr, Bool, true, false, cond, not, ◌&&◌, ◌||◌, List, [], ◌∷◌, ◌++◌, map, Option, Some, None, refl, sym, ap, subst, arith, ◌∙◌, append_assoc}
+use Rattle.std.proofs.Common.{◌≡◌, ℤ, int_lt, ◌↔◌, inl, inr, Bool, true, false, cond, not, ◌&&◌, ◌||◌, List, [], ◌∷◌, ◌++◌, map, Option, Some, None, refl, sym}
+use Rattle.std.proofs.Common.{ap, subst, arith, ◌∙◌, append_assoc}
 use Rattle.std.specs.Prelude.{find, option_map}
 use Rattle.std.specs.List.{list_any}
 use Rattle.std.proofs.lemmas.Bool.{cases_Bool, both_ways, not-true}
@@ -25,7 +26,8 @@ values (Some top) (k ∷ keys) = by_test (int_lt top.value k.value) (values (Som
   where
     by_test : (b : Bool) → key_value (greatest_after (Some (cell_key k)) keys) ≡ greatest_from int_lt (Some k.value) (map key_entry keys)
         → key_value (greatest_after (Some top) keys) ≡ greatest_from int_lt (Some top.value) (map key_entry keys)
-        → key_value (greatest_after (cond b (Some (cell_key k)) (Some top)) keys) ≡ greatest_from int_lt (cond b (Some k.value) (Some top.value)) (map key_entry keys)
+        → key_value (greatest_after (cond b (Some (cell_key k)) (Some top)) keys)
+        ≡ greatest_from int_lt (cond b (Some k.value) (Some top.value)) (map key_entry keys)
     by_test true g h = g
     by_test false g h = h
 
@@ -53,9 +55,11 @@ IsTop before None = before ≡ []
 IsTop before (Some top) = (d : Key) × IsIn d before × (cell_key d ≡ top) × ((j : Key) → IsIn j before → is_above j d ≡ false)
 
 not_above_itself : (d : Key) → is_above d d ≡ false
-not_above_itself d = above_none (int_lt d.value d.value) (int_lt d.value d.value) (is_before d.place d.place) (int_line.irreflexive d.value) (λ e. is_before-itself d.place)
+not_above_itself d = above_none (int_lt d.value d.value) (int_lt d.value d.value) (is_before d.place d.place) (int_line.irreflexive d.value)
+    (λ e. is_before-itself d.place)
 
-top_more : (before : List Key) (top : Option CellKey) (e : Key) → IsTop before top → ((j : Key) → IsIn j before → IsBefore j.place e.place) → IsTop (before ++ (e ∷ [])) (greater_key top (cell_key e))
+top_more : (before : List Key) (top : Option CellKey) (e : Key) → IsTop before top → ((j : Key) → IsIn j before → IsBefore j.place e.place)
+    → IsTop (before ++ (e ∷ [])) (greater_key top (cell_key e))
 top_more before None e h p = (
   e,
   IsIn-right e before (e ∷ []) (inl refl),
@@ -80,7 +84,8 @@ top_more before (Some top) e h p = elim (cases_Bool (int_lt top.value e.value)) 
       refl,
       λ j i. elim (IsIn-cases j before (e ∷ []) i) [
         | inl b ↦ (let l = less_then h.0.value e.value j.value f (parts j b).0 in
-            above_none (int_lt e.value j.value) (int_lt j.value e.value) (is_before j.place e.place) l.0 (λ g. absurd (both_ways (int_lt j.value e.value) g l.1)))
+            above_none (int_lt e.value j.value) (int_lt j.value e.value) (is_before j.place e.place) l.0
+            (λ g. absurd (both_ways (int_lt j.value e.value) g l.1)))
         | inr n ↦ (elim n [ inl g ↦ subst (λ j. is_above j e ≡ false) (sym g) (not_above_itself e) | inr x ↦ absurd x ])
       ],
     )
@@ -93,14 +98,16 @@ top_more before (Some top) e h p = elim (cases_Bool (int_lt top.value e.value)) 
       λ j i. elim (IsIn-cases j before (e ∷ []) i) [
         | inl b ↦ h.3 j b
         | inr n ↦ (elim n [
-          | inl g ↦ subst (λ j. is_above j h.0 ≡ false) (sym g) (above_none (int_lt h.0.value e.value) (int_lt e.value h.0.value) (is_before e.place h.0.place) f
+          | inl g ↦ subst (λ j. is_above j h.0 ≡ false) (sym g)
+              (above_none (int_lt h.0.value e.value) (int_lt e.value h.0.value) (is_before e.place h.0.place) f
               (λ k. not_before e.place h.0.place (λ b. IsBefore-irreflexive e.place (IsBefore-trans e.place h.0.place e.place b (p h.0 h.1)))))
           | inr x ↦ absurd x
         ])
       ],
     )
 
-top_from : (before keys : List Key) (top : Option CellKey) → IsTop before top → IsAscending (λ (k : Key). k.place) (before ++ keys) → IsTop (before ++ keys) (greatest_after top keys)
+top_from : (before keys : List Key) (top : Option CellKey) → IsTop before top → IsAscending (λ (k : Key). k.place) (before ++ keys)
+    → IsTop (before ++ keys) (greatest_after top keys)
 top_from before [] top h asc = subst (λ l. IsTop l top) (sym (append-nil before)) h
 top_from before (e ∷ keys) top h asc = subst (λ l. IsTop l (greatest_after (greater_key top (cell_key e)) keys)) (append_assoc before (e ∷ []) keys)
     (top_from (before ++ (e ∷ [])) keys (greater_key top (cell_key e))
@@ -108,7 +115,8 @@ top_from before (e ∷ keys) top h asc = subst (λ l. IsTop l (greatest_after (g
     (subst (λ l. IsAscending (λ (k : Key). k.place) l) (sym (append_assoc before (e ∷ []) keys)) asc))
 
 -- Of a list with the same keys in another order, it is the one that no other is above.
-pub top_found : (keys told : List Key) → IsAscending (λ (k : Key). k.place) told → ((j : Key) → IsIn j keys ↔ IsIn j told) → option_map cell_key (top_key keys) ≡ greatest_after None told
+pub top_found : (keys told : List Key) → IsAscending (λ (k : Key). k.place) told → ((j : Key) → IsIn j keys ↔ IsIn j told) → option_map cell_key (top_key keys)
+    ≡ greatest_after None told
 top_found keys told asc same = by_top (greatest_after None told) (top_from [] told None refl asc)
   where
     none_above : Key → Bool

@@ -1,5 +1,6 @@
 -- The leaves of a trunk, one after another.
-use Rattle.std.proofs.Common.{◌≡◌, ℕ, zero, suc, ◌+◌, ◌-◌, ◌*◌, ◌<◌, true, false, inl, inr, Bool, List, [], ◌∷◌, ◌++◌, map, Ok, sym, ap, subst, arith, ◌≤◌, cond, Some, None, Err, refl, ◌∙◌}
+use Rattle.std.proofs.Common.{◌≡◌, ℕ, zero, suc, ◌+◌, ◌-◌, ◌*◌, ◌<◌, true, false, inl, inr, Bool, List, [], ◌∷◌, ◌++◌, map, Ok, sym, ap, subst, arith, ◌≤◌}
+use Rattle.std.proofs.Common.{cond, Some, None, Err, refl, ◌∙◌}
 use Rattle.dbsurvey.specs.Story.{Errand, Go, errands_of, Told, Tell}
 use Rattle.dbsurvey.specs.InOrder.{AreQuiet}
 use Rattle.dbformat.specs.Address.{then_step, freelist_start}
@@ -49,35 +50,42 @@ told_free : (file : List ℕ) (V : List Reference) (c : Reference) → role_of c
 unfolding page_faults
 told_free file V c r = ap (λ role. map told_row (option_to_list (row_in role file c)) ++ told_by (cause_of file V (at_page c)) (role_faults role file V c)) r
 
-module _ {S : Type 0} (takes drops : S → Finding → S → Type 0) (file : List ℕ) (W : List Reference) (errands : List (Errand Way Event)) (before : S) (U : List Reference) (c : Reference) (es : List (Errand Way Event)) (marks marks' : List Mark) (s t : S) (left : IsLeft takes file W errands before U (Go c ∷ es) (marks, s)) where
+module _ {S : Type 0} (takes drops : S → Finding → S → Type 0) (file : List ℕ) (W : List Reference) (errands : List (Errand Way Event)) (before : S)
+    (U : List Reference) (c : Reference) (es : List (Errand Way Event)) (marks marks' : List Mark) (s t : S)
+    (left : IsLeft takes file W errands before U (Go c ∷ es) (marks, s)) where
   pub next_of_left : IsNext U c
   next_of_left u f i (inl e) = left.past u f i (inl e)
   next_of_left u f i (inr n) = absurd n
 
   -- a leaf is entered: nothing is reported of it, or why it is refused
-  pub leaf_entered : (b : Bool) → role_of c ≡ free_leaf → Enters takes drops file U c (Ok b) marks' s t → (T : List Reference) × IsLeft takes file W errands before T es (marks', t)
+  pub leaf_entered : (b : Bool) → role_of c ≡ free_leaf → Enters takes drops file U c (Ok b) marks' s t → (T : List Reference)
+      × IsLeft takes file W errands before T es (marks', t)
   leaf_entered false r e = (U, left_refused takes file W errands before U marks s t marks' c es left e.0 e.1 e.2)
   leaf_entered true r e =
       let none : errands_of (story_of file) c ≡ [] = none_at_free_leaf file c r in (
         U ++ (c ∷ []),
         subst (λ fs. IsLeft takes file W errands before (U ++ (c ∷ [])) (fs ++ es) (marks', t)) none
-            (left_visit takes file W errands before U marks s t marks' c es left e.0 (subst (λ fs. AreQuiet own_visit fs) (sym none) (λ d i. absurd i)) e.1 (subst (λ l. Moves takes s l t) (sym (told_free file (U ++ (c ∷ [])) c r)) e.2)),
+            (left_visit takes file W errands before U marks s t marks' c es left e.0 (subst (λ fs. AreQuiet own_visit fs) (sym none) (λ d i. absurd i)) e.1
+            (subst (λ l. Moves takes s l t) (sym (told_free file (U ++ (c ∷ [])) c r)) e.2)),
       )
 
 -- The trunks of the freelist, one after another.
 
 -- what is reported of a trunk
-pub told_trunk : (file : List ℕ) (V : List Reference) (d : Reference) → role_of d ≡ trunk → told_at file V (at_page d) ≡ told_by (cause_of file V (at_page d)) (trunk_fault (usable_size file) d.page (page_bytes file d.page))
+pub told_trunk : (file : List ℕ) (V : List Reference) (d : Reference) → role_of d ≡ trunk → told_at file V (at_page d)
+    ≡ told_by (cause_of file V (at_page d)) (trunk_fault (usable_size file) d.page (page_bytes file d.page))
 unfolding page_faults
 told_trunk file V d r = ap (λ role. map told_row (option_to_list (row_in role file d)) ++ told_by (cause_of file V (at_page d)) (role_faults role file V d)) r
 
 -- its leaves fit, or they are too many
-pub told_fitting : (file : List ℕ) (V : List Reference) (d : Reference) → role_of d ≡ trunk → leaf_count (page_bytes file d.page) ≤ most_leaves (usable_size file) → told_at file V (at_page d) ≡ []
+pub told_fitting : (file : List ℕ) (V : List Reference) (d : Reference) → role_of d ≡ trunk → leaf_count (page_bytes file d.page)
+    ≤ most_leaves (usable_size file) → told_at file V (at_page d) ≡ []
 told_fitting file V d r l =
     let e : nat_lt (most_leaves (usable_size file)) (leaf_count (page_bytes file d.page)) ≡ false = grind (arith, nat_tests) in
     told_trunk file V d r ∙ ap (λ b. told_by (cause_of file V (at_page d)) (cond b (fault L01 d.page 0 (pos (leaf_count (page_bytes file d.page))) ∷ []) [])) e
 
-pub told_too_many : (file : List ℕ) (V : List Reference) (d : Reference) → role_of d ≡ trunk → most_leaves (usable_size file) < leaf_count (page_bytes file d.page)
+pub told_too_many : (file : List ℕ) (V : List Reference) (d : Reference) → role_of d ≡ trunk
+    → most_leaves (usable_size file) < leaf_count (page_bytes file d.page)
     → told_at file V (at_page d) ≡ told_alone (fault L01 d.page 0 (pos (leaf_count (page_bytes file d.page)))) ∷ []
 told_too_many file V d r l =
     let e : nat_lt (most_leaves (usable_size file)) (leaf_count (page_bytes file d.page)) ≡ true = grind (arith, nat_tests) in
@@ -85,16 +93,21 @@ told_too_many file V d r l =
 
 -- what it leads to
 pub fitting_errands : (file : List ℕ) (d : Reference) → role_of d ≡ trunk → leaf_count (page_bytes file d.page) ≤ most_leaves (usable_size file)
-    → errands_of (story_of file) d ≡ leaf_errands d (page_bytes file d.page) (leaf_count (page_bytes file d.page)) ++ map (go d) (next_trunk d.page (page_bytes file d.page) (leaf_count (page_bytes file d.page)))
+    → errands_of (story_of file) d ≡ leaf_errands d (page_bytes file d.page) (leaf_count (page_bytes file d.page))
+    ++ map (go d) (next_trunk d.page (page_bytes file d.page) (leaf_count (page_bytes file d.page)))
 fitting_errands file d r l =
     let e : nat_le (leaf_count (page_bytes file d.page)) (most_leaves (usable_size file)) ≡ true = grind (arith, nat_tests) in
-    by_leaf file d r ∙ ap (λ b. cond b (leaf_errands d (page_bytes file d.page) (leaf_count (page_bytes file d.page)) ++ map (go d) (next_trunk d.page (page_bytes file d.page) (leaf_count (page_bytes file d.page)))) (map (go d) (next_trunk d.page (page_bytes file d.page) 0))) e
+    by_leaf file d r ∙ ap (λ b. cond b (leaf_errands d (page_bytes file d.page) (leaf_count (page_bytes file d.page))
+    ++ map (go d) (next_trunk d.page (page_bytes file d.page) (leaf_count (page_bytes file d.page))))
+    (map (go d) (next_trunk d.page (page_bytes file d.page) 0))) e
 
 pub crowded_errands : (file : List ℕ) (d : Reference) → role_of d ≡ trunk → most_leaves (usable_size file) < leaf_count (page_bytes file d.page)
     → errands_of (story_of file) d ≡ map (go d) (next_trunk d.page (page_bytes file d.page) 0)
 crowded_errands file d r l =
     let e : nat_le (leaf_count (page_bytes file d.page)) (most_leaves (usable_size file)) ≡ false = grind (arith, nat_tests) in
-    by_leaf file d r ∙ ap (λ b. cond b (leaf_errands d (page_bytes file d.page) (leaf_count (page_bytes file d.page)) ++ map (go d) (next_trunk d.page (page_bytes file d.page) (leaf_count (page_bytes file d.page)))) (map (go d) (next_trunk d.page (page_bytes file d.page) 0))) e
+    by_leaf file d r ∙ ap (λ b. cond b (leaf_errands d (page_bytes file d.page) (leaf_count (page_bytes file d.page))
+    ++ map (go d) (next_trunk d.page (page_bytes file d.page) (leaf_count (page_bytes file d.page))))
+    (map (go d) (next_trunk d.page (page_bytes file d.page) 0))) e
 
 -- none of its errands is an event
 no_leaf_own : (d : Reference) (page : List ℕ) (js : List ℕ) (e : Told Event) → IsIn (Tell e) (map (leaf_errand d page) js) → ⊥
@@ -103,35 +116,48 @@ no_leaf_own d page (j ∷ js) e (inl k) = cc
 no_leaf_own d page (j ∷ js) e (inr h) = no_leaf_own d page js e h
 
 pub quiet_trunk : (file : List ℕ) (d : Reference) → role_of d ≡ trunk → AreQuiet own_visit (errands_of (story_of file) d)
-quiet_trunk file d r = subst (λ es. AreQuiet own_visit es) (sym (by_leaf file d r)) (by_case (nat_le (leaf_count (page_bytes file d.page)) (most_leaves (usable_size file))))
+quiet_trunk file d r = subst (λ es. AreQuiet own_visit es) (sym (by_leaf file d r))
+    (by_case (nat_le (leaf_count (page_bytes file d.page)) (most_leaves (usable_size file))))
   where
-    by_case : (b : Bool) → AreQuiet own_visit (cond b (leaf_errands d (page_bytes file d.page) (leaf_count (page_bytes file d.page)) ++ map (go d) (next_trunk d.page (page_bytes file d.page) (leaf_count (page_bytes file d.page)))) (map (go d) (next_trunk d.page (page_bytes file d.page) 0)))
+    by_case : (b : Bool) → AreQuiet own_visit (cond b (leaf_errands d (page_bytes file d.page) (leaf_count (page_bytes file d.page))
+        ++ map (go d) (next_trunk d.page (page_bytes file d.page) (leaf_count (page_bytes file d.page))))
+        (map (go d) (next_trunk d.page (page_bytes file d.page) 0)))
     by_case false e h = all_quiet.2 d (next_trunk d.page (page_bytes file d.page) 0) e h
-    by_case true e h = elim (IsIn-cases (Tell e) (leaf_errands d (page_bytes file d.page) (leaf_count (page_bytes file d.page))) (map (go d) (next_trunk d.page (page_bytes file d.page) (leaf_count (page_bytes file d.page)))) h) [
-      | inl k ↦ absurd (no_leaf_own d (page_bytes file d.page) (range_with_len 0 (leaf_count (page_bytes file d.page))) e k)
-      | inr k ↦ all_quiet.2 d (next_trunk d.page (page_bytes file d.page) (leaf_count (page_bytes file d.page))) e k
-    ]
+    by_case true e h = elim (IsIn-cases (Tell e) (leaf_errands d (page_bytes file d.page) (leaf_count (page_bytes file d.page)))
+        (map (go d) (next_trunk d.page (page_bytes file d.page) (leaf_count (page_bytes file d.page)))) h) [
+          | inl k ↦ absurd (no_leaf_own d (page_bytes file d.page) (range_with_len 0 (leaf_count (page_bytes file d.page))) e k)
+          | inr k ↦ all_quiet.2 d (next_trunk d.page (page_bytes file d.page) (leaf_count (page_bytes file d.page))) e k
+        ]
 
 -- it is in no tree
 pub trunk_shallow : (c : Reference) → role_of c ≡ trunk → is_too_deep c ≡ false
 trunk_shallow c h = by_role (role_of c) h
   where
-    by_role : (role : Role) → role ≡ trunk → is_too_deep (record { address = c.address; page = c.page; role = record { role = role; from = 0; item = 0 } }) ≡ false
+    by_role : (role : Role) → role ≡ trunk → is_too_deep (record { address = c.address; page = c.page; role = record { role = role; from = 0; item = 0 } })
+        ≡ false
     by_role role e = rw e refl
 
-module _ {S : Type 0} (takes drops : S → Finding → S → Type 0) (file : List ℕ) (W : List Reference) (c : Reference) (before : S) (U : List Reference) (d : Reference) (old marks : List Mark) (s : S) (role : role_of d ≡ trunk) (followed : is_followed (rules_of file) U d ≡ true) (marked : AreMarksOf file (U ++ d ∷ []) marks) (left : IsLeft takes file W (Go c ∷ []) before U (Go d ∷ []) (old, s)) where
+module _ {S : Type 0} (takes drops : S → Finding → S → Type 0) (file : List ℕ) (W : List Reference) (c : Reference) (before : S) (U : List Reference)
+    (d : Reference) (old marks : List Mark) (s : S) (role : role_of d ≡ trunk) (followed : is_followed (rules_of file) U d ≡ true)
+    (marked : AreMarksOf file (U ++ d ∷ []) marks) (left : IsLeft takes file W (Go c ∷ []) before U (Go d ∷ []) (old, s)) where
   -- a trunk whose leaves fit: they are left, and the next trunk
   pub opened_fitting : leaf_count (page_bytes file d.page) ≤ most_leaves (usable_size file)
-      → IsLeft takes file W (Go c ∷ []) before (U ++ d ∷ []) (leaf_errands d (page_bytes file d.page) (leaf_count (page_bytes file d.page)) ++ map (go d) (next_trunk d.page (page_bytes file d.page) (leaf_count (page_bytes file d.page)))) (marks, s)
-  opened_fitting l = subst (λ es. IsLeft takes file W (Go c ∷ []) before (U ++ d ∷ []) es (marks, s)) (append-nil (errands_of (story_of file) d) ∙ fitting_errands file d role l)
-      (left_visit takes file W (Go c ∷ []) before U old s s marks d [] left followed (quiet_trunk file d role) marked (subst (λ L. Moves takes s L s) (sym (told_fitting file (U ++ d ∷ []) d role l)) refl))
+      → IsLeft takes file W (Go c ∷ []) before (U ++ d ∷ [])
+      (leaf_errands d (page_bytes file d.page) (leaf_count (page_bytes file d.page))
+      ++ map (go d) (next_trunk d.page (page_bytes file d.page) (leaf_count (page_bytes file d.page)))) (marks, s)
+  opened_fitting l = subst (λ es. IsLeft takes file W (Go c ∷ []) before (U ++ d ∷ []) es (marks, s))
+      (append-nil (errands_of (story_of file) d) ∙ fitting_errands file d role l)
+      (left_visit takes file W (Go c ∷ []) before U old s s marks d [] left followed (quiet_trunk file d role) marked
+      (subst (λ L. Moves takes s L s) (sym (told_fitting file (U ++ d ∷ []) d role l)) refl))
 
   -- a trunk with too many leaves, which was reported: the next trunk is left
   pub opened_crowded : (t : S) → most_leaves (usable_size file) < leaf_count (page_bytes file d.page)
       → Moves takes s (told_alone (fault L01 d.page 0 (pos (leaf_count (page_bytes file d.page)))) ∷ []) t
       → IsLeft takes file W (Go c ∷ []) before (U ++ d ∷ []) (map (go d) (next_trunk d.page (page_bytes file d.page) 0)) (marks, t)
-  opened_crowded t l m = subst (λ es. IsLeft takes file W (Go c ∷ []) before (U ++ d ∷ []) es (marks, t)) (append-nil (errands_of (story_of file) d) ∙ crowded_errands file d role l)
-      (left_visit takes file W (Go c ∷ []) before U old s t marks d [] left followed (quiet_trunk file d role) marked (subst (λ L. Moves takes s L t) (sym (told_too_many file (U ++ d ∷ []) d role l)) m))
+  opened_crowded t l m = subst (λ es. IsLeft takes file W (Go c ∷ []) before (U ++ d ∷ []) es (marks, t))
+      (append-nil (errands_of (story_of file) d) ∙ crowded_errands file d role l)
+      (left_visit takes file W (Go c ∷ []) before U old s t marks d [] left followed (quiet_trunk file d role) marked
+      (subst (λ L. Moves takes s L t) (sym (told_too_many file (U ++ d ∷ []) d role l)) m))
 
   -- and if it could not be reported
   pub opened_untold : (t : S) (x : RunError) → most_leaves (usable_size file) < leaf_count (page_bytes file d.page)
@@ -142,24 +168,29 @@ module _ {S : Type 0} (takes drops : S → Finding → S → Type 0) (file : Lis
       (sym (told_visit file U d [] followed (quiet_trunk file d role)))
       (subst (λ L. StopsBy takes drops x s L t) (sym (told_too_many file (U ++ d ∷ []) d role l)) k)
 
-module _ {S : Type 0} (takes drops : S → Finding → S → Type 0) (file : List ℕ) (W : List Reference) (c : Reference) (before : S) (step : Step) (marks : List Mark) (s : S) (on : IsOnTrunks takes file W c before step marks s) where
+module _ {S : Type 0} (takes drops : S → Finding → S → Type 0) (file : List ℕ) (W : List Reference) (c : Reference) (before : S) (step : Step)
+    (marks : List Mark) (s : S) (on : IsOnTrunks takes file W c before step marks s) where
   -- the next trunk is refused
-  pub trunk_refused : (marks' : List Mark) (t : S) → Enters takes drops file on.visited on.d (Ok false) marks' s t → IsDone {A = Unit {0}} takes drops file W (Go c ∷ []) (Ok tt) marks' before t
+  pub trunk_refused : (marks' : List Mark) (t : S) → Enters takes drops file on.visited on.d (Ok false) marks' s t
+      → IsDone {A = Unit {0}} takes drops file W (Go c ∷ []) (Ok tt) marks' before t
   trunk_refused marks' t e = left_none takes file W (Go c ∷ []) before on.visited marks' t drops tt
       (left_refused takes file W (Go c ∷ []) before on.visited marks s t marks' on.d [] on.rest e.0 e.1 e.2)
 
   -- it is followed, but its page could not be read
   pub trunk_unread : (x : RunError) (marks' : List Mark) (m : S) → Enters takes drops file on.visited on.d (Ok true) marks' s m → StopsBy takes drops x m [] m
       → IsDone {A = Unit {0}} takes drops file W (Go c ∷ []) (Err x) marks' before m
-  trunk_unread x marks' m e h = left_stop takes file W (Go c ∷ []) before on.visited marks s drops m marks' x (Go on.d ∷ []) [] (told_below file on.visited (Go on.d ∷ [])) on.rest refl
+  trunk_unread x marks' m e h = left_stop takes file W (Go c ∷ []) before on.visited marks s drops m marks' x (Go on.d ∷ []) []
+      (told_below file on.visited (Go on.d ∷ [])) on.rest refl
       (subst (λ y. StopsBy takes drops x y [] m) (sym e.2) h)
 
 -- the next trunk, or none
-pub next_turned : {S : Type 0} (takes drops : S → Finding → S → Type 0) (file : List ℕ) (W : List Reference) (c : Reference) (before : S) (d : Reference) (page item : ℕ) (U : List Reference) (marks : List Mark) (s : S) → d.page ≡ page
+pub next_turned : {S : Type 0} (takes drops : S → Finding → S → Type 0) (file : List ℕ) (W : List Reference) (c : Reference) (before : S) (d : Reference)
+    (page item : ℕ) (U : List Reference) (marks : List Mark) (s : S) → d.page ≡ page
     → IsLeft takes file W (Go c ∷ []) before U (map (go d) (next_trunk d.page (page_bytes file d.page) item)) (marks, s)
     → TrunkTurns takes drops file W c before (Ok (next_step (u32_at 0 (page_bytes file page)) page item)) marks s
 next_turned {S} takes drops file W c before d page item U marks s e h =
-    subst (λ p. TrunkTurns takes drops file W c before (Ok (next_step (u32_at 0 (page_bytes file p)) p item)) marks s) e (by_next (u32_at 0 (page_bytes file d.page)) (u32_at 0 (page_bytes file d.page) == 0) h)
+    subst (λ p. TrunkTurns takes drops file W c before (Ok (next_step (u32_at 0 (page_bytes file p)) p item)) marks s) e
+    (by_next (u32_at 0 (page_bytes file d.page)) (u32_at 0 (page_bytes file d.page) == 0) h)
   where
     by_next : (n : ℕ) (b : Bool) → IsLeft takes file W (Go c ∷ []) before U (map (go d) (cond b [] (link d.page item item trunk n ∷ []))) (marks, s)
         → TrunkTurns takes drops file W c before (Ok (cond b None (Some (trunk_step n d.page item)))) marks s
@@ -173,7 +204,8 @@ next_turned {S} takes drops file W c before d page item U marks s e h =
     }
 
 -- at the first trunk all is left
-pub trunks_start : {S : Type 0} (takes : S → Finding → S → Type 0) (file : List ℕ) (W : List Reference) (c : Reference) (first : ℕ) (marks : List Mark) (s : S) → IsFirstTrunk first c → IsNext W c → AreMarksOf file W marks
+pub trunks_start : {S : Type 0} (takes : S → Finding → S → Type 0) (file : List ℕ) (W : List Reference) (c : Reference) (first : ℕ) (marks : List Mark) (s : S)
+    → IsFirstTrunk first c → IsNext W c → AreMarksOf file W marks
     → IsOnTrunks takes file W c s (trunk_step first 0 freelist_start) marks s
 trunks_start takes file W c first marks s h next m = record {
   visited = W;

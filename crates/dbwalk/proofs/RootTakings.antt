@@ -1,5 +1,6 @@
 -- What a taker with room for 65536 roots answers, row after row of the schema.
-use Rattle.std.proofs.Common.{zero, suc, map, take, ◌≡◌, ℕ, ◌+◌, ◌≤◌, Bool, true, false, cond, not, ◌&&◌, inl, inr, List, [], ◌∷◌, ◌++◌, length, refl, sym, ap, ◌∙◌, arith, Some, None, Result, Ok, Err, subst}
+use Rattle.std.proofs.Common.{zero, suc, map, take, ◌≡◌, ℕ, ◌+◌, ◌≤◌, Bool, true, false, cond, not, ◌&&◌, inl, inr, List, [], ◌∷◌, ◌++◌, length, refl, sym, ap}
+use Rattle.std.proofs.Common.{◌∙◌, arith, Some, None, Result, Ok, Err, subst}
 use Rattle.std.specs.Prelude.{nat_lt, nat_le, ◌==◌, is_none, pos, if◌then◌else◌, OnOk}
 use Rattle.std.specs.List.{cons_option}
 use Rattle.std.specs.Result.{result_ok}
@@ -28,7 +29,8 @@ use Rattle.dbtrace.specs.Starts.{AreOfEarlierStarts}
 use Rattle.dbtrace.proofs.Folding.{is_fold}
 use Rattle.dbmarks.specs.declared.marks.Mark.{Mark}
 use Rattle.dbwalk.specs.Done.{IsDone, IsTreeDone}
-use Rattle.dbwalk.specs.Taking.{answer_to, held_after, is_full, HasRootRoom, StartsEmpty, roots_after, ListTakes, first_roots, gives, readable_rows, fault_of, HandsRow, FailsRow}
+use Rattle.dbwalk.specs.Taking.{answer_to, held_after, is_full, HasRootRoom, StartsEmpty, roots_after, ListTakes, first_roots, gives, readable_rows, fault_of}
+use Rattle.dbwalk.specs.Taking.{HandsRow, FailsRow}
 use Rattle.dbwalk.specs.Telling.{Tells, findings}
 use Rattle.dbwalk.specs.Underway.{tree_walk}
 use Rattle.dbwalk.specs.Watching.{watches, fails, row_at, Handed}
@@ -56,7 +58,8 @@ full_is roots root = by_root (root == 0)
     by_room true = refl
     by_room false = refl
 
-    by_root : (b : Bool) → is_full (cond b answer.NoRoot (cond (nat_lt (held_of roots) last_root_start) answer.Taken answer.Full)) ≡ (not b && nat_le last_root_start roots)
+    by_root : (b : Bool) → is_full (cond b answer.NoRoot (cond (nat_lt (held_of roots) last_root_start) answer.Taken answer.Full))
+        ≡ (not b && nat_le last_root_start roots)
     by_root true = refl
     by_root false = ap (λ r. is_full (cond r answer.Taken answer.Full)) (has_room roots) ∙ by_room (nat_le last_root_start roots)
 
@@ -67,7 +70,8 @@ held_more roots root = by_root (root == 0)
     full : nat_le last_root_start roots ≡ true → cond (not (nat_le last_root_start roots)) (held_of roots + 1) (held_of roots) ≡ held_of (roots + 1)
     full e =
         let f : nat_le last_root_start (roots + 1) ≡ true = grind (arith, nat_tests) in
-        ap (λ b. cond (not b) (held_of roots + 1) (held_of roots)) e ∙ ap (λ b. cond b last_root_start roots) e ∙ sym (ap (λ b. cond b last_root_start (roots + 1)) f)
+        ap (λ b. cond (not b) (held_of roots + 1) (held_of roots)) e ∙ ap (λ b. cond b last_root_start roots) e
+        ∙ sym (ap (λ b. cond b last_root_start (roots + 1)) f)
 
     room : nat_le last_root_start roots ≡ false → cond (not (nat_le last_root_start roots)) (held_of roots + 1) (held_of roots) ≡ held_of (roots + 1)
     room e =
@@ -77,12 +81,15 @@ held_more roots root = by_root (root == 0)
           | inr f ↦ sym (ap (λ b. cond b last_root_start (roots + 1)) f)
         ]
 
-    by_root : (b : Bool) → cond b (held_of roots) (cond (nat_lt (held_of roots) last_root_start) (held_of roots + 1) (held_of roots)) ≡ held_of (roots + cond b 0 1)
+    by_root : (b : Bool) → cond b (held_of roots) (cond (nat_lt (held_of roots) last_root_start) (held_of roots + 1) (held_of roots))
+        ≡ held_of (roots + cond b 0 1)
     by_root true = let z : roots ≡ roots + 0 = omega arith in ap held_of z
-    by_root false = ap (λ r. cond r (held_of roots + 1) (held_of roots)) (has_room roots) ∙ elim (cases_Bool (nat_le last_root_start roots)) [ inl e ↦ full e | inr e ↦ room e ]
+    by_root false = ap (λ r. cond r (held_of roots + 1) (held_of roots)) (has_room roots)
+        ∙ elim (cases_Bool (nat_le last_root_start roots)) [ inl e ↦ full e | inr e ↦ room e ]
 
 -- What a taker answers to the row of a cell is what is reported of it: S04 if it answers Full.
-module _ {T : Type 0} (takes : T → SchemaRow → Taken → T → Type 0) (held : T → ℕ) (room : HasRootRoom takes held) (s t : T) (row : SchemaRow) (a : Taken) (taken : takes s row a t) (roots : ℕ) (at : held s ≡ held_of roots) where
+module _ {T : Type 0} (takes : T → SchemaRow → Taken → T → Type 0) (held : T → ℕ) (room : HasRootRoom takes held) (s t : T) (row : SchemaRow) (a : Taken)
+    (taken : takes s row a t) (roots : ℕ) (at : held s ≡ held_of roots) where
   pub answer_full : is_full a ≡ (not (row.root == 0) && nat_le last_root_start roots)
   answer_full = ap is_full (room.answers s t row a taken ∙ ap (λ n. answer_to n row.root) at) ∙ full_is roots row.root
 
@@ -96,7 +103,8 @@ list_has_room {E} entry = record {
   counts = λ s t row a h. ap length h.1 ∙ by_root s row (row.root == 0) (nat_lt (length s) last_root_start);
 }
   where
-    by_root : (s : List E) (row : SchemaRow) (b c : Bool) → length (cond b s (cond c (s ++ entry row ∷ []) s)) ≡ cond b (length s) (cond c (length s + 1) (length s))
+    by_root : (s : List E) (row : SchemaRow) (b c : Bool) → length (cond b s (cond c (s ++ entry row ∷ []) s))
+        ≡ cond b (length s) (cond c (length s + 1) (length s))
     by_root s row true c = refl
     by_root s row false true = length-append s (entry row ∷ [])
     by_root s row false false = refl
@@ -118,21 +126,27 @@ module _ {E : Type 0} (entry : SchemaRow → E) (rows : List SchemaRow) where
   pub first_count : length (first_roots entry rows) ≡ held_of (length rows)
   first_count = length-map (take last_root_start rows) entry ∙ elim (cases_Bool (nat_le last_root_start (length rows))) [
     | inl e ↦ length-take-le last_root_start rows (is_full_there e) ∙ sym (ap (λ b. cond b last_root_start (length rows)) e)
-    | inr e ↦ (let l : length rows ≤ 65536 = omega (arith, is_room e) in ap length (take_whole last_root_start rows l) ∙ sym (ap (λ b. cond b last_root_start (length rows)) e))
+    | inr e ↦ (let l : length rows ≤ 65536 = omega (arith, is_room e) in ap length (take_whole last_root_start rows l)
+        ∙ sym (ap (λ b. cond b last_root_start (length rows)) e))
   ]
 
   -- a row more
   pub first_more : (row : SchemaRow) → roots_after entry (first_roots entry rows) row ≡ first_roots entry (rows ++ cond (row.root == 0) [] (row ∷ []))
   first_more row = by_root (row.root == 0)
     where
-      by_room : (b : Bool) → nat_le last_root_start (length rows) ≡ b → cond (not b) (first_roots entry rows ++ entry row ∷ []) (first_roots entry rows) ≡ first_roots entry (rows ++ row ∷ [])
+      by_room : (b : Bool) → nat_le last_root_start (length rows) ≡ b → cond (not b) (first_roots entry rows ++ entry row ∷ []) (first_roots entry rows)
+          ≡ first_roots entry (rows ++ row ∷ [])
       by_room true e = ap (map entry) (sym (take-append-le last_root_start rows (row ∷ []) (is_full_there e)))
       by_room false e =
           let l : length rows ≤ 65536 = omega (arith, is_room e) in
-          let m : length (rows ++ row ∷ []) ≤ 65536 = let k : length (rows ++ row ∷ []) ≡ length rows + 1 = length-append rows (row ∷ []) in omega (arith, k, is_room e) in
-          ap (λ xs. map entry xs ++ entry row ∷ []) (take_whole last_root_start rows l) ∙ sym (map-append entry rows (row ∷ [])) ∙ ap (map entry) (sym (take_whole last_root_start (rows ++ row ∷ []) m))
+          let m : length (rows ++ row ∷ []) ≤ 65536 = let k : length (rows ++ row ∷ []) ≡ length rows + 1 =
+          length-append rows (row ∷ []) in omega (arith, k, is_room e) in
+          ap (λ xs. map entry xs ++ entry row ∷ []) (take_whole last_root_start rows l) ∙ sym (map-append entry rows (row ∷ []))
+          ∙ ap (map entry) (sym (take_whole last_root_start (rows ++ row ∷ []) m))
 
-      by_root : (b : Bool) → cond b (first_roots entry rows) (cond (nat_lt (length (first_roots entry rows)) last_root_start) (first_roots entry rows ++ entry row ∷ []) (first_roots entry rows)) ≡ first_roots entry (rows ++ cond b [] (row ∷ []))
+      by_root : (b : Bool) → cond b (first_roots entry rows)
+          (cond (nat_lt (length (first_roots entry rows)) last_root_start) (first_roots entry rows ++ entry row ∷ []) (first_roots entry rows))
+          ≡ first_roots entry (rows ++ cond b [] (row ∷ []))
       by_root true = ap (first_roots entry) (sym (append-nil rows))
       by_root false = ap (λ n. cond (nat_lt n last_root_start) (first_roots entry rows ++ entry row ∷ []) (first_roots entry rows)) first_count
           ∙ ap (λ c. cond c (first_roots entry rows ++ entry row ∷ []) (first_roots entry rows)) (has_room (length rows))
@@ -140,10 +154,12 @@ module _ {E : Type 0} (entry : SchemaRow → E) (rows : List SchemaRow) where
 
 -- A taker that has this room, and that holds as many as came, 65536 at most: what is reported of a row is by the count.
 
-module _ {S T : Type 0} (keeps : T → SchemaRow → Taken → T → Type 0) (held : T → ℕ) (room : HasRootRoom keeps held) (tells : S → List Finding → S → Type 0) (roots : ℕ) (c : SchemaCell) (w x : S × T) (holds : held w.1 ≡ held_of roots) where
+module _ {S T : Type 0} (keeps : T → SchemaRow → Taken → T → Type 0) (held : T → ℕ) (room : HasRootRoom keeps held) (tells : S → List Finding → S → Type 0)
+    (roots : ℕ) (c : SchemaCell) (w x : S × T) (holds : held w.1 ≡ held_of roots) where
   -- reported, taken, and held
   abbrev IsCounted : SchemaCell → Type 0
-  IsCounted c = tells w.0 (map told_alone (row_faults_if (nat_le last_root_start roots) c)) x.0 × Moves (gives keeps) w.1 (readable (c ∷ [])) x.1 × (held x.1 ≡ held_of (roots + length (rooted_rows (c ∷ []))))
+  IsCounted c = tells w.0 (map told_alone (row_faults_if (nat_le last_root_start roots) c)) x.0 × Moves (gives keeps) w.1 (readable (c ∷ [])) x.1
+      × (held x.1 ≡ held_of (roots + length (rooted_rows (c ∷ []))))
 
   abbrev with_row : Result SchemaRow RowFault → SchemaCell
   with_row row = record { place = c.place; page = c.page; item = c.item; rowid = c.rowid; row = row }
@@ -160,16 +176,19 @@ module _ {S T : Type 0} (keeps : T → SchemaRow → Taken → T → Type 0) (he
       by_root row false = refl
 
       by_row : (row : Result SchemaRow RowFault) → HandsRow tells keeps ((row_at c).0, row) w x → IsCounted (with_row row)
-      by_row (Err f) h = let z : roots ≡ roots + 0 = omega arith in (subst (λ fs. tells w.0 (map told_alone fs) x.0) (bad_row f) h.0, h.1, ap held (sym h.1) ∙ holds ∙ ap held_of z)
+      by_row (Err f) h = let z : roots ≡ roots + 0 = omega arith in
+          (subst (λ fs. tells w.0 (map told_alone fs) x.0) (bad_row f) h.0, h.1, ap held (sym h.1) ∙ holds ∙ ap held_of z)
       by_row (Ok row) h = (
-        subst (λ b. tells w.0 (findings (told_if (is_none row.name) (fault S02 c.page c.item c.rowid) ++ told_if b (fault S04 c.page c.item (pos row.root)))) x.0) (answer_full keeps held room w.1 x.1 row h.0 h.1 roots holds) h.2,
+        subst (λ b. tells w.0 (findings (told_if (is_none row.name) (fault S02 c.page c.item c.rowid) ++ told_if b (fault S04 c.page c.item (pos row.root))))
+            x.0) (answer_full keeps held room w.1 x.1 row h.0 h.1 roots holds) h.2,
         (x.1, (h.0, h.1), refl),
         held_next keeps held room w.1 x.1 row h.0 h.1 roots holds ∙ ap (λ n. held_of (roots + n)) (by_root row (row.root == 0)),
       )
 
 -- and so what is reported of items
 
-module _ {S T : Type 0} (takes drops : S → Finding → S → Type 0) (keeps : T → SchemaRow → Taken → T → Type 0) (refuses : T → SchemaRow → T → Type 0) (held : T → ℕ) (room : HasRootRoom keeps held) where
+module _ {S T : Type 0} (takes drops : S → Finding → S → Type 0) (keeps : T → SchemaRow → Taken → T → Type 0) (refuses : T → SchemaRow → T → Type 0)
+    (held : T → ℕ) (room : HasRootRoom keeps held) where
   abbrev faults_of : ℕ → SchemaCell → List Finding
   faults_of roots c = map told_alone (row_faults_if (nat_le last_root_start roots) c)
 
@@ -190,29 +209,38 @@ module _ {S T : Type 0} (takes drops : S → Finding → S → Type 0) (keeps : 
             (Moves-append (gives keeps) w.1 h.0.1 x.1 (readable (c ∷ [])) (readable (given_cells items)) o.1 k.1),
       )
 
-  counted_some : (roots : ℕ) (items : List Item) (w x : S × T) → held w.1 ≡ held_of roots → MovesBySome (watches takes keeps) w items x → MovesBySome takes w.0 (counted_findings roots items) x.0
+  counted_some : (roots : ℕ) (items : List Item) (w x : S × T) → held w.1 ≡ held_of roots → MovesBySome (watches takes keeps) w items x
+      → MovesBySome takes w.0 (counted_findings roots items) x.0
   counted_some roots [] w x holds e = ap (λ p. p.0) e
   counted_some roots (found f ∷ items) w x holds (inl e) = inl (ap (λ p. p.0) e)
   counted_some roots (found f ∷ items) w x holds (inr h) = inr (h.0.0, h.1.0, counted_some roots items h.0 x (ap held (sym h.1.1) ∙ holds) h.2)
-  counted_some roots (given c ∷ items) w x holds (inl e) = subst (λ s. MovesBySome takes w.0 (counted_findings roots (given c ∷ items)) s) (ap (λ p. p.0) e) (some_none takes w.0 (counted_findings roots (given c ∷ items)))
+  counted_some roots (given c ∷ items) w x holds (inl e) =
+      subst (λ s. MovesBySome takes w.0 (counted_findings roots (given c ∷ items)) s) (ap (λ p. p.0) e)
+      (some_none takes w.0 (counted_findings roots (given c ∷ items)))
   counted_some roots (given c ∷ items) w x holds (inr h) =
       let o = row_counted keeps held room (Moves takes) roots c w h.0 holds h.1 in
       some_after takes w.0 h.0.0 x.0 (faults_of roots c) (counted_findings (more roots c) items) o.0 (counted_some (more roots c) items h.0 x o.2 h.2)
 
-  counted_stops : (roots : ℕ) (items : List Item) (w x : S × T) → held w.1 ≡ held_of roots → Stops (watches takes keeps) (fails takes drops keeps refuses WriteFailed) w items x → Stops takes drops w.0 (counted_findings roots items) x.0
+  counted_stops : (roots : ℕ) (items : List Item) (w x : S × T) → held w.1 ≡ held_of roots
+      → Stops (watches takes keeps) (fails takes drops keeps refuses WriteFailed) w items x → Stops takes drops w.0 (counted_findings roots items) x.0
   counted_stops roots [] w x holds h = absurd h
   counted_stops roots (found f ∷ items) w x holds (inl h) = inl h.0
   counted_stops roots (found f ∷ items) w x holds (inr h) = inr (h.0.0, h.1.0, counted_stops roots items h.0 x (ap held (sym h.1.1) ∙ holds) h.2)
-  counted_stops roots (given c ∷ items) w x holds (inl h) = stops_first takes drops w.0 x.0 (faults_of roots c) (counted_findings (more roots c) items) (row_counted keeps held room (Stops takes drops) roots c w x holds h).0
+  counted_stops roots (given c ∷ items) w x holds (inl h) =
+      stops_first takes drops w.0 x.0 (faults_of roots c) (counted_findings (more roots c) items)
+      (row_counted keeps held room (Stops takes drops) roots c w x holds h).0
   counted_stops roots (given c ∷ items) w x holds (inr h) =
       let o = row_counted keeps held room (Moves takes) roots c w h.0 holds h.1 in
       stops_after takes drops w.0 h.0.0 x.0 (faults_of roots c) (counted_findings (more roots c) items) o.0 (counted_stops (more roots c) items h.0 x o.2 h.2)
 
-  counted_refused : (roots : ℕ) (items : List Item) (w x : S × T) → held w.1 ≡ held_of roots → Stops (watches takes keeps) (fails takes drops keeps refuses OutOfMemory) w items x → MovesBySome takes w.0 (counted_findings roots items) x.0
+  counted_refused : (roots : ℕ) (items : List Item) (w x : S × T) → held w.1 ≡ held_of roots
+      → Stops (watches takes keeps) (fails takes drops keeps refuses OutOfMemory) w items x → MovesBySome takes w.0 (counted_findings roots items) x.0
   counted_refused roots [] w x holds h = absurd h
   counted_refused roots (found f ∷ items) w x holds (inl h) = absurd h
   counted_refused roots (found f ∷ items) w x holds (inr h) = inr (h.0.0, h.1.0, counted_refused roots items h.0 x (ap held (sym h.1.1) ∙ holds) h.2)
-  counted_refused roots (given c ∷ items) w x holds (inl h) = subst (λ s. MovesBySome takes w.0 (counted_findings roots (given c ∷ items)) s) (same c.row h) (some_none takes w.0 (counted_findings roots (given c ∷ items)))
+  counted_refused roots (given c ∷ items) w x holds (inl h) =
+      subst (λ s. MovesBySome takes w.0 (counted_findings roots (given c ∷ items)) s) (same c.row h)
+      (some_none takes w.0 (counted_findings roots (given c ∷ items)))
     where
       same : (row : Result SchemaRow RowFault) → FailsRow takes drops keeps refuses OutOfMemory ((row_at c).0, row) w x → w.0 ≡ x.0
       same (Ok row) h = h.1
@@ -222,7 +250,8 @@ module _ {S T : Type 0} (takes drops : S → Finding → S → Type 0) (keeps : 
       some_after takes w.0 h.0.0 x.0 (faults_of roots c) (counted_findings (more roots c) items) o.0 (counted_refused (more roots c) items h.0 x o.2 h.2)
 
   -- from a taker that holds none
-  pub counted_told : {A : Type 0} (r : Result A RunError) (items : List Item) (w x : S × T) → held w.1 ≡ 0 → Handed (watches takes keeps) (fails takes drops keeps refuses) r w items x → Tells takes drops r w.0 (counted_findings 0 items) x.0
+  pub counted_told : {A : Type 0} (r : Result A RunError) (items : List Item) (w x : S × T) → held w.1 ≡ 0
+      → Handed (watches takes keeps) (fails takes drops keeps refuses) r w items x → Tells takes drops r w.0 (counted_findings 0 items) x.0
   counted_told (Ok a) items w x none h = (counted_moves 0 items w x none h).0
   counted_told (Err (Refused e)) items w x none h = counted_some 0 items w x none h
   counted_told (Err ReadFailed) items w x none h = counted_some 0 items w x none h
@@ -231,14 +260,17 @@ module _ {S T : Type 0} (takes drops : S → Finding → S → Type 0) (keeps : 
 
 -- The walk over a tree with such a taker reports what the definitions report; and if the tree is the schema's, the taker was
 -- given the rows that can be read.
-module _ {S T : Type 0} (takes drops : S → Finding → S → Type 0) (keeps : T → SchemaRow → Taken → T → Type 0) (refuses : T → SchemaRow → T → Type 0) (file : List ℕ) (k : ℕ) (W : List Reference) (c : Reference)
-    (at : c.address ≡ k ∷ []) (early : AreOfEarlierStarts k W) (r : Result (Unit {0}) RunError) (marks : List Mark) (before after : S × T) (done : IsTreeDone takes drops keeps refuses file W c r marks before after)
+module _ {S T : Type 0} (takes drops : S → Finding → S → Type 0) (keeps : T → SchemaRow → Taken → T → Type 0) (refuses : T → SchemaRow → T → Type 0)
+    (file : List ℕ) (k : ℕ) (W : List Reference) (c : Reference)
+    (at : c.address ≡ k ∷ []) (early : AreOfEarlierStarts k W) (r : Result (Unit {0}) RunError) (marks : List Mark) (before after : S × T)
+    (done : IsTreeDone takes drops keeps refuses file W c r marks before after)
     (held : T → ℕ) (empty : start_of c.address ≡ schema_start → StartsEmpty keeps held before.1) where
   pub tree_told : IsDone takes drops file W (Go c ∷ []) r marks before.0 after.0
   tree_told = record {
     marked = done.marked;
     told = elim (cases_Bool (start_of c.address == schema_start)) [
-      | inl e ↦ (let first = empty (eqb-true (start_of c.address) schema_start e) in subst (λ L. Tells takes drops r before.0 L after.0) ((is_fold file).findings_are k W c at early)
+      | inl e ↦ (let first = empty (eqb-true (start_of c.address) schema_start e) in subst (λ L. Tells takes drops r before.0 L after.0)
+          ((is_fold file).findings_are k W c at early)
           (counted_told takes drops keeps refuses held first.room r (tree_walk file W c).items before after first.none done.handed))
       | inr e ↦ done.others (later (start_of c.address) e)
     ];
@@ -247,12 +279,14 @@ module _ {S T : Type 0} (takes drops : S → Finding → S → Type 0) (keeps : 
       later : (n : ℕ) → (n == schema_start) ≡ false → 1 ≤ n
       later n e = grind (arith, nat_tests)
 
-  pub tree_given : start_of c.address ≡ schema_start → OnOk r (Moves (gives keeps) before.1 (readable_rows file (W ++ visited_below file W (Go c ∷ []))) after.1)
+  pub tree_given : start_of c.address ≡ schema_start
+      → OnOk r (Moves (gives keeps) before.1 (readable_rows file (W ++ visited_below file W (Go c ∷ []))) after.1)
   tree_given e = by_result r done.handed
     where
       by_result : (r : Result (Unit {0}) RunError) → Handed (watches takes keeps) (fails takes drops keeps refuses) r before (tree_walk file W c).items after
           → OnOk r (Moves (gives keeps) before.1 (readable_rows file (W ++ visited_below file W (Go c ∷ []))) after.1)
       by_result (Ok u) h = subst (λ cells. Moves (gives keeps) before.1 (readable cells) after.1)
-          ((is_fold file).rows_are k W c at early ∙ ap (λ b. cond b (schema file (W ++ visited_below file W (Go c ∷ []))) []) (eq-eqb k schema_start (sym (ap start_of at) ∙ e)))
+          ((is_fold file).rows_are k W c at early ∙ ap (λ b. cond b (schema file (W ++ visited_below file W (Go c ∷ []))) [])
+          (eq-eqb k schema_start (sym (ap start_of at) ∙ e)))
           (counted_moves takes drops keeps refuses held (empty e).room 0 (tree_walk file W c).items before after (empty e).none h).1
       by_result (Err x) h = tt

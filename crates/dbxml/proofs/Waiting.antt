@@ -1,5 +1,6 @@
 -- Bytes that wait before an Out.
-use Rattle.std.proofs.Common.{◌≡◌, ℕ, suc, ◌+◌, ◌<◌, ◌≤◌, List, [], ◌++◌, length, drop, get_or, add-one, drop-cons, refl, sym, ap, ◌∙◌, append_assoc, append-nil, Result, Ok, Err}
+use Rattle.std.proofs.Common.{◌≡◌, ℕ, suc, ◌+◌, ◌<◌, ◌≤◌, List, [], ◌++◌, length, drop, get_or, add-one, drop-cons, refl, sym, ap, ◌∙◌, append_assoc}
+use Rattle.std.proofs.Common.{append-nil, Result, Ok, Err}
 use Rattle.std.proofs.lemmas.List.{drop_all}
 use Rattle.dbsource.specs.Failures.{one_more}
 use Rattle.dbsource.specs.Outs.{Begins, OutState, Puts}
@@ -71,9 +72,11 @@ pub taken_stop : {o m n : OutState} {w v rest whole : List ℕ} {s r : Result (U
     → HasTaken o m w rest whole → s ≡ Err x → r ≡ Err y → Takes s m n w v a → rest ≡ a ++ left → Puts r o n whole
 taken_stop {o = o} {m = m} {n = n} {w = w} {v = v} {rest = rest} {whole = whole} a left h p q k e =
     let here : Begins m.bytes n.bytes (w ++ a) = rw p at k.held in
-    let all : (h.done ++ (w ++ a)) ++ left ≡ whole = append_assoc h.done (w ++ a) left ∙ ap (λ l. h.done ++ l) (append_assoc w a left ∙ ap (λ l. w ++ l) (sym e)) ∙ h.split in
+    let all : (h.done ++ (w ++ a)) ++ left ≡ whole = append_assoc h.done (w ++ a) left
+    ∙ ap (λ l. h.done ++ l) (append_assoc w a left ∙ ap (λ l. w ++ l) (sym e)) ∙ h.split in
     rw q (record {
-      held = begins_more o.bytes n.bytes (h.done ++ (w ++ a)) left whole all (begins_after o.bytes m.bytes n.bytes h.done (w ++ a) (h.done ++ (w ++ a)) refl h.put.held here);
+      held = begins_more o.bytes n.bytes (h.done ++ (w ++ a)) left whole all
+          (begins_after o.bytes m.bytes n.bytes h.done (w ++ a) (h.done ++ (w ++ a)) refl h.put.held here);
       count = (rw p at k.count) ∙ ap one_more h.put.count;
     })
 

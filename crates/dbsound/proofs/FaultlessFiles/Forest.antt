@@ -40,7 +40,8 @@ sections_of V ls = flat_map (λ l. below V (l.step ∷ [])) ls
 abbrev pub start_triple : Link Way → Reference
 start_triple l = record { address = l.step ∷ []; page = l.page; role = l.role }
 
-index_kind : (file : List ℕ) (page : ℕ) (name : Option (List ℕ)) (kind : RowKind) → kind ≡ row.Index → root_kind file (record { kind = kind; root = page; name = name }) ≡ tree.Index
+index_kind : (file : List ℕ) (page : ℕ) (name : Option (List ℕ)) (kind : RowKind) → kind ≡ row.Index
+    → root_kind file (record { kind = kind; root = page; name = name }) ≡ tree.Index
 index_kind file page name row.Index e = refl
 index_kind file page name row.Table e = cc
 index_kind file page name row.View e = cc
@@ -69,7 +70,8 @@ module _ (file : List ℕ) (V : List Reference) (s : Survey file V) (none : walk
   unfolding later_starts
   starts_are =
       ap (λ S. schema_link ∷ (root_starts file (rooted_rows S) ++ freelist_starts file)) (sym (schema_below file V s))
-      ∙ ap (λ rows. schema_link ∷ (row_starts file 1 rows ++ freelist_starts file)) (take_all last_root_start (rooted_rows (schema file V)) (few_rooted file V s none))
+      ∙ ap (λ rows. schema_link ∷ (row_starts file 1 rows ++ freelist_starts file))
+      (take_all last_root_start (rooted_rows (schema file V)) (few_rooted file V s none))
 
   in_starts : (l : Link Way) → IsIn l (schema_link ∷ (row_starts file 1 (rooted_rows (schema file V)) ++ freelist_starts file)) → IsIn l (starts file V)
   in_starts l i = subst (IsIn l) (sym starts_are) i
@@ -85,18 +87,22 @@ module _ (file : List ℕ) (V : List Reference) (s : Survey file V) (none : walk
   pub parts_are : V ≡ below V (schema_start ∷ []) ++ (sections_of V (row_starts file 1 (rooted_rows (schema file V))) ++ sections_of V (freelist_starts file))
   parts_are = (by_sections file V s none).0
       ∙ ap (sections_of V) starts_are
-      ∙ ap (λ X. below V (schema_start ∷ []) ++ X) (flat_map-append (λ l. below V (l.step ∷ [])) (row_starts file 1 (rooted_rows (schema file V))) (freelist_starts file))
+      ∙ ap (λ X. below V (schema_start ∷ []) ++ X) (flat_map-append (λ l. below V (l.step ∷ [])) (row_starts file 1 (rooted_rows (schema file V)))
+      (freelist_starts file))
 
   pub whole_start : (l : Link Way) → IsIn l (schema_link ∷ (row_starts file 1 (rooted_rows (schema file V)) ++ freelist_starts file))
       → IsWhole (rules_of file) (named_at [] (l ∷ [])) (below V (l.step ∷ []))
   whole_start l i = (by_sections file V s none).1 l (in_starts l i)
 
   pub whole_free : IsWhole (rules_of file) (named_at [] (freelist_starts file)) (sections_of V (freelist_starts file))
-  whole_free = by_case (first_trunk file == 0) (λ l i. whole_start l (inr (IsIn-right l (row_starts file 1 (rooted_rows (schema file V))) (freelist_starts file) i)))
+  whole_free = by_case (first_trunk file == 0) (λ l i. whole_start l
+      (inr (IsIn-right l (row_starts file 1 (rooted_rows (schema file V))) (freelist_starts file) i)))
     where
       by_case : (b : Bool)
-          → ((l : Link Way) → IsIn l (cond b [] (start freelist_start trunk (first_trunk file) ∷ [])) → IsWhole (rules_of file) (named_at [] (l ∷ [])) (below V (l.step ∷ [])))
-          → IsWhole (rules_of file) (named_at [] (cond b [] (start freelist_start trunk (first_trunk file) ∷ []))) (sections_of V (cond b [] (start freelist_start trunk (first_trunk file) ∷ [])))
+          → ((l : Link Way) → IsIn l (cond b [] (start freelist_start trunk (first_trunk file) ∷ []))
+          → IsWhole (rules_of file) (named_at [] (l ∷ [])) (below V (l.step ∷ [])))
+          → IsWhole (rules_of file) (named_at [] (cond b [] (start freelist_start trunk (first_trunk file) ∷ [])))
+          (sections_of V (cond b [] (start freelist_start trunk (first_trunk file) ∷ [])))
       by_case true h = nothing
       by_case false h = subst (λ X. IsWhole (rules_of file) (named_at [] (start freelist_start trunk (first_trunk file) ∷ [])) X)
           (sym (append-nil (below V (freelist_start ∷ [])))) (h (start freelist_start trunk (first_trunk file)) (inl refl))

@@ -32,10 +32,12 @@ module _ (file : List ℕ) (V : List Reference) (s : Survey file V) (used : AllU
   within_uses p i = by_case (visit_of V p) refl
     where
       by_case : (o : Option Reference) → visit_of V p ≡ o → IsIn p (map (λ r. r.page) V ++ fixed_pages (geometry file))
-      by_case None e = IsIn-right p (map (λ r. r.page) V) (fixed_pages (geometry file)) (filter-has (is_fixed (geometry file)) (page_numbers (geometry file)) p i
+      by_case None e = IsIn-right p (map (λ r. r.page) V) (fixed_pages (geometry file))
+          (filter-has (is_fixed (geometry file)) (page_numbers (geometry file)) p i
           (unused_is_fixed p (used p i) e))
       by_case (Some r) e = let k = find-some (λ q. q.page == p) V r e in
-          IsIn-left p (map (λ r. r.page) V) (fixed_pages (geometry file)) (subst (λ p. IsIn p (map (λ r. r.page) V)) (eqb-true r.page p k.1) (IsIn-map (λ r. r.page) V r k.0))
+          IsIn-left p (map (λ r. r.page) V) (fixed_pages (geometry file))
+          (subst (λ p. IsIn p (map (λ r. r.page) V)) (eqb-true r.page p k.1) (IsIn-map (λ r. r.page) V r k.0))
 
   pub every_page_once : IsPermutation (map (λ r. r.page) V ++ fixed_pages (geometry file)) (page_numbers (geometry file))
   every_page_once = rearranged (map (λ r. r.page) V ++ fixed_pages (geometry file)) (page_numbers (geometry file))
@@ -67,9 +69,11 @@ module _ (file : List ℕ) (V : List Reference) (s : Survey file V) (used : AllU
       same : (e f : MapEntry) → is_same_entry e f ≡ true → e ≡ f
       same e f t =
           let k = and_parts (e.type == f.type) (e.number == f.number) t in
-          ap (λ n. record { type = n; number = e.number }) (eqb-true e.type f.type k.0) ∙ ap (λ n. record { type = f.type; number = n }) (eqb-true e.number f.number k.1)
+          ap (λ n. record { type = n; number = e.number }) (eqb-true e.type f.type k.0)
+          ∙ ap (λ n. record { type = f.type; number = n }) (eqb-true e.number f.number k.1)
 
-      by_test : (e : MapEntry) (b : Bool) → is_same_entry e (entry_of (role_of r) (from_of r)) ≡ b → entry_fault p (Some e) r ≡ [] → e ≡ entry_of (role_of r) (from_of r)
+      by_test : (e : MapEntry) (b : Bool) → is_same_entry e (entry_of (role_of r) (from_of r)) ≡ b → entry_fault p (Some e) r ≡ [] → e
+          ≡ entry_of (role_of r) (from_of r)
       by_test e true f h = same e (entry_of (role_of r) (from_of r)) f
       by_test e false f h = let k = rw f at h in cc
 

@@ -64,9 +64,12 @@ module _ (file : List ℕ) (V : List Reference) (s : Survey file V) where
               let at = (IsIn-from_range 1 (geometry file).pages q.page (number_of file V s q j)).0 in omega (arith, differ))
           | inr k ↦ (
               let later : 0 < h.0.step = (starts_rise file (under schema_start V)).0 h.0 k in
-              let off : (start_of r.address == schema_start) ≡ false = ap (λ r. start_of r.address == schema_start) h.2 ∙ ne_eqb h.0.step 0 (λ z. let x : ⊥ = omega arith in x) in
-              let here : is_root_page V r.page ≡ true = any_true (λ t. (t.page == r.page) && is_root (role_of t) && not (start_of t.address == schema_start)) V r i
-              (and_from ((r.page == r.page) && is_root (role_of r)) (not (start_of r.address == schema_start)) (and_from (r.page == r.page) (is_root (role_of r)) (eq-eqb r.page r.page refl) e) (ap not off)) in
+              let off : (start_of r.address == schema_start) ≡ false = ap (λ r. start_of r.address == schema_start) h.2
+              ∙ ne_eqb h.0.step 0 (λ z. let x : ⊥ = omega arith in x) in
+              let here : is_root_page V r.page ≡ true = any_true (λ t. (t.page == r.page) && is_root (role_of t) && not (start_of t.address == schema_start)) V
+              r i
+              (and_from ((r.page == r.page) && is_root (role_of r)) (not (start_of r.address == schema_start))
+              (and_from (r.page == r.page) (is_root (role_of r)) (eq-eqb r.page r.page refl) e) (ap not off)) in
               let least = least_other q j f in
               let below = not_late r.page least.0 (late r.page (number_of file V s r i)) mapped here least.1 in
               let above = least.2 in

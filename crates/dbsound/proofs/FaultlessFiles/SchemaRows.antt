@@ -1,5 +1,6 @@
 -- The rows of a schema without faults: each is taken, has a name, and has a place of its own; so few enough have a root.
-use Rattle.std.proofs.Common.{◌≡◌, ℕ, ◌<◌, ◌≤◌, inl, inr, Bool, true, false, cond, not, ◌&&◌, List, [], ◌∷◌, map, length, Option, Some, None, refl, sym, ap, subst, ◌∙◌}
+use Rattle.std.proofs.Common.{◌≡◌, ℕ, ◌<◌, ◌≤◌, inl, inr, Bool, true, false, cond, not, ◌&&◌, List, [], ◌∷◌, map, length, Option, Some, None, refl, sym, ap}
+use Rattle.std.proofs.Common.{subst, ◌∙◌}
 use Rattle.std.specs.Prelude.{filter, filter_map, is_some, IsSome, Result, Ok, Err, nat_le, ◌==◌, All}
 use Rattle.std.specs.List.{cons_option}
 use Rattle.std.specs.Result.{result_ok}
@@ -49,7 +50,8 @@ row_of_page file V r c i = by_start (start_of r.address == schema_start) refl i
 IsTaken : List ℕ → List Reference → SchemaCell → Type 0
 IsTaken file V c = (r : SchemaRow) × (c.row ≡ Ok r) × IsSome r.name × ((not (r.root == 0) && nat_le last_root_start (earlier_roots file V c.place)) ≡ false)
 
-taken_if : (is_full : Bool) (c : SchemaCell) → row_faults_if is_full c ≡ [] → (r : SchemaRow) × (c.row ≡ Ok r) × IsSome r.name × ((not (r.root == 0) && is_full) ≡ false)
+taken_if : (is_full : Bool) (c : SchemaCell) → row_faults_if is_full c ≡ [] → (r : SchemaRow) × (c.row ≡ Ok r) × IsSome r.name
+    × ((not (r.root == 0) && is_full) ≡ false)
 taken_if is_full c e = by_row c.row refl
   where
     by_tests : (r : SchemaRow) → c.row ≡ Ok r → (a b : Bool) → is_some r.name ≡ a → (not (r.root == 0) && is_full) ≡ b

@@ -18,7 +18,8 @@ use Rattle.dbformat.specs.Reference.{Reference, tree_view}
 use Rattle.dbformat.specs.Schema.{SchemaCell, rows_at, schema, rooted_rows, schema_link, freelist_starts}
 use Rattle.dbformat.specs.Survey.{Survey}
 use Rattle.dbformat.specs.PageFaults.{is_leaf_of}
-use Rattle.dbformat.specs.EndFaults.{has_cell, has_rows, format_fault, greatest_root_reached, greatest_root_fault, free_pages, freelist_fault, sum_faults, page_numbers}
+use Rattle.dbformat.specs.EndFaults.{has_cell, has_rows, format_fault, greatest_root_reached, greatest_root_fault, free_pages, freelist_fault, sum_faults}
+use Rattle.dbformat.specs.EndFaults.{page_numbers}
 use Rattle.dbformat.specs.Report.{walk_faults, faults}
 use Rattle.dbformat.specs.Terms.{Use}
 use Rattle.dbformat.specs.Sound.{Sound, Forest, with_root, fixed_pages}
@@ -39,7 +40,8 @@ use Rattle.dbsound.proofs.FaultlessSurveys.Trees.{whole_trees}
 -- a page with a cell has a count of cells
 cell_counts : (v : View) (x : ℕ × Cell) → IsIn x (cells v) → not (count v == 0) ≡ true
 unfolding cells
-cell_counts v x i = ap not (ne_eqb (count v) 0 (λ e. subst (λ n. IsIn x (filter_map (λ i. option_map (λ c. (i, c)) (result_ok (cell v i))) (range_with_len 0 n))) e i))
+cell_counts v x i = ap not (ne_eqb (count v) 0 (λ e. subst
+    (λ n. IsIn x (filter_map (λ i. option_map (λ c. (i, c)) (result_ok (cell v i))) (range_with_len 0 n))) e i))
 
 module _ (file : List ℕ) (V : List Reference) (s : Survey file V) where
   sums_none : sum_faults file V ≡ [] → (format_fault file V ≡ []) × (greatest_root_fault file V ≡ []) × (freelist_fault file V ≡ [])
@@ -84,7 +86,8 @@ module _ (file : List ℕ) (V : List Reference) (s : Survey file V) where
       by_tests false true f g h = let k = rw (f, g, h) at e in cc
       by_tests false false f g h = ((λ z. let k = sym f ∙ ap (λ n. n == 0) z in cc), (λ z. let k = sym g ∙ ap (λ n. n == 0) z in cc))
 
-      by_rows : (S : List SchemaCell) → ((c : SchemaCell) → IsIn c S → has_rows file V ≡ true) → taken_rows S ≢ [] → (schema_format file ≢ 0) × (encoding_number file ≢ 0)
+      by_rows : (S : List SchemaCell) → ((c : SchemaCell) → IsIn c S → has_rows file V ≡ true) → taken_rows S ≢ [] → (schema_format file ≢ 0)
+          × (encoding_number file ≢ 0)
       by_rows [] h some = absurd (some refl)
       by_rows (c ∷ S) h some = by_tests (schema_format file == 0) (encoding_number file == 0) refl refl (h c (inl refl))
 
@@ -104,7 +107,8 @@ module _ (file : List ℕ) (V : List Reference) (s : Survey file V) where
 
   pages_stand : walk_faults file V ≡ [] → AllUsed file V
       → IsPermutation (map (λ u. u.page) (schema_part ++ root_part ++ free_part) ++ fixed_pages (geometry file)) (page_numbers (geometry file))
-  pages_stand walk none = subst (λ us. IsPermutation (map (λ u. u.page) us ++ fixed_pages (geometry file)) (page_numbers (geometry file))) (uses_are file V s walk)
+  pages_stand walk none = subst (λ us. IsPermutation (map (λ u. u.page) us ++ fixed_pages (geometry file)) (page_numbers (geometry file)))
+      (uses_are file V s walk)
       (subst (λ ps. IsPermutation (ps ++ fixed_pages (geometry file)) (page_numbers (geometry file))) (sym (used_pages V)) (every_page_once file V s none))
 
   uses_mapped : walk_faults file V ≡ [] → AllUsed file V

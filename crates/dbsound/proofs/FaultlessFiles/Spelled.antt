@@ -1,5 +1,6 @@
 -- The payloads of the schema's tree spell its rows.
-use Rattle.std.proofs.Common.{◌≡◌, ℕ, zero, suc, inl, inr, Bool, true, false, cond, ◌&&◌, List, [], ◌∷◌, ◌++◌, map, length, Option, Some, None, refl, sym, ap, subst, ◌∙◌, arith}
+use Rattle.std.proofs.Common.{◌≡◌, ℕ, zero, suc, inl, inr, Bool, true, false, cond, ◌&&◌, List, [], ◌∷◌, ◌++◌, map, length, Option, Some, None, refl, sym, ap}
+use Rattle.std.proofs.Common.{subst, ◌∙◌, arith}
 use Rattle.std.specs.Prelude.{flat_map, Result, Ok, nat_eq, ◌==◌}
 use Rattle.std.specs.List.{starts_with}
 use Rattle.std.proofs.lemmas.List.{map-append}
@@ -25,7 +26,8 @@ use Rattle.dbsurvey.proofs.Lists.{kept_lists}
 
 same_test : (k : ℕ) → (k == 0) ≡ (nat_eq 0 k && true)
 same_test zero = refl
-same_test (suc k) = ne_eqb (suc k) 0 (λ e. let f : ⊥ = omega arith in f) ∙ sym (and_left (nat_eq 0 (suc k)) true (ne_eqb 0 (suc k) (λ e. let f : ⊥ = omega arith in f)))
+same_test (suc k) = ne_eqb (suc k) 0 (λ e. let f : ⊥ = omega arith in f)
+    ∙ sym (and_left (nat_eq 0 (suc k)) true (ne_eqb 0 (suc k) (λ e. let f : ⊥ = omega arith in f)))
 
 -- a payload that is taken for a row has the length that its cell says
 right_length : (payload : List ℕ) (size : ℕ) (e : Encoding) (r : SchemaRow) → schema_row payload size e ≡ Ok r → schema_row payload (length payload) e ≡ Ok r
@@ -87,5 +89,7 @@ module _ (file : List ℕ) (V : List Reference) where
     unfolding schema
     schema_is = kept_lists (λ r. starts_with nat_eq r.address (schema_start ∷ [])) (rows_at file V) rows_of V rows_if
 
-    pub spells : map (λ payload. schema_row payload (length payload) (encoding file)) (flat_map (leaf_payloads file V) (below V (schema_start ∷ []))) ≡ map (λ c. c.row) (schema file V)
-    spells = spell_pages (below V (schema_start ∷ [])) (λ c i. let t = each_taken file V s none c (subst (IsIn c) (sym schema_is) i) in (t.0, t.1)) ∙ sym (ap (map (λ c. c.row)) schema_is)
+    pub spells : map (λ payload. schema_row payload (length payload) (encoding file)) (flat_map (leaf_payloads file V) (below V (schema_start ∷ [])))
+        ≡ map (λ c. c.row) (schema file V)
+    spells = spell_pages (below V (schema_start ∷ [])) (λ c i. let t = each_taken file V s none c (subst (IsIn c) (sym schema_is) i) in (t.0, t.1))
+        ∙ sym (ap (map (λ c. c.row)) schema_is)

@@ -52,7 +52,8 @@ module _ (file : List ℕ) (V : List Reference) (s : Survey file V) (none : walk
 
   of_start : (l : Link Way) → IsIn l (schema_link ∷ row_starts file 1 (rooted_rows (schema file V))) → is_root (role_of (start_triple l)) ≡ true
       → (t : Reference) → IsIn t (below V (l.step ∷ [])) → is_on_freelist (role_of t) ≡ false
-  of_start l i e t j = all_as file false (whole_start file V s none l (IsIn-left l (schema_link ∷ row_starts file 1 (rooted_rows (schema file V))) (freelist_starts file) i))
+  of_start l i e t j = all_as file false (whole_start file V s none l
+      (IsIn-left l (schema_link ∷ row_starts file 1 (rooted_rows (schema file V))) (freelist_starts file) i))
       (λ c k. elim k [ inl f ↦ ap (λ c. is_on_freelist (role_of c)) f ∙ root_off (role_of (start_triple l)) e | inr n ↦ absurd n ]) t j
 
   of_rows : (t : Reference) → IsIn t (sections_of V (row_starts file 1 (rooted_rows (schema file V)))) → is_on_freelist (role_of t) ≡ false
@@ -87,16 +88,20 @@ module _ (file : List ℕ) (V : List Reference) (s : Survey file V) (none : walk
       let p : Reference → Bool = λ r. is_root (role_of r) in
       ap (λ X. map (λ r. r.page) (filter p X)) (parts_are file V s none)
       ∙ ap (map (λ r. r.page)) (filter-append p S (R ++ U) ∙ ap (λ X. filter p S ++ X) (filter-append p R U))
-      ∙ ap (λ X. map (λ r. r.page) (X ++ (filter p R ++ filter p U))) (one_root file (start_triple schema_link) refl refl (whole_start file V s none schema_link (inl refl)))
-      ∙ ap (λ X. map (λ r. r.page) ((start_triple schema_link ∷ []) ++ (filter p R ++ X))) (no_roots file (whole_free file V s none) (λ c i. ap is_root (free_role file c i)))
+      ∙ ap (λ X. map (λ r. r.page) (X ++ (filter p R ++ filter p U)))
+      (one_root file (start_triple schema_link) refl refl (whole_start file V s none schema_link (inl refl)))
+      ∙ ap (λ X. map (λ r. r.page) ((start_triple schema_link ∷ []) ++ (filter p R ++ X)))
+      (no_roots file (whole_free file V s none) (λ c i. ap is_root (free_role file c i)))
       ∙ ap (λ X. 1 ∷ map (λ r. r.page) X) (append-nil (filter p R))
-      ∙ ap (λ X. 1 ∷ X) (row_roots 1 (rooted_rows (schema file V)) (λ l i. whole_start file V s none l (inr (IsIn-left l (row_starts file 1 (rooted_rows (schema file V))) (freelist_starts file) i))))
+      ∙ ap (λ X. 1 ∷ X) (row_roots 1 (rooted_rows (schema file V))
+      (λ l i. whole_start file V s none l (inr (IsIn-left l (row_starts file 1 (rooted_rows (schema file V))) (freelist_starts file) i))))
 
   pub greatest_is : greatest_root_reached V ≡ fold max 1 (map (λ r. r.root) (rooted_rows (schema file V)))
   greatest_is = ap (fold max 1) roots_are
 
   -- the parts, as uses
-  pub uses_are : map use_of V ≡ (map use_of (below V (schema_start ∷ [])) ++ map use_of (sections_of V (row_starts file 1 (rooted_rows (schema file V))))) ++ map use_of (sections_of V (freelist_starts file))
+  pub uses_are : map use_of V ≡ (map use_of (below V (schema_start ∷ [])) ++ map use_of (sections_of V (row_starts file 1 (rooted_rows (schema file V)))))
+      ++ map use_of (sections_of V (freelist_starts file))
   uses_are = ap (map use_of) (parts_are file V s none ∙ sym (append_assoc S R U))
       ∙ map-append use_of (S ++ R) U
       ∙ ap (λ X. X ++ map use_of U) (map-append use_of S R)

@@ -46,15 +46,17 @@ link_step p kind v l j = elim (IsIn-cases l (flat_map (cell_links p kind) (cells
   where
     of_cell : (x : ℕ × Cell) → IsIn x (cells v) → IsIn l (cell_links p kind x)
         → ((x : ℕ × Cell) × IsIn x (cells v) × (first : ℕ) × (x.1.overflow ≡ Some first) × (l.step ≡ overflow_step x.0)) ⊎ ((n : ℕ) × (l.step ≡ child_step n))
-    of_cell (i, c) j k = elim (IsIn-cases l (option_to_list (option_map (link p (overflow_step i) i (first_overflow (overflow_size c))) c.overflow)) (option_to_list (option_map (link p (child_step i) i (child kind)) c.left)) k) [
-      | inl m ↦ (let q = one_link p (overflow_step i) i (first_overflow (overflow_size c)) c.overflow l m in inl ((i, c), j, q.0, q.1, q.2))
-      | inr m ↦ (let q = one_link p (child_step i) i (child kind) c.left l m in inr (i, q.2))
-    ]
+    of_cell (i, c) j k = elim (IsIn-cases l (option_to_list (option_map (link p (overflow_step i) i (first_overflow (overflow_size c))) c.overflow))
+        (option_to_list (option_map (link p (child_step i) i (child kind)) c.left)) k) [
+          | inl m ↦ (let q = one_link p (overflow_step i) i (first_overflow (overflow_size c)) c.overflow l m in inl ((i, c), j, q.0, q.1, q.2))
+          | inr m ↦ (let q = one_link p (child_step i) i (child kind) c.left l m in inr (i, q.2))
+        ]
 
 module _ (file : List ℕ) (V : List Reference) (s : Survey file V) (none : walk_faults file V ≡ []) (r : Reference) (i : IsIn r V) where
   -- at a step that leads nowhere is nothing
   nothing_at : (step : ℕ) → ((d : Reference) → IsIn d (children (rules_of file) r) → d.address ≡ r.address ++ (step ∷ []) → ⊥) → at_step V r.address step ≡ []
-  nothing_at step h = filter-none (λ t. starts_with nat_eq t.address (r.address ++ (step ∷ []))) V (λ t j. not_begins t.address (r.address ++ (step ∷ [])) (λ k. in_part t j k))
+  nothing_at step h = filter-none (λ t. starts_with nat_eq t.address (r.address ++ (step ∷ []))) V
+      (λ t j. not_begins t.address (r.address ++ (step ∷ [])) (λ k. in_part t j k))
     where
       in_child : (t d : Reference) → IsIn d (children (rules_of file) r) → starts_with nat_eq t.address (r.address ++ (step ∷ [])) ≡ true
           → starts_with nat_eq t.address d.address ≡ true → ⊥
@@ -72,7 +74,8 @@ module _ (file : List ℕ) (V : List Reference) (s : Survey file V) (none : walk
       in_part : (t : Reference) → IsIn t V → starts_with nat_eq t.address (r.address ++ (step ∷ [])) ≡ true → ⊥
       in_part t j k =
           let l : IsIn t (r ∷ flat_map (λ d. below V d.address) (children (rules_of file) r)) =
-          subst (IsIn t) (by_its_links file V s none r i) (filter-has (λ t. starts_with nat_eq t.address r.address) V t j (begins-shorter r.address (step ∷ []) t.address k)) in
+          subst (IsIn t) (by_its_links file V s none r i) (filter-has (λ t. starts_with nat_eq t.address r.address) V t j
+          (begins-shorter r.address (step ∷ []) t.address k)) in
           elim l [
             | inl e ↦ begins-longer r.address step [] (subst (λ t. starts_with nat_eq t.address (r.address ++ (step ∷ [])) ≡ true) e k)
             | inr m ↦ (let d = IsIn-from_flat_map (λ d. below V d.address) (children (rules_of file) r) t m in
@@ -96,13 +99,19 @@ module _ (file : List ℕ) (V : List Reference) (s : Survey file V) (none : walk
 
     -- the first overflow page of a cell
     first_page : ℕ × Cell → ℕ → Reference
-    first_page x first = record { address = r.address ++ (overflow_step x.0 ∷ []); page = first; role = record { role = first_overflow (overflow_size x.1); from = r.page; item = x.0 } }
+    first_page x first = record {
+      address = r.address ++ (overflow_step x.0 ∷ []);
+      page = first;
+      role =
+          record { role = first_overflow (overflow_size x.1); from = r.page; item = x.0 };
+    }
 
     has_first : (x : ℕ × Cell) (first : ℕ) → IsIn x (cells v) → x.1.overflow ≡ Some first → IsIn (first_page x first) V
     unfolding first_page
     has_first x first j e = child_visited file V s none r (first_page x first) i
         (subst (IsIn (first_page x first)) (sym page.links_are) (IsIn-named r.address (page_links r.page kind (Some v)) (l x)
-        (IsIn-left (l x) (flat_map (cell_links r.page kind) (cells v)) (right_links r.page kind v) (IsIn-flat_map (cell_links r.page kind) (cells v) x (l x) j (in_cell x e)))))
+        (IsIn-left (l x) (flat_map (cell_links r.page kind) (cells v)) (right_links r.page kind v)
+        (IsIn-flat_map (cell_links r.page kind) (cells v) x (l x) j (in_cell x e)))))
       where
         l : ℕ × Cell → Link Way
         l x = link r.page (overflow_step x.0) x.0 (first_overflow (overflow_size x.1)) first
@@ -118,10 +127,14 @@ module _ (file : List ℕ) (V : List Reference) (s : Survey file V) (none : walk
     payload_at x j = by_case x.1.overflow refl
       where
         by_case : (o : Option ℕ) → x.1.overflow ≡ o
-            → Payload file r.page x.1 (map use_of (at_step V r.address (overflow_step x.0))) (x.1.local ++ flat_map (held_bytes file) (at_step V r.address (overflow_step x.0)))
+            → Payload file r.page x.1 (map use_of (at_step V r.address (overflow_step x.0)))
+            (x.1.local ++ flat_map (held_bytes file) (at_step V r.address (overflow_step x.0)))
             × (flat_map (leaf_payloads file V) (at_step V r.address (overflow_step x.0)) ≡ [])
-        by_case None e = let f = no_chain x j e in
-            (subst (λ l. Payload file r.page x.1 (map use_of l) (x.1.local ++ flat_map (held_bytes file) l)) (sym f) (subst (Payload file r.page x.1 []) (sym (append-nil x.1.local)) (whole e)), ap (flat_map (leaf_payloads file V)) f)
+        by_case None e = let f = no_chain x j e in (
+          subst (λ l. Payload file r.page x.1 (map use_of l) (x.1.local ++ flat_map (held_bytes file) l)) (sym f)
+              (subst (Payload file r.page x.1 []) (sym (append-nil x.1.local)) (whole e)),
+          ap (flat_map (leaf_payloads file V)) f,
+        )
         by_case (Some first) e =
             let c = whole_chain file V s none (first_page x first) (overflow_size x.1) refl (has_first x first j e) in
             (split e c.0, c.1)

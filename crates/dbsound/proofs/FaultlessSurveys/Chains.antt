@@ -1,5 +1,6 @@
 -- The pages below an overflow page are those of the chain that begins with it.
-use Rattle.std.proofs.Common.{◌≡◌, ℕ, zero, suc, ◌-◌, ◌≤◌, ◌<◌, ◌⊎◌, inl, inr, true, false, List, [], ◌∷◌, ◌++◌, length, map, Some, None, refl, sym, ap, subst, ◌∙◌, arith, append-nil}
+use Rattle.std.proofs.Common.{◌≡◌, ℕ, zero, suc, ◌-◌, ◌≤◌, ◌<◌, ◌⊎◌, inl, inr, true, false, List, [], ◌∷◌, ◌++◌, length, map, Some, None, refl, sym, ap, subst}
+use Rattle.std.proofs.Common.{◌∙◌, arith, append-nil}
 use Rattle.std.specs.Prelude.{flat_map, nat_lt}
 use Rattle.std.proofs.lemmas.Bool.Decides.{nat_tests}
 use Rattle.std.proofs.lemmas.Bool.{cases_lt}
@@ -8,7 +9,8 @@ use Rattle.dbsurvey.specs.Survey.{children, named_at}
 use Rattle.dbformat.specs.Header.{usable_size}
 use Rattle.dbformat.specs.File.{page_bytes}
 use Rattle.dbformat.specs.Payload.{overflow_next, overflow_bytes}
-use Rattle.dbformat.specs.Reference.{Role, root, child, trunk, free_leaf, first_overflow, later_overflow, Reference, role_of, from_of, tree_kind, tree_view, bytes_left, overflow_links}
+use Rattle.dbformat.specs.Reference.{Role, root, child, trunk, free_leaf, first_overflow, later_overflow, Reference, role_of, from_of, tree_kind, tree_view}
+use Rattle.dbformat.specs.Reference.{bytes_left, overflow_links}
 use Rattle.dbformat.specs.Schema.{held_bytes}
 use Rattle.dbformat.specs.Survey.{Survey, rules_of}
 use Rattle.dbformat.specs.PageFaults.{page_faults}
@@ -43,7 +45,12 @@ module _ (file : List ℕ) (V : List Reference) (s : Survey file V) (none : walk
   holds r left e = rw e refl
 
   next_of : Reference → ℕ → Reference
-  next_of r left = record { address = r.address ++ (0 ∷ []); page = overflow_next (page_bytes file r.page); role = record { role = later_overflow (left - (usable_size file - 4)); from = r.page; item = 0 } }
+  next_of r left = record {
+    address = r.address ++ (0 ∷ []);
+    page = overflow_next (page_bytes file r.page);
+    role =
+        record { role = later_overflow (left - (usable_size file - 4)); from = r.page; item = 0 };
+  }
 
   next_left : (r : Reference) (left : ℕ) → bytes_left (role_of (next_of r left)) ≡ Some (left - (usable_size file - 4))
   unfolding next_of
@@ -74,21 +81,25 @@ module _ (file : List ℕ) (V : List Reference) (s : Survey file V) (none : walk
       → IsChainOf file V (next_of r left) (left - (usable_size file - 4)) L → IsChainOf file V r left (r ∷ L)
   unfolding next_of
   at_next r left L h e c = (
-    subst (λ bytes. Chain file (role_of r) (from_of r) r.page left (use_of r ∷ map use_of L) (bytes ++ flat_map (held_bytes file) L)) (sym (holds r left e)) (full h c.0),
+    subst (λ bytes. Chain file (role_of r) (from_of r) r.page left (use_of r ∷ map use_of L) (bytes ++ flat_map (held_bytes file) L)) (sym (holds r left e))
+        (full h c.0),
     ap (λ l. l ++ flat_map (leaf_payloads file V) L) (no_payloads file V r left e) ∙ c.1,
   )
 
   step : (n : ℕ) (r : Reference) (left : ℕ) → length (below V r.address) ≤ suc n → bytes_left (role_of r) ≡ Some left → IsIn r V
-      → ((q : Reference) (less : ℕ) → length (below V q.address) ≤ n → bytes_left (role_of q) ≡ Some less → IsIn q V → IsChainOf file V q less (below V q.address))
+      → ((q : Reference) (less : ℕ) → length (below V q.address) ≤ n → bytes_left (role_of q) ≡ Some less → IsIn q V
+      → IsChainOf file V q less (below V q.address))
       → (usable_size file - 4 < left) ⊎ (left ≤ usable_size file - 4) → IsChainOf file V r left (below V r.address)
   step n r left small e i rest (inr h) =
-      subst (IsChainOf file V r left) (sym (by_its_links file V s none r i ∙ ap (λ ds. r ∷ flat_map (λ d. below V d.address) ds) (no_next r left h e))) (at_end r left h e i)
+      subst (IsChainOf file V r left) (sym (by_its_links file V s none r i ∙ ap (λ ds. r ∷ flat_map (λ d. below V d.address) ds) (no_next r left h e)))
+      (at_end r left h e i)
   step n r left small e i rest (inl h) =
       let q = next_of r left in
       let j : IsIn q (children (rules_of file) r) = subst (IsIn q) (sym (one_next r left h e)) (inl refl) in
       let k = fewer_below file V s none r q i j in
       let c = rest q (left - (usable_size file - 4)) (omega arith) (next_left r left) (child_visited file V s none r q i j) in
-      subst (IsChainOf file V r left) (sym (by_its_links file V s none r i ∙ ap (λ ds. r ∷ flat_map (λ d. below V d.address) ds) (one_next r left h e) ∙ ap (λ l. r ∷ l) (append-nil (below V q.address))))
+      subst (IsChainOf file V r left) (sym (by_its_links file V s none r i ∙ ap (λ ds. r ∷ flat_map (λ d. below V d.address) ds) (one_next r left h e)
+      ∙ ap (λ l. r ∷ l) (append-nil (below V q.address))))
       (at_next r left (below V q.address) h e c)
 
   chain_of : (n : ℕ) (r : Reference) (left : ℕ) → length (below V r.address) ≤ n → bytes_left (role_of r) ≡ Some left → IsIn r V

@@ -40,15 +40,18 @@ module _ (file : List ℕ) (V : List Reference) (s : Survey file V) (none : walk
       (subst (λ U. IsNoneRefused (rules_of file) cs U) e none_refused))
 
 pub by_its_starts : (file : List ℕ) → IsByItsStarts file
-by_its_starts file V s none = by_candidates (rules_of file) (are_rules file).rising (all_of_starts file V s none) (named_at-apart [] (starts file V) (starts_rise file (under schema_link.step V)))
+by_its_starts file V s none = by_candidates (rules_of file) (are_rules file).rising (all_of_starts file V s none)
+    (named_at-apart [] (starts file V) (starts_rise file (under schema_link.step V)))
 
 pub by_its_links : (file : List ℕ) → IsByItsLinks file
-by_its_links file V s none r i = by_links (rules_of file) (are_rules file).rising (all_of_starts file V s none) (named_at-apart [] (starts file V) (starts_rise file (under schema_link.step V))) r i
+by_its_links file V s none r i = by_links (rules_of file) (are_rules file).rising (all_of_starts file V s none)
+    (named_at-apart [] (starts file V) (starts_rise file (under schema_link.step V))) r i
 
 module _ (file : List ℕ) (V : List Reference) (s : Survey file V) (none : walk_faults file V ≡ []) where
   -- a reference of a visited page is visited
   pub child_visited : (r d : Reference) → IsIn r V → IsIn d (children (rules_of file) r) → IsIn d V
-  child_visited r d i j = ((follows_all file V s none).0 d (IsIn-right d (named_at [] (starts file V)) (flat_map (references file) V) (IsIn-flat_map (references file) V r d i j))).0
+  child_visited r d i j = ((follows_all file V s none).0 d
+      (IsIn-right d (named_at [] (starts file V)) (flat_map (references file) V) (IsIn-flat_map (references file) V r d i j))).0
 
   -- fewer pages are below it
   pub fewer_below : (r d : Reference) → IsIn r V → IsIn d (children (rules_of file) r) → length (below V d.address) < length (below V r.address)

@@ -23,7 +23,8 @@ use Rattle.dbsurvey.proofs.Lists.{filter-has, both_empty, none_of, list_any-fals
 use Rattle.dbformat.proofs.Places.{same_start, cell_key}
 use Rattle.dbformat.proofs.TestsLemmas.{untold}
 
-in_view : (r : Reference) (o : Option View) (k : Key) → IsIn k (keys_of_view r o) → (v : View) × (o ≡ Some v) × (x : ℕ × Cell) × IsIn x (cells v) × IsIn k (key_of r v x)
+in_view : (r : Reference) (o : Option View) (k : Key) → IsIn k (keys_of_view r o) → (v : View) × (o ≡ Some v) × (x : ℕ × Cell) × IsIn x (cells v)
+    × IsIn k (key_of r v x)
 in_view r None k i = absurd i
 in_view r (Some v) k i = let x = IsIn-from_flat_map (key_of r v) (cells v) k i in (v, refl, x.0, x.1, x.2)
 
@@ -38,12 +39,15 @@ module _ (file : List ℕ) (V : List Reference) (s : Survey file V) (none : walk
       let e = (follows_all file V s none).1 t v.0 i v.1 v.2 v.3 in
       none_of (key_faults file V) (key_of t v.0 v.2) (both_empty (row_faults_at file V t v.0 v.2) (flat_map (key_faults file V) (key_of t v.0 v.2)) e).1 key v.4
 
-  in_order : (key k : Key) → IsKey file V key → IsKey file V k → start_of k.place ≡ start_of key.place → IsBefore k.place key.place → is_out_of_order key k ≡ false
+  in_order : (key k : Key) → IsKey file V key → IsKey file V k → start_of k.place ≡ start_of key.place → IsBefore k.place key.place → is_out_of_order key k
+      ≡ false
   unfolding key_faults keys
   in_order key k i j same before =
-      list_any-false (is_out_of_order key) (earlier_keys file V key) (untold (list_any (is_out_of_order key) (earlier_keys file V key)) _ (no_key_fault key i)) k
+      list_any-false (is_out_of_order key) (earlier_keys file V key) (untold (list_any (is_out_of_order key) (earlier_keys file V key)) _ (no_key_fault key i))
+      k
       (filter-has (λ k. (start_of k.place == start_of key.place) && is_before k.place key.place) (keys file V) k (IsIn-flat_map (keys_at file) V j.0 k j.1 j.2)
-      (and_from (start_of k.place == start_of key.place) (is_before k.place key.place) (eq-eqb (start_of k.place) (start_of key.place) same) (is_before-from k.place key.place before)))
+      (and_from (start_of k.place == start_of key.place) (is_before k.place key.place) (eq-eqb (start_of k.place) (start_of key.place) same)
+      (is_before-from k.place key.place before)))
 
 -- a key is above low where it is a rowid, and not below it where it is none
 pub record IsLow (low : Option ℤ) (k : Key) : Type 0 where
@@ -60,9 +64,15 @@ low-from value k k' same e = by_case k.is_rowid refl e
     by_case true f e = record { above = λ g. grind (arith, ints); from = grind (arith, ints) }
     by_case false f e = record { above = λ g. cc; from = grind (arith, ints) }
 
-module _ (file : List ℕ) (V : List Reference) (s : Survey file V) (none : walk_faults file V ≡ []) (r : Reference) (i : IsIn r V) (long : r.address ≡ [] → ⊥) (v : View) (view_is : tree_view file r ≡ Some v) where
+module _ (file : List ℕ) (V : List Reference) (s : Survey file V) (none : walk_faults file V ≡ []) (r : Reference) (i : IsIn r V) (long : r.address ≡ [] → ⊥)
+    (v : View) (view_is : tree_view file r ≡ Some v) where
   pub has_key : (x : ℕ × Cell) (value : ℤ) → IsIn x (cells v) → x.1.key ≡ Some value → IsKey file V (cell_key r v x.0 value)
-  has_key x value j e = (r, i, subst (λ o. IsIn (cell_key r v x.0 value) (keys_of_view r o)) (sym view_is) (IsIn-flat_map (key_of r v) (cells v) x (cell_key r v x.0 value) j (in_cell x e)))
+  has_key x value j e = (
+    r,
+    i,
+    subst (λ o. IsIn (cell_key r v x.0 value) (keys_of_view r o)) (sym view_is)
+        (IsIn-flat_map (key_of r v) (cells v) x (cell_key r v x.0 value) j (in_cell x e)),
+  )
     where
       in_cell : (x : ℕ × Cell) → x.1.key ≡ Some value → IsIn (cell_key r v x.0 value) (key_of r v x)
       in_cell (n, c) e = rw e (inl refl)

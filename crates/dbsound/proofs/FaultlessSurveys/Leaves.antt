@@ -1,5 +1,6 @@
 -- A visited leaf is a tree of height 1.
-use Rattle.std.proofs.Common.{◌≡◌, ℕ, suc, ◌+◌, ◌*◌, ◌≤◌, inl, inr, Bool, false, cond, List, [], ◌∷◌, ◌++◌, map, Option, Some, None, ℤ, refl, sym, ap, subst, ◌∙◌, arith, append-nil}
+use Rattle.std.proofs.Common.{◌≡◌, ℕ, suc, ◌+◌, ◌*◌, ◌≤◌, inl, inr, Bool, false, cond, List, [], ◌∷◌, ◌++◌, map, Option, Some, None, ℤ, refl, sym, ap, subst}
+use Rattle.std.proofs.Common.{◌∙◌, arith, append-nil}
 use Rattle.std.specs.Prelude.{flat_map, not}
 use Rattle.std.specs.List.{cons_option}
 use Rattle.dbsurvey.specs.Address.{IsIn, Address}
@@ -24,8 +25,10 @@ use Rattle.dbformat.proofs.Visited.{has_address}
 use Rattle.dbformat.proofs.Places.{cell_key}
 
 -- the same tree, whose pages and payloads are said otherwise
-pub with_parts : {file : List ℕ} {is_child : Bool} {from p : ℕ} {kind : TreeKind} {height : ℕ} {low high : Option ℤ} {uses uses' : List Use} {payloads payloads' : List (List ℕ)}
-    → uses ≡ uses' → payloads ≡ payloads' → Tree file is_child from p kind height low high uses payloads → Tree file is_child from p kind height low high uses' payloads'
+pub with_parts : {file : List ℕ} {is_child : Bool} {from p : ℕ} {kind : TreeKind} {height : ℕ} {low high : Option ℤ} {uses uses' : List Use}
+    {payloads payloads' : List (List ℕ)}
+    → uses ≡ uses' → payloads ≡ payloads' → Tree file is_child from p kind height low high uses payloads
+    → Tree file is_child from p kind height low high uses' payloads'
 with_parts {file} {is_child} {from} {p} {kind} {height} {low} {high} {uses} {uses'} {payloads} e f t =
     subst (Tree file is_child from p kind height low high uses') f (subst (λ us. Tree file is_child from p kind height low high us payloads) e t)
 
@@ -44,7 +47,8 @@ module _ (file : List ℕ) (V : List Reference) where
       × Tree file is_child (from_of r) r.page kind height low high (map use_of (below V r.address)) (flat_map (leaf_payloads file V) (below V r.address))
 
 module _ (file : List ℕ) (V : List Reference) (s : Survey file V) (faultless : walk_faults file V ≡ []) where
-  module _ (r : Reference) (i : IsIn r V) (kind : TreeKind) (is_child : Bool) (role_is : role_of r ≡ role_in_tree is_child kind) (v : View) (page : IsTreePage file V r kind is_child v) where
+  module _ (r : Reference) (i : IsIn r V) (kind : TreeKind) (is_child : Bool) (role_is : role_of r ≡ role_in_tree is_child kind) (v : View)
+      (page : IsTreePage file V r kind is_child v) where
     -- the pages of a cell's chain
     abbrev pub chain_part : ℕ × Cell → List Reference
     chain_part x = at_step V r.address (overflow_step x.0)
@@ -70,7 +74,8 @@ module _ (file : List ℕ) (V : List Reference) (s : Survey file V) (faultless :
           ∙ ap (λ o. view_payloads file V r o ++ flat_map (leaf_payloads file V) (flat_map chain_part (cells v))) page.view_is
           ∙ ap (λ b. cond b [] (map (cell_payload file V r) (cells v)) ++ flat_map (leaf_payloads file V) (flat_map chain_part (cells v))) is_leaf
           ∙ ap (λ l. map (cell_payload file V r) (cells v) ++ l) (flat_map-flat_map chain_part (leaf_payloads file V) (cells v)
-          ∙ flat_map-none (λ x. flat_map (leaf_payloads file V) (chain_part x)) (cells v) (λ x j. (payload_at file V s faultless r i kind is_child v page x j).1))
+          ∙ flat_map-none (λ x. flat_map (leaf_payloads file V) (chain_part x)) (cells v)
+          (λ x j. (payload_at file V s faultless r i kind is_child v page x j).1))
           ∙ append-nil (map (cell_payload file V r) (cells v))
 
       leaf_uses_are : map use_of (below V r.address) ≡ use_of r ∷ flat_map (λ x. map use_of (chain_part x)) (cells v)
@@ -80,7 +85,8 @@ module _ (file : List ℕ) (V : List Reference) (s : Survey file V) (faultless :
       keys_rise : (low high : Option ℤ) (n : ℕ) (xs : List (ℕ × Cell)) → ((x : ℕ × Cell) → IsIn x xs → IsIn x (cells v)) → RiseFrom n xs
           → AreLow file V low r.address (3 * n) → AreHigh file V high r.address → RiseWithin low high (keys_of (second xs))
       keys_rise low high n [] h rise lows highs = tt
-      keys_rise low high n (x ∷ xs) h rise lows highs = by_case x.1.key refl (λ low' lows'. keys_rise low' high (suc x.0) xs (λ y j. h y (inr j)) rise.1 lows' highs)
+      keys_rise low high n (x ∷ xs) h rise lows highs = by_case x.1.key refl
+          (λ low' lows'. keys_rise low' high (suc x.0) xs (λ y j. h y (inr j)) rise.1 lows' highs)
         where
           by_case : (o : Option ℤ) → x.1.key ≡ o
               → ((low' : Option ℤ) → AreLow file V low' r.address (3 * suc x.0) → RiseWithin low' high (keys_of (second xs)))
@@ -101,6 +107,7 @@ module _ (file : List ℕ) (V : List Reference) (s : Survey file V) (faultless :
       leaf_at D low high deep lows highs = (
         1,
         omega arith,
-        with_parts (sym (leaf_uses_are ∙ ap (λ role. use_as role (from_of r) r.page ∷ flat_map (λ x. map use_of (chain_part x)) (cells v)) role_is)) (sym leaf_payloads_are)
+        with_parts (sym (leaf_uses_are ∙ ap (λ role. use_as role (from_of r) r.page ∷ flat_map (λ x. map use_of (chain_part x)) (cells v)) role_is))
+            (sym leaf_payloads_are)
             (leaf v page.whole is_leaf (keys_rise low high 0 (cells v) (λ x j. j) (cells_rise v) lows highs) (chains (cells v) (λ x j. j))),
       )

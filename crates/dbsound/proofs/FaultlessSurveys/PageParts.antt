@@ -32,7 +32,8 @@ abbrev pub right_part : List Reference → Address → View → List Reference
 right_part V a v = cond (is_interior v.kind) (at_step V a (child_step (count v))) []
 
 -- what is below named references is what is at their steps
-pub below-links : (V : List Reference) (a : Address) (ls : List (Link Way)) → flat_map (λ d. below V d.address) (named_at a ls) ≡ flat_map (λ l. at_step V a l.step) ls
+pub below-links : (V : List Reference) (a : Address) (ls : List (Link Way)) → flat_map (λ d. below V d.address) (named_at a ls)
+    ≡ flat_map (λ l. at_step V a l.step) ls
 below-links V a [] = refl
 below-links V a (l ∷ ls) = ap (λ x. at_step V a l.step ++ x) (below-links V a ls)
 
@@ -49,20 +50,25 @@ module _ (V : List Reference) (a : Address) (p : ℕ) where
   at_left i role None = refl
   at_left i role (Some left) = append-nil (at_step V a (child_step i))
 
-  at_cell : (kind : TreeKind) (x : ℕ × Cell) → (x.1.overflow ≡ None → at_step V a (overflow_step x.0) ≡ []) → flat_map at_link (cell_links p kind x) ≡ cell_part V a x
-  at_cell kind (i, c) h = flat_map-append at_link (option_to_list (option_map (link p (overflow_step i) i (first_overflow (overflow_size c))) c.overflow)) (option_to_list (option_map (link p (child_step i) i (child kind)) c.left))
-      ∙ ap (λ l. l ++ flat_map at_link (option_to_list (option_map (link p (child_step i) i (child kind)) c.left))) (at_overflow (overflow_step i) i (first_overflow (overflow_size c)) c.overflow h)
+  at_cell : (kind : TreeKind) (x : ℕ × Cell) → (x.1.overflow ≡ None → at_step V a (overflow_step x.0) ≡ []) → flat_map at_link (cell_links p kind x)
+      ≡ cell_part V a x
+  at_cell kind (i, c) h = flat_map-append at_link (option_to_list (option_map (link p (overflow_step i) i (first_overflow (overflow_size c))) c.overflow))
+      (option_to_list (option_map (link p (child_step i) i (child kind)) c.left))
+      ∙ ap (λ l. l ++ flat_map at_link (option_to_list (option_map (link p (child_step i) i (child kind)) c.left)))
+      (at_overflow (overflow_step i) i (first_overflow (overflow_size c)) c.overflow h)
       ∙ ap (λ l. at_step V a (overflow_step i) ++ l) (at_left i (child kind) c.left)
 
   at_right : (kind : TreeKind) (v : View) → flat_map at_link (right_links p kind v) ≡ right_part V a v
   at_right kind v = by_case (is_interior v.kind)
     where
       by_case : (b : Bool)
-          → flat_map at_link (option_to_list (option_map (link p (child_step (count v)) (count v) (child kind)) (cond b (Some (right_number v.number v.bytes)) None))) ≡ cond b (at_step V a (child_step (count v))) []
+          → flat_map at_link (option_to_list (option_map (link p (child_step (count v)) (count v) (child kind))
+          (cond b (Some (right_number v.number v.bytes)) None))) ≡ cond b (at_step V a (child_step (count v))) []
       by_case true = append-nil (at_step V a (child_step (count v)))
       by_case false = refl
 
-module _ (file : List ℕ) (V : List Reference) (s : Survey file V) (none : walk_faults file V ≡ []) (r : Reference) (i : IsIn r V) (kind : TreeKind) (is_child : Bool) (v : View) (page : IsTreePage file V r kind is_child v) where
+module _ (file : List ℕ) (V : List Reference) (s : Survey file V) (none : walk_faults file V ≡ []) (r : Reference) (i : IsIn r V) (kind : TreeKind)
+    (is_child : Bool) (v : View) (page : IsTreePage file V r kind is_child v) where
   pub below_page : below V r.address ≡ r ∷ (flat_map (cell_part V r.address) (cells v) ++ right_part V r.address v)
   below_page =
       by_its_links file V s none r i

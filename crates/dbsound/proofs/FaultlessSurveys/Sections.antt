@@ -37,6 +37,7 @@ pub by_sections : (file : List ℕ) (V : List Reference) → Survey file V → w
     × ((l : Link Way) → IsIn l (starts file V) → IsWhole (rules_of file) (named_at [] (l ∷ [])) (below V (l.step ∷ [])))
 by_sections file V s none = (
   by_its_starts file V s none ∙ below-links V [] (starts file V),
-  (λ l i. parts_whole (rules_of file) (are_rules file).rising (all_of_starts file V s none) (named_at-apart [] (starts file V) (starts_rise file (under schema_start V)))
+  (λ l i. parts_whole (rules_of file) (are_rules file).rising (all_of_starts file V s none)
+      (named_at-apart [] (starts file V) (starts_rise file (under schema_start V)))
       (record { address = l.step ∷ []; page = l.page; role = l.role }) (IsIn-named [] (starts file V) l i)),
 )

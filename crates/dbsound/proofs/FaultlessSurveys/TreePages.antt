@@ -24,7 +24,8 @@ view-from kind is_child p page (Err UnknownType) e = cc
 view-from kind is_child p page (Err ContentStart) e = cc
 view-from kind is_child p page (Ok v) e = by_case (is_same_tree (tree_of v.kind) kind) refl e
   where
-    by_case : (b : Bool) → is_same_tree (tree_of v.kind) kind ≡ b → faults_of_view kind is_child p page (Ok v) ≡ [] → (u : View) × (if_of_tree kind (Ok v) ≡ Some u)
+    by_case : (b : Bool) → is_same_tree (tree_of v.kind) kind ≡ b → faults_of_view kind is_child p page (Ok v) ≡ [] → (u : View)
+        × (if_of_tree kind (Ok v) ≡ Some u)
     by_case true f e = (v, rw f refl)
     by_case false f e = let h = rw f at e in cc
 
@@ -36,7 +37,8 @@ pub record IsTreePage (file : List ℕ) (V : List Reference) (r : Reference) (ki
   pub depth_is : depth_fault file V r ≡ []
 
 faults_in_tree : (file : List ℕ) (V : List Reference) (r : Reference) (kind : TreeKind) (is_child : Bool)
-    → role_faults (role_in_tree is_child kind) file V r ≡ tree_page_faults kind is_child r.page (usable_size file) (page_bytes file r.page) ++ depth_fault file V r
+    → role_faults (role_in_tree is_child kind) file V r ≡ tree_page_faults kind is_child r.page (usable_size file) (page_bytes file r.page)
+    ++ depth_fault file V r
 faults_in_tree file V r kind true = refl
 faults_in_tree file V r kind false = refl
 
@@ -69,7 +71,8 @@ tree_page file V s none r kind is_child i e =
       record {
         whole = record { undamaged = v.1; faultless = g.0 };
         view_is = view_in_tree file r kind (ap tree_kind e ∙ kind_in_tree kind is_child) ∙ v.1;
-        links_are = ap (named_at r.address) (ap (λ role. role_links role p usable bytes) e ∙ links_in_tree kind is_child p usable bytes ∙ ap (page_links p kind) v.1);
+        links_are = ap (named_at r.address) (ap (λ role. role_links role p usable bytes) e ∙ links_in_tree kind is_child p usable bytes
+            ∙ ap (page_links p kind) v.1);
         depth_is = g.1;
       },
     )

@@ -1,6 +1,7 @@
 -- A survey without faults has a tree at each page of a tree: its leaves have one depth, and no page is too deep. So the
 -- tree at a root is not too high.
-use Rattle.std.proofs.Common.{◌≡◌, ℕ, zero, suc, ◌≤◌, inl, inr, Bool, true, false, List, [], ◌∷◌, length, Option, Some, None, ℤ, refl, sym, ap, ◌∙◌, arith, append-nil, eq-eqb}
+use Rattle.std.proofs.Common.{◌≡◌, ℕ, zero, suc, ◌≤◌, inl, inr, Bool, true, false, List, [], ◌∷◌, length, Option, Some, None, ℤ, refl, sym, ap, ◌∙◌, arith}
+use Rattle.std.proofs.Common.{append-nil, eq-eqb}
 use Rattle.std.specs.Prelude.{find, not, ◌&&◌, ◌==◌, nat_lt, is_some, pos}
 use Rattle.std.specs.Option.{option_map_or}
 use Rattle.std.proofs.lemmas.Bool.{and_parts, and_from, eqb-true, cases_Bool, both_ways, not-true, not-false, ltb-false}
@@ -59,7 +60,8 @@ module _ (file : List ℕ) (V : List Reference) (s : Survey file V) (faultless :
 
   -- a leaf has the depth of the first of its tree
   leaf_deep : (t : Reference) (v : View) → IsIn t V → tree_view file t ≡ Some v → is_interior v.kind ≡ false → is_leaf_of file (start_of t.address) t ≡ true
-  leaf_deep t v i e f = and_from (start_of t.address == start_of t.address) (option_map_or (λ v. not (is_interior v.kind)) (tree_view file t) false) (eq-eqb (start_of t.address) (start_of t.address) refl)
+  leaf_deep t v i e f = and_from (start_of t.address == start_of t.address) (option_map_or (λ v. not (is_interior v.kind)) (tree_view file t) false)
+      (eq-eqb (start_of t.address) (start_of t.address) refl)
       (ap (λ o. option_map_or (λ v. not (is_interior v.kind)) o false) e ∙ ap not f)
 
   deep_as_first : (t : Reference) → IsIn t V → is_leaf_of file (start_of t.address) t ≡ true → depth_fault file V t ≡ []
@@ -90,12 +92,14 @@ module _ (file : List ℕ) (V : List Reference) (s : Survey file V) (faultless :
       by_case None e = omega arith
       by_case (Some t) e =
           let f = find-some (is_leaf_of file k) V t e in
-          let v = in_tree t (tree_view file t) refl (and_parts (start_of t.address == k) (option_map_or (λ v. not (is_interior v.kind)) (tree_view file t) false) f.1).1 in
+          let v = in_tree t (tree_view file t) refl (and_parts (start_of t.address == k)
+          (option_map_or (λ v. not (is_interior v.kind)) (tree_view file t) false) f.1).1 in
           let kind = kind_of_view file t v.0 v.1 in
           not_deep t kind.0 f.0 kind.1
 
   -- where all leaves of start k have depth D, its pages are trees
-  module _ (k D : ℕ) (leaves : (t : Reference) (v : View) → IsIn t V → start_of t.address ≡ k → tree_view file t ≡ Some v → is_interior v.kind ≡ false → depth t.address ≡ D) where
+  module _ (k D : ℕ) (leaves : (t : Reference) (v : View) → IsIn t V → start_of t.address ≡ k → tree_view file t ≡ Some v → is_interior v.kind ≡ false
+      → depth t.address ≡ D) where
     child_start : (r q : Reference) → IsIn r V → IsIn q (children (rules_of file) r) → start_of r.address ≡ k → start_of q.address ≡ k
     child_start r q i j e =
         let n = named_at-step r.address ((rules_of file).links r.page r.role) q j in
@@ -109,9 +113,11 @@ module _ (file : List ℕ) (V : List Reference) (s : Survey file V) (faultless :
         let page = tree_page file V s faultless r kind is_child i role_is in
         elim (cases_Bool (is_interior page.0.kind)) [
           | inl inner ↦ interior_at file V s faultless D r i kind is_child role_is page.0 page.1 inner
-              (λ q j q_role. tree_of n q kind true (let f = fewer_below file V s faultless r q i j in omega arith) (child_visited file V s faultless r q i j) (child_start r q i j e) q_role)
+              (λ q j q_role. tree_of n q kind true (let f = fewer_below file V s faultless r q i j in omega arith) (child_visited file V s faultless r q i j)
+              (child_start r q i j e) q_role)
               low high lows highs
-          | inr is_leaf ↦ leaf_at file V s faultless r i kind is_child role_is page.0 page.1 is_leaf D low high (leaves r page.0 i e page.1.view_is is_leaf) lows highs
+          | inr is_leaf ↦ leaf_at file V s faultless r i kind is_child role_is page.0 page.1 is_leaf D low high (leaves r page.0 i e page.1.view_is is_leaf)
+              lows highs
         ]
 
   leaves_of : (k : ℕ) (t : Reference) (v : View) → IsIn t V → start_of t.address ≡ k → tree_view file t ≡ Some v → is_interior v.kind ≡ false
@@ -126,7 +132,8 @@ module _ (file : List ℕ) (V : List Reference) (s : Survey file V) (faultless :
       → HasTree file V (leaf_depth file V (start_of r.address) 0) kind is_child r None None
   page_tree r kind is_child i e =
       let k = start_of r.address in
-      tree_of k (leaf_depth file V k 0) (leaves_of k) (length (below V r.address)) r kind is_child (omega arith) i refl e None None (λ key is_key step b g at. low-none key) (λ key is_key step b at. tt)
+      tree_of k (leaf_depth file V k 0) (leaves_of k) (length (below V r.address)) r kind is_child (omega arith) i refl e None None
+      (λ key is_key step b g at. low-none key) (λ key is_key step b at. tt)
 
 pub trees_below : (file : List ℕ) → HasTreesBelow file
 trees_below file V s faultless r kind is_child i e = let t = page_tree file V s faultless r kind is_child i e in (t.0, (let h = t.1 in omega arith), t.2)

@@ -10,7 +10,8 @@ use Rattle.dbsurvey.specs.Whole.{IsWhole, nothing, all_of}
 use Rattle.dbsurvey.proofs.Order.{IsIn-left, IsIn-right}
 use Rattle.dbformat.specs.Header.{usable_size, first_trunk}
 use Rattle.dbformat.specs.File.{page_bytes}
-use Rattle.dbformat.specs.Reference.{Role, trunk, free_leaf, Way, Reference, role_of, from_of, link, role_links, trunk_next, leaf_count, most_leaves, free_leaves, leaf_link, next_trunk}
+use Rattle.dbformat.specs.Reference.{Role, trunk, free_leaf, Way, Reference, role_of, from_of, link, role_links, trunk_next, leaf_count, most_leaves}
+use Rattle.dbformat.specs.Reference.{free_leaves, leaf_link, next_trunk}
 use Rattle.dbformat.specs.Schema.{freelist_starts, start}
 use Rattle.dbformat.specs.Address.{freelist_start}
 use Rattle.dbformat.specs.Survey.{rules_of}
@@ -22,7 +23,8 @@ use Rattle.dbsound.specs.Below.{use_of}
 pub room_for_leaves : (file : List ℕ) (V : List Reference) (r : Reference) → role_of r ≡ trunk → page_faults file V r ≡ []
     → leaf_count (page_bytes file r.page) ≤ most_leaves (usable_size file)
 unfolding page_faults
-room_for_leaves file V r e none = by_test (nat_lt (most_leaves (usable_size file)) (leaf_count (page_bytes file r.page))) refl (ap (λ role. role_faults role file V r) (sym e) ∙ none)
+room_for_leaves file V r e none = by_test (nat_lt (most_leaves (usable_size file)) (leaf_count (page_bytes file r.page))) refl
+    (ap (λ role. role_faults role file V r) (sym e) ∙ none)
   where
     by_test : (b : Bool) → nat_lt (most_leaves (usable_size file)) (leaf_count (page_bytes file r.page)) ≡ b
         → trunk_fault (usable_size file) r.page (page_bytes file r.page) ≡ []
@@ -76,7 +78,8 @@ module _ (file : List ℕ) where
   leaf_has_none a p k x = refl
 
   trunk_children : (c : Reference) → role_of c ≡ trunk → leaf_count (page_bytes file c.page) ≤ most_leaves (usable_size file)
-      → children (rules_of file) c ≡ named_at c.address (map (leaf_link c.page) (enumerate_from 0 (free_leaves (page_bytes file c.page))) ++ next_trunk c.page (page_bytes file c.page) (leaf_count (page_bytes file c.page)))
+      → children (rules_of file) c ≡ named_at c.address (map (leaf_link c.page) (enumerate_from 0 (free_leaves (page_bytes file c.page)))
+      ++ next_trunk c.page (page_bytes file c.page) (leaf_count (page_bytes file c.page)))
   unfolding rules_of
   trunk_children c e h = ap (named_at c.address) (links_of_trunk (role_of c) c.page (usable_size file) (page_bytes file c.page) e h)
 
@@ -87,7 +90,8 @@ module _ (file : List ℕ) where
       → leaf_count (page_bytes file c.page) ≤ most_leaves (usable_size file)
       → IsListed V c.page (free_leaves (page_bytes file c.page)) (trunk_next (page_bytes file c.page)) → IsListed (c ∷ V) 0 [] n
   at_trunk c n V role at some room h =
-      let term : Freelist file c.page (use_as trunk 0 c.page ∷ map (use_as free_leaf c.page) (free_leaves (page_bytes file c.page)) ++ h.0) = and_trunk (λ e. some (sym at ∙ e)) room h.2 in (
+      let term : Freelist file c.page (use_as trunk 0 c.page ∷ map (use_as free_leaf c.page) (free_leaves (page_bytes file c.page)) ++ h.0) =
+      and_trunk (λ e. some (sym at ∙ e)) room h.2 in (
         use_as trunk 0 c.page ∷ map (use_as free_leaf c.page) (free_leaves (page_bytes file c.page)) ++ h.0,
         ap (λ u. u ∷ map use_of V) (trunk_use c role) ∙ ap (λ l. use_as trunk 0 c.page ∷ l) h.1,
         subst (λ q. Freelist file q (use_as trunk 0 c.page ∷ map (use_as free_leaf c.page) (free_leaves (page_bytes file c.page)) ++ h.0)) at term,
@@ -115,7 +119,8 @@ module _ (file : List ℕ) where
       at_leaf : c ≡ at_link a (leaf_link p (k, x)) → IsListed U p leaves n → IsListed (c ∷ (V ++ U)) p (x ∷ leaves) n
       at_leaf f rest = (
         rest.0,
-        one_leaf a p k x c V U (map (use_as free_leaf p) leaves ++ rest.0) f (whole_nothing (rules_of file) w (ap (children (rules_of file)) f ∙ leaf_has_none a p k x)) rest.1,
+        one_leaf a p k x c V U (map (use_as free_leaf p) leaves ++ rest.0) f
+            (whole_nothing (rules_of file) w (ap (children (rules_of file)) f ∙ leaf_has_none a p k x)) rest.1,
         rest.2,
       )
   listed (all_of {c = c} {cs = cs} {V = V} {U = U} m w more) a p k [] n ls (inl h) e room = let f = e ∙ ap (named_at a) h.1 in cc
@@ -139,7 +144,8 @@ module _ (file : List ℕ) where
           ends here = (here.0, no_more (c ∷ V) U here.0 (whole_nothing (rules_of file) more f2) here.1, here.2)
 
   -- all that the freelist's start leads to
-  pub freelist_of : (U : List Reference) → IsWhole (rules_of file) (named_at [] (freelist_starts file)) U → HasRoom U → Freelist file (first_trunk file) (map use_of U)
+  pub freelist_of : (U : List Reference) → IsWhole (rules_of file) (named_at [] (freelist_starts file)) U → HasRoom U
+      → Freelist file (first_trunk file) (map use_of U)
   freelist_of U w room =
       let h = listed w [] 0 0 [] (first_trunk file) (freelist_starts file) (start_is file) refl room in
       subst (λ l. Freelist file (first_trunk file) l) (sym h.1) h.2

@@ -1,5 +1,6 @@
 -- The rows of a form with all pages count each page of the file once.
-use Rattle.std.proofs.Common.{◌≡◌, ℕ, zero, suc, ◌⊎◌, ◌<◌, ◌≤◌, inl, inr, Bool, true, false, cond, List, [], ◌∷◌, ◌++◌, map, length, Option, Some, None, refl, sym, ap, subst, ◌∙◌, arith, length-append, append-nil}
+use Rattle.std.proofs.Common.{◌≡◌, ℕ, zero, suc, ◌⊎◌, ◌<◌, ◌≤◌, inl, inr, Bool, true, false, cond, List, [], ◌∷◌, ◌++◌, map, length, Option, Some, None, refl}
+use Rattle.std.proofs.Common.{sym, ap, subst, ◌∙◌, arith, length-append, append-nil}
 use Rattle.std.specs.Prelude.{◌+◌, ◌*◌, ◌^◌, None, take, filter, flat_map, sum_by, ◌==◌, IsPermutation}
 use Rattle.std.specs.List.{enumerate_from}
 use Rattle.std.proofs.lemmas.Bool.{cases_Bool, eqb-true, both_ways}
@@ -23,14 +24,16 @@ use Rattle.dbformat.specs.Lines.{pgsize, AddsUpToAllPages}
 use Rattle.dbsurvey.specs.From.{under}
 use Rattle.dbformat.specs.Survey.{Survey, rules_of}
 use Rattle.dbformat.specs.EndFaults.{visit_of, page_numbers}
-use Rattle.dbformat.specs.Rows.{StatRow, StatForm, row_in, stat_rows, other_page, other_rows, trees_reached, tree_rows, page_rows, form_rows, counted_pages, FormRow, page_row, tree_row, other_row, CountsEachPageOnce, CountsNoPageTwice}
+use Rattle.dbformat.specs.Rows.{StatRow, StatForm, row_in, stat_rows, other_page, other_rows, trees_reached, tree_rows, page_rows, form_rows, counted_pages}
+use Rattle.dbformat.specs.Rows.{FormRow, page_row, tree_row, other_row, CountsEachPageOnce, CountsNoPageTwice}
 use Rattle.dbsurvey.proofs.Lists.{filter-from, filter-has, find-some, filter_map-from, filter_map-has}
 use Rattle.dbsurvey.proofs.Elements.{IsOnce, EachPair-filter, range_once, map_once}
 use Rattle.dbsurvey.proofs.Rearranged.{rearranged}
 use Rattle.dbformat.proofs.Accepted.{is_accepted}
 use Rattle.dbformat.proofs.Roles.{child_leads}
 use Rattle.dbsurvey.proofs.Composing.{named_at-step, named_at-from}
-use Rattle.dbsound.proofs.RowCounts.RowPages.{of_row, row_of, pages_counted, trees_counted, is_shown, others_counted, rows_apart, unvisited_shown, visited_shown}
+use Rattle.dbsound.proofs.RowCounts.RowPages.{of_row, row_of, pages_counted, trees_counted, is_shown, others_counted, rows_apart, unvisited_shown}
+use Rattle.dbsound.proofs.RowCounts.RowPages.{visited_shown}
 use Rattle.dbformat.proofs.Visited.{each_once, visit_is, number_of, has_address, root_is_start}
 use Rattle.dbformat.proofs.Places.{same_start}
 use Rattle.dbsurvey.proofs.Groups.{group, group-from, groups-have, groups_once}
@@ -59,7 +62,8 @@ sizes_add_up size (row ∷ rows) h =
     sum_by-cons (pgsize size) row rows ∙ sums ∙ sym (ap (λ n. n * size) l ∙ parts)
 
 -- the starts are roots of trees, and a trunk
-pub start_role : (file : List ℕ) (V : List Reference) (l : Link Way) → IsIn l (starts file V) → (is_root l.role.role ≡ true) ⊎ (is_on_freelist l.role.role ≡ true)
+pub start_role : (file : List ℕ) (V : List Reference) (l : Link Way) → IsIn l (starts file V) → (is_root l.role.role ≡ true)
+    ⊎ (is_on_freelist l.role.role ≡ true)
 unfolding later_starts
 start_role file V l (inl e) = inl (ap (λ (l : Link Way). is_root l.role.role) e)
 start_role file V l (inr i) = elim (IsIn-cases l (root_starts file (rooted_rows (schema file (under schema_start V)))) (freelist_starts file) i) [
@@ -82,14 +86,16 @@ module _ (file : List ℕ) (V : List Reference) (s : Survey file V) where
       → IsIn (start_of r.address) (trees_reached V)
   next_in_tree r i off h = elim ((s.exact r).0 i).0 [
     | inl j ↦ (let m = named_at-from [] (starts file V) r j in elim (start_role file V m.0 m.1) [
-      | inl k ↦ IsIn-map (λ r. start_of r.address) (filter (λ r. is_root (role_of r)) V) r (filter-has (λ r. is_root (role_of r)) V r i (ap (λ r. is_root (role_of r)) m.2 ∙ k))
+      | inl k ↦ IsIn-map (λ r. start_of r.address) (filter (λ r. is_root (role_of r)) V) r
+          (filter-has (λ r. is_root (role_of r)) V r i (ap (λ r. is_root (role_of r)) m.2 ∙ k))
       | inr k ↦ absurd (both_ways (is_on_freelist (role_of r)) off (ap (λ r. is_on_freelist (role_of r)) m.2 ∙ k))
     ])
     | inr u ↦ (
         let m = named_at-from u.0.address ((rules_of file).links u.0.page u.0.role) r u.2 in
         let l = ap (λ (r : Reference). length r.address) m.2 in
         let k = h u.0 u.1 (sym (child_leads file u.0 r u.2).1 ∙ off) (omega (arith, length-append u.0.address (m.0.step ∷ []))) in
-        subst (λ k. IsIn k (trees_reached V)) (sym (ap (λ (r : Reference). start_of r.address) m.2 ∙ same_start u.0.address (has_address file V s u.0 u.1) (m.0.step ∷ []) [] ∙ ap start_of (append-nil u.0.address))) k)
+        subst (λ k. IsIn k (trees_reached V)) (sym (ap (λ (r : Reference). start_of r.address) m.2
+        ∙ same_start u.0.address (has_address file V s u.0 u.1) (m.0.step ∷ []) [] ∙ ap start_of (append-nil u.0.address))) k)
   ]
 
   in_tree : (n : ℕ) (r : Reference) → length r.address ≤ n → IsIn r V → is_on_freelist (role_of r) ≡ false → IsIn (start_of r.address) (trees_reached V)
@@ -129,7 +135,8 @@ module _ (file : List ℕ) (V : List Reference) (s : Survey file V) where
       let h = of_row file m.0 (role_of m.0) row m.2 in
       (m.0, m.1, h.0, h.2)
 
-  visit_row : (r : Reference) → IsIn r V → is_on_freelist (role_of r) ≡ false → (row : StatRow) × IsIn row rows × (row.page ≡ r.page) × (row.start ≡ start_of r.address)
+  visit_row : (r : Reference) → IsIn r V → is_on_freelist (role_of r) ≡ false → (row : StatRow) × IsIn row rows × (row.page ≡ r.page)
+      × (row.start ≡ start_of r.address)
   unfolding stat_rows
   visit_row r i off =
       let m = row_of file r (role_of r) off in
@@ -146,7 +153,8 @@ module _ (file : List ℕ) (V : List Reference) (s : Survey file V) where
   by_page = record {
     once = map_once (λ (row : StatRow). row.page) rows apart;
     from = λ p i. let m = IsIn-from_map (λ (row : StatRow). row.page) rows p i in (m.0, m.1, sym m.2);
-    has = λ r i off. let m = visit_row r i off in subst (λ p. IsIn p (map (λ (row : StatRow). row.page) rows)) m.2 (IsIn-map (λ (row : StatRow). row.page) rows m.0 m.1);
+    has = λ r i off. let m = visit_row r i off in subst (λ p. IsIn p (map (λ (row : StatRow). row.page) rows)) m.2
+        (IsIn-map (λ (row : StatRow). row.page) rows m.0 m.1);
   }
 
   by_tree : CountsTrees (flat_map (group (λ (row : StatRow). row.start) (λ (row : StatRow). row.page) rows) (trees_reached V))
@@ -159,7 +167,8 @@ module _ (file : List ℕ) (V : List Reference) (s : Survey file V) where
         let m = visit_row r i off in
         let k = in_tree (length r.address) r (omega arith) i off in
         subst (λ p. IsIn p (flat_map (group (λ (row : StatRow). row.start) (λ (row : StatRow). row.page) rows) (trees_reached V))) m.2
-        (groups-have (λ (row : StatRow). row.start) (λ (row : StatRow). row.page) rows (trees_reached V) m.0 m.1 (subst (λ k. IsIn k (trees_reached V)) (sym m.3) k));
+        (groups-have (λ (row : StatRow). row.start) (λ (row : StatRow). row.page) rows (trees_reached V) m.0 m.1
+        (subst (λ k. IsIn k (trees_reached V)) (sym m.3) k));
   }
 
   -- the other pages
@@ -182,15 +191,19 @@ module _ (file : List ℕ) (V : List Reference) (s : Survey file V) where
       (others_apart ps c)
       (range_once 1 (geometry file).pages)
       (λ p i. elim (IsIn-cases p ps (filter shown (page_numbers (geometry file))) i) [
-        | inl j ↦ (let m = c.from p j in let v = row_visit m.0 m.1 in subst (λ p. IsIn p (page_numbers (geometry file))) (sym v.2 ∙ m.2) (number_of file V s v.0 v.1))
+        | inl j ↦ (let m = c.from p j in let v = row_visit m.0 m.1 in subst (λ p. IsIn p (page_numbers (geometry file))) (sym v.2 ∙ m.2)
+            (number_of file V s v.0 v.1))
         | inr j ↦ (filter-from shown (page_numbers (geometry file)) p j).0
       ])
       (λ p i. by_visit p i (visit_of V p) refl)
     where
-      by_visit : (p : ℕ) → IsIn p (page_numbers (geometry file)) → (o : Option Reference) → visit_of V p ≡ o → IsIn p (ps ++ filter shown (page_numbers (geometry file)))
-      by_visit p i None e = IsIn-right p ps (filter shown (page_numbers (geometry file))) (filter-has shown (page_numbers (geometry file)) p i (unvisited_shown file V p e))
+      by_visit : (p : ℕ) → IsIn p (page_numbers (geometry file)) → (o : Option Reference) → visit_of V p ≡ o
+          → IsIn p (ps ++ filter shown (page_numbers (geometry file)))
+      by_visit p i None e = IsIn-right p ps (filter shown (page_numbers (geometry file)))
+          (filter-has shown (page_numbers (geometry file)) p i (unvisited_shown file V p e))
       by_visit p i (Some r) e = elim (cases_Bool (is_on_freelist (role_of r))) [
-        | inl on ↦ IsIn-right p ps (filter shown (page_numbers (geometry file))) (filter-has shown (page_numbers (geometry file)) p i (visited_shown file V p r e ∙ on))
+        | inl on ↦ IsIn-right p ps (filter shown (page_numbers (geometry file)))
+            (filter-has shown (page_numbers (geometry file)) p i (visited_shown file V p r e ∙ on))
         | inr off ↦ (
             let h = find-some (λ (r : Reference). r.page == p) V r e in
             IsIn-left p ps (filter shown (page_numbers (geometry file))) (subst (λ p. IsIn p ps) (eqb-true r.page p h.1) (c.has r h.0 off)))
@@ -233,6 +246,7 @@ module _ (file : List ℕ) (V : List Reference) (s : Survey file V) where
       let range = (is_accepted file (length file) read).range in
       let rows = form_rows form file V in
       let pages : length (flat_map counted_pages rows) ≡ (geometry file).pages =
-      sym (length_permutation (flat_map counted_pages rows) (page_numbers (geometry file)) (counts_each_page form all)) ∙ length-range_with_len 1 (geometry file).pages in
+      sym (length_permutation (flat_map counted_pages rows) (page_numbers (geometry file)) (counts_each_page form all))
+      ∙ length-range_with_len 1 (geometry file).pages in
       let fits = mul-le-mul range.pages.1 range.page_size.1 in
       sizes_add_up (page_size file) rows (rw pages (omega (arith, fits))) ∙ ap (λ n. n * page_size file) pages

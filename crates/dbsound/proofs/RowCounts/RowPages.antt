@@ -60,7 +60,8 @@ others_counted other [] = refl
 others_counted other (p ∷ ps) = by_case (other p) (others_counted other ps)
   where
     by_case : (o : Option OtherPage) → flat_map counted_pages (filter_map (λ p. option_map (other_row p) (other p)) ps) ≡ filter (λ p. is_shown (other p)) ps
-        → flat_map counted_pages (cons_option (option_map (other_row p) o) (filter_map (λ p. option_map (other_row p) (other p)) ps)) ≡ cond (is_shown o) (p ∷ filter (λ p. is_shown (other p)) ps) (filter (λ p. is_shown (other p)) ps)
+        → flat_map counted_pages (cons_option (option_map (other_row p) o) (filter_map (λ p. option_map (other_row p) (other p)) ps))
+        ≡ cond (is_shown o) (p ∷ filter (λ p. is_shown (other p)) ps) (filter (λ p. is_shown (other p)) ps)
     by_case None h = h
     by_case (Some what) h = ap (λ l. p ∷ l) h
 
@@ -69,7 +70,8 @@ module _ (file : List ℕ) (V : List Reference) where
   rows_apart [] h = tt
   rows_apart (r ∷ W) h = by_case (row_in (role_of r) file r) refl (rows_apart W h.1)
     where
-      by_case : (o : Option StatRow) → row_in (role_of r) file r ≡ o → EachPair (λ (x y : StatRow). x.page ≡ y.page → ⊥) (filter_map (λ r. row_in (role_of r) file r) W)
+      by_case : (o : Option StatRow) → row_in (role_of r) file r ≡ o
+          → EachPair (λ (x y : StatRow). x.page ≡ y.page → ⊥) (filter_map (λ r. row_in (role_of r) file r) W)
           → EachPair (λ (x y : StatRow). x.page ≡ y.page → ⊥) (cons_option o (filter_map (λ r. row_in (role_of r) file r) W))
       by_case None e k = k
       by_case (Some x) e k = (

@@ -1,5 +1,6 @@
 -- The survey of a sound file has no fault at the end.
-use Rattle.std.proofs.Common.{arith, ◌≡◌, ◌≢◌, ℕ, ◌+◌, inl, inr, max, Bool, true, false, cond, not, ◌&&◌, Option, Some, None, List, [], ◌∷◌, ◌++◌, map, length, refl, sym, ap, subst, ◌∙◌}
+use Rattle.std.proofs.Common.{arith, ◌≡◌, ◌≢◌, ℕ, ◌+◌, inl, inr, max, Bool, true, false, cond, not, ◌&&◌, Option, Some, None, List, [], ◌∷◌, ◌++◌, map, length}
+use Rattle.std.proofs.Common.{refl, sym, ap, subst, ◌∙◌}
 use Rattle.std.specs.Prelude.{fold, find, IfSome, pos, ◌==◌}
 use Rattle.std.proofs.lemmas.List.{length-map, append-nil}
 use Rattle.std.proofs.lemmas.Bool.{eqb-true}
@@ -12,7 +13,8 @@ use Rattle.dbformat.specs.FixedPages.{is_fixed}
 use Rattle.dbformat.specs.Faults.{fault}
 use Rattle.dbformat.specs.Address.{freelist_start}
 use Rattle.dbformat.specs.Reference.{Reference, role_of, from_of, entry_of}
-use Rattle.dbformat.specs.EndFaults.{greatest_root_reached, greatest_root_fault, free_pages, freelist_fault, visit_of, is_same_entry, entry_fault, use_fault, page_numbers}
+use Rattle.dbformat.specs.EndFaults.{greatest_root_reached, greatest_root_fault, free_pages, freelist_fault, visit_of, is_same_entry, entry_fault, use_fault}
+use Rattle.dbformat.specs.EndFaults.{page_numbers}
 use Rattle.dbformat.specs.Sound.{Sound, with_root}
 use Rattle.dbformat.specs.declared.FaultCode.TheVariants.{H09, H10, N01, M01}
 use Rattle.dbsurvey.proofs.Each.{each_of}
@@ -20,7 +22,8 @@ use Rattle.dbsurvey.proofs.Lists.{find-some}
 use Rattle.dbsound.specs.Below.{use_of}
 use Rattle.dbsound.proofs.TermVisits.Uses.{freelist_uses}
 use Rattle.dbsurvey.proofs.Once.{page_or_fixed}
-use Rattle.dbsound.proofs.TermVisits.Roles.{root_pages, root_pages-append, tree_root, forest_roots, freelist_no_root, freelist_free, tree_not_free, forest_not_free, free_pages-append, none_free, all_free}
+use Rattle.dbsound.proofs.TermVisits.Roles.{root_pages, root_pages-append, tree_root, forest_roots, freelist_no_root, freelist_free, tree_not_free}
+use Rattle.dbsound.proofs.TermVisits.Roles.{forest_not_free, free_pages-append, none_free, all_free}
 use Rattle.dbsound.proofs.SoundFiles.Survey.{first_visits, root_visits, free_visits, later_visits, all_visits, all_uses, uses_are, pages_are}
 use Rattle.dbformat.proofs.TestsLemmas.{told_none}
 
@@ -43,7 +46,8 @@ module _ (file : List ℕ) (s : Sound file) where
 
   pub root_none : greatest_root_fault file V ≡ []
   unfolding has_pointer_map
-  root_none = told_none (not (greatest_root file == 0) && not (greatest_root file == greatest_root_reached V)) (fault H09 1 0 (pos (greatest_root_reached V))) (by_map (greatest_root file == 0) refl)
+  root_none = told_none (not (greatest_root file == 0) && not (greatest_root file == greatest_root_reached V)) (fault H09 1 0 (pos (greatest_root_reached V)))
+      (by_map (greatest_root file == 0) refl)
     where
       itself : (n m : ℕ) → n ≡ m → not (n == m) ≡ false
       itself n m e = grind (arith, nat_tests)
@@ -72,7 +76,8 @@ module _ (file : List ℕ) (s : Sound file) where
       long = sym (length-map (free_visits file s) use_of) ∙ ap (λ l. length l) (freelist_uses s.freelist 0 freelist_start (freelist_start ∷ []))
 
   pub freelist_none : freelist_fault file V ≡ []
-  freelist_none = told_none (not (freelist_count file == free_pages V)) (fault H10 1 0 (pos (free_pages V))) (itself (freelist_count file) (free_pages V) (s.freelist_size ∙ sym free_are))
+  freelist_none = told_none (not (freelist_count file == free_pages V)) (fault H10 1 0 (pos (free_pages V)))
+      (itself (freelist_count file) (free_pages V) (s.freelist_size ∙ sym free_are))
     where
       itself : (n m : ℕ) → n ≡ m → not (n == m) ≡ false
       itself n m e = grind (arith, nat_tests)
@@ -81,7 +86,8 @@ module _ (file : List ℕ) (s : Sound file) where
 
   entry_none : (p : ℕ) (o : Option MapEntry) (r : Reference) → IfSome o (λ e. e ≡ entry_of (role_of r) (from_of r)) → entry_fault p o r ≡ []
   entry_none p None r h = refl
-  entry_none p (Some e) r h = told_none (not (is_same_entry e (entry_of (role_of r) (from_of r)))) (fault M01 p e.type (pos e.number)) (subst (λ f. not (is_same_entry e f) ≡ false) h (same e))
+  entry_none p (Some e) r h = told_none (not (is_same_entry e (entry_of (role_of r) (from_of r)))) (fault M01 p e.type (pos e.number))
+      (subst (λ f. not (is_same_entry e f) ≡ false) h (same e))
     where
       itself : (n : ℕ) → (n == n) ≡ true
       itself n = grind (arith, nat_tests)
@@ -90,7 +96,8 @@ module _ (file : List ℕ) (s : Sound file) where
       same e = rw (itself e.type, itself e.number) refl
 
   mapped : (r : Reference) → IsIn r V → IfSome (map_entry file r.page) (λ e. e ≡ entry_of (role_of r) (from_of r))
-  mapped r i = each_of (λ u. IfSome (map_entry file u.page) (λ e. e ≡ u.entry)) (all_uses file s) s.mapped (use_of r) (subst (λ l. IsIn (use_of r) l) (uses_are file s) (IsIn-map use_of V r i))
+  mapped r i = each_of (λ u. IfSome (map_entry file u.page) (λ e. e ≡ u.entry)) (all_uses file s) s.mapped (use_of r)
+      (subst (λ l. IsIn (use_of r) l) (uses_are file s) (IsIn-map use_of V r i))
 
   found_page : (p : ℕ) (W : List Reference) → IsIn p (map (λ t. t.page) W) → find (λ r. r.page == p) W ≡ None → ⊥
   found_page p [] i e = i
@@ -119,4 +126,5 @@ module _ (file : List ℕ) (s : Sound file) where
       by_visit None e = rw e (told_none (not (is_fixed (geometry file) p)) (fault N01 p 0 (pos 0)) (ap not (free_of e)))
       by_visit (Some r) e =
           let h = find-some (λ r. r.page == p) V r e in
-          rw e (entry_none p (map_entry file p) r (subst (λ q. IfSome (map_entry file q) (λ e. e ≡ entry_of (role_of r) (from_of r))) (eqb-true r.page p h.1) (mapped r h.0)))
+          rw e (entry_none p (map_entry file p) r (subst (λ q. IfSome (map_entry file q) (λ e. e ≡ entry_of (role_of r) (from_of r))) (eqb-true r.page p h.1)
+          (mapped r h.0)))

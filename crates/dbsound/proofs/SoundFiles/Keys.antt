@@ -37,8 +37,10 @@ module _ (file : List ℕ) (s : Sound file) where
       let f = filter-from (λ x. (start_of x.place == start_of k.place) && is_before x.place k.place) (flat_map (keys_at file) V) x m in
       let p = and_parts (start_of x.place == start_of k.place) (is_before x.place k.place) f.1 in
       let w = IsIn-from_flat_map (keys_at file) V x f.0 in
-      (all_good file s w.0 r w.1 i (sym (key_start w.0 w.1 x w.2) ∙ eqb-true (start_of x.place) (start_of k.place) p.0 ∙ key_start r i k j)).sorted x k w.2 j (is_before-means x.place k.place p.1)))
+      (all_good file s w.0 r w.1 i (sym (key_start w.0 w.1 x w.2) ∙ eqb-true (start_of x.place) (start_of k.place) p.0 ∙ key_start r i k j)).sorted x k w.2 j
+      (is_before-means x.place k.place p.1)))
 
-  pub keys_none : (r : Reference) (v : View) (x : ℕ × Cell) → IsIn r V → tree_view file r ≡ Some v → IsIn x (cells v) → flat_map (key_faults file V) (key_of r v x) ≡ []
+  pub keys_none : (r : Reference) (v : View) (x : ℕ × Cell) → IsIn r V → tree_view file r ≡ Some v → IsIn x (cells v)
+      → flat_map (key_faults file V) (key_of r v x) ≡ []
   keys_none r v x i e j = flat_map-none (key_faults file V) (key_of r v x)
       (λ k m. key_none r i k (subst (λ o. IsIn k (keys_of_view r o)) (sym e) (IsIn-flat_map (key_of r v) (cells v) x k j m)))

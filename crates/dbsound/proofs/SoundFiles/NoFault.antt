@@ -73,7 +73,8 @@ module _ (file : List ℕ) (s : Sound file) (survey : Survey file (all_visits fi
       (t.0, t.1)
 
   format_none : format_fault file (all_visits file s) ≡ []
-  format_none = told_none (((schema_format file == 0) || (encoding_number file == 0)) && has_rows file (all_visits file s)) (fault H08 1 (schema_format file) (pos (encoding_number file)))
+  format_none = told_none (((schema_format file == 0) || (encoding_number file == 0)) && has_rows file (all_visits file s))
+      (fault H08 1 (schema_format file) (pos (encoding_number file)))
       (by_rows (has_rows file (all_visits file s)) refl)
     where
       not_zero : (n : ℕ) → n ≢ 0 → (n == 0) ≡ false

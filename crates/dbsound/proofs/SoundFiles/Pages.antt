@@ -15,7 +15,8 @@ use Rattle.dbformat.specs.declared.FaultCode.TheVariants.{T05}
 use Rattle.dbsurvey.proofs.Each.{Each, Each-append}
 use Rattle.dbsurvey.proofs.Lists.{find-some}
 use Rattle.dbsound.proofs.TermVisits.OwnFaults.{IsClean, clean_page, tree_clean, forest_clean, freelist_clean}
-use Rattle.dbsound.proofs.TermVisits.Starts.{IsStarted, Alike, alike_both, AreGood, tree_good, forest_good, freelist_good, started_under, started_within, tree_started, forest_started, freelist_under}
+use Rattle.dbsound.proofs.TermVisits.Starts.{IsStarted, Alike, alike_both, AreGood, tree_good, forest_good, freelist_good, started_under, started_within}
+use Rattle.dbsound.proofs.TermVisits.Starts.{tree_started, forest_started, freelist_under}
 use Rattle.dbsound.proofs.SoundFiles.Survey.{first_visits, root_visits, free_visits, later_visits, all_visits}
 use Rattle.dbformat.proofs.TestsLemmas.{told_none}
 
@@ -27,7 +28,8 @@ module _ (file : List ℕ) (s : Sound file) where
   few_starts = let f = s.few_roots in omega arith
 
   free_started : Each (IsStarted freelist_start (freelist_start + 1)) (free_visits file s)
-  free_started = started_under freelist_start (freelist_start + 1) (free_visits file s) (omega arith) (freelist_under s.freelist 0 freelist_start (freelist_start ∷ []))
+  free_started = started_under freelist_start (freelist_start + 1) (free_visits file s) (omega arith)
+      (freelist_under s.freelist 0 freelist_start (freelist_start ∷ []))
 
   roots_started : Each (IsStarted 1 freelist_start) (root_visits file s)
   roots_started = started_within 1 1 (1 + length (with_root s.rows)) freelist_start (root_visits file s) (omega arith) few_starts (forest_started s.trees 1)
@@ -47,11 +49,13 @@ module _ (file : List ℕ) (s : Sound file) where
 
   pub all_good : Alike (AreGood file) V
   all_good = alike_both (AreGood file) 0 1 (freelist_start + 1) (first_visits file s) (later_visits file s) first_started later_started (tree_good s.schema 0 0)
-      (alike_both (AreGood file) 1 freelist_start (freelist_start + 1) (root_visits file s) (free_visits file s) roots_started free_started (forest_good s.trees 1) (freelist_good s.freelist 0 freelist_start (freelist_start ∷ [])))
+      (alike_both (AreGood file) 1 freelist_start (freelist_start + 1) (root_visits file s) (free_visits file s) roots_started free_started
+      (forest_good s.trees 1) (freelist_good s.freelist 0 freelist_start (freelist_start ∷ [])))
 
   pub all_clean : Each (IsClean file) V
   all_clean = Each-append (IsClean file) (first_visits file s) (later_visits file s) (tree_clean s.schema 0 (0 ∷ []))
-      (Each-append (IsClean file) (root_visits file s) (free_visits file s) (forest_clean s.trees 1) (freelist_clean s.freelist 0 freelist_start (freelist_start ∷ [])))
+      (Each-append (IsClean file) (root_visits file s) (free_visits file s) (forest_clean s.trees 1)
+      (freelist_clean s.freelist 0 freelist_start (freelist_start ∷ [])))
 
   -- a leaf
   pub is_leaf : (k : ℕ) (r : Reference) → is_leaf_of file k r ≡ true
@@ -83,7 +87,8 @@ module _ (file : List ℕ) (s : Sound file) where
           let same = (all_good r t i h.0 (sym lt.0)).level.level lr.1.0 lt.1.0 lr.1.1 lr.1.2 lt.1.1 lt.1.2 in
           subst (λ n. not (depth r.address == n) ≡ false) same (itself (depth r.address))
 
-      by_leaf : (b : Bool) → is_leaf_of file (start_of r.address) r ≡ b → (b && not (depth r.address == leaf_depth file V (start_of r.address) (depth r.address))) ≡ false
+      by_leaf : (b : Bool) → is_leaf_of file (start_of r.address) r ≡ b
+          → (b && not (depth r.address == leaf_depth file V (start_of r.address) (depth r.address))) ≡ false
       by_leaf true e = by_found e (find (is_leaf_of file (start_of r.address)) V) refl
       by_leaf false e = refl
 

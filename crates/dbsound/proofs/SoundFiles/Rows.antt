@@ -1,5 +1,6 @@
 -- The rows of a sound file's schema have no fault.
-use Rattle.std.proofs.Common.{arith, ◌≡◌, ℕ, ◌<◌, ◌≤◌, inl, inr, Bool, true, false, cond, not, ◌&&◌, Option, Some, None, Ok, List, [], ◌∷◌, ◌++◌, map, length, refl, sym, ap, subst, ◌∙◌}
+use Rattle.std.proofs.Common.{arith, ◌≡◌, ℕ, ◌<◌, ◌≤◌, inl, inr, Bool, true, false, cond, not, ◌&&◌, Option, Some, None, Ok, List, [], ◌∷◌, ◌++◌, map, length}
+use Rattle.std.proofs.Common.{refl, sym, ap, subst, ◌∙◌}
 use Rattle.std.specs.Prelude.{filter, is_none, IsSome, nat_le, pos, ◌==◌}
 use Rattle.std.specs.List.{cons_option}
 use Rattle.std.proofs.lemmas.Bool.Decides.{nat_tests}
@@ -54,9 +55,11 @@ fewer p (d ∷ cs) c q (inr i) f e = by_case (p d) (fewer p cs c q i f e)
     by_case true h = cons-longer-lt (rooted d.row) (rooted_rows (filter p cs)) (rooted_rows cs) h
     by_case false h = cons-at-least-lt (rooted d.row) (rooted_rows (filter p cs)) (rooted_rows cs) h
 
-row_none : (is_full : Bool) (c : SchemaCell) (q : SchemaRow) → c.row ≡ Ok q → IsSome q.name → (not (q.root == 0) && is_full) ≡ false → row_faults_if is_full c ≡ []
+row_none : (is_full : Bool) (c : SchemaCell) (q : SchemaRow) → c.row ≡ Ok q → IsSome q.name → (not (q.root == 0) && is_full) ≡ false → row_faults_if is_full c
+    ≡ []
 row_none is_full c q e n f = rw e (
-    ap (λ l. l ++ told_if (not (q.root == 0) && is_full) (fault S04 c.page c.item (pos q.root))) (told_none (is_none q.name) (fault S02 c.page c.item c.rowid) (some_named q.name n))
+    ap (λ l. l ++ told_if (not (q.root == 0) && is_full) (fault S04 c.page c.item (pos q.root)))
+    (told_none (is_none q.name) (fault S02 c.page c.item c.rowid) (some_named q.name n))
     ∙ told_none (not (q.root == 0) && is_full) (fault S04 c.page c.item (pos q.root)) f)
 
 module _ (file : List ℕ) (s : Sound file) (survey : Survey file (all_visits file s)) where
@@ -79,13 +82,15 @@ module _ (file : List ℕ) (s : Sound file) (survey : Survey file (all_visits fi
       by_root : (b : Bool) → (q.root == 0) ≡ b → (not b && nat_le last_root_start (earlier_roots file (all_visits file s) c.place)) ≡ false
       by_root true f = refl
       by_root false f = less (earlier_roots file (all_visits file s) c.place) (length (rooted_rows (schema file (all_visits file s))))
-          (fewer (λ d. is_before d.place c.place) (schema file (all_visits file s)) c q i (is_before-itself c.place) (ap rooted e ∙ ap (λ b. cond b None (Some q)) f)) few_rooted
+          (fewer (λ d. is_before d.place c.place) (schema file (all_visits file s)) c q i (is_before-itself c.place)
+          (ap rooted e ∙ ap (λ b. cond b None (Some q)) f)) few_rooted
 
   row_is_taken : (c : SchemaCell) → IsIn c (schema file (all_visits file s)) → row_faults file (all_visits file s) c ≡ []
   unfolding row_faults
   row_is_taken c i =
       let q = row_taken c i in
-      row_none (nat_le last_root_start (earlier_roots file (all_visits file s) c.place)) c q.0 q.2 (each_of (λ r. IsSome r.name) s.rows s.named q.0 q.1) (not_full c q.0 i q.2)
+      row_none (nat_le last_root_start (earlier_roots file (all_visits file s) c.place)) c q.0 q.2 (each_of (λ r. IsSome r.name) s.rows s.named q.0 q.1)
+      (not_full c q.0 i q.2)
 
   pub in_schema : (r : Reference) (v : View) (x : ℕ × Cell) → IsIn r (all_visits file s) → tree_view file r ≡ Some v → IsIn x (cells v)
       → (start_of r.address == schema_start) ≡ true → is_interior v.kind ≡ false
@@ -96,7 +101,8 @@ module _ (file : List ℕ) (s : Sound file) (survey : Survey file (all_visits fi
       in_rows : IsIn (schema_cell file (all_visits file s) r x) (rows_at file (all_visits file s) r)
       in_rows = subst (λ b. IsIn (schema_cell file (all_visits file s) r x) (cond b (leaf_rows file (all_visits file s) r (tree_view file r)) [])) (sym f)
           (subst (λ o. IsIn (schema_cell file (all_visits file s) r x) (leaf_rows file (all_visits file s) r o)) (sym e)
-          (subst (λ b. IsIn (schema_cell file (all_visits file s) r x) (cond b [] (map (schema_cell file (all_visits file s) r) (cells v)))) (sym g) (IsIn-map (schema_cell file (all_visits file s) r) (cells v) x j)))
+          (subst (λ b. IsIn (schema_cell file (all_visits file s) r x) (cond b [] (map (schema_cell file (all_visits file s) r) (cells v)))) (sym g)
+          (IsIn-map (schema_cell file (all_visits file s) r) (cells v) x j)))
 
   pub rows_none : (r : Reference) (v : View) (x : ℕ × Cell) → IsIn r (all_visits file s) → tree_view file r ≡ Some v → IsIn x (cells v)
       → row_faults_at file (all_visits file s) r v x ≡ []

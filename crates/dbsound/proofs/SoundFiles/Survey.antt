@@ -1,5 +1,6 @@
 -- The survey of a sound file: the visits of its terms.
-use Rattle.std.proofs.Common.{arith, ◌≡◌, ℕ, ◌+◌, ◌≤◌, Bool, true, false, cond, not, ◌&&◌, Some, None, Ok, List, [], ◌∷◌, ◌++◌, map, length, take, refl, sym, ap, subst, append_assoc, ◌∙◌}
+use Rattle.std.proofs.Common.{arith, ◌≡◌, ℕ, ◌+◌, ◌≤◌, Bool, true, false, cond, not, ◌&&◌, Some, None, Ok, List, [], ◌∷◌, ◌++◌, map, length, take, refl, sym}
+use Rattle.std.proofs.Common.{ap, subst, append_assoc, ◌∙◌}
 use Rattle.std.specs.Prelude.{flat_map, filter_map, is_some, nat_lt, nat_le, ◌==◌}
 use Rattle.std.specs.List.{enumerate_from, cons_option}
 use Rattle.std.proofs.lemmas.List.{map-append, take_all}
@@ -96,7 +97,8 @@ module _ (file : List ℕ) (s : Sound file) where
   pub uses_are : uses_of all_visits ≡ all_uses
   uses_are = map-append _ first_visits later_visits
       ∙ ap (λ l. l ++ uses_of later_visits) (tree_uses s.schema 0 (0 ∷ []))
-      ∙ ap (λ l. s.schema_uses ++ l) (map-append _ root_visits free_visits ∙ ap (λ l. l ++ uses_of free_visits) (forest_uses s.trees 1) ∙ ap (λ l. s.root_uses ++ l) (freelist_uses s.freelist 0 freelist_start (freelist_start ∷ [])))
+      ∙ ap (λ l. s.schema_uses ++ l) (map-append _ root_visits free_visits ∙ ap (λ l. l ++ uses_of free_visits) (forest_uses s.trees 1)
+      ∙ ap (λ l. s.root_uses ++ l) (freelist_uses s.freelist 0 freelist_start (freelist_start ∷ [])))
       ∙ sym (append_assoc s.schema_uses s.root_uses s.free_uses)
 
   pub pages_are : map (λ t. t.page) all_visits ≡ map (λ u. u.page) all_uses
@@ -118,24 +120,29 @@ module _ (file : List ℕ) (s : Sound file) where
   unfolding rules_of
   all_may t i =
       let r = in_file t i in
-      and_from (is_page (geometry file) t.page) (not (is_fixed (geometry file) t.page) && not (is_too_deep t)) (is_page_from (geometry file).pages t.page r.0 r.1)
-      (and_from (not (is_fixed (geometry file) t.page)) (not (is_too_deep t)) (ap not (page_not_fixed (map (λ u. u.page) all_uses) (is_fixed (geometry file)) (geometry file).pages s.once t.page (in_pages t i)))
+      and_from (is_page (geometry file) t.page) (not (is_fixed (geometry file) t.page) && not (is_too_deep t))
+      (is_page_from (geometry file).pages t.page r.0 r.1)
+      (and_from (not (is_fixed (geometry file) t.page)) (not (is_too_deep t))
+      (ap not (page_not_fixed (map (λ u. u.page) all_uses) (is_fixed (geometry file)) (geometry file).pages s.once t.page (in_pages t i)))
       (ap not (not_too_deep t (shallow t i))))
 
   all_long : Each (IsLong file) all_visits
   all_long t i = let r = in_file t i in long_page file t.page s.is_read r.0 r.1
 
   page_once : HasEachPageOnce all_visits
-  page_once = once_from all_visits (subst (EachPair (λ x y. x ≡ y → ⊥)) (sym pages_are) (pages_once (map (λ u. u.page) all_uses) (is_fixed (geometry file)) (geometry file).pages s.once))
+  page_once = once_from all_visits (subst (EachPair (λ x y. x ≡ y → ⊥)) (sym pages_are)
+      (pages_once (map (λ u. u.page) all_uses) (is_fixed (geometry file)) (geometry file).pages s.once))
 
   first_whole : Whole file (named_at [] (schema_link ∷ [])) first_visits
   first_whole = tree_whole s.schema 0 (0 ∷ []) (Each-left (May file) first_visits later_visits all_may)
 
   pub first_is : schema_part file ≡ first_visits
-  first_is = whole_part (rules_of file) (geometry file).pages (are_rules file) first_whole [] (EachPair-left (λ t u. t.page ≡ u.page → ⊥) first_visits later_visits page_once) (λ t i o. absurd o.1)
+  first_is = whole_part (rules_of file) (geometry file).pages (are_rules file) first_whole []
+      (EachPair-left (λ t u. t.page ≡ u.page → ⊥) first_visits later_visits page_once) (λ t i o. absurd o.1)
 
   rows_first : map row_of (flat_map (rows_at file first_visits) first_visits) ≡ map Ok s.rows
-  rows_first = tree_rows s.schema first_visits 0 [] (is_accepted file (length file) s.is_read).range.usable.0 refl (λ t rest n. refl) (Each-left (IsLong file) first_visits later_visits all_long) ∙ s.spelled
+  rows_first = tree_rows s.schema first_visits 0 [] (is_accepted file (length file) s.is_read).range.usable.0 refl (λ t rest n. refl)
+      (Each-left (IsLong file) first_visits later_visits all_long) ∙ s.spelled
 
   pub schema_first : map row_of (schema file first_visits) ≡ map Ok s.rows
   unfolding schema
@@ -161,7 +168,8 @@ module _ (file : List ℕ) (s : Sound file) where
   rooted_first : rooted_rows (schema file (first_visits file s)) ≡ with_root s.rows
   rooted_first = rooted_are (schema file (first_visits file s)) s.rows (schema_first file s)
 
-  later_links : later_starts file (first_visits file s) ≡ map (root_start file) (enumerate_from 1 (with_root s.rows)) ++ list_start 0 freelist_start (first_trunk file)
+  later_links : later_starts file (first_visits file s) ≡ map (root_start file) (enumerate_from 1 (with_root s.rows))
+      ++ list_start 0 freelist_start (first_trunk file)
   unfolding later_starts
   later_links = ap (λ rows. map (root_start file) (enumerate_from 1 (take last_root_start rows)) ++ freelist_starts file) rooted_first
       ∙ ap (λ rows. map (root_start file) (enumerate_from 1 rows) ++ freelist_starts file) (take_all last_root_start (with_root s.rows) s.few_roots)
@@ -171,8 +179,10 @@ module _ (file : List ℕ) (s : Sound file) where
 
   later_whole : Whole file (named_at [] (later_starts file (first_visits file s))) (later_visits file s)
   later_whole = subst (λ ls. Whole file (named_at [] ls) (later_visits file s)) (sym later_links)
-      (subst (λ cs. Whole file cs (later_visits file s)) (sym (named_at-append [] (map (root_start file) (enumerate_from 1 (with_root s.rows))) (list_start 0 freelist_start (first_trunk file))))
-      (whole_both (rules_of file) (named_at [] (map (root_start file) (enumerate_from 1 (with_root s.rows)))) (named_at [] (list_start 0 freelist_start (first_trunk file))) (root_visits file s) (free_visits file s)
+      (subst (λ cs. Whole file cs (later_visits file s))
+      (sym (named_at-append [] (map (root_start file) (enumerate_from 1 (with_root s.rows))) (list_start 0 freelist_start (first_trunk file))))
+      (whole_both (rules_of file) (named_at [] (map (root_start file) (enumerate_from 1 (with_root s.rows))))
+      (named_at [] (list_start 0 freelist_start (first_trunk file))) (root_visits file s) (free_visits file s)
       (forest_whole s.trees 1 (Each-left (May file) (root_visits file s) (free_visits file s) later_may))
       (freelist_whole s.freelist 0 freelist_start [] (Each-right (May file) (root_visits file s) (free_visits file s) later_may))))
 
@@ -189,4 +199,5 @@ module _ (file : List ℕ) (s : Sound file) where
 
   -- all that the starts lead to
   pub all_whole : Whole file (named_at [] (schema_link ∷ later_starts file (first_visits file s))) (all_visits file s)
-  all_whole = whole_both (rules_of file) (named_at [] (schema_link ∷ [])) (named_at [] (later_starts file (first_visits file s))) (first_visits file s) (later_visits file s) (first_whole file s) later_whole
+  all_whole = whole_both (rules_of file) (named_at [] (schema_link ∷ [])) (named_at [] (later_starts file (first_visits file s))) (first_visits file s)
+      (later_visits file s) (first_whole file s) later_whole

@@ -13,7 +13,8 @@ use Rattle.dbformat.specs.File.{geometry, page_bytes}
 use Rattle.dbformat.specs.Address.{key_step}
 use Rattle.dbformat.specs.Head.{View, undamaged}
 use Rattle.dbformat.specs.Cell.{Cell, cells}
-use Rattle.dbformat.specs.Reference.{Role, root, child, first_overflow, later_overflow, trunk, free_leaf, Way, Reference, role_of, tree_kind, tree_view, cell_links, right_links, overflow_links, trunk_links}
+use Rattle.dbformat.specs.Reference.{Role, root, child, first_overflow, later_overflow, trunk, free_leaf, Way, Reference, role_of, tree_kind, tree_view}
+use Rattle.dbformat.specs.Reference.{cell_links, right_links, overflow_links, trunk_links}
 use Rattle.dbformat.specs.Header.{usable_size}
 use Rattle.dbformat.specs.Schema.{schema_link, later_starts, starts}
 use Rattle.dbformat.specs.Survey.{Survey, rules_of}
@@ -33,25 +34,29 @@ use Rattle.dbsound.proofs.SoundFiles.Rows.{rows_none}
 module _ (file : List ℕ) (s : Sound file) (survey : Survey file (all_visits file s)) where
   places_none : (r : Reference) (v : View) (x : ℕ × Cell) → IsIn r (all_visits file s) → tree_view file r ≡ Some v → IsIn x (cells v)
       → cell_place_faults file (all_visits file s) r v x ≡ []
-  places_none r v x i e j = ap (λ l. l ++ flat_map (key_faults file (all_visits file s)) (key_of r v x)) (rows_none file s survey r v x i e j) ∙ keys_none file s r v x i e j
+  places_none r v x i e j = ap (λ l. l ++ flat_map (key_faults file (all_visits file s)) (key_of r v x)) (rows_none file s survey r v x i e j)
+      ∙ keys_none file s r v x i e j
 
   -- no reference is refused
   starts_are : named_at [] (starts file (all_visits file s)) ≡ named_at [] (schema_link ∷ later_starts file (first_visits file s))
   starts_are = ap (λ U. named_at [] (schema_link ∷ later_starts file U))
-      (survey_from_first (rules_of file) (geometry file).pages (are_rules file) schema_link (later_starts file) (starts_rise file) (all_visits file s) survey ∙ first_is file s)
+      (survey_from_first (rules_of file) (geometry file).pages (are_rules file) schema_link (later_starts file) (starts_rise file) (all_visits file s) survey
+      ∙ first_is file s)
 
   none_refused : (c : Reference) → IsNamed (rules_of file) (goes (start_errands file (all_visits file s))) (all_visits file s) c → IsIn c (all_visits file s)
-  none_refused c n = whole_none_refused (rules_of file) (named_at [] (schema_link ∷ later_starts file (first_visits file s))) (all_visits file s) (all_whole file s) c
+  none_refused c n = whole_none_refused (rules_of file) (named_at [] (schema_link ∷ later_starts file (first_visits file s))) (all_visits file s)
+      (all_whole file s) c
       (subst (λ cs. IsNamed (rules_of file) cs (all_visits file s) c)
       (goes-errands [] (map Follow (starts file (all_visits file s))) ∙ ap (named_at []) (links-follows (starts file (all_visits file s))) ∙ starts_are) n)
 
 -- an event at a place is a key of a cell
 key_of_cell : (r : Reference) (kind : TreeKind) (v : View) (x : ℕ × Cell) (step : ℕ) (event : Event) → IsIn (Place step event) (cell_items r kind v x)
     → event ≡ at_key r v x
-key_of_cell r kind v (i, c) step event h = elim (IsIn-cases (Place step event) (map Follow (cell_links r.page kind (i, c))) (Place (key_step i) (at_key r v (i, c)) ∷ []) h) [
-  | inl k ↦ absurd (no_place (cell_links r.page kind (i, c)) step event k)
-  | inr k ↦ (elim k [ inl e ↦ ap event_in e | inr n ↦ absurd n ])
-]
+key_of_cell r kind v (i, c) step event h = elim (IsIn-cases (Place step event) (map Follow (cell_links r.page kind (i, c)))
+    (Place (key_step i) (at_key r v (i, c)) ∷ []) h) [
+      | inl k ↦ absurd (no_place (cell_links r.page kind (i, c)) step event k)
+      | inr k ↦ (elim k [ inl e ↦ ap event_in e | inr n ↦ absurd n ])
+    ]
   where
     event_in : PageStep Way Event → Event
     event_in (Follow l) = event
@@ -60,10 +65,12 @@ key_of_cell r kind v (i, c) step event h = elim (IsIn-cases (Place step event) (
 key_of_page : (r : Reference) (kind : TreeKind) (o : Option View) (step : ℕ) (event : Event) → IsIn (Place step event) (page_items r kind o)
     → (v : View) × (x : ℕ × Cell) × (o ≡ Some v) × IsIn x (cells v) × (event ≡ at_key r v x)
 key_of_page r kind None step event h = absurd h
-key_of_page r kind (Some v) step event h = elim (IsIn-cases (Place step event) (flat_map (cell_items r kind v) (cells v)) (map Follow (right_links r.page kind v)) h) [
-  | inl k ↦ (let m = IsIn-from_flat_map (cell_items r kind v) (cells v) (Place step event) k in (v, m.0, refl, m.1, key_of_cell r kind v m.0 step event m.2))
-  | inr k ↦ absurd (no_place (right_links r.page kind v) step event k)
-]
+key_of_page r kind (Some v) step event h = elim (IsIn-cases (Place step event) (flat_map (cell_items r kind v) (cells v))
+    (map Follow (right_links r.page kind v)) h) [
+      | inl k ↦ (let m = IsIn-from_flat_map (cell_items r kind v) (cells v) (Place step event) k in
+          (v, m.0, refl, m.1, key_of_cell r kind v m.0 step event m.2))
+      | inr k ↦ absurd (no_place (right_links r.page kind v) step event k)
+    ]
 
 key_of_role : (file : List ℕ) (r : Reference) (role : Role) (step : ℕ) (event : Event) → role_of r ≡ role
     → IsIn (Place step event) (role_items role r (usable_size file) (page_bytes file r.page))
@@ -76,14 +83,17 @@ key_of_role file r role step event e h = by_role role e h
 
     by_role : (role : Role) → role_of r ≡ role → IsIn (Place step event) (role_items role r (usable_size file) (page_bytes file r.page))
         → (v : View) × (x : ℕ × Cell) × (view_in (role_of r) ≡ Some v) × IsIn x (cells v) × (event ≡ at_key r v x)
-    by_role (root kind) e h = let k = key_of_page r kind (undamaged kind r.page (usable_size file) (page_bytes file r.page)) step event h in (k.0, k.1, ap view_in e ∙ k.2, k.3, k.4)
-    by_role (child kind) e h = let k = key_of_page r kind (undamaged kind r.page (usable_size file) (page_bytes file r.page)) step event h in (k.0, k.1, ap view_in e ∙ k.2, k.3, k.4)
+    by_role (root kind) e h = let k = key_of_page r kind (undamaged kind r.page (usable_size file) (page_bytes file r.page)) step event h in
+        (k.0, k.1, ap view_in e ∙ k.2, k.3, k.4)
+    by_role (child kind) e h = let k = key_of_page r kind (undamaged kind r.page (usable_size file) (page_bytes file r.page)) step event h in
+        (k.0, k.1, ap view_in e ∙ k.2, k.3, k.4)
     by_role (first_overflow left) e h = absurd (no_place (overflow_links r.page (usable_size file) left (page_bytes file r.page)) step event h)
     by_role (later_overflow left) e h = absurd (no_place (overflow_links r.page (usable_size file) left (page_bytes file r.page)) step event h)
     by_role trunk e h = absurd (no_place (trunk_links r.page (usable_size file) (page_bytes file r.page)) step event h)
     by_role free_leaf e h = absurd h
 
-placed_in : (a : Address) (items : List (PageStep Way Event)) (e : Told Event) → IsIn (Tell e) (errands_at a items) → (step : ℕ) × IsIn (Place step e.event) items
+placed_in : (a : Address) (items : List (PageStep Way Event)) (e : Told Event) → IsIn (Tell e) (errands_at a items) → (step : ℕ)
+    × IsIn (Place step e.event) items
 placed_in a [] e h = absurd h
 placed_in a (Follow l ∷ is) e (inl k) = cc
 placed_in a (Follow l ∷ is) e (inr h) = let m = placed_in a is e h in (m.0, inr m.1)

@@ -1,5 +1,6 @@
 -- The keys of one page of a table tree, and of one cell and what is below it, are in order.
-use Rattle.std.proofs.Common.{ℤ, ◌≤ℤ◌, arith, ◌≡◌, ℕ, ◌+◌, ◌*◌, ◌<◌, inl, inr, Bool, true, false, not, Option, None, Some, List, [], ◌∷◌, ◌++◌, refl, sym, ap, subst, append_assoc, ◌∙◌}
+use Rattle.std.proofs.Common.{ℤ, ◌≤ℤ◌, arith, ◌≡◌, ℕ, ◌+◌, ◌*◌, ◌<◌, inl, inr, Bool, true, false, not, Option, None, Some, List, [], ◌∷◌, ◌++◌, refl, sym, ap}
+use Rattle.std.proofs.Common.{subst, append_assoc, ◌∙◌}
 use Rattle.std.specs.Prelude.{flat_map}
 use Rattle.std.specs.List.{enumerate_from}
 use Rattle.std.proofs.lemmas.Int.{ints}
@@ -97,16 +98,24 @@ leaf_keys r v i (c ∷ cs) low high l h = by_key c.key refl (λ low'. leaf_keys 
         (in_order_both low high k (cell_key r v i k ∷ []) rest (above_upto low k g.0) g.1
         (in_order_one low (Some k) (cell_key r v i k) (record { rowid = λ f. g.0; other = λ f. above_upto low k g.0; within = up_to_itself k }))
         (on (Some k) g.2)
-        (λ x y m n. placed_apart r.address (3 * (i + 1)) x y (elim m [ inl f ↦ (key_step i, [], omega arith, ap (λ k. k.place) f) | inr n ↦ absurd n ]) (own_placed r v (i + 1) cs y n)))
+        (λ x y m n. placed_apart r.address (3 * (i + 1)) x y (elim m [ inl f ↦ (key_step i, [], omega arith, ap (λ k. k.place) f) | inr n ↦ absurd n ])
+        (own_placed r v (i + 1) cs y n)))
 
 shuffle : (k : Key) (X O B D : List Key) → IsIn k ((X ++ O) ++ (B ++ D)) → IsIn k ((B ++ X) ++ (O ++ D))
 shuffle k X O B D h = elim (IsIn-cases k (X ++ O) (B ++ D) h) [
-  | inl i ↦ (elim (IsIn-cases k X O i) [ inl j ↦ IsIn-left k (B ++ X) (O ++ D) (IsIn-right k B X j) | inr j ↦ IsIn-right k (B ++ X) (O ++ D) (IsIn-left k O D j) ])
-  | inr i ↦ (elim (IsIn-cases k B D i) [ inl j ↦ IsIn-left k (B ++ X) (O ++ D) (IsIn-left k B X j) | inr j ↦ IsIn-right k (B ++ X) (O ++ D) (IsIn-right k O D j) ])
+  | inl i ↦ (elim (IsIn-cases k X O i) [
+    | inl j ↦ IsIn-left k (B ++ X) (O ++ D) (IsIn-right k B X j)
+    | inr j ↦ IsIn-right k (B ++ X) (O ++ D) (IsIn-left k O D j)
+  ])
+  | inr i ↦ (elim (IsIn-cases k B D i) [
+    | inl j ↦ IsIn-left k (B ++ X) (O ++ D) (IsIn-left k B X j)
+    | inr j ↦ IsIn-right k (B ++ X) (O ++ D) (IsIn-right k O D j)
+  ])
 ]
 
 -- one cell of an interior page: what is below its left child, its key, and what comes after
-module _ (file : List ℕ) (r : Reference) (v : View) (i : ℕ) (c : Cell) (cs : List Cell) (m : ℤ) (key : c.key ≡ Some m) (open_page : is_interior v.kind ≡ true) (A B C : List Reference) (low high : Option ℤ) where
+module _ (file : List ℕ) (r : Reference) (v : View) (i : ℕ) (c : Cell) (cs : List Cell) (m : ℤ) (key : c.key ≡ Some m) (open_page : is_interior v.kind ≡ true)
+    (A B C : List Reference) (low high : Option ℤ) where
   abbrev pub own_rest : List Key
   own_rest = flat_map (key_of r v) (enumerate_from (i + 1) cs)
 
@@ -123,23 +132,36 @@ module _ (file : List ℕ) (r : Reference) (v : View) (i : ℕ) (c : Cell) (cs :
 
   low_part : IsUpTo low (Some m) → AreInOrder low (Some m) (keys_in file B) → Each (IsUnder (r.address ++ child_step i ∷ [])) B
       → AreInOrder low (Some m) (keys_in file B ++ cell_key r v i m ∷ [])
-  low_part l b u = in_order_both low (Some m) m (keys_in file B) (cell_key r v i m ∷ []) l (up_to_itself m) b (in_order_one (Some m) (Some m) (cell_key r v i m) own_inside)
+  low_part l b u = in_order_both low (Some m) m (keys_in file B) (cell_key r v i m ∷ []) l (up_to_itself m) b
+      (in_order_one (Some m) (Some m) (cell_key r v i m) own_inside)
       (λ x y p q. placed_apart r.address (key_step i) x y (below x p) (key_step i, [], omega arith, ap (λ k. k.place) (is_own y q)))
     where
       below : (x : Key) → IsIn x (keys_in file B) → IsPlacedBelow r.address (key_step i) x
       below x p =
           let n = IsIn-from_flat_map (keys_at file) B x p in
           let w = u n.0 n.1 in
-          let f = view_place n.0 (tree_view file n.0) x n.2 in
-          (child_step i, w.0 ++ key_step f.0 ∷ [], omega arith, f.1 ∙ ap (λ b. then_step b (key_step f.0)) (w.1 ∙ append_assoc r.address (child_step i ∷ []) w.0) ∙ append_assoc r.address (child_step i ∷ w.0) (key_step f.0 ∷ []))
+          let f = view_place n.0 (tree_view file n.0) x n.2 in (
+            child_step i,
+            w.0 ++ key_step f.0 ∷ [],
+            omega arith,
+            f.1
+                ∙ ap (λ b. then_step b (key_step f.0)) (w.1 ∙ append_assoc r.address (child_step i ∷ []) w.0)
+                ∙ append_assoc r.address (child_step i ∷ w.0) (key_step f.0 ∷ []),
+          )
 
-  below_next : (x : Key) → Each (IsUnder (r.address ++ child_step i ∷ [])) B → IsIn x (keys_in file B ++ cell_key r v i m ∷ []) → IsPlacedBelow r.address (3 * (i + 1)) x
+  below_next : (x : Key) → Each (IsUnder (r.address ++ child_step i ∷ [])) B → IsIn x (keys_in file B ++ cell_key r v i m ∷ [])
+      → IsPlacedBelow r.address (3 * (i + 1)) x
   below_next x u h = elim (IsIn-cases x (keys_in file B) (cell_key r v i m ∷ []) h) [
     | inl p ↦ (
         let n = IsIn-from_flat_map (keys_at file) B x p in
         let w = u n.0 n.1 in
-        let f = view_place n.0 (tree_view file n.0) x n.2 in
-        (child_step i, w.0 ++ key_step f.0 ∷ [], omega arith, f.1 ∙ ap (λ b. then_step b (key_step f.0)) (w.1 ∙ append_assoc r.address (child_step i ∷ []) w.0) ∙ append_assoc r.address (child_step i ∷ w.0) (key_step f.0 ∷ [])))
+        let f = view_place n.0 (tree_view file n.0) x n.2 in (
+          child_step i,
+          w.0 ++ key_step f.0 ∷ [],
+          omega arith,
+          f.1 ∙ ap (λ b. then_step b (key_step f.0)) (w.1 ∙ append_assoc r.address (child_step i ∷ []) w.0)
+              ∙ append_assoc r.address (child_step i ∷ w.0) (key_step f.0 ∷ []),
+        ))
     | inr q ↦ (key_step i, [], omega arith, ap (λ k. k.place) (is_own x q))
   ]
 
@@ -148,12 +170,16 @@ module _ (file : List ℕ) (r : Reference) (v : View) (i : ℕ) (c : Cell) (cs :
       → AreInOrder low (Some m) (keys_in file B) → AreInOrder (Some m) high (own_rest ++ keys_in file C)
       → AreInOrder low high (flat_map (key_of r v) (enumerate_from i (c ∷ cs)) ++ keys_in file (A ++ B ++ C))
   cell_keys l h a u f b d =
-      in_order_of low high (flat_map (key_of r v) (enumerate_from i (c ∷ cs)) ++ keys_in file (A ++ B ++ C)) ((keys_in file B ++ cell_key r v i m ∷ []) ++ (own_rest ++ keys_in file C))
+      in_order_of low high (flat_map (key_of r v) (enumerate_from i (c ∷ cs)) ++ keys_in file (A ++ B ++ C))
+      ((keys_in file B ++ cell_key r v i m ∷ []) ++ (own_rest ++ keys_in file C))
       (λ k n. shuffle k (cell_key r v i m ∷ []) own_rest (keys_in file B) (keys_in file C) (subst (λ l. IsIn k l) same n))
       (in_order_both low high m (keys_in file B ++ cell_key r v i m ∷ []) (own_rest ++ keys_in file C) l h (low_part l b u) d
-      (λ x y p q. placed_apart r.address (3 * (i + 1)) x y (below_next x u p) (Each-append (IsPlaced r.address (3 * (i + 1))) own_rest (keys_in file C) (own_placed r v (i + 1) cs) (placed_from file C r.address (3 * (i + 1)) f) y q)))
+      (λ x y p q. placed_apart r.address (3 * (i + 1)) x y (below_next x u p)
+      (Each-append (IsPlaced r.address (3 * (i + 1))) own_rest (keys_in file C) (own_placed r v (i + 1) cs) (placed_from file C r.address (3 * (i + 1)) f) y
+      q)))
     where
-      same : flat_map (key_of r v) (enumerate_from i (c ∷ cs)) ++ keys_in file (A ++ B ++ C) ≡ (cell_key r v i m ∷ [] ++ own_rest) ++ (keys_in file B ++ keys_in file C)
+      same : flat_map (key_of r v) (enumerate_from i (c ∷ cs)) ++ keys_in file (A ++ B ++ C) ≡ (cell_key r v i m ∷ [] ++ own_rest)
+          ++ (keys_in file B ++ keys_in file C)
       same = ap (λ l. (l ++ flat_map (key_of r v) (enumerate_from (i + 1) cs)) ++ keys_in file (A ++ B ++ C)) (key_some r v i c m key)
           ∙ ap (λ l. (cell_key r v i m ∷ own_rest) ++ l) (flat_map-append (keys_at file) (A ++ B) C
           ∙ ap (λ l. l ++ keys_in file C) (flat_map-append (keys_at file) A B ∙ ap (λ l. l ++ keys_in file B) (none_in file A a)))

@@ -1,5 +1,6 @@
 -- Keys in the order of their places.
-use Rattle.std.proofs.Common.{T, ℤ, ◌⊎◌, ◌<ℤ◌, ◌≤ℤ◌, int_lt, arith, ◌≡◌, ℕ, ◌≤◌, inl, inr, Bool, true, false, cond, Option, None, Some, List, [], ◌∷◌, ◌++◌, refl, sym, subst}
+use Rattle.std.proofs.Common.{T, ℤ, ◌⊎◌, ◌<ℤ◌, ◌≤ℤ◌, int_lt, arith, ◌≡◌, ℕ, ◌≤◌, inl, inr, Bool, true, false, cond, Option, None, Some, List, [], ◌∷◌, ◌++◌}
+use Rattle.std.proofs.Common.{refl, sym, subst}
 use Rattle.std.specs.Prelude.{int_le}
 use Rattle.std.proofs.lemmas.Int.{ints}
 use Rattle.std.specs.Int.Signed.{lt_z_yes, le_z_yes}

@@ -30,7 +30,8 @@ left_is free_leaf left o = absurd o
 
 chain_held : {file : List ℕ} {role : Role} {from p left : ℕ} {uses : List Use} {bytes : List ℕ} (t : Chain file role from p left uses bytes)
     (item : ℕ) (a : Address) → IsOverflow role left → held_in file (chain_visits t item a) ≡ bytes
-chain_held {file} (last {role} {from} {p} {left} h e) item a o = append-nil _ ∙ ap (λ n. overflow_bytes (usable_size file) n (page_bytes file p)) (left_is role left o)
+chain_held {file} (last {role} {from} {p} {left} h e) item a o = append-nil _
+    ∙ ap (λ n. overflow_bytes (usable_size file) n (page_bytes file p)) (left_is role left o)
 chain_held {file} (full {role} {from} {p} {left} {bytes} h t) item a o =
     ap (λ n. overflow_bytes (usable_size file) n (page_bytes file p) ++ held_in file (chain_visits t 0 (a ++ 0 ∷ []))) (left_is role left o)
     ∙ ap (λ l. overflow_bytes (usable_size file) left (page_bytes file p) ++ l) (chain_held t 0 (a ++ 0 ∷ []) refl)
@@ -44,7 +45,8 @@ on_page usable left page l = let a = length-take (min (usable - 4) left) (drop 4
 
 chain_long : {file : List ℕ} {role : Role} {from p left : ℕ} {uses : List Use} {bytes : List ℕ} (t : Chain file role from p left uses bytes)
     (item : ℕ) (a : Address) → Each (IsLong file) (chain_visits t item a) → length bytes ≡ left
-chain_long {file} (last {role} {from} {p} {left} h e) item a l = let b = on_page (usable_size file) left (page_bytes file p) (l (visit_at role from item p a) (inl refl)) in omega arith
+chain_long {file} (last {role} {from} {p} {left} h e) item a l = let b =
+    on_page (usable_size file) left (page_bytes file p) (l (visit_at role from item p a) (inl refl)) in omega arith
 chain_long {file} (full {role} {from} {p} {left} {bytes} h t) item a l =
     let b = on_page (usable_size file) left (page_bytes file p) (l (visit_at role from item p a) (inl refl)) in
     let c = chain_long t 0 (a ++ 0 ∷ []) (λ u i. l u (inr i)) in

@@ -1,5 +1,6 @@
 -- The rows of the schema are those that the payloads of its tree spell.
-use Rattle.std.proofs.Common.{arith, ◌≡◌, ◌≢◌, ℕ, ◌+◌, ◌*◌, ◌≤◌, inl, inr, Bool, true, false, cond, Option, Some, Result, List, [], ◌∷◌, ◌++◌, map, length, refl, sym, ap, subst, append_assoc, ◌∙◌, ℤ}
+use Rattle.std.proofs.Common.{arith, ◌≡◌, ◌≢◌, ℕ, ◌+◌, ◌*◌, ◌≤◌, inl, inr, Bool, true, false, cond, Option, Some, Result, List, [], ◌∷◌, ◌++◌, map, length}
+use Rattle.std.proofs.Common.{refl, sym, ap, subst, append_assoc, ◌∙◌, ℤ}
 use Rattle.std.specs.Prelude.{flat_map, nat_eq, ◌==◌}
 use Rattle.std.specs.List.{enumerate_from, starts_with}
 use Rattle.std.proofs.lemmas.List.{append-nil, map-append}
@@ -74,7 +75,8 @@ module _ (file : List ℕ) (V : List Reference) where
       (row_is t i r.address B here (payloads_from ts (i + 1) r.address) (sized c (inl refl)) (Each-left (IsLong file) A B long))
       ∙ ap (λ l. spelled file bytes ∷ l) (leaf_rows_are ts (i + 1) r
       (λ s rest l. here s rest (omega arith) ∙ below-append A B (r.address ++ (s ∷ rest))
-      ∙ ap (λ l. l ++ below B (r.address ++ (s ∷ rest))) (none_begin_under r.address (overflow_step i) s rest A (step_less i s l) (payload_under t i r.address)))
+      ∙ ap (λ l. l ++ below B (r.address ++ (s ∷ rest)))
+      (none_begin_under r.address (overflow_step i) s rest A (step_less i s l) (payload_under t i r.address)))
       (λ d j. sized d (inr j)) (Each-right (IsLong file) A B long))
 
   no_rows : (r : Reference) → IsNoTree r → rows_at file V r ≡ []
@@ -116,8 +118,10 @@ module _ (file : List ℕ) (V : List Reference) where
       by_start false = refl
 
 -- at a page's own address nothing begins that is below one of its steps
-skip_own : (a : Address) (r : Reference) (s : ℕ) (rest : Address) (U : List Reference) → r.address ≡ a → below (r ∷ U) (a ++ (s ∷ rest)) ≡ below U (a ++ (s ∷ rest))
-skip_own a r s rest U e = ap (λ b. cond b (r ∷ below U (a ++ (s ∷ rest))) (below U (a ++ (s ∷ rest)))) (subst (λ x. starts_with nat_eq x (a ++ (s ∷ rest)) ≡ false) (sym e) (not_begins a (a ++ (s ∷ rest)) (begins-longer a s rest)))
+skip_own : (a : Address) (r : Reference) (s : ℕ) (rest : Address) (U : List Reference) → r.address ≡ a → below (r ∷ U) (a ++ (s ∷ rest))
+    ≡ below U (a ++ (s ∷ rest))
+skip_own a r s rest U e = ap (λ b. cond b (r ∷ below U (a ++ (s ∷ rest))) (below U (a ++ (s ∷ rest))))
+    (subst (λ x. starts_with nat_eq x (a ++ (s ∷ rest)) ≡ false) (sym e) (not_begins a (a ++ (s ∷ rest)) (begins-longer a s rest)))
 
 between : (a : Address) (s : ℕ) (rest : Address) (A B C : List Reference) → below A (a ++ (s ∷ rest)) ≡ [] → below C (a ++ (s ∷ rest)) ≡ []
     → below (A ++ B ++ C) (a ++ (s ∷ rest)) ≡ below B (a ++ (s ∷ rest))
@@ -130,8 +134,10 @@ behind a s rest A B C e f = let b = a ++ (s ∷ rest) in
     below-append (A ++ B) C b ∙ ap (λ l. l ++ below C b) (below-append A B b ∙ ap (λ l. l ++ below B b) e ∙ f)
 
 mutual
-  pub tree_rows : {file : List ℕ} {is_child : Bool} {from p : ℕ} {kind : TreeKind} {height : ℕ} {low high : Option ℤ} {uses : List Use} {payloads : List (List ℕ)}
-      (t : Tree file is_child from p kind height low high uses payloads) (V : List Reference) (item : ℕ) (b : Address) → 480 ≤ usable_size file → kind ≡ tree.Table
+  pub tree_rows : {file : List ℕ} {is_child : Bool} {from p : ℕ} {kind : TreeKind} {height : ℕ} {low high : Option ℤ} {uses : List Use}
+      {payloads : List (List ℕ)}
+      (t : Tree file is_child from p kind height low high uses payloads) (V : List Reference) (item : ℕ) (b : Address) → 480 ≤ usable_size file → kind
+      ≡ tree.Table
       → HasHere (0 ∷ b) 0 V (tree_visits t item (0 ∷ b)) → Each (IsLong file) (tree_visits t item (0 ∷ b))
       → rows_in file V (tree_visits t item (0 ∷ b)) ≡ map (spelled file) payloads
   tree_rows {file} (leaf {is_child} {from} {p} {kind} v w l r ps) V item b wide e here long =
@@ -140,17 +146,21 @@ mutual
       rows_both file V (ref ∷ []) rest
       ∙ ap (λ l. rows_in file V (ref ∷ []) ++ map row_of l) (none_rows file V rest (payloads_no_tree ps 0 (0 ∷ b)))
       ∙ append-nil (rows_in file V (ref ∷ []))
-      ∙ ap (map row_of) (append-nil (rows_at file V ref) ∙ leaf_rows_at file V ref v refl (own_view file is_child kind from item p (0 ∷ b) v w.undamaged) l (enumerate_from 0 (cells_of v)) (has_all_cells w).numbers)
+      ∙ ap (map row_of) (append-nil (rows_at file V ref)
+      ∙ leaf_rows_at file V ref v refl (own_view file is_child kind from item p (0 ∷ b) v w.undamaged) l (enumerate_from 0 (cells_of v))
+      (has_all_cells w).numbers)
       ∙ leaf_rows_are file V ps 0 ref (λ s more n. here s more (omega arith) ∙ skip_own (0 ∷ b) ref s more rest refl)
       (leaf_sized w e l wide (long ref (inl refl))) (λ u i. long u (inr i))
   tree_rows {file} (interior {is_child} {from} {p} {kind} v w r cs) V item b wide e here long =
       let ref = visit_at (role_in_tree is_child kind) from item p (0 ∷ b) in
       let rest = children_visits cs 0 (0 ∷ b) in
       rows_both file V (ref ∷ []) rest
-      ∙ ap (λ l. map row_of l ++ rows_in file V rest) (append-nil (rows_at file V ref) ∙ interior_rows_at file V ref v (own_view file is_child kind from item p (0 ∷ b) v w.undamaged) (has_right v _ r))
+      ∙ ap (λ l. map row_of l ++ rows_in file V rest) (append-nil (rows_at file V ref)
+      ∙ interior_rows_at file V ref v (own_view file is_child kind from item p (0 ∷ b) v w.undamaged) (has_right v _ r))
       ∙ children_rows cs V 0 b wide e (λ s more n. here s more (omega arith) ∙ skip_own (0 ∷ b) ref s more rest refl) (λ u i. long u (inr i))
 
-  children_rows : {file : List ℕ} {p : ℕ} {kind : TreeKind} {height : ℕ} {low high : Option ℤ} {cs : List Cell} {right : ℕ} {uses : List Use} {payloads : List (List ℕ)}
+  children_rows : {file : List ℕ} {p : ℕ} {kind : TreeKind} {height : ℕ} {low high : Option ℤ} {cs : List Cell} {right : ℕ} {uses : List Use}
+      {payloads : List (List ℕ)}
       (t : Children file p kind height low high cs right uses payloads) (V : List Reference) (i : ℕ) (b : Address) → 480 ≤ usable_size file → kind ≡ tree.Table
       → HasHere (0 ∷ b) (3 * i) V (children_visits t i (0 ∷ b)) → Each (IsLong file) (children_visits t i (0 ∷ b))
       → rows_in file V (children_visits t i (0 ∷ b)) ≡ map (spelled file) payloads
@@ -175,6 +185,7 @@ mutual
       (Each-right (IsLong file) A B (Each-left (IsLong file) (A ++ B) C long)))
       ∙ ap (λ l. map (spelled file) ours ++ l) (children_rows ts V (i + 1) b wide e
       (λ s more n. here s more (omega arith) ∙ behind a s more A B C
-      (none_begin_under a (overflow_step i) s more A (step_less i s n) (payload_under ps i a)) (none_begin_under a (child_step i) s more B (child_less i s n) (tree_under t i (a ++ child_step i ∷ []))))
+      (none_begin_under a (overflow_step i) s more A (step_less i s n) (payload_under ps i a))
+      (none_begin_under a (child_step i) s more B (child_less i s n) (tree_under t i (a ++ child_step i ∷ []))))
       (Each-right (IsLong file) (A ++ B) C long))
       ∙ sym (map-append (spelled file) ours others)

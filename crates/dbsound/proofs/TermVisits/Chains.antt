@@ -55,11 +55,13 @@ module _ (file : List ℕ) where
   one_link p usable left page h = let e : nat_lt (usable - 4) left ≡ true = grind (arith, nat_tests) in rw e refl
 
 chain_whole : {file : List ℕ} {role : Role} {from p left : ℕ} {uses : List Use} {bytes : List ℕ} (t : Chain file role from p left uses bytes)
-    (item : ℕ) (a : Address) → IsOverflow role left → Each (May file) (chain_visits t item a) → Whole file (visit_at role from item p a ∷ []) (chain_visits t item a)
+    (item : ℕ) (a : Address) → IsOverflow role left → Each (May file) (chain_visits t item a)
+    → Whole file (visit_at role from item p a ∷ []) (chain_visits t item a)
 chain_whole {file} (last {role} {from} {p} {left} h e) item a o m =
     visit_whole file role from item p a [] [] (chain_links file role p left o ∙ no_links file p (usable_size file) left (page_bytes file p) h) m nothing
 chain_whole {file} (full {role} {from} {p} {left} h t) item a o m =
-    visit_whole file role from item p a (link p 0 0 (later_overflow (left - (usable_size file - 4))) (overflow_next (page_bytes file p)) ∷ []) (chain_visits t 0 (a ++ 0 ∷ []))
+    visit_whole file role from item p a (link p 0 0 (later_overflow (left - (usable_size file - 4))) (overflow_next (page_bytes file p)) ∷ [])
+    (chain_visits t 0 (a ++ 0 ∷ []))
     (chain_links file role p left o ∙ one_link file p (usable_size file) left (page_bytes file p) h) m
     (chain_whole t 0 (a ++ 0 ∷ []) refl (λ u i. m u (inr i)))
 
@@ -69,8 +71,11 @@ chain_link p i c = option_to_list (option_map (link p (overflow_step i) i (first
 
 pub payload_whole : {file : List ℕ} {p : ℕ} {c : Cell} {uses : List Use} {bytes : List ℕ} (t : Payload file p c uses bytes)
     (i : ℕ) (a : Address) → Each (May file) (payload_visits t i a) → Whole file (named_at a (chain_link p i c)) (payload_visits t i a)
-payload_whole {file} {p} {c} (whole e) i a m = subst (λ o. Whole file (named_at a (option_to_list (option_map (link p (overflow_step i) i (first_overflow (overflow_size c))) o))) []) (sym e) nothing
-payload_whole {file} {p} {c} (split e t) i a m = subst (λ o. Whole file (named_at a (option_to_list (option_map (link p (overflow_step i) i (first_overflow (overflow_size c))) o))) (chain_visits t i (a ++ overflow_step i ∷ []))) (sym e)
+payload_whole {file} {p} {c} (whole e) i a m = subst
+    (λ o. Whole file (named_at a (option_to_list (option_map (link p (overflow_step i) i (first_overflow (overflow_size c))) o))) []) (sym e) nothing
+payload_whole {file} {p} {c} (split e t) i a m = subst
+    (λ o. Whole file (named_at a (option_to_list (option_map (link p (overflow_step i) i (first_overflow (overflow_size c))) o)))
+    (chain_visits t i (a ++ overflow_step i ∷ []))) (sym e)
     (chain_whole t i (a ++ overflow_step i ∷ []) refl m)
 
 pub payloads_whole : {file : List ℕ} {p : ℕ} {cs : List Cell} {uses : List Use} {payloads : List (List ℕ)} (t : Payloads file p cs uses payloads)
@@ -78,9 +83,12 @@ pub payloads_whole : {file : List ℕ} {p : ℕ} {cs : List Cell} {uses : List U
     → Whole file (named_at a (flat_map (cell_links p kind) (enumerate_from i cs))) (payloads_visits t i a)
 payloads_whole none kind i a l m = nothing
 payloads_whole {file} {p} (more {c} {cs} t ts) kind i a l m =
-    subst (λ X. Whole file X (payload_visits t i a ++ payloads_visits ts (i + 1) a)) (sym (named_at-append a (cell_links p kind (i, c)) (flat_map (cell_links p kind) (enumerate_from (i + 1) cs))))
-    (whole_both (rules_of file) (named_at a (cell_links p kind (i, c))) (named_at a (flat_map (cell_links p kind) (enumerate_from (i + 1) cs))) (payload_visits t i a) (payloads_visits ts (i + 1) a)
-    (subst (λ o. Whole file (named_at a (chain_link p i c ++ option_to_list (option_map (link p (child_step i) i (child kind)) o))) (payload_visits t i a)) (sym (l c (inl refl)))
+    subst (λ X. Whole file X (payload_visits t i a ++ payloads_visits ts (i + 1) a))
+    (sym (named_at-append a (cell_links p kind (i, c)) (flat_map (cell_links p kind) (enumerate_from (i + 1) cs))))
+    (whole_both (rules_of file) (named_at a (cell_links p kind (i, c))) (named_at a (flat_map (cell_links p kind) (enumerate_from (i + 1) cs)))
+    (payload_visits t i a) (payloads_visits ts (i + 1) a)
+    (subst (λ o. Whole file (named_at a (chain_link p i c ++ option_to_list (option_map (link p (child_step i) i (child kind)) o))) (payload_visits t i a))
+    (sym (l c (inl refl)))
     (subst (λ X. Whole file (named_at a X) (payload_visits t i a)) (sym (append-nil (chain_link p i c)))
     (payload_whole t i a (Each-left (May file) (payload_visits t i a) (payloads_visits ts (i + 1) a) m))))
     (payloads_whole ts kind (i + 1) a (λ d j. l d (inr j)) (Each-right (May file) (payload_visits t i a) (payloads_visits ts (i + 1) a) m)))

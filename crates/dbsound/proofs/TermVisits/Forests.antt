@@ -63,11 +63,13 @@ own_by_type t k e = two (t == 2) refl e
     two true f e = let same : InteriorIndex ≡ k = cc in ap tree_of same
     two false f e = five (t == 5) (t == 10) (t == 13) not_ten e
 
-own_is : {file : List ℕ} {kind : TreeKind} {is_child : Bool} {p : ℕ} {v : View} → Terms.IsFaultlessPage file kind is_child p v → own_kind p (page_bytes file p) ≡ kind
+own_is : {file : List ℕ} {kind : TreeKind} {is_child : Bool} {p : ℕ} {v : View} → Terms.IsFaultlessPage file kind is_child p v → own_kind p (page_bytes file p)
+    ≡ kind
 unfolding view own_kind
 own_is {file} {kind} {is_child} {p} {v} w =
     let h = has_all_cells w in
-    own_by_type (type_byte p (page_bytes file p)) v.kind (kind_of p (usable_size file) (page_bytes file p) (page_kind (type_byte p (page_bytes file p))) v h.view_is)
+    own_by_type (type_byte p (page_bytes file p)) v.kind
+    (kind_of p (usable_size file) (page_bytes file p) (page_kind (type_byte p (page_bytes file p))) v h.view_is)
     ∙ same_tree (tree_of v.kind) kind h.same_kind
 
 root_kind_is : {file : List ℕ} {kind : TreeKind} {is_child : Bool} {p : ℕ} {v : View} → Terms.IsFaultlessPage file kind is_child p v
@@ -78,7 +80,8 @@ root_kind_is w row.Table name i = own_is w
 root_kind_is w row.View name i = own_is w
 root_kind_is w row.Trigger name i = own_is w
 
-tree_root_kind : {file : List ℕ} {is_child : Bool} {from p : ℕ} {kind : TreeKind} {height : ℕ} {low high : Option ℤ} {uses : List Use} {payloads : List (List ℕ)}
+tree_root_kind : {file : List ℕ} {is_child : Bool} {from p : ℕ} {kind : TreeKind} {height : ℕ} {low high : Option ℤ} {uses : List Use}
+    {payloads : List (List ℕ)}
     → Tree file is_child from p kind height low high uses payloads → (k : RowKind) (name : Option (List ℕ)) → (k ≡ row.Index → kind ≡ tree.Index)
     → root_kind file (record { kind = k; root = p; name = name }) ≡ kind
 tree_root_kind (leaf v w l r ps) k name i = root_kind_is w k name i
@@ -88,6 +91,8 @@ pub forest_whole : {file : List ℕ} {rows : List SchemaRow} {uses : List Use} (
     → Whole file (named_at [] (map (root_start file) (enumerate_from k rows))) (forest_visits f k)
 forest_whole no_tree k m = nothing
 forest_whole {file} (and_tree {r} {rows} {kind} i h t f) k m =
-    whole_both (rules_of file) (named_at [] (root_start file (k, r) ∷ [])) (named_at [] (map (root_start file) (enumerate_from (k + 1) rows))) (tree_visits t k (k ∷ [])) (forest_visits f (k + 1))
-    (subst (λ x. Whole file (visit_at (root x) 0 k r.root (k ∷ []) ∷ []) (tree_visits t k (k ∷ []))) (sym (tree_root_kind t r.kind r.name i)) (tree_whole t k (k ∷ []) (Each-left (May file) (tree_visits t k (k ∷ [])) (forest_visits f (k + 1)) m)))
+    whole_both (rules_of file) (named_at [] (root_start file (k, r) ∷ [])) (named_at [] (map (root_start file) (enumerate_from (k + 1) rows)))
+    (tree_visits t k (k ∷ [])) (forest_visits f (k + 1))
+    (subst (λ x. Whole file (visit_at (root x) 0 k r.root (k ∷ []) ∷ []) (tree_visits t k (k ∷ []))) (sym (tree_root_kind t r.kind r.name i))
+    (tree_whole t k (k ∷ []) (Each-left (May file) (tree_visits t k (k ∷ [])) (forest_visits f (k + 1)) m)))
     (forest_whole f (k + 1) (Each-right (May file) (tree_visits t k (k ∷ [])) (forest_visits f (k + 1)) m))

@@ -1,5 +1,6 @@
 -- The trees of a file have starts of their own: what holds of two pages of one start holds tree by tree.
-use Rattle.std.proofs.Common.{ℤ, arith, ◌≡◌, ◌⊎◌, ℕ, suc, ◌+◌, ◌<◌, ◌≤◌, inl, inr, Bool, false, Option, Some, List, [], ◌∷◌, ◌++◌, length, refl, sym, ap, subst, append_assoc, ◌∙◌}
+use Rattle.std.proofs.Common.{ℤ, arith, ◌≡◌, ◌⊎◌, ℕ, suc, ◌+◌, ◌<◌, ◌≤◌, inl, inr, Bool, false, Option, Some, List, [], ◌∷◌, ◌++◌, length, refl, sym, ap, subst}
+use Rattle.std.proofs.Common.{append_assoc, ◌∙◌}
 use Rattle.dbsurvey.specs.Address.{IsIn, Address, IsBefore}
 use Rattle.dbsurvey.proofs.Order.{IsIn-cases}
 use Rattle.dbsurvey.proofs.Ordering.{IsIn-flat_map}
@@ -62,11 +63,13 @@ no_tree_good file V h r t i j e = record {
 }
 
 tree_sorted : {file : List ℕ} {is_child : Bool} {from p : ℕ} {kind : TreeKind} {height : ℕ} {low high : Option ℤ} {uses : List Use} {payloads : List (List ℕ)}
-    (t : Tree file is_child from p kind height low high uses payloads) (item : ℕ) (a : Address) (r u : Reference) → IsIn r (tree_visits t item a) → IsIn u (tree_visits t item a) → AreSorted file r u
+    (t : Tree file is_child from p kind height low high uses payloads) (item : ℕ) (a : Address) (r u : Reference) → IsIn r (tree_visits t item a)
+    → IsIn u (tree_visits t item a) → AreSorted file r u
 tree_sorted {file} {kind} t item a r u i j x y m n b = by_kind kind refl
   where
     by_kind : (k : TreeKind) → kind ≡ k → is_out_of_order y x ≡ false
-    by_kind tree.Table e = (tree_keys t item a e).sorted x y (IsIn-flat_map (keys_at file) (tree_visits t item a) r x i m) (IsIn-flat_map (keys_at file) (tree_visits t item a) u y j n) b
+    by_kind tree.Table e = (tree_keys t item a e).sorted x y (IsIn-flat_map (keys_at file) (tree_visits t item a) r x i m)
+        (IsIn-flat_map (keys_at file) (tree_visits t item a) u y j n) b
     by_kind tree.Index e = absurd (subst (λ l. IsIn x l) (tree_no_keys t item a e r i) m)
 
 pub tree_good : {file : List ℕ} {is_child : Bool} {from p : ℕ} {kind : TreeKind} {height : ℕ} {low high : Option ℤ} {uses : List Use} {payloads : List (List ℕ)}
@@ -86,7 +89,8 @@ started_under k high V l h t i = let u = h t i in (k, u.0, omega arith, l, u.1)
 pub started_within : (low low' high high' : ℕ) (V : List Reference) → low' ≤ low → high ≤ high' → Each (IsStarted low high) V → Each (IsStarted low' high') V
 started_within low low' high high' V l m h t i = let u = h t i in let a = u.2 in let b = u.3 in (u.0, u.1, omega arith, omega arith, u.4)
 
-pub tree_started : {file : List ℕ} {is_child : Bool} {from p : ℕ} {kind : TreeKind} {height : ℕ} {low high : Option ℤ} {uses : List Use} {payloads : List (List ℕ)}
+pub tree_started : {file : List ℕ} {is_child : Bool} {from p : ℕ} {kind : TreeKind} {height : ℕ} {low high : Option ℤ} {uses : List Use}
+    {payloads : List (List ℕ)}
     (t : Tree file is_child from p kind height low high uses payloads) (item : ℕ) (k : ℕ) → Each (IsStarted k (k + 1)) (tree_visits t item (k ∷ []))
 tree_started t item k = started_under k (k + 1) (tree_visits t item (k ∷ [])) (omega arith) (tree_under t item (k ∷ []))
 
@@ -99,33 +103,40 @@ forest_started (and_tree {rows} i h t f) k = Each-append (IsStarted k (k + suc (
 
 pub forest_good : {file : List ℕ} {rows : List SchemaRow} {uses : List Use} (f : Forest file rows uses) (k : ℕ) → Alike (AreGood file) (forest_visits f k)
 forest_good no_tree k = λ r t i j e. absurd i
-forest_good {file} (and_tree {rows} i h t f) k = alike_both (AreGood file) k (k + 1) (k + 1 + length rows) (tree_visits t k (k ∷ [])) (forest_visits f (k + 1)) (tree_started t k k) (forest_started f (k + 1)) (tree_good t k k) (forest_good f (k + 1))
+forest_good {file} (and_tree {rows} i h t f) k = alike_both (AreGood file) k (k + 1) (k + 1 + length rows) (tree_visits t k (k ∷ [])) (forest_visits f (k + 1))
+    (tree_started t k k) (forest_started f (k + 1)) (tree_good t k k) (forest_good f (k + 1))
 
 -- the freelist has no tree page
 leaves_no_tree : (p : ℕ) (leaves : List ℕ) (j : ℕ) (a : Address) → Each IsNoTree (leaf_visits p leaves j a)
 leaves_no_tree p [] j a = Each-none IsNoTree
-leaves_no_tree p (q ∷ leaves) j a = Each-cons IsNoTree (visit_at free_leaf p j q (a ++ j ∷ [])) (leaf_visits p leaves (j + 1) a) refl (leaves_no_tree p leaves (j + 1) a)
+leaves_no_tree p (q ∷ leaves) j a = Each-cons IsNoTree (visit_at free_leaf p j q (a ++ j ∷ [])) (leaf_visits p leaves (j + 1) a) refl
+    (leaves_no_tree p leaves (j + 1) a)
 
-pub freelist_no_tree : {file : List ℕ} {p : ℕ} {uses : List Use} (t : Freelist file p uses) (from item : ℕ) (a : Address) → Each IsNoTree (freelist_visits t from item a)
+pub freelist_no_tree : {file : List ℕ} {p : ℕ} {uses : List Use} (t : Freelist file p uses) (from item : ℕ) (a : Address)
+    → Each IsNoTree (freelist_visits t from item a)
 freelist_no_tree no_trunk from item a = Each-none IsNoTree
 freelist_no_tree {file} (and_trunk {p} n l t) from item a =
     let page = page_bytes file p in
     let rest = freelist_visits t p (leaf_count page) (a ++ leaf_count page ∷ []) in
     Each-cons IsNoTree (visit_at trunk from item p a) (leaf_visits p (free_leaves page) 0 a ++ rest) refl
-    (Each-append IsNoTree (leaf_visits p (free_leaves page) 0 a) rest (leaves_no_tree p (free_leaves page) 0 a) (freelist_no_tree t p (leaf_count page) (a ++ leaf_count page ∷ [])))
+    (Each-append IsNoTree (leaf_visits p (free_leaves page) 0 a) rest (leaves_no_tree p (free_leaves page) 0 a)
+    (freelist_no_tree t p (leaf_count page) (a ++ leaf_count page ∷ [])))
 
 leaves_under : (p : ℕ) (leaves : List ℕ) (j : ℕ) (a : Address) → Each (IsUnder a) (leaf_visits p leaves j a)
 leaves_under p [] j a = Each-none (IsUnder a)
-leaves_under p (q ∷ leaves) j a = Each-cons (IsUnder a) (visit_at free_leaf p j q (a ++ j ∷ [])) (leaf_visits p leaves (j + 1) a) (j ∷ [], refl) (leaves_under p leaves (j + 1) a)
+leaves_under p (q ∷ leaves) j a = Each-cons (IsUnder a) (visit_at free_leaf p j q (a ++ j ∷ [])) (leaf_visits p leaves (j + 1) a) (j ∷ [], refl)
+    (leaves_under p leaves (j + 1) a)
 
-pub freelist_under : {file : List ℕ} {p : ℕ} {uses : List Use} (t : Freelist file p uses) (from item : ℕ) (a : Address) → Each (IsUnder a) (freelist_visits t from item a)
+pub freelist_under : {file : List ℕ} {p : ℕ} {uses : List Use} (t : Freelist file p uses) (from item : ℕ) (a : Address)
+    → Each (IsUnder a) (freelist_visits t from item a)
 freelist_under no_trunk from item a = Each-none (IsUnder a)
 freelist_under {file} (and_trunk {p} n l t) from item a =
     let page = page_bytes file p in
     let rest = freelist_visits t p (leaf_count page) (a ++ leaf_count page ∷ []) in
     Each-cons (IsUnder a) (visit_at trunk from item p a) (leaf_visits p (free_leaves page) 0 a ++ rest) (under_itself trunk from item p a)
     (Each-append (IsUnder a) (leaf_visits p (free_leaves page) 0 a) rest (leaves_under p (free_leaves page) 0 a)
-    (Each-implies (IsUnder (a ++ leaf_count page ∷ [])) (IsUnder a) rest (λ u h. (leaf_count page ∷ h.0, h.1 ∙ append_assoc a (leaf_count page ∷ []) h.0)) (freelist_under t p (leaf_count page) (a ++ leaf_count page ∷ []))))
+    (Each-implies (IsUnder (a ++ leaf_count page ∷ [])) (IsUnder a) rest (λ u h. (leaf_count page ∷ h.0, h.1 ∙ append_assoc a (leaf_count page ∷ []) h.0))
+    (freelist_under t p (leaf_count page) (a ++ leaf_count page ∷ []))))
 
 pub freelist_good : {file : List ℕ} {p : ℕ} {uses : List Use} (t : Freelist file p uses) (from item : ℕ) (a : Address)
     → Alike (AreGood file) (freelist_visits t from item a)

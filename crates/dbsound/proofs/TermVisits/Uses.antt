@@ -6,8 +6,10 @@ use Rattle.dbformat.specs.Address.{overflow_step, child_step}
 use Rattle.dbformat.specs.File.{page_bytes}
 use Rattle.dbformat.specs.Cell.{Cell}
 use Rattle.dbformat.specs.SchemaRow.{SchemaRow}
-use Rattle.dbformat.specs.Reference.{Role, trunk, free_leaf, Reference, leaf_count, free_leaves, is_root, role_of, from_of, root, child, first_overflow, later_overflow, trunk, free_leaf}
-use Rattle.dbformat.specs.Terms.{Use, use_as, Chain, last, full, Payload, whole, split, Payloads, none, more, role_in_tree, Tree, leaf, interior, Children, right_only, and_left, Freelist, no_trunk, and_trunk, is_root_use}
+use Rattle.dbformat.specs.Reference.{Role, trunk, free_leaf, Reference, leaf_count, free_leaves, is_root, role_of, from_of, root, child, first_overflow}
+use Rattle.dbformat.specs.Reference.{later_overflow, trunk, free_leaf}
+use Rattle.dbformat.specs.Terms.{Use, use_as, Chain, last, full, Payload, whole, split, Payloads, none, more, role_in_tree, Tree, leaf, interior, Children}
+use Rattle.dbformat.specs.Terms.{right_only, and_left, Freelist, no_trunk, and_trunk, is_root_use}
 use Rattle.dbformat.specs.Sound.{Forest, no_tree, and_tree}
 use Rattle.dbformat.specs.declared.TreeKind.{TreeKind}
 use Rattle.dbsound.specs.Below.{use_of}
@@ -33,15 +35,18 @@ payload_uses (split e t) i a = chain_uses t i (a ++ overflow_step i ∷ [])
 payloads_uses : {file : List ℕ} {p : ℕ} {cs : List Cell} {uses : List Use} {payloads : List (List ℕ)} (t : Payloads file p cs uses payloads)
     (i : ℕ) (a : Address) → uses_of (payloads_visits t i a) ≡ uses
 payloads_uses none i a = refl
-payloads_uses (more {uses = us} {rest} t ts) i a = both (payload_visits t i a) (payloads_visits ts (i + 1) a) us rest (payload_uses t i a) (payloads_uses ts (i + 1) a)
+payloads_uses (more {uses = us} {rest} t ts) i a =
+    both (payload_visits t i a) (payloads_visits ts (i + 1) a) us rest (payload_uses t i a) (payloads_uses ts (i + 1) a)
 
 mutual
-  pub tree_uses : {file : List ℕ} {is_child : Bool} {from p : ℕ} {kind : TreeKind} {height : ℕ} {low high : Option ℤ} {uses : List Use} {payloads : List (List ℕ)}
+  pub tree_uses : {file : List ℕ} {is_child : Bool} {from p : ℕ} {kind : TreeKind} {height : ℕ} {low high : Option ℤ} {uses : List Use}
+      {payloads : List (List ℕ)}
       (t : Tree file is_child from p kind height low high uses payloads) (item : ℕ) (a : Address) → uses_of (tree_visits t item a) ≡ uses
   tree_uses (leaf {is_child} {from} {p} {kind} v w l r ps) item a = ap (λ us. use_as (role_in_tree is_child kind) from p ∷ us) (payloads_uses ps 0 a)
   tree_uses (interior {is_child} {from} {p} {kind} v w r cs) item a = ap (λ us. use_as (role_in_tree is_child kind) from p ∷ us) (children_uses cs 0 a)
 
-  children_uses : {file : List ℕ} {p : ℕ} {kind : TreeKind} {height : ℕ} {low high : Option ℤ} {cs : List Cell} {right : ℕ} {uses : List Use} {payloads : List (List ℕ)}
+  children_uses : {file : List ℕ} {p : ℕ} {kind : TreeKind} {height : ℕ} {low high : Option ℤ} {cs : List Cell} {right : ℕ} {uses : List Use}
+      {payloads : List (List ℕ)}
       (t : Children file p kind height low high cs right uses payloads) (i : ℕ) (a : Address) → uses_of (children_visits t i a) ≡ uses
   children_uses (right_only t) i a = tree_uses t i (a ++ child_step i ∷ [])
   children_uses (and_left {chained} {uses = us} {rest} ps l lo hi t cs) i a =
@@ -53,15 +58,19 @@ leaf_uses : (p : ℕ) (leaves : List ℕ) (j : ℕ) (a : Address) → uses_of (l
 leaf_uses p [] j a = refl
 leaf_uses p (q ∷ leaves) j a = ap (λ us. use_as free_leaf p q ∷ us) (leaf_uses p leaves (j + 1) a)
 
-pub freelist_uses : {file : List ℕ} {p : ℕ} {uses : List Use} (t : Freelist file p uses) (from item : ℕ) (a : Address) → uses_of (freelist_visits t from item a) ≡ uses
+pub freelist_uses : {file : List ℕ} {p : ℕ} {uses : List Use} (t : Freelist file p uses) (from item : ℕ) (a : Address) → uses_of (freelist_visits t from item a)
+    ≡ uses
 freelist_uses no_trunk from item a = refl
 freelist_uses {file} (and_trunk {p} {uses = us} n l t) from item a = ap (λ us. use_as trunk 0 p ∷ us)
-    (both (leaf_visits p (free_leaves (page_bytes file p)) 0 a) (freelist_visits t p (leaf_count (page_bytes file p)) (a ++ leaf_count (page_bytes file p) ∷ []))
-    (map (use_as free_leaf p) (free_leaves (page_bytes file p))) us (leaf_uses p (free_leaves (page_bytes file p)) 0 a) (freelist_uses t p (leaf_count (page_bytes file p)) (a ++ leaf_count (page_bytes file p) ∷ [])))
+    (both (leaf_visits p (free_leaves (page_bytes file p)) 0 a)
+    (freelist_visits t p (leaf_count (page_bytes file p)) (a ++ leaf_count (page_bytes file p) ∷ []))
+    (map (use_as free_leaf p) (free_leaves (page_bytes file p))) us (leaf_uses p (free_leaves (page_bytes file p)) 0 a)
+    (freelist_uses t p (leaf_count (page_bytes file p)) (a ++ leaf_count (page_bytes file p) ∷ [])))
 
 pub forest_uses : {file : List ℕ} {rows : List SchemaRow} {uses : List Use} (f : Forest file rows uses) (k : ℕ) → uses_of (forest_visits f k) ≡ uses
 forest_uses no_tree k = refl
-forest_uses (and_tree {uses = us} {rest} i h t f) k = both (tree_visits t k (k ∷ [])) (forest_visits f (k + 1)) us rest (tree_uses t k (k ∷ [])) (forest_uses f (k + 1))
+forest_uses (and_tree {uses = us} {rest} i h t f) k =
+    both (tree_visits t k (k ∷ [])) (forest_visits f (k + 1)) us rest (tree_uses t k (k ∷ [])) (forest_uses f (k + 1))
 
 pub root_use : (r : Reference) → is_root_use (use_of r) ≡ is_root (role_of r)
 root_use r = by_role (role_of r)

@@ -8,7 +8,9 @@ use Rattle.dbformat.specs.EndFaults.{sum_faults, use_fault, late_root_fault}
 use Rattle.dbformat.specs.File.{map_entry, page_bytes, refusal_of}
 use Rattle.dbformat.specs.FixedPages.{fixed_use, map_page_of}
 use Rattle.dbformat.specs.Head.{cell_count, content_start, first_freeblock, fragmented_bytes, own_kind, right_number, type_byte, view}
-use Rattle.dbformat.specs.Header.{change_counter, encoding, encoding_number, first_trunk, freelist_count, greatest_root, has_pointer_map, incremental_vacuum, is_size_valid, page_count, page_size, reserved_bytes, schema_format, stated_pages, usable_size, version_valid_for, whole_pages}
+use Rattle.dbformat.specs.Header.{change_counter, encoding, encoding_number, first_trunk, freelist_count, greatest_root, has_pointer_map, incremental_vacuum}
+use Rattle.dbformat.specs.Header.{is_size_valid, page_count, page_size, reserved_bytes, schema_format, stated_pages, usable_size, version_valid_for}
+use Rattle.dbformat.specs.Header.{whole_pages}
 use Rattle.dbformat.specs.HeaderFaults.{header_faults}
 use Rattle.dbformat.specs.KeyFaults.{key_faults, keys, row_faults}
 use Rattle.dbformat.specs.PageFaults.{depth_fault, page_faults, tree_page_faults}
@@ -27,7 +29,11 @@ use Rattle.dbsound.proofs.each_rule_can_fail_alone.Goals as goal
 
 -- by computation
 pub returns : goal.returns
-unfolding cell cell_count cell_pointer cells change_counter content_start coverage depth_fault encoding encoding_number faults first_freeblock first_trunk fixed_use fragmented_bytes freeblocks freelist_count greatest_root has_pointer_map header_faults incremental_vacuum is_size_valid items key_faults keys late_root_fault later_starts local_len map_entry map_page_of own_kind page_bytes page_count page_faults page_size payload record_values refusal_of refused reserved_bytes right_number row_faults rules_of schema schema_format schema_row serial_len stated_pages story_of sum_faults telling tree_page_faults tree_view type_byte unused usable_size use_fault varint version_valid_for view walk_faults whole_pages is_utf8 chars utf16_chars encode
+unfolding cell cell_count cell_pointer cells change_counter content_start coverage depth_fault encoding encoding_number faults first_freeblock first_trunk
+    fixed_use fragmented_bytes freeblocks freelist_count greatest_root has_pointer_map header_faults incremental_vacuum is_size_valid items key_faults keys
+    late_root_fault later_starts local_len map_entry map_page_of own_kind page_bytes page_count page_faults page_size payload record_values refusal_of refused
+    reserved_bytes right_number row_faults rules_of schema schema_format schema_row serial_len stated_pages story_of sum_faults telling tree_page_faults
+    tree_view type_byte unused usable_size use_fault varint version_valid_for view walk_faults whole_pages is_utf8 chars utf16_chars encode
 returns c = record {
   is_read = refused_beside long_row_is_sound refl;
   header = fails_beside long_row_is_sound refl refl;

@@ -1,5 +1,6 @@
 -- One turn of the walk along a chain.
-use Rattle.std.proofs.Common.{◌≡◌, ℕ, ◌+◌, ◌-◌, ◌≤◌, ◌<◌, true, false, List, [], ◌∷◌, ◌++◌, Option, Some, None, Ok, Err, refl, sym, ap, subst, ◌∙◌, append_assoc}
+use Rattle.std.proofs.Common.{◌≡◌, ℕ, ◌+◌, ◌-◌, ◌≤◌, ◌<◌, true, false, List, [], ◌∷◌, ◌++◌, Option, Some, None, Ok, Err, refl, sym, ap, subst, ◌∙◌}
+use Rattle.std.proofs.Common.{append_assoc}
 use Rattle.std.specs.Prelude.{IfSome}
 use Rattle.std.proofs.lemmas.List.{append-nil}
 use Rattle.dbsurvey.specs.Moves.{Moves}
@@ -38,11 +39,14 @@ if_some_all Q None f = tt
 if_some_all Q (Some x) f = f x
 
 quiet_chain : (file : List ℕ) (d : Reference) (left : ℕ) → bytes_left (role_of d) ≡ Some left → AreQuiet own_visit (errands_of (story_of file) d)
-quiet_chain file d left h = subst (λ es. AreQuiet own_visit es) (sym (by_chain file d left h)) (all_quiet.2 d (overflow_links d.page (usable_size file) left (page_bytes file d.page)))
+quiet_chain file d left h = subst (λ es. AreQuiet own_visit es) (sym (by_chain file d left h))
+    (all_quiet.2 d (overflow_links d.page (usable_size file) left (page_bytes file d.page)))
 
-module _ {S : Type 0} (takes drops : S → Finding → S → Type 0) (file : List ℕ) (W : List Reference) (c : Reference) (before : S) (chain : Chain) (place : ChainPlace) (marks : List Mark) (s : S) {first old : Option RowSieve} (on : IsOnWay takes file W c before chain place marks s first old) where
+module _ {S : Type 0} (takes drops : S → Finding → S → Type 0) (file : List ℕ) (W : List Reference) (c : Reference) (before : S) (chain : Chain)
+    (place : ChainPlace) (marks : List Mark) (s : S) {first old : Option RowSieve} (on : IsOnWay takes file W c before chain place marks s first old) where
   -- the next reference is refused
-  pub turn_refused : (marks' : List Mark) (t : S) → Enters takes drops file on.visited on.d (Ok false) marks' s t → IsDone {A = Unit {0}} takes drops file W (Go c ∷ []) (Ok tt) marks' before t × FeedsChain file W c first old
+  pub turn_refused : (marks' : List Mark) (t : S) → Enters takes drops file on.visited on.d (Ok false) marks' s t
+      → IsDone {A = Unit {0}} takes drops file W (Go c ∷ []) (Ok tt) marks' before t × FeedsChain file W c first old
   turn_refused marks' t e = (
     left_none takes file W (Go c ∷ []) before on.visited marks' t drops tt
         (left_refused takes file W (Go c ∷ []) before on.visited marks s t marks' on.d [] on.rest e.0 e.1 e.2),
@@ -51,7 +55,8 @@ module _ {S : Type 0} (takes drops : S → Finding → S → Type 0) (file : Lis
 
   -- it is followed, but its page could not be read or reported
   pub turn_stopped : (x : RunError) (marks' : List Mark) (m t : S) → Enters takes drops file on.visited on.d (Ok true) marks' s m
-      → StopsBy takes drops x m (told_at file (on.visited ++ (on.d ∷ [])) (at_page on.d)) t → IsDone {A = Unit {0}} takes drops file W (Go c ∷ []) (Err x) marks' before t
+      → StopsBy takes drops x m (told_at file (on.visited ++ (on.d ∷ [])) (at_page on.d)) t
+      → IsDone {A = Unit {0}} takes drops file W (Go c ∷ []) (Err x) marks' before t
   turn_stopped x marks' m t e h = left_stop takes file W (Go c ∷ []) before on.visited marks s drops t marks' x (Go on.d ∷ [])
       (told_at file (on.visited ++ (on.d ∷ [])) (at_page on.d)) (told_below file (on.visited ++ (on.d ∷ [])) (errands_of (story_of file) on.d ++ [])) on.rest
       (sym (told_visit file on.visited on.d [] e.0 (quiet_chain file on.d place.left on.left)))
@@ -60,7 +65,8 @@ module _ {S : Type 0} (takes drops : S → Finding → S → Type 0) (file : Lis
   turn_visited : (marks' : List Mark) (m t : S) → Enters takes drops file on.visited on.d (Ok true) marks' s m
       → Moves takes m (told_at file (on.visited ++ (on.d ∷ [])) (at_page on.d)) t
       → IsLeft takes file W (Go c ∷ []) before (on.visited ++ (on.d ∷ [])) (errands_of (story_of file) on.d ++ []) (marks', t)
-  turn_visited marks' m t e h = left_visit takes file W (Go c ∷ []) before on.visited marks s t marks' on.d [] on.rest e.0 (quiet_chain file on.d place.left on.left) e.1
+  turn_visited marks' m t e h = left_visit takes file W (Go c ∷ []) before on.visited marks s t marks' on.d [] on.rest e.0
+      (quiet_chain file on.d place.left on.left) e.1
       (subst (λ y. Moves takes y (told_at file (on.visited ++ (on.d ∷ [])) (at_page on.d)) t) (sym e.2) h)
 
   since_more : on.visited ++ on.d ∷ [] ≡ W ++ (on.pages ++ on.d ∷ [])
@@ -72,9 +78,11 @@ module _ {S : Type 0} (takes drops : S → Finding → S → Type 0) (file : Lis
       → (new : Option RowSieve) → Feeds old (held_bytes file on.d) new
       → IsDone {A = Unit {0}} takes drops file W (Go c ∷ []) (Ok tt) marks' before t × FeedsChain file W c first new
   turn_last marks' m t e h l new f =
-      let n = subst (λ es. IsLeft takes file W (Go c ∷ []) before (on.visited ++ (on.d ∷ [])) es (marks', t)) (ap (λ es. es ++ []) (last_errands file on.d place.left on.left l)) (turn_visited marks' m t e h) in (
+      let n = subst (λ es. IsLeft takes file W (Go c ∷ []) before (on.visited ++ (on.d ∷ [])) es (marks', t))
+      (ap (λ es. es ++ []) (last_errands file on.d place.left on.left l)) (turn_visited marks' m t e h) in (
         left_none takes file W (Go c ∷ []) before (on.visited ++ (on.d ∷ [])) marks' t drops tt n,
-        fed_whole file W c first new (on.pages ++ on.d ∷ []) (on.visited ++ on.d ∷ []) (feeds_page file first old new on.pages on.d on.fed f) since_more n.visits,
+        fed_whole file W c first new (on.pages ++ on.d ∷ []) (on.visited ++ on.d ∷ []) (feeds_page file first old new on.pages on.d on.fed f) since_more
+            n.visits,
       )
 
   -- the next one is after it
@@ -93,15 +101,24 @@ module _ {S : Type 0} (takes drops : S → Finding → S → Type 0) (file : Lis
     visited = on.visited ++ (on.d ∷ []);
     since = since_more;
     d = next_of on.d (place.left - (usable_size file - 4)) (overflow_next (page_bytes file on.d.page));
-    step = record { page = ap (λ p. overflow_next (page_bytes file p)) on.step.page ∙ sym n.number; mark = ap LaterOverflow on.step.page; from = on.step.page; item = refl; deep = refl };
+    step = record {
+      page = ap (λ p. overflow_next (page_bytes file p)) on.step.page ∙ sym n.number;
+      mark = ap LaterOverflow on.step.page;
+      from = on.step.page;
+      item = refl;
+      deep = refl;
+    };
     left = refl;
     on = next_on_chain chain place.number on.d (place.left - (usable_size file - 4)) (overflow_next (page_bytes file on.d.page)) on.on;
     zeros = n.zeros ∙ ap (λ p. is_zeros (usable_size file) (page_bytes file p)) (sym on.step.page);
-    head = head_next file chain on.visited place.number on.d on.on on.head on.rest.past (chain_few chain place.number on.d on.on) (place.left - (usable_size file - 4)) (overflow_next (page_bytes file on.d.page));
-    rest = subst (λ es. IsLeft takes file W (Go c ∷ []) before (on.visited ++ (on.d ∷ [])) es (marks', t)) (ap (λ es. es ++ []) (more_errands file on.d place.left on.left l)) (turn_visited marks' m t e h);
+    head = head_next file chain on.visited place.number on.d on.on on.head on.rest.past (chain_few chain place.number on.d on.on)
+        (place.left - (usable_size file - 4)) (overflow_next (page_bytes file on.d.page));
+    rest = subst (λ es. IsLeft takes file W (Go c ∷ []) before (on.visited ++ (on.d ∷ [])) es (marks', t))
+        (ap (λ es. es ++ []) (more_errands file on.d place.left on.left l)) (turn_visited marks' m t e h);
   }
 
-  pub turn_more_by : (marks' : List Mark) (m t : S) (next : NextPage) (room : ℕ) → room ≡ usable_size file - 4 → Enters takes drops file on.visited on.d (Ok true) marks' s m
+  pub turn_more_by : (marks' : List Mark) (m t : S) (next : NextPage) (room : ℕ) → room ≡ usable_size file - 4
+      → Enters takes drops file on.visited on.d (Ok true) marks' s m
       → Moves takes m (told_at file (on.visited ++ (on.d ∷ [])) (at_page on.d)) t → usable_size file - 4 < place.left → IsNextPage file place.step.page next
       → (new : Option RowSieve) → Feeds old (held_bytes file on.d) new
       → IsOnWay takes file W c before chain (record {
@@ -122,8 +139,16 @@ none_from : (file : List ℕ) (c : Reference) (left : ℕ) → role_of c ≡ fir
 none_from file c left h = rw h refl
 
 -- at the first page all is left
-pub way_start : {S : Type 0} (takes : S → Finding → S → Type 0) (file : List ℕ) (W : List Reference) (c : Reference) (chain : Chain) (marks : List Mark) (s : S) (sieve : Option RowSieve) → IsChainOf file chain c → IsNext W c → AreMarksOf file W marks
-    → IsOnWay takes file W c s chain (record { number = 0; left = chain.left; step = record { page = chain.first; mark = FirstOverflow chain.page; from = chain.page; item = chain.cell; is_too_deep = false }; is_in_zeros = false }) marks s sieve sieve
+pub way_start : {S : Type 0} (takes : S → Finding → S → Type 0) (file : List ℕ) (W : List Reference) (c : Reference) (chain : Chain) (marks : List Mark) (s : S)
+    (sieve : Option RowSieve) → IsChainOf file chain c → IsNext W c → AreMarksOf file W marks
+    → IsOnWay takes file W c s chain (record {
+      number = 0;
+      left = chain.left;
+      step =
+          record { page = chain.first; mark = FirstOverflow chain.page; from = chain.page; item = chain.cell; is_too_deep = false };
+      is_in_zeros = false;
+    }) marks
+    s sieve sieve
 way_start takes file W c chain marks s sieve h next m = record {
   pages = [];
   fed = feeds_none sieve;

@@ -1,5 +1,6 @@
 -- What a sieve is fed of a payload along its overflow chain.
-use Rattle.std.proofs.Common.{◌≡◌, ℕ, Bool, true, cond, ◌&&◌, inl, inr, List, [], ◌∷◌, ◌++◌, Some, refl, sym, ap, subst, ◌∙◌, arith, false, Option, None, append_assoc, Result, Ok, Err}
+use Rattle.std.proofs.Common.{◌≡◌, ℕ, Bool, true, cond, ◌&&◌, inl, inr, List, [], ◌∷◌, ◌++◌, Some, refl, sym, ap, subst, ◌∙◌, arith, false, Option, None}
+use Rattle.std.proofs.Common.{append_assoc, Result, Ok, Err}
 use Rattle.std.specs.Prelude.{flat_map, filter, nat_eq, unwrap_or, OnOk}
 use Rattle.std.specs.List.{starts_with}
 use Rattle.std.proofs.lemmas.Bool.{cases_Bool, and_parts, eqb-true, eq-eqb}
@@ -56,11 +57,14 @@ filter_all p [] h = refl
 filter_all p (x ∷ xs) h = ap (λ b. cond b (x ∷ filter p xs) (filter p xs)) (h x (inl refl)) ∙ ap (λ l. x ∷ l) (filter_all p xs (λ y i. h y (inr i)))
 
 -- before a cell's chain nothing of it was visited
-pub chain_before : (W : List Reference) (a : Address) (i : ℕ) → ((u : Reference) → IsIn u W → IsBefore u.address (then_step a (overflow_step i))) → chain W a i ≡ []
-chain_before W a i h = filter_none (λ r. starts_with nat_eq r.address (then_step a (overflow_step i))) W (λ u j e. begins_not (then_step a (overflow_step i)) u.address (h u j) e)
+pub chain_before : (W : List Reference) (a : Address) (i : ℕ) → ((u : Reference) → IsIn u W → IsBefore u.address (then_step a (overflow_step i))) → chain W a i
+    ≡ []
+chain_before W a i h = filter_none (λ r. starts_with nat_eq r.address (then_step a (overflow_step i))) W
+    (λ u j e. begins_not (then_step a (overflow_step i)) u.address (h u j) e)
 
 -- so its payload is that in the cell
-pub payload_before : (file : List ℕ) (W : List Reference) (a : Address) (i : ℕ) (cell : Cell) → ((u : Reference) → IsIn u W → IsBefore u.address (then_step a (overflow_step i))) → payload file W a i cell ≡ cell.local
+pub payload_before : (file : List ℕ) (W : List Reference) (a : Address) (i : ℕ) (cell : Cell)
+    → ((u : Reference) → IsIn u W → IsBefore u.address (then_step a (overflow_step i))) → payload file W a i cell ≡ cell.local
 unfolding payload
 payload_before file W a i cell h = ap (λ rs. cell.local ++ flat_map (held_bytes file) rs) (chain_before W a i h) ∙ append-nil cell.local
 
@@ -68,20 +72,25 @@ module _ (file : List ℕ) (W : List Reference) (c : Reference) (a : Address) (i
   -- all that is visited below the first reference of a chain begins with its address
   below_begins : (t : Reference) → IsIn t (visited_below file W (Go c ∷ [])) → starts_with nat_eq t.address (then_step a (overflow_step i)) ≡ true
   below_begins t j =
-      let part : IsPart (rules_of file) W (c ∷ []) (part_of (rules_of file) (geometry file).pages W (c ∷ [])) = traverse_part (rules_of file) (geometry file).pages (are_rules file) (geometry file).pages W (c ∷ []) (free_at_most (geometry file).pages W) ((λ y i. absurd i), tt) in
+      let part : IsPart (rules_of file) W (c ∷ []) (part_of (rules_of file) (geometry file).pages W (c ∷ [])) =
+      traverse_part (rules_of file) (geometry file).pages (are_rules file) (geometry file).pages W (c ∷ []) (free_at_most (geometry file).pages W)
+      ((λ y i. absurd i), tt) in
       let k = part_below (rules_of file) W (c ∷ []) (part_of (rules_of file) (geometry file).pages W (c ∷ [])) part t j in
       let e : k.0.address ≡ then_step a (overflow_step i) = elim k.1 [ inl f ↦ ap (λ r. r.address) f ∙ at | inr n ↦ absurd n ] in
-      subst (λ b. starts_with nat_eq b (then_step a (overflow_step i)) ≡ true) (sym (k.2.1 ∙ ap (λ b. b ++ k.2.0) e)) (begins (then_step a (overflow_step i)) k.2.0)
+      subst (λ b. starts_with nat_eq b (then_step a (overflow_step i)) ≡ true) (sym (k.2.1 ∙ ap (λ b. b ++ k.2.0) e))
+      (begins (then_step a (overflow_step i)) k.2.0)
 
   pub chain_below : chain (W ++ visited_below file W (Go c ∷ [])) a i ≡ visited_below file W (Go c ∷ [])
   chain_below =
       let test = λ (r : Reference). starts_with nat_eq r.address (then_step a (overflow_step i)) in
       filter-append test W (visited_below file W (Go c ∷ []))
-      ∙ ap (λ l. l ++ filter test (visited_below file W (Go c ∷ []))) (chain_before W a i (λ u j. subst (λ b. IsBefore u.address b) at (next u (Go c) j (inl refl))))
+      ∙ ap (λ l. l ++ filter test (visited_below file W (Go c ∷ [])))
+      (chain_before W a i (λ u j. subst (λ b. IsBefore u.address b) at (next u (Go c) j (inl refl))))
       ∙ filter_all test (visited_below file W (Go c ∷ [])) below_begins
 
   -- the payload of the cell: the bytes in it, and then those on the pages of its chain
-  pub payload_below : (cell : Cell) → payload file (W ++ visited_below file W (Go c ∷ [])) a i cell ≡ cell.local ++ flat_map (held_bytes file) (visited_below file W (Go c ∷ []))
+  pub payload_below : (cell : Cell) → payload file (W ++ visited_below file W (Go c ∷ [])) a i cell ≡ cell.local
+      ++ flat_map (held_bytes file) (visited_below file W (Go c ∷ []))
   unfolding payload
   payload_below cell = ap (λ rs. cell.local ++ flat_map (held_bytes file) rs) chain_below
 
@@ -104,15 +113,19 @@ feeds_then None None (Some t) x y h k = absurd k
 feeds_then None (Some s) c x y h k = absurd h
 feeds_then (Some r) None c x y h k = absurd h
 feeds_then (Some r) (Some s) None x y h k = absurd k
-feeds_then (Some r) (Some s) (Some t) x y h k = λ size e taken f. subst (λ l. HasTaken t size e l) (append_assoc taken x y) (k size e (taken ++ x) (h size e taken f))
+feeds_then (Some r) (Some s) (Some t) x y h k = λ size e taken f. subst (λ l. HasTaken t size e l) (append_assoc taken x y)
+    (k size e (taken ++ x) (h size e taken f))
 
 -- the pages so far, and one more
-pub feeds_page : (file : List ℕ) (a b c : Option RowSieve) (pages : List Reference) (d : Reference) → FeedsPages file a pages b → Feeds b (held_bytes file d) c → FeedsPages file a (pages ++ d ∷ []) c
-feeds_page file a b c pages d h k = subst (λ l. Feeds a l c) (sym (flat_map-append (held_bytes file) pages (d ∷ []) ∙ ap (λ l. flat_map (held_bytes file) pages ++ l) (append-nil (held_bytes file d))))
+pub feeds_page : (file : List ℕ) (a b c : Option RowSieve) (pages : List Reference) (d : Reference) → FeedsPages file a pages b → Feeds b (held_bytes file d) c
+    → FeedsPages file a (pages ++ d ∷ []) c
+feeds_page file a b c pages d h k = subst (λ l. Feeds a l c)
+    (sym (flat_map-append (held_bytes file) pages (d ∷ []) ∙ ap (λ l. flat_map (held_bytes file) pages ++ l) (append-nil (held_bytes file d))))
     (feeds_then a b c (flat_map (held_bytes file) pages) (held_bytes file d) h k)
 
 -- what an overflow page holds
-pub held_is : (file : List ℕ) (c : Reference) (left : ℕ) → bytes_left (role_of c) ≡ Some left → held_bytes file c ≡ overflow_bytes (usable_size file) left (page_bytes file c.page)
+pub held_is : (file : List ℕ) (c : Reference) (left : ℕ) → bytes_left (role_of c) ≡ Some left → held_bytes file c
+    ≡ overflow_bytes (usable_size file) left (page_bytes file c.page)
 held_is file c left h = ap (λ o. overflow_bytes (usable_size file) (unwrap_or o 0) (page_bytes file c.page)) h
 
 same_rest : {X : Type 0} (W xs ys : List X) → W ++ xs ≡ W ++ ys → xs ≡ ys
@@ -120,13 +133,15 @@ same_rest [] xs ys h = h
 same_rest (w ∷ W) xs ys h = same_rest W xs ys (let k : W ++ xs ≡ W ++ ys = cc in k)
 
 -- at the end of a chain its pages are all that is below its first reference
-pub fed_whole : (file : List ℕ) (W : List Reference) (c : Reference) (old new : Option RowSieve) (pages U : List Reference) → FeedsPages file old pages new → U ≡ W ++ pages
+pub fed_whole : (file : List ℕ) (W : List Reference) (c : Reference) (old new : Option RowSieve) (pages U : List Reference) → FeedsPages file old pages new → U
+    ≡ W ++ pages
     → U ++ visited_below file U [] ≡ W ++ visited_below file W (Go c ∷ []) → FeedsChain file W c old new
 fed_whole file W c old new pages U h e v = subst (λ l. FeedsPages file old l new)
     (same_rest W pages (visited_below file W (Go c ∷ [])) (sym e ∙ sym (append-nil U) ∙ ap (λ l. U ++ l) (sym (visited_none file U)) ∙ v)) h
 
 -- the same where the last reference is refused
-pub fed_refused : (file : List ℕ) (W : List Reference) (c d : Reference) (old new : Option RowSieve) (pages U : List Reference) → FeedsPages file old pages new → U ≡ W ++ pages → is_followed (rules_of file) U d ≡ false
+pub fed_refused : (file : List ℕ) (W : List Reference) (c d : Reference) (old new : Option RowSieve) (pages U : List Reference) → FeedsPages file old pages new
+    → U ≡ W ++ pages → is_followed (rules_of file) U d ≡ false
     → U ++ visited_below file U (Go d ∷ []) ≡ W ++ visited_below file W (Go c ∷ []) → FeedsChain file W c old new
 fed_refused file W c d old new pages U h e f v = fed_whole file W c old new pages U h e (ap (λ l. U ++ l) (sym (visited_refused file U d [] f)) ∙ v)
 
@@ -137,17 +152,25 @@ on_ok (Ok a) p f = f p
 on_ok (Err e) p f = tt
 
 -- no chain: nothing is fed
-pub feeds_nothing : (file : List ℕ) (U : List Reference) (c : Reference) (i : ℕ) (overflow : Option (ℕ × ℕ)) (sieve : Option RowSieve) → overflow ≡ None → FeedsPayload file U c i overflow sieve sieve
+pub feeds_nothing : (file : List ℕ) (U : List Reference) (c : Reference) (i : ℕ) (overflow : Option (ℕ × ℕ)) (sieve : Option RowSieve) → overflow ≡ None
+    → FeedsPayload file U c i overflow sieve sieve
 feeds_nothing file U c i overflow sieve e = subst (λ o. FeedsPayload file U c i o sieve sieve) (sym e) (record {
-  fed = λ x e before h. subst (λ l. HasFed sieve x.size e l) (sym (ap (λ V. payload file V c.address i x) (ap (λ V. U ++ V) (visited_none file U) ∙ append-nil U) ∙ payload_before file U c.address i x before)) h;
+  fed = λ x e before h. subst (λ l. HasFed sieve x.size e l)
+      (sym (ap (λ V. payload file V c.address i x) (ap (λ V. U ++ V) (visited_none file U) ∙ append-nil U) ∙ payload_before file U c.address i x before)) h;
 })
 
 -- the reference of a cell to its first overflow page
 abbrev pub first_of : Reference → ℕ → ℕ → ℕ → Reference
-first_of c i first left = record { address = then_step c.address (overflow_step i); page = first; role = record { role = first_overflow left; from = c.page; item = i } }
+first_of c i first left = record {
+  address = then_step c.address (overflow_step i);
+  page = first;
+  role =
+      record { role = first_overflow left; from = c.page; item = i };
+}
 
 -- a chain: its pages are fed
-pub feeds_chain : (file : List ℕ) (U : List Reference) (c : Reference) (i first left : ℕ) (overflow : Option (ℕ × ℕ)) (old new : Option RowSieve) → overflow ≡ Some (first, left) → IsNext U (first_of c i first left) → FeedsChain file U (first_of c i first left) old new
+pub feeds_chain : (file : List ℕ) (U : List Reference) (c : Reference) (i first left : ℕ) (overflow : Option (ℕ × ℕ)) (old new : Option RowSieve) → overflow
+    ≡ Some (first, left) → IsNext U (first_of c i first left) → FeedsChain file U (first_of c i first left) old new
     → FeedsPayload file U c i overflow old new
 feeds_chain file U c i first left overflow old new e next fed = subst (λ o. FeedsPayload file U c i o old new) (sym e) (by_sieve old new fed)
   where

@@ -1,5 +1,6 @@
 -- The cell that an overflow chain belongs to, by the visits so far.
-use Rattle.std.proofs.Common.{◌≡◌, ℕ, ◌+◌, ◌-◌, ◌≤◌, Bool, true, false, cond, not, ◌&&◌, inl, inr, List, [], ◌∷◌, ◌++◌, length, take, Option, Some, None, refl, sym, ap, ap₂, ◌∙◌, arith}
+use Rattle.std.proofs.Common.{◌≡◌, ℕ, ◌+◌, ◌-◌, ◌≤◌, Bool, true, false, cond, not, ◌&&◌, inl, inr, List, [], ◌∷◌, ◌++◌, length, take, Option, Some, None, refl}
+use Rattle.std.proofs.Common.{sym, ap, ap₂, ◌∙◌, arith}
 use Rattle.std.specs.Prelude.{find, ◌==◌}
 use Rattle.std.specs.Option.{option_map_or, option_or}
 use Rattle.std.proofs.Math.Seq.{take-length}
@@ -33,7 +34,8 @@ chain_few chain number d on = by_address d.address on.place
     few [] i n e = absurd (let k : None ≡ Some (i, n) = e in cc)
     few (step ∷ steps) i n e = by_step (is_child_step step) e (few steps i n)
       where
-        by_step : (b : Bool) → cond b (chain_on steps) (Some (cell_of_step step, length steps)) ≡ Some (i, n) → (chain_on steps ≡ Some (i, n) → n ≤ length steps) → n ≤ length (step ∷ steps)
+        by_step : (b : Bool) → cond b (chain_on steps) (Some (cell_of_step step, length steps)) ≡ Some (i, n)
+            → (chain_on steps ≡ Some (i, n) → n ≤ length steps) → n ≤ length (step ∷ steps)
         by_step true e f = let l = f e in omega arith
         by_step false e f = let k : ◌≡◌ {A = ℕ × ℕ} (cell_of_step step, length steps) (i, n) = cc in let l : length steps ≡ n = ap (λ x. x.1) k in omega arith
 
@@ -42,8 +44,10 @@ chain_few chain number d on = by_address d.address on.place
     by_address (x ∷ a) e = let l = few a chain.cell number e in omega arith
 
 -- the cause of a fault along the chain
-pub head_cause : (file : List ℕ) (V : List Reference) (chain : Chain) (number left more : ℕ) (zeros : Bool) (d : Reference) → bytes_left (role_of d) ≡ Some left → IsOnChain chain number d
-    → HasHead file chain V d → chain_cause file V d (bytes_left (role_of d)) more zeros ≡ cause.Chain (walked_chain chain number (usable_size file) left (number + more) zeros)
+pub head_cause : (file : List ℕ) (V : List Reference) (chain : Chain) (number left more : ℕ) (zeros : Bool) (d : Reference) → bytes_left (role_of d) ≡ Some left
+    → IsOnChain chain number d
+    → HasHead file chain V d → chain_cause file V d (bytes_left (role_of d)) more zeros
+    ≡ cause.Chain (walked_chain chain number (usable_size file) left (number + more) zeros)
 head_cause file V chain number left more zeros d h on head =
     ap (λ o. chain_cause file V d o more zeros) h
     ∙ ap (λ n. option_map_or (λ c. cause.Chain (chain_of file c n left (n + more) zeros)) (chain_head V d) cause.Itself) (number_is chain number d on)
@@ -52,17 +56,27 @@ head_cause file V chain number left more zeros d h on head =
     ∙ ap (λ k. cause.Chain (record (walked_chain chain number (usable_size file) left (number + more) zeros) { rowid = k })) head.rowid
   where
     of_cell : ℕ → ℕ → Cause
-    of_cell p i = cause.Chain (record { page = p; item = i; rowid = cell_rowid file p i; pages = number + pages_for (usable_size file) left; found = number + more; is_in_zeros = zeros })
+    of_cell p i = cause.Chain (record {
+      page = p;
+      item = i;
+      rowid = cell_rowid file p i;
+      pages = number + pages_for (usable_size file) left;
+      found = number
+          + more;
+      is_in_zeros = zeros;
+    })
 
 -- that of a reference that is refused, by the numbers that a program has
-pub refusal_here : (file : List ℕ) {usable : ℕ} → usable ≡ usable_size file → (chain : Chain) (number left : ℕ) (d : Reference) (V : List Reference) {zeros : Bool} → zeros ≡ is_from_zeros file d
+pub refusal_here : (file : List ℕ) {usable : ℕ} → usable ≡ usable_size file
+    → (chain : Chain) (number left : ℕ) (d : Reference) (V : List Reference) {zeros : Bool} → zeros ≡ is_from_zeros file d
     → bytes_left (role_of d) ≡ Some left → IsOnChain chain number d → HasHead file chain V d
     → {why : Cause} → why ≡ cause.Chain (walked_chain chain number usable left number zeros) → refusal_cause file V d ≡ why
 refusal_here file u chain number left d V {zeros = zeros} z h on head e =
     let n : number + 0 ≡ number = omega arith in
     head_cause file V chain number left 0 (is_from_zeros file d) d h on head
     ∙ ap (λ n. cause.Chain (walked_chain chain number (usable_size file) left n (is_from_zeros file d))) n
-    ∙ sym (e ∙ ap (λ x. cause.Chain (walked_chain chain number x left number zeros)) u ∙ ap (λ b. cause.Chain (walked_chain chain number (usable_size file) left number b)) z)
+    ∙ sym (e ∙ ap (λ x. cause.Chain (walked_chain chain number x left number zeros)) u
+    ∙ ap (λ b. cause.Chain (walked_chain chain number (usable_size file) left number b)) z)
 
 -- at the first page
 pub head_start : (file : List ℕ) (chain : Chain) (V : List Reference) (c : Reference) → IsChainOf file chain c → HasHead file chain V c
@@ -83,7 +97,8 @@ same_before a b h = ap (λ x. not x && not (is_before b a)) (is_before-from a b 
 
 none_same : (V : List Reference) (a : Address) → ((u : Reference) → IsIn u V → IsBefore u.address a) → find (λ u. is_same u.address a) V ≡ None
 none_same [] a h = refl
-none_same (u ∷ V) a h = ap (λ b. cond b (Some u) (find (λ u. is_same u.address a) V)) (same_before u.address a (h u (inl refl))) ∙ none_same V a (λ w i. h w (inr i))
+none_same (u ∷ V) a h = ap (λ b. cond b (Some u) (find (λ u. is_same u.address a) V)) (same_before u.address a (h u (inl refl)))
+    ∙ none_same V a (λ w i. h w (inr i))
 
 -- after the visit of the page
 module _ (file : List ℕ) (chain : Chain) (V : List Reference) (number : ℕ) (d : Reference) (on : IsOnChain chain number d) (head : HasHead file chain V d) where
@@ -101,14 +116,16 @@ module _ (file : List ℕ) (chain : Chain) (V : List Reference) (number : ℕ) (
   head_visited = elim (cases_Bool (chain_number d.address == 0)) [
     | inl e ↦ record {
       head = head.head;
-      found = ap (λ b. cond b (Some d) (searched (V ++ d ∷ []) (head_address d.address))) e ∙ sym (ap (λ b. cond b (Some d) (searched V (head_address d.address))) e) ∙ head.found;
+      found = ap (λ b. cond b (Some d) (searched (V ++ d ∷ []) (head_address d.address))) e
+          ∙ sym (ap (λ b. cond b (Some d) (searched V (head_address d.address))) e) ∙ head.found;
       from = head.from;
       item = head.item;
       rowid = head.rowid;
     }
     | inr e ↦ record {
       head = head.head;
-      found = ap (λ b. cond b (Some d) (searched (V ++ d ∷ []) (head_address d.address))) e ∙ found_still (head_address d.address) head.head (by_number (chain_number d.address) e refl);
+      found = ap (λ b. cond b (Some d) (searched (V ++ d ∷ []) (head_address d.address))) e
+          ∙ found_still (head_address d.address) head.head (by_number (chain_number d.address) e refl);
       from = head.from;
       item = head.item;
       rowid = head.rowid;
@@ -130,7 +147,8 @@ module _ (file : List ℕ) (chain : Chain) (V : List Reference) (number : ℕ) (
         ∙ take-append-le (length d.address - number) d.address (0 ∷ []) low
         ∙ ap (λ n. take (length d.address - n) d.address) (sym (number_is chain number d on))
 
-    later : (n : ℕ) → chain_number (then_step d.address 0) ≡ n + 1 → (c : Reference) → searched (V ++ d ∷ []) (head_address (then_step d.address 0)) ≡ Some c → chain_head (V ++ d ∷ []) (next_of d left page) ≡ Some c
+    later : (n : ℕ) → chain_number (then_step d.address 0) ≡ n + 1 → (c : Reference) → searched (V ++ d ∷ []) (head_address (then_step d.address 0)) ≡ Some c
+        → chain_head (V ++ d ∷ []) (next_of d left page) ≡ Some c
     later n e c f =
         let test : ((n + 1) == 0) ≡ false = some n in
         ap (λ b. cond b (Some (next_of d left page)) (searched (V ++ d ∷ []) (head_address (then_step d.address 0)))) (ap (λ m. m == 0) e ∙ test) ∙ f
@@ -151,7 +169,8 @@ module _ (file : List ℕ) (chain : Chain) (V : List Reference) (number : ℕ) (
       }
       | inr e ↦ record {
         head = head.head;
-        found = later number next_number head.head (ap (searched (V ++ d ∷ [])) same_head ∙ found_still (head_address d.address) head.head (by_number (chain_number d.address) e refl));
+        found = later number next_number head.head (ap (searched (V ++ d ∷ [])) same_head
+            ∙ found_still (head_address d.address) head.head (by_number (chain_number d.address) e refl));
         from = head.from;
         item = head.item;
         rowid = head.rowid;
@@ -162,7 +181,8 @@ module _ (file : List ℕ) (chain : Chain) (V : List Reference) (number : ℕ) (
         zero_is n e = grind (arith, nat_tests)
 
         first : (chain_number d.address == 0) ≡ true → head_address d.address ≡ d.address
-        first e = ap (λ n. take (length d.address - n) d.address) (zero_is (chain_number d.address) e) ∙ (let z : length d.address - 0 ≡ length d.address = omega arith in ap (λ k. take k d.address) z) ∙ take-length d.address
+        first e = ap (λ n. take (length d.address - n) d.address) (zero_is (chain_number d.address) e)
+            ∙ (let z : length d.address - 0 ≡ length d.address = omega arith in ap (λ k. take k d.address) z) ∙ take-length d.address
 
         one : (c : Reference) → Some d ≡ Some c → d ≡ c
         one c e = cc

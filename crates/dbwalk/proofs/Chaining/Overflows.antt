@@ -1,5 +1,6 @@
 -- What is reported of an overflow page, and what it leads to.
-use Rattle.std.proofs.Common.{◌≡◌, ℕ, ◌+◌, ◌-◌, ◌*◌, ◌≤◌, ◌<◌, Bool, true, false, cond, not, ◌&&◌, List, [], ◌∷◌, ◌++◌, length, map, take, drop, Option, Some, None, refl, sym, ap, ◌∙◌, arith, inl}
+use Rattle.std.proofs.Common.{◌≡◌, ℕ, ◌+◌, ◌-◌, ◌*◌, ◌≤◌, ◌<◌, Bool, true, false, cond, not, ◌&&◌, List, [], ◌∷◌, ◌++◌, length, map, take, drop, Option, Some}
+use Rattle.std.proofs.Common.{None, refl, sym, ap, ◌∙◌, arith, inl}
 use Rattle.std.specs.Prelude.{option_to_list, nat_le, nat_lt, ◌==◌, pos}
 use Rattle.std.proofs.lemmas.Bool.Decides.{nat_tests}
 use Rattle.std.proofs.lemmas.List.{length-append}
@@ -39,23 +40,30 @@ moves_none takes s [] = refl
 moves_none takes s (e ∷ es) = inl refl
 
 -- the bytes that a load leaves are those of the page
-pub page_read : (file bytes : List ℕ) (size p : ℕ) → length bytes ≡ size → IsRangeOf file ((p - 1) * size) bytes → (geometry file).page_size ≡ size → bytes ≡ page_bytes file p
+pub page_read : (file bytes : List ℕ) (size p : ℕ) → length bytes ≡ size → IsRangeOf file ((p - 1) * size) bytes → (geometry file).page_size ≡ size → bytes
+    ≡ page_bytes file p
 unfolding page_bytes
 page_read file bytes size p l h e =
     h.1 ∙ ap (λ n. take n (drop ((p - 1) * size) file)) l ∙ ap (λ n. take n (drop ((p - 1) * n) file)) (sym e)
 
 -- what is reported of it
 pub told_overflow : (file : List ℕ) (U : List Reference) (c : Reference) (left : ℕ) → bytes_left (role_of c) ≡ Some left
-    → told_at file U (at_page c) ≡ told_row (overflow_page_row c (usable_size file) left) ∷ told_by (cause_of file U (at_page c)) (overflow_fault (usable_size file) left c.page (page_bytes file c.page))
+    → told_at file U (at_page c) ≡ told_row (overflow_page_row c (usable_size file) left)
+    ∷ told_by (cause_of file U (at_page c)) (overflow_fault (usable_size file) left c.page (page_bytes file c.page))
 unfolding page_faults
 told_overflow file U c left h = by_role (role_of c) h
   where
-    by_left : (l : ℕ) → Some l ≡ Some left → told_row (overflow_page_row c (usable_size file) l) ∷ told_by (cause_of file U (at_page c)) (overflow_fault (usable_size file) l c.page (page_bytes file c.page))
-        ≡ told_row (overflow_page_row c (usable_size file) left) ∷ told_by (cause_of file U (at_page c)) (overflow_fault (usable_size file) left c.page (page_bytes file c.page))
-    by_left l e = let k : l ≡ left = cc in ap (λ l. told_row (overflow_page_row c (usable_size file) l) ∷ told_by (cause_of file U (at_page c)) (overflow_fault (usable_size file) l c.page (page_bytes file c.page))) k
+    by_left : (l : ℕ) → Some l ≡ Some left → told_row (overflow_page_row c (usable_size file) l)
+        ∷ told_by (cause_of file U (at_page c)) (overflow_fault (usable_size file) l c.page (page_bytes file c.page))
+        ≡ told_row (overflow_page_row c (usable_size file) left)
+        ∷ told_by (cause_of file U (at_page c)) (overflow_fault (usable_size file) left c.page (page_bytes file c.page))
+    by_left l e = let k : l ≡ left = cc in ap (λ l. told_row (overflow_page_row c (usable_size file) l)
+        ∷ told_by (cause_of file U (at_page c)) (overflow_fault (usable_size file) l c.page (page_bytes file c.page))) k
 
-    by_role : (role : Role) → bytes_left role ≡ Some left → map told_row (option_to_list (row_in role file c)) ++ told_by (cause_of file U (at_page c)) (role_faults role file U c)
-        ≡ told_row (overflow_page_row c (usable_size file) left) ∷ told_by (cause_of file U (at_page c)) (overflow_fault (usable_size file) left c.page (page_bytes file c.page))
+    by_role : (role : Role) → bytes_left role ≡ Some left → map told_row (option_to_list (row_in role file c))
+        ++ told_by (cause_of file U (at_page c)) (role_faults role file U c)
+        ≡ told_row (overflow_page_row c (usable_size file) left)
+        ∷ told_by (cause_of file U (at_page c)) (overflow_fault (usable_size file) left c.page (page_bytes file c.page))
     by_role (root kind) e = cc
     by_role (child kind) e = cc
     by_role (first_overflow l) e = by_left l e
@@ -79,7 +87,8 @@ pub told_is : (file : List ℕ) (U : List Reference) (d : Reference) (chain : Ch
     → told_row (row_of row) ∷ map (λ f. told_fault f why) (option_to_list f) ≡ told_at file U (at_page d)
 told_is file U d chain number page usable left next row f u n p l on a b c e g h m why causes =
     let same : row_of row ≡ overflow_page_row d (usable_size file) left =
-    row_is row.start (start_of d.address) row.path.now (child_path d.address) row.chain (chain_place d.address) row.page d.page row.pagetype Overflow row.counts (overflow_counts (usable_size file) left)
+    row_is row.start (start_of d.address) row.path.now (child_path d.address) row.chain (chain_place d.address) row.page d.page row.pagetype Overflow row.counts
+    (overflow_counts (usable_size file) left)
     (a ∙ sym on.start) (b ∙ sym on.path) (c ∙ sym on.place) (e ∙ sym p) g (h ∙ ap (λ x. overflow_counts x left) u) in
     let faults : option_to_list f ≡ overflow_fault (usable_size file) left d.page (page_bytes file d.page) =
     m ∙ ap (λ x. told_if (nat_le left (x - 4) && not (next == 0)) (fault O01 page 0 (pos next))) u
@@ -87,11 +96,14 @@ told_is file U d chain number page usable left next row f u n p l on a b c e g h
     ∙ ap (λ x. overflow_fault (usable_size file) left x (page_bytes file x)) (sym p) in
     ap (λ r. told_row r ∷ map (λ f. told_fault f why) (option_to_list f)) same
     ∙ ap (λ fs. told_row (overflow_page_row d (usable_size file) left) ∷ map (λ f. told_fault f why) fs) faults
-    ∙ ap (λ w. told_row (overflow_page_row d (usable_size file) left) ∷ map (λ f. told_fault f w) (overflow_fault (usable_size file) left d.page (page_bytes file d.page))) causes
-    ∙ ap (λ L. told_row (overflow_page_row d (usable_size file) left) ∷ L) (once (nat_le left (usable_size file - 4) && not (overflow_next (page_bytes file d.page) == 0)) _)
+    ∙ ap (λ w. told_row (overflow_page_row d (usable_size file) left)
+    ∷ map (λ f. told_fault f w) (overflow_fault (usable_size file) left d.page (page_bytes file d.page))) causes
+    ∙ ap (λ L. told_row (overflow_page_row d (usable_size file) left) ∷ L)
+    (once (nat_le left (usable_size file - 4) && not (overflow_next (page_bytes file d.page) == 0)) _)
     ∙ sym (told_overflow file U d left l)
   where
-    once : (b : Bool) (n : ℕ) → map (λ f. told_fault f (cause_of file U (at_page d) O01)) (told_if b (fault O01 d.page 0 (pos n))) ≡ told_by (cause_of file U (at_page d)) (told_if b (fault O01 d.page 0 (pos n)))
+    once : (b : Bool) (n : ℕ) → map (λ f. told_fault f (cause_of file U (at_page d) O01)) (told_if b (fault O01 d.page 0 (pos n)))
+        ≡ told_by (cause_of file U (at_page d)) (told_if b (fault O01 d.page 0 (pos n)))
     once true n = refl
     once false n = refl
 
@@ -99,7 +111,8 @@ told_is file U d chain number page usable left next row f u n p l on a b c e g h
 pub overflow_shallow : (c : Reference) (left : ℕ) → bytes_left (role_of c) ≡ Some left → is_too_deep c ≡ false
 overflow_shallow c left h = by_role (role_of c) h
   where
-    by_role : (role : Role) → bytes_left role ≡ Some left → is_too_deep (record { address = c.address; page = c.page; role = record { role = role; from = 0; item = 0 } }) ≡ false
+    by_role : (role : Role) → bytes_left role ≡ Some left
+        → is_too_deep (record { address = c.address; page = c.page; role = record { role = role; from = 0; item = 0 } }) ≡ false
     by_role (root kind) e = cc
     by_role (child kind) e = cc
     by_role (first_overflow l) e = refl
@@ -126,12 +139,14 @@ last_errands file c left h l =
 abbrev at : ℕ → ℕ → Option (ℕ × ℕ)
 at i n = Some (i, n)
 
-chain_more : (steps : List ℕ) (i n : ℕ) → chain_on steps ≡ at i n → (children_on (steps ++ 0 ∷ []) ≡ children_on steps) × (chain_on (steps ++ 0 ∷ []) ≡ at i (n + 1))
+chain_more : (steps : List ℕ) (i n : ℕ) → chain_on steps ≡ at i n → (children_on (steps ++ 0 ∷ []) ≡ children_on steps)
+    × (chain_on (steps ++ 0 ∷ []) ≡ at i (n + 1))
 chain_more [] i n h = cc
 chain_more (step ∷ steps) i n h = by_step (is_child_step step) h (chain_more steps i n)
   where
     last : (j m l : ℕ) → l ≡ m + 1 → at j m ≡ at i n → at j l ≡ at i (n + 1)
-    last j m l e h = let k : ◌≡◌ {A = ℕ × ℕ} (j, m) (i, n) = cc in let a : j ≡ i = ap (λ x. x.0) k in let b : m ≡ n = ap (λ x. x.1) k in ap (λ k. at j k) (e ∙ ap (λ m. m + 1) b) ∙ ap (λ j. at j (n + 1)) a
+    last j m l e h = let k : ◌≡◌ {A = ℕ × ℕ} (j, m) (i, n) = cc in let a : j ≡ i = ap (λ x. x.0) k in let b : m ≡ n =
+        ap (λ x. x.1) k in ap (λ k. at j k) (e ∙ ap (λ m. m + 1) b) ∙ ap (λ j. at j (n + 1)) a
 
     by_step : (b : Bool) → cond b (chain_on steps) (at (cell_of_step step) (length steps)) ≡ at i n
         → (chain_on steps ≡ at i n → (children_on (steps ++ 0 ∷ []) ≡ children_on steps) × (chain_on (steps ++ 0 ∷ []) ≡ at i (n + 1)))

@@ -1,5 +1,6 @@
 -- What is read of the cells of a leaf at a level.
-use Rattle.std.proofs.Common.{◌≡◌, ℕ, ◌+◌, ◌-◌, ◌<◌, ◌≤◌, Bool, true, false, cond, ◌&&◌, List, [], take, drop, Option, Some, None, Ok, Err, ℤ, refl, sym, ap, arith, ◌∙◌, subst, ◌*◌}
+use Rattle.std.proofs.Common.{◌≡◌, ℕ, ◌+◌, ◌-◌, ◌<◌, ◌≤◌, Bool, true, false, cond, ◌&&◌, List, [], take, drop, Option, Some, None, Ok, Err, ℤ, refl, sym, ap}
+use Rattle.std.proofs.Common.{arith, ◌∙◌, subst, ◌*◌}
 use Rattle.std.specs.Prelude.{option_map, option_and_then, nat_le, nat_lt, ok_or, slice_get, slice_index_or, IfSome}
 use Rattle.std.specs.Result.{result_ok}
 use Rattle.std.proofs.lemmas.Bool.{and_parts}
@@ -27,7 +28,8 @@ use Rattle.dbwalk.specs.declared.steps.Next.{Next}
 
 -- a payload is at most 2147483647 bytes long
 
-payload_size : (v : View) (kind : PayloadKind) (offset before size : ℕ) (left : Option ℕ) (key : Option ℤ) (x : Cell) → payload_cell v kind offset before size left key ≡ Some x → x.size ≤ most_payload
+payload_size : (v : View) (kind : PayloadKind) (offset before size : ℕ) (left : Option ℕ) (key : Option ℤ) (x : Cell)
+    → payload_cell v kind offset before size left key ≡ Some x → x.size ≤ most_payload
 payload_size v kind offset before size left key x e = by_test (nat_le size most_payload && nat_le (offset + (before + here + more)) v.usable) refl e
   where
     here : ℕ
@@ -40,7 +42,16 @@ payload_size v kind offset before size left key x e = by_test (nat_le size most_
     bytes = drop (offset + before) v.bytes
 
     by_test : (b : Bool) → (nat_le size most_payload && nat_le (offset + (before + here + more)) v.usable) ≡ b
-        → cond b (Some (record { offset = offset; len = before + here + more; size = size; left = left; key = key; local = take here bytes; overflow = cond (nat_lt here size) (Some (u32_at (offset + before + here) v.bytes)) None })) None ≡ Some x → x.size ≤ most_payload
+        → cond b (Some (record {
+          offset = offset;
+          len = before + here + more;
+          size = size;
+          left = left;
+          key = key;
+          local = take here bytes;
+          overflow =
+              cond (nat_lt here size) (Some (u32_at (offset + before + here) v.bytes)) None;
+        })) None ≡ Some x → x.size ≤ most_payload
     by_test true f g =
         let h : size ≡ x.size = same g in
         let k = (and_parts (nat_le size most_payload) (nat_le (offset + (before + here + more)) v.usable) f).0 in
@@ -54,16 +65,21 @@ payload_size v kind offset before size left key x e = by_test (nat_le size most_
 cell_at_size : (kind : PageKind) (v : View) (offset : ℕ) (x : Cell) → cell_at kind v offset ≡ Some x → x.size ≤ most_payload
 cell_at_size LeafTable v offset x e = by_size (varint (bytes_from v offset)) e
   where
-    by_rowid : (size : ℕ × ℕ) (o : Option (ℕ × ℕ)) → option_and_then (λ rowid. payload_cell v TableLeaf offset (size.1 + rowid.1) size.0 None (Some (signed rowid.0))) o ≡ Some x → x.size ≤ most_payload
+    by_rowid : (size : ℕ × ℕ) (o : Option (ℕ × ℕ)) → option_and_then
+        (λ rowid. payload_cell v TableLeaf offset (size.1 + rowid.1) size.0 None (Some (signed rowid.0))) o ≡ Some x → x.size ≤ most_payload
     by_rowid size None e = cc
     by_rowid size (Some rowid) e = payload_size v TableLeaf offset (size.1 + rowid.1) size.0 None (Some (signed rowid.0)) x e
 
-    by_size : (o : Option (ℕ × ℕ)) → option_and_then (λ size. option_and_then (λ rowid. payload_cell v TableLeaf offset (size.1 + rowid.1) size.0 None (Some (signed rowid.0))) (varint (bytes_from v (offset + size.1)))) o ≡ Some x → x.size ≤ most_payload
+    by_size : (o : Option (ℕ × ℕ)) → option_and_then (λ size. option_and_then
+        (λ rowid. payload_cell v TableLeaf offset (size.1 + rowid.1) size.0 None (Some (signed rowid.0))) (varint (bytes_from v (offset + size.1)))) o ≡ Some x
+        → x.size ≤ most_payload
     by_size None e = cc
     by_size (Some size) e = by_rowid size (varint (bytes_from v (offset + size.1))) e
 cell_at_size InteriorTable v offset x e = by_key (varint (bytes_from v (offset + 4))) e
   where
-    by_key : (o : Option (ℕ × ℕ)) → option_and_then (λ key. Some (record { offset = offset; len = 4 + key.1; size = 0; local = []; overflow = None; left = Some (u32_at offset v.bytes); key = Some (signed key.0) })) o ≡ Some x → x.size ≤ most_payload
+    by_key : (o : Option (ℕ × ℕ)) → option_and_then (λ key. Some
+        (record { offset = offset; len = 4 + key.1; size = 0; local = []; overflow = None; left = Some (u32_at offset v.bytes); key = Some (signed key.0) })) o
+        ≡ Some x → x.size ≤ most_payload
     by_key None e = cc
     by_key (Some key) e = let h = none e in omega arith
       where
@@ -76,7 +92,8 @@ cell_at_size LeafIndex v offset x e = by_size (varint (bytes_from v offset)) e
     by_size (Some size) e = payload_size v Index offset size.1 size.0 None None x e
 cell_at_size InteriorIndex v offset x e = by_size (varint (bytes_from v (offset + 4))) e
   where
-    by_size : (o : Option (ℕ × ℕ)) → option_and_then (λ size. payload_cell v Index offset (4 + size.1) size.0 (Some (u32_at offset v.bytes)) None) o ≡ Some x → x.size ≤ most_payload
+    by_size : (o : Option (ℕ × ℕ)) → option_and_then (λ size. payload_cell v Index offset (4 + size.1) size.0 (Some (u32_at offset v.bytes)) None) o ≡ Some x
+        → x.size ≤ most_payload
     by_size None e = cc
     by_size (Some size) e = payload_size v Index offset (4 + size.1) size.0 (Some (u32_at offset v.bytes)) None x e
 
@@ -100,15 +117,18 @@ lt_yes n l = grind (arith, nat_tests)
 pub at_level : (b : Pages) (level : ℕ) (bytes : List ℕ) → level < 20 → slice_get b.levels level ≡ Some bytes → bytes_at b level ≡ bytes
 at_level b level bytes l e = ap (λ t. cond t (slice_index_or b.levels level []) b.chain) (lt_yes level l) ∙ get_or_from_slice_get b.levels level bytes [] e
 
-module _ (b : Pages) (kind : TreeKind) (level page : ℕ) (low : level < 20) (usable : ℕ) (usable_is : usable ≡ b.geometry.usable) (bytes : List ℕ) (bytes_are : bytes ≡ bytes_at b level) (o : Option View) (viewed : undamaged kind page usable bytes ≡ o) where
+module _ (b : Pages) (kind : TreeKind) (level page : ℕ) (low : level < 20) (usable : ℕ) (usable_is : usable ≡ b.geometry.usable) (bytes : List ℕ)
+    (bytes_are : bytes ≡ bytes_at b level) (o : Option View) (viewed : undamaged kind page usable bytes ≡ o) where
   pub seen : (y : List ℕ) (v : View) → slice_get b.levels level ≡ Some y → undamaged kind page b.geometry.usable y ≡ Some v → o ≡ Some v
-  seen y v e f = sym viewed ∙ ap (λ u. undamaged kind page u bytes) usable_is ∙ ap (λ z. undamaged kind page b.geometry.usable z) (bytes_are ∙ at_level b level y low e) ∙ f
+  seen y v e f = sym viewed ∙ ap (λ u. undamaged kind page u bytes) usable_is
+      ∙ ap (λ z. undamaged kind page b.geometry.usable z) (bytes_are ∙ at_level b level y low e) ∙ f
 
   pub has_cells : (n : ℕ) → ((v : View) → o ≡ Some v → n ≡ count v) → HasCells b.geometry.usable kind b.levels level page n
   has_cells n h = record { count_is = λ y v e f. h v (seen y v e f) }
 
   pub has_cell : (i : ℕ) (overflow : Option (ℕ × ℕ)) (key : Option ℤ) → IfSome overflow (λ p. p.1 ≤ most_payload)
-      → ((v : View) → o ≡ Some v → i < count v → (overflow ≡ option_and_then (λ c. option_map (λ p. (p, overflow_size c)) c.overflow) (result_ok (cell v i))) × (key ≡ option_and_then (λ c. c.key) (result_ok (cell v i))))
+      → ((v : View) → o ≡ Some v → i < count v → (overflow ≡ option_and_then (λ c. option_map (λ p. (p, overflow_size c)) c.overflow) (result_ok (cell v i)))
+      × (key ≡ option_and_then (λ c. c.key) (result_ok (cell v i))))
       → HasCell b.geometry.usable kind b.levels level page i overflow key
   has_cell i overflow key most h = record {
     most = most;
@@ -121,17 +141,24 @@ module _ (w v : View) (same : Some w ≡ Some v) (i : ℕ) where
   view_same : w ≡ v
   view_same = cc
 
-  pub readable : (x : Cell) (overflow : Option (ℕ × ℕ)) (key : Option ℤ) → cell w i ≡ Ok x → overflow ≡ option_map (λ p. (p, overflow_size x)) x.overflow → key ≡ x.key
-      → (overflow ≡ option_and_then (λ c. option_map (λ p. (p, overflow_size c)) c.overflow) (result_ok (cell v i))) × (key ≡ option_and_then (λ c. c.key) (result_ok (cell v i)))
+  pub readable : (x : Cell) (overflow : Option (ℕ × ℕ)) (key : Option ℤ) → cell w i ≡ Ok x → overflow ≡ option_map (λ p. (p, overflow_size x)) x.overflow → key
+      ≡ x.key
+      → (overflow ≡ option_and_then (λ c. option_map (λ p. (p, overflow_size c)) c.overflow) (result_ok (cell v i)))
+      × (key ≡ option_and_then (λ c. c.key) (result_ok (cell v i)))
   readable x overflow key e f g =
-      let read : Ok x ≡ cell v i = sym e ∙ ap (λ w. cell w i) view_same in
-      (f ∙ ap (λ r. option_and_then (λ c. option_map (λ p. (p, overflow_size c)) c.overflow) (result_ok r)) read, g ∙ ap (λ r. option_and_then (λ c. c.key) (result_ok r)) read)
+      let read : Ok x ≡ cell v i = sym e ∙ ap (λ w. cell w i) view_same in (
+        f ∙ ap (λ r. option_and_then (λ c. option_map (λ p. (p, overflow_size c)) c.overflow) (result_ok r)) read,
+        g
+            ∙ ap (λ r. option_and_then (λ c. c.key) (result_ok r)) read,
+      )
 
   pub unreadable : (e : CellFault) → cell w i ≡ Err e
-      → (◌≡◌ {A = Option (ℕ × ℕ)} None (option_and_then (λ c. option_map (λ p. (p, overflow_size c)) c.overflow) (result_ok (cell v i)))) × (◌≡◌ {A = Option ℤ} None (option_and_then (λ c. c.key) (result_ok (cell v i))))
+      → (◌≡◌ {A = Option (ℕ × ℕ)} None (option_and_then (λ c. option_map (λ p. (p, overflow_size c)) c.overflow) (result_ok (cell v i))))
+      × (◌≡◌ {A = Option ℤ} None (option_and_then (λ c. c.key) (result_ok (cell v i))))
   unreadable e f =
       let read : Err e ≡ cell v i = sym f ∙ ap (λ w. cell w i) view_same in
-      let a : ◌≡◌ {A = Option (ℕ × ℕ)} None (option_and_then (λ c. option_map (λ p. (p, overflow_size c)) c.overflow) (result_ok (cell v i))) = ap (λ r. option_and_then (λ c. option_map (λ p. (p, overflow_size c)) c.overflow) (result_ok r)) read in
+      let a : ◌≡◌ {A = Option (ℕ × ℕ)} None (option_and_then (λ c. option_map (λ p. (p, overflow_size c)) c.overflow) (result_ok (cell v i))) =
+      ap (λ r. option_and_then (λ c. option_map (λ p. (p, overflow_size c)) c.overflow) (result_ok r)) read in
       let b : ◌≡◌ {A = Option ℤ} None (option_and_then (λ c. c.key) (result_ok (cell v i))) = ap (λ r. option_and_then (λ c. c.key) (result_ok r)) read in
       (a, b)
 
@@ -143,8 +170,10 @@ same_view w v e = cc
 
 -- The sieve of a cell of a leaf.
 
-pub has_sieve : (b : Pages) (kind : TreeKind) (level page : ℕ) (low : level < 20) (usable : ℕ) (usable_is : usable ≡ b.geometry.usable) (bytes : List ℕ) (bytes_are : bytes ≡ bytes_at b level) (o : Option View) (viewed : undamaged kind page usable bytes ≡ o)
-    (i : ℕ) (e : Encoding) (sieve : Option RowSieve) → ((v : View) → o ≡ Some v → i < count v → HoldsCell sieve e (result_ok (cell v i))) → HasSieve b.geometry.usable kind b.levels level page i e sieve
+pub has_sieve : (b : Pages) (kind : TreeKind) (level page : ℕ) (low : level < 20) (usable : ℕ) (usable_is : usable ≡ b.geometry.usable) (bytes : List ℕ)
+    (bytes_are : bytes ≡ bytes_at b level) (o : Option View) (viewed : undamaged kind page usable bytes ≡ o)
+    (i : ℕ) (e : Encoding) (sieve : Option RowSieve) → ((v : View) → o ≡ Some v → i < count v → HoldsCell sieve e (result_ok (cell v i)))
+    → HasSieve b.geometry.usable kind b.levels level page i e sieve
 has_sieve b kind level page low usable usable_is bytes bytes_are o viewed i e sieve h = record {
   read = λ y v a f l. h v (seen b kind level page low usable usable_is bytes bytes_are o viewed y v a f) l;
 }
@@ -164,7 +193,8 @@ no_overflow v n x e f y l g = let h : Ok x ≡ Ok y = sym e ∙ g in let i : x �
 pub bad_cell : (v : View) (n : ℕ) (f : CellFault) → cell v n ≡ Err f → (y : Cell) → n < count v → cell v n ≡ Ok y → y.overflow ≡ None
 bad_cell v n f e y l g = let h : Err f ≡ Ok y = sym e ∙ g in cc
 
-pub has_next : (b : Pages) (kind : TreeKind) (level page : ℕ) (low : level < 20) (usable : ℕ) (usable_is : usable ≡ b.geometry.usable) (bytes : List ℕ) (bytes_are : bytes ≡ bytes_at b level) (o : Option View) (viewed : undamaged kind page usable bytes ≡ o)
+pub has_next : (b : Pages) (kind : TreeKind) (level page : ℕ) (low : level < 20) (usable : ℕ) (usable_is : usable ≡ b.geometry.usable) (bytes : List ℕ)
+    (bytes_are : bytes ≡ bytes_at b level) (o : Option View) (viewed : undamaged kind page usable bytes ≡ o)
     (s : ℕ) (next : Next) → ((v : View) → o ≡ Some v → (count v ≤ 32768) × IsNextStep v s next) → HasNext b.geometry.usable kind b.levels level page s next
 has_next b kind level page low usable usable_is bytes bytes_are o viewed s next h = record {
   few = λ y v e f. (h v (seen b kind level page low usable usable_is bytes bytes_are o viewed y v e f)).0;
@@ -172,7 +202,8 @@ has_next b kind level page low usable usable_is bytes bytes_are o viewed s next 
 }
 
 -- a view of a page that is read, at one of its steps
-pub at_step : (w v : View) → Some w ≡ Some v → (usable : ℕ) → usable ≤ 65536 → w.usable ≡ usable → (cells : ℕ) → cells ≡ count w → 2 * cells ≤ w.usable → (s t : ℕ) → t ≡ s → (next : Next) → IsNextStep w t next → (count v ≤ 32768) × IsNextStep v s next
+pub at_step : (w v : View) → Some w ≡ Some v → (usable : ℕ) → usable ≤ 65536 → w.usable ≡ usable → (cells : ℕ) → cells ≡ count w → 2 * cells ≤ w.usable
+    → (s t : ℕ) → t ≡ s → (next : Next) → IsNextStep w t next → (count v ≤ 32768) × IsNextStep v s next
 at_step w v e usable most is cells number few s t same next h =
     let f : w ≡ v = cc in
     (subst (λ v. count v ≤ 32768) f (omega arith), subst (λ v. IsNextStep v s next) f (subst (λ s. IsNextStep w s next) same h))

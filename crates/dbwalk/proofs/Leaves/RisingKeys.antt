@@ -1,5 +1,6 @@
 -- The keys of a leaf whose cells are readable, without overflow pages and in the order of their keys, from the first to the last.
-use Rattle.std.proofs.Common.{◌≡◌, ℕ, zero, suc, ◌+◌, ◌-◌, ◌<◌, ◌≤◌, Bool, true, false, cond, ◌&&◌, [], take, drop, Option, Some, None, Ok, Err, ℤ, ◌<ℤ◌, refl, sym, ap, subst, arith, ◌∙◌}
+use Rattle.std.proofs.Common.{◌≡◌, ℕ, zero, suc, ◌+◌, ◌-◌, ◌<◌, ◌≤◌, Bool, true, false, cond, ◌&&◌, [], take, drop, Option, Some, None, Ok, Err, ℤ, ◌<ℤ◌, refl}
+use Rattle.std.proofs.Common.{sym, ap, subst, arith, ◌∙◌}
 use Rattle.std.specs.Prelude.{nat_le, nat_lt, ok_or, is_some, option_and_then}
 use Rattle.std.specs.Option.{option_or}
 use Rattle.std.specs.Result.{result_ok}
@@ -27,7 +28,8 @@ has_keys InteriorTable = true
 has_keys LeafIndex = false
 has_keys InteriorIndex = false
 
-payload_key : (v : View) (kind : PayloadKind) (offset before size : ℕ) (left : Option ℕ) (key : Option ℤ) (x : Cell) → payload_cell v kind offset before size left key ≡ Some x → x.key ≡ key
+payload_key : (v : View) (kind : PayloadKind) (offset before size : ℕ) (left : Option ℕ) (key : Option ℤ) (x : Cell)
+    → payload_cell v kind offset before size left key ≡ Some x → x.key ≡ key
 payload_key v kind offset before size left key x e = by_test (nat_le size most_payload && nat_le (offset + (before + here + more)) v.usable) e
   where
     here : ℕ
@@ -36,7 +38,17 @@ payload_key v kind offset before size left key x e = by_test (nat_le size most_p
     more : ℕ
     more = cond (nat_lt here size) 4 0
 
-    by_test : (b : Bool) → cond b (Some (record { offset = offset; len = before + here + more; size = size; left = left; key = key; local = take here (drop (offset + before) v.bytes); overflow = cond (nat_lt here size) (Some (u32_at (offset + before + here) v.bytes)) None })) None ≡ Some x → x.key ≡ key
+    by_test : (b : Bool) → cond b (Some (record {
+      offset = offset;
+      len = before + here + more;
+      size = size;
+      left = left;
+      key = key;
+      local =
+          take here (drop (offset + before) v.bytes);
+      overflow = cond (nat_lt here size) (Some (u32_at (offset + before + here) v.bytes)) None;
+    })) None ≡ Some x
+        → x.key ≡ key
     by_test true g = same g
       where
         same : {y : Cell} → Some y ≡ Some x → x.key ≡ y.key
@@ -46,16 +58,21 @@ payload_key v kind offset before size left key x e = by_test (nat_le size most_p
 cell_at_key : (kind : PageKind) (v : View) (offset : ℕ) (x : Cell) → cell_at kind v offset ≡ Some x → is_some x.key ≡ has_keys kind
 cell_at_key LeafTable v offset x e = by_size (varint (bytes_from v offset)) e
   where
-    by_rowid : (size : ℕ × ℕ) (o : Option (ℕ × ℕ)) → option_and_then (λ rowid. payload_cell v TableLeaf offset (size.1 + rowid.1) size.0 None (Some (signed rowid.0))) o ≡ Some x → is_some x.key ≡ true
+    by_rowid : (size : ℕ × ℕ) (o : Option (ℕ × ℕ)) → option_and_then
+        (λ rowid. payload_cell v TableLeaf offset (size.1 + rowid.1) size.0 None (Some (signed rowid.0))) o ≡ Some x → is_some x.key ≡ true
     by_rowid size None e = cc
     by_rowid size (Some rowid) e = ap is_some (payload_key v TableLeaf offset (size.1 + rowid.1) size.0 None (Some (signed rowid.0)) x e)
 
-    by_size : (o : Option (ℕ × ℕ)) → option_and_then (λ size. option_and_then (λ rowid. payload_cell v TableLeaf offset (size.1 + rowid.1) size.0 None (Some (signed rowid.0))) (varint (bytes_from v (offset + size.1)))) o ≡ Some x → is_some x.key ≡ true
+    by_size : (o : Option (ℕ × ℕ)) → option_and_then (λ size. option_and_then
+        (λ rowid. payload_cell v TableLeaf offset (size.1 + rowid.1) size.0 None (Some (signed rowid.0))) (varint (bytes_from v (offset + size.1)))) o ≡ Some x
+        → is_some x.key ≡ true
     by_size None e = cc
     by_size (Some size) e = by_rowid size (varint (bytes_from v (offset + size.1))) e
 cell_at_key InteriorTable v offset x e = by_key (varint (bytes_from v (offset + 4))) e
   where
-    by_key : (o : Option (ℕ × ℕ)) → option_and_then (λ key. Some (record { offset = offset; len = 4 + key.1; size = 0; local = []; overflow = None; left = Some (u32_at offset v.bytes); key = Some (signed key.0) })) o ≡ Some x → is_some x.key ≡ true
+    by_key : (o : Option (ℕ × ℕ)) → option_and_then (λ key. Some
+        (record { offset = offset; len = 4 + key.1; size = 0; local = []; overflow = None; left = Some (u32_at offset v.bytes); key = Some (signed key.0) })) o
+        ≡ Some x → is_some x.key ≡ true
     by_key None e = cc
     by_key (Some key) e = same e
       where
@@ -68,7 +85,8 @@ cell_at_key LeafIndex v offset x e = by_size (varint (bytes_from v offset)) e
     by_size (Some size) e = ap is_some (payload_key v Index offset size.1 size.0 None None x e)
 cell_at_key InteriorIndex v offset x e = by_size (varint (bytes_from v (offset + 4))) e
   where
-    by_size : (o : Option (ℕ × ℕ)) → option_and_then (λ size. payload_cell v Index offset (4 + size.1) size.0 (Some (u32_at offset v.bytes)) None) o ≡ Some x → is_some x.key ≡ false
+    by_size : (o : Option (ℕ × ℕ)) → option_and_then (λ size. payload_cell v Index offset (4 + size.1) size.0 (Some (u32_at offset v.bytes)) None) o ≡ Some x
+        → is_some x.key ≡ false
     by_size None e = cc
     by_size (Some size) e = ap is_some (payload_key v Index offset (4 + size.1) size.0 (Some (u32_at offset v.bytes)) None x e)
 

@@ -1,5 +1,6 @@
 -- The bytes at the levels of a bench after a page was read, and the number of pages that are left without a mark.
-use Rattle.std.proofs.Common.{◌≡◌, ℕ, zero, suc, ◌+◌, ◌-◌, ◌<◌, ◌≤◌, Bool, true, false, cond, List, [], ◌∷◌, length, set, Some, None, Result, Ok, Err, refl, sym, ap, subst, arith, ◌∙◌}
+use Rattle.std.proofs.Common.{◌≡◌, ℕ, zero, suc, ◌+◌, ◌-◌, ◌<◌, ◌≤◌, Bool, true, false, cond, List, [], ◌∷◌, length, set, Some, None, Result, Ok, Err, refl}
+use Rattle.std.proofs.Common.{sym, ap, subst, arith, ◌∙◌}
 use Rattle.std.specs.Prelude.{slice_get, nat_lt, count_by, ◌==◌, IfOk}
 use Rattle.std.specs.Option.{option_map_or}
 use Rattle.std.proofs.lemmas.Bool.Decides.{nat_tests}
@@ -46,7 +47,8 @@ module _ (old new : Pages) (level : ℕ) (low : level < 20) (bytes : List ℕ) (
 count_more : (x : Mark) (xs : List Mark) → count_by is_none (x ∷ xs) ≡ cond (is_none x) 1 0 + count_by is_none xs
 count_more x xs = sum_by-cons (λ x. cond (is_none x) 1 0) x xs
 
-fewer_by : (xs ys : List Mark) → length ys ≡ length xs → ((i : ℕ) → option_map_or is_none (slice_get xs i) false ≡ false → slice_get ys i ≡ slice_get xs i) → count_by is_none ys ≤ count_by is_none xs
+fewer_by : (xs ys : List Mark) → length ys ≡ length xs → ((i : ℕ) → option_map_or is_none (slice_get xs i) false ≡ false → slice_get ys i ≡ slice_get xs i)
+    → count_by is_none ys ≤ count_by is_none xs
 fewer_by [] [] l h = omega arith
 fewer_by [] (y ∷ ys) l h = absurd (omega arith)
 fewer_by (x ∷ xs) [] l h = absurd (omega arith)

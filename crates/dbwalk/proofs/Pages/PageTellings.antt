@@ -1,12 +1,14 @@
 -- What is reported of a page, as the program reports it.
-use Rattle.std.proofs.Common.{◌≡◌, ℕ, Bool, true, false, List, [], ◌∷◌, ◌++◌, map, Option, Some, None, refl, ap, ◌∙◌, zero, suc, ◌+◌, ◌-◌, ◌<◌, ◌&&◌, length, Result, Ok, Err, sym, subst, arith, append_assoc, inl, inr, max, fold, sum_by, cond, append-nil, Less, Equal, Greater, ◌≤◌}
+use Rattle.std.proofs.Common.{◌≡◌, ℕ, Bool, true, false, List, [], ◌∷◌, ◌++◌, map, Option, Some, None, refl, ap, ◌∙◌, zero, suc, ◌+◌, ◌-◌, ◌<◌, ◌&&◌, length}
+use Rattle.std.proofs.Common.{Result, Ok, Err, sym, subst, arith, append_assoc, inl, inr, max, fold, sum_by, cond, append-nil, Less, Equal, Greater, ◌≤◌}
 use Rattle.std.specs.Prelude.{option_to_list, option_and_then, flat_map, ◌==◌, filter_map, option_map, IsSomeAnd, IfSome, IsOk}
 use Rattle.dbformat.specs.Header.{usable_size}
 use Rattle.dbformat.specs.File.{page_bytes}
 use Rattle.dbformat.specs.Address.{start_of, child_path, chain_place}
 use Rattle.dbformat.specs.Head.{View, undamaged}
 use Rattle.dbformat.specs.Reference.{Role, root, child, first_overflow, later_overflow, trunk, free_leaf, Reference, role_of, tree_kind, tree_view, bytes_left}
-use Rattle.dbformat.specs.PageFaults.{tree_page_faults, depth_fault, role_faults, page_faults, fragment_fault, cell_fault, cell_faults, freeblock_fault, coverage_fault, empty_fault, inner_faults}
+use Rattle.dbformat.specs.PageFaults.{tree_page_faults, depth_fault, role_faults, page_faults, fragment_fault, cell_fault, cell_faults, freeblock_fault}
+use Rattle.dbformat.specs.PageFaults.{coverage_fault, empty_fault, inner_faults}
 use Rattle.dbformat.specs.Rows.{tree_page_row, row_in}
 use Rattle.dbformat.specs.declared.Fault.{Fault}
 use Rattle.dbformat.specs.declared.TreeKind.{TreeKind}
@@ -49,10 +51,12 @@ is_child _ = false
 
 -- by the progress of a walk the faults of the page have the same causes
 pub page_causes : (file : List ℕ) (U : List Reference) (p : Progress) (c : Reference) {kind : TreeKind} → tree_kind (role_of c) ≡ Some kind
-    → told_by (cause_by file U p (at_page c)) (page_faults file [] c ++ depth_faults file p.leaf c) ≡ told_by (with_leaf (visit_cause file c) p.leaf) (page_faults file [] c ++ depth_faults file p.leaf c)
+    → told_by (cause_by file U p (at_page c)) (page_faults file [] c ++ depth_faults file p.leaf c)
+    ≡ told_by (with_leaf (visit_cause file c) p.leaf) (page_faults file [] c ++ depth_faults file p.leaf c)
 page_causes file U p c {kind} role =
     told_by-append why (page_faults file [] c) (depth_faults file p.leaf c)
-    ∙ ap (λ L. L ++ told_by why (depth_faults file p.leaf c)) (page_same why other refl file (ap (λ o. chain_cause file U c o 1 false) (no_chain (role_of c) role)) refl c)
+    ∙ ap (λ L. L ++ told_by why (depth_faults file p.leaf c))
+    (page_same why other refl file (ap (λ o. chain_cause file U c o 1 false) (no_chain (role_of c) role)) refl c)
     ∙ ap (λ L. told_by other (page_faults file [] c) ++ L) (told_alike why other _ _ refl)
     ∙ sym (told_by-append other (page_faults file [] c) (depth_faults file p.leaf c))
   where
@@ -81,9 +85,12 @@ module _ (file : List ℕ) (c : Reference) (kind : TreeKind) (role : tree_kind (
       alone : (fs : List Fault) → fs ++ depth_fault file [] c ≡ fs
       alone fs = ap (λ l. fs ++ l) (no_depth file c) ∙ append-nil fs
 
-      by_role : (r : Role) → tree_kind r ≡ Some kind → role_faults r file [] c ≡ tree_page_faults kind (is_child r) c.page (usable_size file) (page_bytes file c.page)
-      by_role (root k) e = alone (tree_page_faults k false c.page (usable_size file) (page_bytes file c.page)) ∙ ap (λ k. tree_page_faults k false c.page (usable_size file) (page_bytes file c.page)) (same k kind e)
-      by_role (child k) e = alone (tree_page_faults k true c.page (usable_size file) (page_bytes file c.page)) ∙ ap (λ k. tree_page_faults k true c.page (usable_size file) (page_bytes file c.page)) (same k kind e)
+      by_role : (r : Role) → tree_kind r ≡ Some kind → role_faults r file [] c
+          ≡ tree_page_faults kind (is_child r) c.page (usable_size file) (page_bytes file c.page)
+      by_role (root k) e = alone (tree_page_faults k false c.page (usable_size file) (page_bytes file c.page))
+          ∙ ap (λ k. tree_page_faults k false c.page (usable_size file) (page_bytes file c.page)) (same k kind e)
+      by_role (child k) e = alone (tree_page_faults k true c.page (usable_size file) (page_bytes file c.page))
+          ∙ ap (λ k. tree_page_faults k true c.page (usable_size file) (page_bytes file c.page)) (same k kind e)
       by_role (first_overflow left) e = cc
       by_role (later_overflow left) e = cc
       by_role trunk e = cc
@@ -107,7 +114,9 @@ module _ (file : List ℕ) (c : Reference) (kind : TreeKind) (role : tree_kind (
 
   -- its row first, and then its faults: those within it, and that of its depth
   pub page_told : (leaf : Option TreeLeaf) (o : Option View) → tree_view file c ≡ o
-      → page_findings file leaf c ≡ (told_row (tree_page_row c o) ∷ told_by (page_cause c.page (usable_size file) (page_bytes file c.page) o) (tree_page_faults kind (is_child (role_of c)) c.page (usable_size file) (page_bytes file c.page)))
+      → page_findings file leaf c ≡ (told_row (tree_page_row c o)
+      ∷ told_by (page_cause c.page (usable_size file) (page_bytes file c.page) o)
+      (tree_page_faults kind (is_child (role_of c)) c.page (usable_size file) (page_bytes file c.page)))
       ++ told_by (with_leaf (visit_cause file c) leaf) (depth_faults file leaf c)
   page_told leaf o f =
       let why = with_leaf (visit_cause file c) leaf in
@@ -116,59 +125,81 @@ module _ (file : List ℕ) (c : Reference) (kind : TreeKind) (role : tree_kind (
       ap (λ r. map told_row (option_to_list r) ++ told_by why (page_faults file [] c ++ depth_faults file leaf c)) (row_is o f)
       ∙ ap (λ fs. told_row (tree_page_row c o) ∷ told_by why (fs ++ depth_faults file leaf c)) faults_are
       ∙ ap (λ L. told_row (tree_page_row c o) ∷ L) (told_by-append why fs (depth_faults file leaf c))
-      ∙ ap (λ L. told_row (tree_page_row c o) ∷ (L ++ last)) (tree_same why (visit_cause file c) refl kind (is_child (role_of c)) c.page (usable_size file) (page_bytes file c.page))
+      ∙ ap (λ L. told_row (tree_page_row c o) ∷ (L ++ last))
+      (tree_same why (visit_cause file c) refl kind (is_child (role_of c)) c.page (usable_size file) (page_bytes file c.page))
       ∙ ap (λ o'. told_row (tree_page_row c o) ∷ (told_by (page_cause c.page (usable_size file) (page_bytes file c.page) o') fs ++ last)) f
 
 -- the rows, where the address has no chain
-pub row_of_view : (c : Reference) (v : View) (start : ℕ) (path : List ℕ) → start_of c.address ≡ start → child_path c.address ≡ path → chain_place c.address ≡ None → v.number ≡ c.page → view_row start path v ≡ tree_page_row c (Some v)
+pub row_of_view : (c : Reference) (v : View) (start : ℕ) (path : List ℕ) → start_of c.address ≡ start → child_path c.address ≡ path → chain_place c.address
+    ≡ None → v.number ≡ c.page → view_row start path v ≡ tree_page_row c (Some v)
 row_of_view c v start path a b n p = rw (← a, ← b, n, p) refl
 
-pub row_of_damage : (c : Reference) (page start : ℕ) (path : List ℕ) → start_of c.address ≡ start → child_path c.address ≡ path → chain_place c.address ≡ None → c.page ≡ page → damaged_row start path page ≡ tree_page_row c None
+pub row_of_damage : (c : Reference) (page start : ℕ) (path : List ℕ) → start_of c.address ≡ start → child_path c.address ≡ path → chain_place c.address ≡ None
+    → c.page ≡ page → damaged_row start path page ≡ tree_page_row c None
 row_of_damage c page start path a b n p = rw (← a, ← b, n, ← p) refl
 
 -- What was reported to a sink, call after call.
 
 -- some items, and then others
-pub told_then : {S I A B E : Type 0} {takes drops : S → I → S → Type 0} {held : S → SinkState} {a : A} (r0 : Result A E) (r : Result B E) {s m t : S} (L M : List I) → r0 ≡ Ok a → IsReportedTo takes drops held r0 s L m → IsReportedTo takes drops held r m M t → IsReportedTo takes drops held r s (L ++ M) t
+pub told_then : {S I A B E : Type 0} {takes drops : S → I → S → Type 0} {held : S → SinkState} {a : A} (r0 : Result A E) (r : Result B E) {s m t : S}
+    (L M : List I) → r0 ≡ Ok a → IsReportedTo takes drops held r0 s L m → IsReportedTo takes drops held r m M t → IsReportedTo takes drops held r s (L ++ M) t
 told_then (Ok b) (Ok c) {s} {m} {t} L M e h k = record { items = Moves-append _ s m t L M h.items k.items; count = k.count ∙ h.count }
-told_then {held = held} (Ok b) (Err c) {s} {m} {t} L M e h k = record { items = stops_after _ _ s m t L M h.items k.items; count = subst (λ n. HasFailed n (held t)) h.count k.count }
+told_then {held = held} (Ok b) (Err c) {s} {m} {t} L M e h k =
+    record { items = stops_after _ _ s m t L M h.items k.items; count = subst (λ n. HasFailed n (held t)) h.count k.count }
 told_then (Err b) r L M e h k = cc
 
 -- an error in the first of two lists
-pub told_stop : {S I A B E F : Type 0} {takes drops : S → I → S → Type 0} {held : S → SinkState} {e : E} {f : F} (r0 : Result A E) (r : Result B F) {s t : S} (L M : List I) → r0 ≡ Err e → r ≡ Err f → IsReportedTo takes drops held r0 s L t → IsReportedTo takes drops held r s (L ++ M) t
+pub told_stop : {S I A B E F : Type 0} {takes drops : S → I → S → Type 0} {held : S → SinkState} {e : E} {f : F} (r0 : Result A E) (r : Result B F) {s t : S}
+    (L M : List I) → r0 ≡ Err e → r ≡ Err f → IsReportedTo takes drops held r0 s L t → IsReportedTo takes drops held r s (L ++ M) t
 told_stop (Ok b) r L M e f h = cc
 told_stop (Err b) (Ok c) L M e f h = cc
 told_stop (Err b) (Err c) {s} {t} L M e f h = record { items = stops_first _ _ s t L M h.items; count = h.count }
 
 -- the same error, of a call that answers something else
-pub told_same : {S I A B E F : Type 0} {takes drops : S → I → S → Type 0} {held : S → SinkState} {e : E} {f : F} (r0 : Result A E) (r : Result B F) {s t : S} {L : List I} → r0 ≡ Err e → r ≡ Err f → IsReportedTo takes drops held r0 s L t → IsReportedTo takes drops held r s L t
+pub told_same : {S I A B E F : Type 0} {takes drops : S → I → S → Type 0} {held : S → SinkState} {e : E} {f : F} (r0 : Result A E) (r : Result B F) {s t : S}
+    {L : List I} → r0 ≡ Err e → r ≡ Err f → IsReportedTo takes drops held r0 s L t → IsReportedTo takes drops held r s L t
 told_same (Ok b) r e f h = cc
 told_same (Err b) (Ok c) e f h = cc
 told_same (Err b) (Err c) e f h = record { items = h.items; count = h.count }
 
 -- the answer does not matter beyond Ok
-pub told_ok : {S I A B E : Type 0} {takes drops : S → I → S → Type 0} {held : S → SinkState} {a : A} (b : B) (r0 : Result A E) {s t : S} {L : List I} → r0 ≡ Ok a → IsReportedTo takes drops held r0 s L t → IsReportedTo {E = E} takes drops held (Ok b) s L t
+pub told_ok : {S I A B E : Type 0} {takes drops : S → I → S → Type 0} {held : S → SinkState} {a : A} (b : B) (r0 : Result A E) {s t : S} {L : List I} → r0
+    ≡ Ok a → IsReportedTo takes drops held r0 s L t → IsReportedTo {E = E} takes drops held (Ok b) s L t
 told_ok b (Ok a) e h = record { items = h.items; count = h.count }
 told_ok b (Err a) e h = cc
 
 -- the same of faults
-pub faults_then : (why : FaultCode → Cause) {S A B E : Type 0} {takes drops : S → Finding → S → Type 0} {held : S → SinkState} {a : A} (r0 : Result A E) (r : Result B E) {s m t : S} (L M : List Fault) → r0 ≡ Ok a → IsReportedTo takes drops held r0 s (told_by why L) m → IsReportedTo takes drops held r m (told_by why M) t → IsReportedTo takes drops held r s (told_by why (L ++ M)) t
-faults_then why {takes = takes} {drops = drops} {held = held} r0 r {s} {m} {t} L M e h k = subst (λ l. IsReportedTo takes drops held r s l t) (sym (told_by-append why L M)) (told_then r0 r (told_by why L) (told_by why M) e h k)
+pub faults_then : (why : FaultCode → Cause) {S A B E : Type 0} {takes drops : S → Finding → S → Type 0} {held : S → SinkState} {a : A} (r0 : Result A E)
+    (r : Result B E) {s m t : S} (L M : List Fault) → r0 ≡ Ok a → IsReportedTo takes drops held r0 s (told_by why L) m
+    → IsReportedTo takes drops held r m (told_by why M) t → IsReportedTo takes drops held r s (told_by why (L ++ M)) t
+faults_then why {takes = takes} {drops = drops} {held = held} r0 r {s} {m} {t} L M e h k =
+    subst (λ l. IsReportedTo takes drops held r s l t) (sym (told_by-append why L M)) (told_then r0 r (told_by why L) (told_by why M) e h k)
 
-pub faults_stop : (why : FaultCode → Cause) {S A B E F : Type 0} {takes drops : S → Finding → S → Type 0} {held : S → SinkState} {e : E} {f : F} (r0 : Result A E) (r : Result B F) {s t : S} (L rest fs : List Fault) → L ++ rest ≡ fs → r0 ≡ Err e → r ≡ Err f → IsReportedTo takes drops held r0 s (told_by why L) t → IsReportedTo takes drops held r s (told_by why fs) t
-faults_stop why {takes = takes} {drops = drops} {held = held} r0 r {s} {t} L rest fs whole e f h = subst (λ l. IsReportedTo takes drops held r s l t) (sym (told_by-append why L rest) ∙ ap (told_by why) whole) (told_stop r0 r (told_by why L) (told_by why rest) e f h)
+pub faults_stop : (why : FaultCode → Cause) {S A B E F : Type 0} {takes drops : S → Finding → S → Type 0} {held : S → SinkState} {e : E} {f : F}
+    (r0 : Result A E) (r : Result B F) {s t : S} (L rest fs : List Fault) → L ++ rest ≡ fs → r0 ≡ Err e → r ≡ Err f
+    → IsReportedTo takes drops held r0 s (told_by why L) t → IsReportedTo takes drops held r s (told_by why fs) t
+faults_stop why {takes = takes} {drops = drops} {held = held} r0 r {s} {t} L rest fs whole e f h =
+    subst (λ l. IsReportedTo takes drops held r s l t) (sym (told_by-append why L rest) ∙ ap (told_by why) whole)
+    (told_stop r0 r (told_by why L) (told_by why rest) e f h)
 
 -- one element more of a range
 
 pub faults_more : (f : ℕ → List Fault) (n : ℕ) → flat_map f (range_with_len 0 (n + 1)) ≡ flat_map f (range_with_len 0 n) ++ f n
-faults_more f n = ap (flat_map f) (range-one-more n) ∙ flat_map-append f (range_with_len 0 n) (n ∷ []) ∙ ap (λ l. flat_map f (range_with_len 0 n) ++ l) (append-nil (f n))
+faults_more f n = ap (flat_map f) (range-one-more n) ∙ flat_map-append f (range_with_len 0 n) (n ∷ [])
+    ∙ ap (λ l. flat_map f (range_with_len 0 n) ++ l) (append-nil (f n))
 
 -- a beginning of a range
-pub faults_rest : (f : ℕ → List Fault) (n i : ℕ) → i < n → (rest : List Fault) × ((flat_map f (range_with_len 0 i) ++ f i) ++ rest ≡ flat_map f (range_with_len 0 n))
+pub faults_rest : (f : ℕ → List Fault) (n i : ℕ) → i < n → (rest : List Fault)
+    × ((flat_map f (range_with_len 0 i) ++ f i) ++ rest ≡ flat_map f (range_with_len 0 n))
 faults_rest f n i l = by_gap f i (n - (i + 1)) n (omega arith)
   where
-    by_gap : (f : ℕ → List Fault) (i d n : ℕ) → n ≡ (i + 1) + d → (rest : List Fault) × ((flat_map f (range_with_len 0 i) ++ f i) ++ rest ≡ flat_map f (range_with_len 0 n))
-    by_gap f i zero n e = ([], append-nil (flat_map f (range_with_len 0 i) ++ f i) ∙ sym (faults_more f i) ∙ ap (λ m. flat_map f (range_with_len 0 m)) (let g : i + 1 ≡ n = omega arith in g))
+    by_gap : (f : ℕ → List Fault) (i d n : ℕ) → n ≡ (i + 1) + d → (rest : List Fault)
+        × ((flat_map f (range_with_len 0 i) ++ f i) ++ rest ≡ flat_map f (range_with_len 0 n))
+    by_gap f i zero n e = (
+      [],
+      append-nil (flat_map f (range_with_len 0 i) ++ f i) ∙ sym (faults_more f i)
+          ∙ ap (λ m. flat_map f (range_with_len 0 m)) (let g : i + 1 ≡ n = omega arith in g),
+    )
     by_gap f i (suc d) n e =
         let m = by_gap f i d (n - 1) (omega arith) in (
           m.0 ++ f (n - 1),
@@ -200,9 +231,11 @@ pub empty_told : (v : View) (is_child : Bool) (empty : Option Fault) → option_
 empty_told v is_child empty e x y = ap (told_by (inner_cause x)) e ∙ told_alike (inner_cause x) (inner_cause y) _ _ refl ∙ sym (ap (told_by (inner_cause y)) e)
 
 -- The cause of a page without other faults does not matter.
-pub cause_unused : (x y : Cause) (a b c d : Option Fault) → ((list_any is_some (a ∷ b ∷ c ∷ [])) ≡ true → x ≡ y) → told_by (inner_cause x) (option_to_list d) ≡ told_by (inner_cause y) (option_to_list d)
+pub cause_unused : (x y : Cause) (a b c d : Option Fault) → ((list_any is_some (a ∷ b ∷ c ∷ [])) ≡ true → x ≡ y) → told_by (inner_cause x) (option_to_list d)
+    ≡ told_by (inner_cause y) (option_to_list d)
     → told_by (inner_cause x) (flat_map option_to_list (a ∷ b ∷ c ∷ d ∷ [])) ≡ told_by (inner_cause y) (flat_map option_to_list (a ∷ b ∷ c ∷ d ∷ []))
-cause_unused x y None None None d h k = ap (told_by (inner_cause x)) (append-nil (option_to_list d)) ∙ k ∙ sym (ap (told_by (inner_cause y)) (append-nil (option_to_list d)))
+cause_unused x y None None None d h k = ap (told_by (inner_cause x)) (append-nil (option_to_list d)) ∙ k
+    ∙ sym (ap (told_by (inner_cause y)) (append-nil (option_to_list d)))
 cause_unused x y None None (Some c) d h k = ap (λ z. told_by (inner_cause z) (c ∷ (option_to_list d ++ []))) (h refl)
 cause_unused x y None (Some b) c d h k = ap (λ z. told_by (inner_cause z) (b ∷ (option_to_list c ++ (option_to_list d ++ [])))) (h refl)
 cause_unused x y (Some a) b c d h k = ap (λ z. told_by (inner_cause z) (a ∷ (option_to_list b ++ (option_to_list c ++ (option_to_list d ++ []))))) (h refl)
@@ -216,9 +249,11 @@ inner_found v is_child good fragments freeblock coverage empty cs e f b c m g =
     by_parts (option_to_list fragments) (option_to_list freeblock) (option_to_list coverage) (option_to_list empty) f b (c ∙ ap (coverage_fault v) all_good) m e
   where
     all_good : good ≡ (length (cell_faults v ++ freeblock_fault v) == 0)
-    all_good = g ∙ ap (λ x. (length cs == 0) && x) (none_found freeblock (freeblock_fault v) b) ∙ sym (none_more cs (freeblock_fault v)) ∙ ap (λ l. length (l ++ freeblock_fault v) == 0) (sym e)
+    all_good = g ∙ ap (λ x. (length cs == 0) && x) (none_found freeblock (freeblock_fault v) b) ∙ sym (none_more cs (freeblock_fault v))
+        ∙ ap (λ l. length (l ++ freeblock_fault v) == 0) (sym e)
 
-    by_parts : (fs bs os ms : List Fault) → fs ≡ fragment_fault v → bs ≡ freeblock_fault v → os ≡ coverage_fault v (length (cell_faults v ++ freeblock_fault v) == 0) → ms ≡ empty_fault v is_child → cell_faults v ≡ cs
+    by_parts : (fs bs os ms : List Fault) → fs ≡ fragment_fault v → bs ≡ freeblock_fault v → os
+        ≡ coverage_fault v (length (cell_faults v ++ freeblock_fault v) == 0) → ms ≡ empty_fault v is_child → cell_faults v ≡ cs
         → fs ++ (cs ++ (bs ++ (os ++ (ms ++ [])))) ≡ inner_faults v is_child
     by_parts fs bs os ms f b c m e = grind (arith, common_steps)
 
@@ -235,7 +270,8 @@ cells_err v n f e = ap (filter_map (λ i. option_map (λ c. (i, c)) (result_ok (
     ∙ append-nil (first_cells v n)
 
 pub local_more : (xs : List (ℕ × Cell)) (n : ℕ) (x : Cell) → payload_of (xs ++ (n, x) ∷ []) ≡ payload_of xs + length x.local
-local_more xs n x = sum_by-append (λ (i, c). length c.local) xs ((n, x) ∷ []) ∙ ap (λ m. sum_by (λ (i, c). length c.local) xs + m) (let e : sum_by (λ (i, c). length c.local) ((n, x) ∷ []) ≡ length x.local = omega arith in e)
+local_more xs n x = sum_by-append (λ (i, c). length c.local) xs ((n, x) ∷ [])
+    ∙ ap (λ m. sum_by (λ (i, c). length c.local) xs + m) (let e : sum_by (λ (i, c). length c.local) ((n, x) ∷ []) ≡ length x.local = omega arith in e)
 
 pub greatest_more : (xs : List (ℕ × Cell)) (n : ℕ) (x : Cell) → greatest_of (xs ++ (n, x) ∷ []) ≡ max (greatest_of xs) x.size
 greatest_more xs n x = go 0 xs

@@ -1,5 +1,6 @@
 -- What is reported of a page, by what a program finds of it.
-use Rattle.std.proofs.Common.{◌≡◌, ℕ, ◌+◌, true, false, not, ◌&&◌, cond, List, [], ◌∷◌, ◌++◌, length, map, Option, Some, None, refl, sym, ap, arith, ◌∙◌, Bool, Result, Ok, Err, subst, ◌-◌}
+use Rattle.std.proofs.Common.{◌≡◌, ℕ, ◌+◌, true, false, not, ◌&&◌, cond, List, [], ◌∷◌, ◌++◌, length, map, Option, Some, None, refl, sym, ap, arith, ◌∙◌, Bool}
+use Rattle.std.proofs.Common.{Result, Ok, Err, subst, ◌-◌}
 use Rattle.std.specs.Prelude.{nat_lt, pos, ◌==◌, OnOk, slice_get}
 use Rattle.std.specs.Option.{option_map_or}
 use Rattle.std.proofs.lemmas.List.{append-nil}
@@ -34,8 +35,12 @@ use Rattle.dbtrace.specs.Walk.{Walk}
 use Rattle.dbwalk.specs.Underway.{IsInterior}
 
 -- a page that is no leaf has no fault of its depth, and leaves the depth of the first leaf
-no_leaf : (file : List ℕ) (leaf : Option TreeLeaf) (c : Reference) → is_leaf_of file (start_of c.address) c ≡ false → (depth_faults file leaf c ≡ []) × (leaf_after file leaf c ≡ leaf)
-no_leaf file leaf c e = (ap (λ b. told_if (b && not (depth c.address == depth_of leaf (depth c.address))) (fault T05 c.page 0 (pos (depth c.address)))) e, by_first leaf)
+no_leaf : (file : List ℕ) (leaf : Option TreeLeaf) (c : Reference) → is_leaf_of file (start_of c.address) c ≡ false → (depth_faults file leaf c ≡ [])
+    × (leaf_after file leaf c ≡ leaf)
+no_leaf file leaf c e = (
+  ap (λ b. told_if (b && not (depth c.address == depth_of leaf (depth c.address))) (fault T05 c.page 0 (pos (depth c.address)))) e,
+  by_first leaf,
+)
   where
     by_first : (leaf : Option TreeLeaf) → leaf_after file leaf c ≡ leaf
     by_first (Some d) = refl
@@ -47,11 +52,13 @@ told_once why true f = refl
 told_once why false f = refl
 
 -- a leaf has one if its depth is not that of the first leaf; if there is none yet, it is the first itself
-at_leaf : (file : List ℕ) (why : FaultCode → Cause) (leaf : Option TreeLeaf) (c : Reference) (n : ℕ) → is_leaf_of file (start_of c.address) c ≡ true → depth c.address ≡ n
+at_leaf : (file : List ℕ) (why : FaultCode → Cause) (leaf : Option TreeLeaf) (c : Reference) (n : ℕ) → is_leaf_of file (start_of c.address) c ≡ true
+    → depth c.address ≡ n
     → (told_by (with_leaf why leaf) (depth_faults file leaf c) ≡ depth_told leaf c.page n) × (leaf_after file leaf c ≡ Some (first_of leaf c.page n))
 at_leaf file why leaf c n e d = by_first leaf
   where
-    by_first : (leaf : Option TreeLeaf) → (told_by (with_leaf why leaf) (depth_faults file leaf c) ≡ depth_told leaf c.page n) × (leaf_after file leaf c ≡ Some (first_of leaf c.page n))
+    by_first : (leaf : Option TreeLeaf) → (told_by (with_leaf why leaf) (depth_faults file leaf c) ≡ depth_told leaf c.page n)
+        × (leaf_after file leaf c ≡ Some (first_of leaf c.page n))
     by_first (Some m) = (told_once (with_leaf why (Some m)) _ _ ∙ rw (e, d) refl, refl)
     by_first None = (told_once (with_leaf why None) _ _ ∙ rw (e, d) refl, rw (e, d) refl)
 
@@ -86,26 +93,32 @@ module _ (file : List ℕ) (kind : TreeKind) (k : ℕ) (path : List ℕ) (p from
   pub viewed_as : (o : Option View) → undamaged kind p (usable_size file) bytes ≡ o → tree_view file c ≡ o
   viewed_as o e = view_is file c kind kind_is ∙ ap (λ q. undamaged kind q (usable_size file) (page_bytes file q)) candidate.page ∙ e
 
-  faults_as : (fs : List Fault) → tree_page_faults kind (nat_lt 1 (length path + 1)) p (usable_size file) bytes ≡ fs → tree_page_faults kind (is_child (role_of c)) c.page (usable_size file) (page_bytes file c.page) ≡ fs
+  faults_as : (fs : List Fault) → tree_page_faults kind (nat_lt 1 (length path + 1)) p (usable_size file) bytes ≡ fs
+      → tree_page_faults kind (is_child (role_of c)) c.page (usable_size file) (page_bytes file c.page) ≡ fs
   faults_as fs e = ap (λ b. tree_page_faults kind b c.page (usable_size file) (page_bytes file c.page)) child_is
       ∙ ap (λ q. tree_page_faults kind (nat_lt 1 (length path + 1)) q (usable_size file) (page_bytes file q)) candidate.page ∙ e
 
   -- whether it is a leaf of its tree
-  leaf_is : (o : Option View) → undamaged kind p (usable_size file) bytes ≡ o → is_leaf_of file (start_of c.address) c ≡ option_map_or (λ v. not (is_interior v.kind)) o false
-  leaf_is o e = ap (λ o. (start_of c.address == start_of c.address) && option_map_or (λ v. not (is_interior v.kind)) o false) (viewed_as o e) ∙ ap (λ b. b && option_map_or (λ v. not (is_interior v.kind)) o false) (itself (start_of c.address))
+  leaf_is : (o : Option View) → undamaged kind p (usable_size file) bytes ≡ o → is_leaf_of file (start_of c.address) c
+      ≡ option_map_or (λ v. not (is_interior v.kind)) o false
+  leaf_is o e = ap (λ o. (start_of c.address == start_of c.address) && option_map_or (λ v. not (is_interior v.kind)) o false) (viewed_as o e)
+      ∙ ap (λ b. b && option_map_or (λ v. not (is_interior v.kind)) o false) (itself (start_of c.address))
     where
       itself : (n : ℕ) → (n == n) ≡ true
       itself n = grind (arith, nat_tests)
 
   module _ (leaf : Option TreeLeaf) where
     -- a damaged page: its row, and its one fault
-    pub told_damaged : (f : Fault) → undamaged kind p (usable_size file) bytes ≡ None → tree_page_faults kind (nat_lt 1 (length path + 1)) p (usable_size file) bytes ≡ f ∷ []
+    pub told_damaged : (f : Fault) → undamaged kind p (usable_size file) bytes ≡ None
+        → tree_page_faults kind (nat_lt 1 (length path + 1)) p (usable_size file) bytes ≡ f ∷ []
         → page_findings file leaf c ≡ damaged_findings k path p (usable_size file) bytes f
     told_damaged f e g =
         let why = page_cause c.page (usable_size file) (page_bytes file c.page) None in
         page_told file c kind kind_is leaf None (viewed_as None e)
-        ∙ ap (λ fs. (told_row (tree_page_row c None) ∷ told_by why fs) ++ told_by (with_leaf (visit_cause file c) leaf) (depth_faults file leaf c)) (faults_as (f ∷ []) g)
-        ∙ ap (λ fs. (told_row (tree_page_row c None) ∷ told_by why (f ∷ [])) ++ told_by (with_leaf (visit_cause file c) leaf) fs) (no_leaf file leaf c (leaf_is None e)).0
+        ∙ ap (λ fs. (told_row (tree_page_row c None) ∷ told_by why fs) ++ told_by (with_leaf (visit_cause file c) leaf) (depth_faults file leaf c))
+        (faults_as (f ∷ []) g)
+        ∙ ap (λ fs. (told_row (tree_page_row c None) ∷ told_by why (f ∷ [])) ++ told_by (with_leaf (visit_cause file c) leaf) fs)
+        (no_leaf file leaf c (leaf_is None e)).0
         ∙ append-nil (told_row (tree_page_row c None) ∷ told_by why (f ∷ []))
         ∙ ap (λ r. told_row r ∷ told_by why (f ∷ [])) (sym (row_of_damage c p k path candidate.start candidate.path candidate.chain candidate.page))
         ∙ ap (λ q. told_row (damaged_row k path p) ∷ told_by (page_cause q (usable_size file) (page_bytes file q) None) (f ∷ [])) candidate.page
@@ -114,8 +127,10 @@ module _ (file : List ℕ) (kind : TreeKind) (k : ℕ) (path : List ℕ) (p from
     pub leaf_after_damaged : undamaged kind p (usable_size file) bytes ≡ None → leaf_after file leaf c ≡ leaf
     leaf_after_damaged e = (no_leaf file leaf c (leaf_is None e)).1
 
-    module _ (v : View) (viewed : undamaged kind p (usable_size file) bytes ≡ Some v) (number : v.number ≡ p) (within : tree_page_faults kind (nat_lt 1 (length path + 1)) p (usable_size file) bytes ≡ inner_faults v (nat_lt 1 (length path + 1))) where
-      pub row_and_faults : page_findings file leaf c ≡ undamaged_findings k path v (nat_lt 1 (length path + 1)) ++ told_by (with_leaf (visit_cause file c) leaf) (depth_faults file leaf c)
+    module _ (v : View) (viewed : undamaged kind p (usable_size file) bytes ≡ Some v) (number : v.number ≡ p)
+        (within : tree_page_faults kind (nat_lt 1 (length path + 1)) p (usable_size file) bytes ≡ inner_faults v (nat_lt 1 (length path + 1))) where
+      pub row_and_faults : page_findings file leaf c ≡ undamaged_findings k path v (nat_lt 1 (length path + 1))
+          ++ told_by (with_leaf (visit_cause file c) leaf) (depth_faults file leaf c)
       row_and_faults =
           let why = page_cause c.page (usable_size file) (page_bytes file c.page) (Some v) in
           let last = told_by (with_leaf (visit_cause file c) leaf) (depth_faults file leaf c) in
@@ -123,7 +138,8 @@ module _ (file : List ℕ) (kind : TreeKind) (k : ℕ) (path : List ℕ) (p from
           page_told file c kind kind_is leaf (Some v) (viewed_as (Some v) viewed)
           ∙ ap (λ fs. (told_row (tree_page_row c (Some v)) ∷ told_by why fs) ++ last) (faults_as (inner_faults v child) within)
           ∙ ap (λ L. (told_row (tree_page_row c (Some v)) ∷ L) ++ last) (inner_same why (view_cause v) (ap of_page (candidate.page ∙ sym number)) v child)
-          ∙ ap (λ r. (told_row r ∷ told_by (view_cause v) (inner_faults v child)) ++ last) (sym (row_of_view c v k path candidate.start candidate.path candidate.chain (number ∙ sym candidate.page)))
+          ∙ ap (λ r. (told_row r ∷ told_by (view_cause v) (inner_faults v child)) ++ last)
+          (sym (row_of_view c v k path candidate.start candidate.path candidate.chain (number ∙ sym candidate.page)))
         where
           of_page : ℕ → List Cause
           of_page q = map (page_cause q (usable_size file) (page_bytes file c.page) (Some v)) inner_codes
@@ -131,20 +147,24 @@ module _ (file : List ℕ) (kind : TreeKind) (k : ℕ) (path : List ℕ) (p from
       -- an interior page: its row, and the faults within it
       pub told_interior : is_interior v.kind ≡ true → page_findings file leaf c ≡ undamaged_findings k path v (nat_lt 1 (length path + 1))
       told_interior e = row_and_faults
-          ∙ ap (λ fs. undamaged_findings k path v (nat_lt 1 (length path + 1)) ++ told_by (with_leaf (visit_cause file c) leaf) fs) (no_leaf file leaf c (leaf_is (Some v) viewed ∙ ap not e)).0
+          ∙ ap (λ fs. undamaged_findings k path v (nat_lt 1 (length path + 1)) ++ told_by (with_leaf (visit_cause file c) leaf) fs)
+          (no_leaf file leaf c (leaf_is (Some v) viewed ∙ ap not e)).0
           ∙ append-nil (undamaged_findings k path v (nat_lt 1 (length path + 1)))
 
       pub leaf_after_interior : is_interior v.kind ≡ true → leaf_after file leaf c ≡ leaf
       leaf_after_interior e = (no_leaf file leaf c (leaf_is (Some v) viewed ∙ ap not e)).1
 
       -- a leaf: then that its depth is not that of the first
-      pub told_leaf : is_interior v.kind ≡ false → page_findings file leaf c ≡ undamaged_findings k path v (nat_lt 1 (length path + 1)) ++ depth_told leaf p (length path + 1)
+      pub told_leaf : is_interior v.kind ≡ false → page_findings file leaf c ≡ undamaged_findings k path v (nat_lt 1 (length path + 1))
+          ++ depth_told leaf p (length path + 1)
       told_leaf e = row_and_faults
           ∙ ap (λ L. undamaged_findings k path v (nat_lt 1 (length path + 1)) ++ L)
-          ((at_leaf file (visit_cause file c) leaf c (length path + 1) (leaf_is (Some v) viewed ∙ ap not e) candidate.depth).0 ∙ ap (λ q. depth_told leaf q (length path + 1)) candidate.page)
+          ((at_leaf file (visit_cause file c) leaf c (length path + 1) (leaf_is (Some v) viewed ∙ ap not e) candidate.depth).0
+          ∙ ap (λ q. depth_told leaf q (length path + 1)) candidate.page)
 
       pub leaf_after_leaf : is_interior v.kind ≡ false → leaf_after file leaf c ≡ Some (first_of leaf p (length path + 1))
-      leaf_after_leaf e = (at_leaf file (visit_cause file c) leaf c (length path + 1) (leaf_is (Some v) viewed ∙ ap not e) candidate.depth).1 ∙ ap (λ q. Some (first_of leaf q (length path + 1))) candidate.page
+      leaf_after_leaf e = (at_leaf file (visit_cause file c) leaf c (length path + 1) (leaf_is (Some v) viewed ∙ ap not e) candidate.depth).1
+          ∙ ap (λ q. Some (first_of leaf q (length path + 1))) candidate.page
 
 -- How the report of a page ends.
 
@@ -152,7 +172,8 @@ pub on_err : {A E : Type 0} (P : Type 0) {e : E} (r : Result A E) → r ≡ Err 
 on_err P (Ok a) e = cc
 on_err P (Err x) e = tt
 
-module _ {S : Type 0} (A E : Type 0) (takes drops : S → Finding → S → Type 0) (held : S → SinkState) (file : List ℕ) (kind : TreeKind) (k : ℕ) (path : List ℕ) (p from item : ℕ) (c : Reference) (candidate : IsCandidate kind k path p from item c)
+module _ {S : Type 0} (A E : Type 0) (takes drops : S → Finding → S → Type 0) (held : S → SinkState) (file : List ℕ) (kind : TreeKind) (k : ℕ) (path : List ℕ)
+    (p from item : ℕ) (c : Reference) (candidate : IsCandidate kind k path p from item c)
     (usable : ℕ) (usable_is : usable ≡ usable_size file) (bytes : List ℕ) (bytes_are : bytes ≡ page_bytes file p) (leaf : Option TreeLeaf)
     (path' : List ℕ) (path_is : path' ≡ path) (depth : ℕ) (depth_is : depth ≡ length path + 1) (s : S) where
   abbrev Exit : Result A E → S → Option TreeLeaf → Type 0
@@ -161,13 +182,17 @@ module _ {S : Type 0} (A E : Type 0) (takes drops : S → Finding → S → Type
   seen_as : (o : Option View) → undamaged kind p usable bytes ≡ o → undamaged kind p (usable_size file) (page_bytes file p) ≡ o
   seen_as o e = ap (λ u. undamaged kind p u (page_bytes file p)) (sym usable_is) ∙ ap (λ b. undamaged kind p usable b) (sym bytes_are) ∙ e
 
-  read_faults : (b : Bool) (fs : List Fault) → tree_page_faults kind b p usable bytes ≡ fs → tree_page_faults kind b p (usable_size file) (page_bytes file p) ≡ fs
-  read_faults b fs e = ap (λ u. tree_page_faults kind b p u (page_bytes file p)) (sym usable_is) ∙ ap (λ y. tree_page_faults kind b p usable y) (sym bytes_are) ∙ e
+  read_faults : (b : Bool) (fs : List Fault) → tree_page_faults kind b p usable bytes ≡ fs → tree_page_faults kind b p (usable_size file) (page_bytes file p)
+      ≡ fs
+  read_faults b fs e = ap (λ u. tree_page_faults kind b p u (page_bytes file p)) (sym usable_is) ∙ ap (λ y. tree_page_faults kind b p usable y) (sym bytes_are)
+      ∙ e
 
-  module _ (f : Fault) (none : undamaged kind p usable bytes ≡ None) (one : (b : Bool) → tree_page_faults kind b p usable bytes ≡ f ∷ []) {B : Type 0} (r0 : Result B E) (t : S)
+  module _ (f : Fault) (none : undamaged kind p usable bytes ≡ None) (one : (b : Bool) → tree_page_faults kind b p usable bytes ≡ f ∷ []) {B : Type 0}
+      (r0 : Result B E) (t : S)
       (told : IsReportedTo takes drops held r0 s (damaged_findings k path' p usable bytes f) t) where
     all_told : page_findings file leaf c ≡ damaged_findings k path' p usable bytes f
-    all_told = told_damaged file kind k path p from item c candidate leaf f (seen_as None none) (read_faults (nat_lt 1 (length path + 1)) (f ∷ []) (one (nat_lt 1 (length path + 1))))
+    all_told = told_damaged file kind k path p from item c candidate leaf f (seen_as None none)
+        (read_faults (nat_lt 1 (length path + 1)) (f ∷ []) (one (nat_lt 1 (length path + 1))))
         ∙ ap (λ q. damaged_findings k q p (usable_size file) (page_bytes file p) f) (sym path_is)
         ∙ ap (λ u. damaged_findings k path' p u (page_bytes file p) f) (sym usable_is)
         ∙ ap (λ b. damaged_findings k path' p usable b f) (sym bytes_are)
@@ -181,7 +206,8 @@ module _ {S : Type 0} (A E : Type 0) (takes drops : S → Finding → S → Type
     pub exit_damaged_stop : (new : Option TreeLeaf) (r : Result A E) {e x : E} → r0 ≡ Err e → r ≡ Err x → Exit r t new
     exit_damaged_stop new r e f = (subst (λ L. IsReportedTo takes drops held r s L t) (sym all_told) (told_same r0 r e f told), on_err _ r f)
 
-  module _ (v : View) (viewed : undamaged kind p usable bytes ≡ Some v) (number : v.number ≡ p) (within : (b : Bool) → tree_page_faults kind b p usable bytes ≡ inner_faults v b) {B : Type 0} (r0 : Result B E) (t : S)
+  module _ (v : View) (viewed : undamaged kind p usable bytes ≡ Some v) (number : v.number ≡ p)
+      (within : (b : Bool) → tree_page_faults kind b p usable bytes ≡ inner_faults v b) {B : Type 0} (r0 : Result B E) (t : S)
       (told : IsReportedTo takes drops held r0 s (undamaged_findings k path' v (nat_lt 1 depth)) t) where
     abbrev first_told : List Finding
     first_told = undamaged_findings k path v (nat_lt 1 (length path + 1))
@@ -205,7 +231,8 @@ module _ {S : Type 0} (A E : Type 0) (takes drops : S → Finding → S → Type
 
     pub exit_interior : (a : A) {b : B} → r0 ≡ Ok b → is_interior v.kind ≡ true → Exit (Ok a) t leaf
     exit_interior a e i = (
-      subst (λ L. IsReportedTo {E = E} takes drops held (Ok a) s L t) (sym (told_interior file kind k path p from item c candidate leaf v there number inner i)) (told_ok a r0 e told_first),
+      subst (λ L. IsReportedTo {E = E} takes drops held (Ok a) s L t) (sym (told_interior file kind k path p from item c candidate leaf v there number inner i))
+          (told_ok a r0 e told_first),
       sym (leaf_after_interior file kind k path p from item c candidate leaf v there number inner i),
     )
 
@@ -218,7 +245,8 @@ module _ {S : Type 0} (A E : Type 0) (takes drops : S → Finding → S → Type
       told_last = subst (λ n. IsReportedTo takes drops held r1 t (depth_told leaf p n) t1) depth_is last
 
       both_told : IsReportedTo takes drops held r1 s (page_findings file leaf c) t1
-      both_told = subst (λ L. IsReportedTo takes drops held r1 s L t1) (sym (told_leaf file kind k path p from item c candidate leaf v there number inner is_leaf))
+      both_told = subst (λ L. IsReportedTo takes drops held r1 s L t1)
+          (sym (told_leaf file kind k path p from item c candidate leaf v there number inner is_leaf))
           (told_then r0 r1 first_told last_told ok told_first told_last)
 
       pub exit_leaf : (a : A) {z : C} (new : Option TreeLeaf) → r1 ≡ Ok z → new ≡ Some (first_of leaf p depth) → Exit (Ok a) t1 new
@@ -233,7 +261,8 @@ module _ {S : Type 0} (A E : Type 0) (takes drops : S → Finding → S → Type
 -- A page of a tree that was read, by what it is.
 
 module _ (file : List ℕ) {kind : TreeKind} {k : ℕ} {children : List ℕ} {p from item : ℕ} {c : Reference} (candidate : IsCandidate kind k children p from item c)
-    {levels levels' : List (List ℕ)} (there : HasPageAt levels (length children) (page_bytes file p)) (same : levels' ≡ levels) {kind' : TreeKind} (kinds : kind' ≡ kind) {usable : ℕ} (usables : usable ≡ usable_size file) where
+    {levels levels' : List (List ℕ)} (there : HasPageAt levels (length children) (page_bytes file p)) (same : levels' ≡ levels) {kind' : TreeKind}
+    (kinds : kind' ≡ kind) {usable : ℕ} (usables : usable ≡ usable_size file) where
   bytes_are : (bytes : List ℕ) → slice_get levels' (length children) ≡ Some bytes → bytes ≡ page_bytes file p
   bytes_are bytes e = there bytes (ap (λ ls. slice_get ls (length children)) (sym same) ∙ e)
 
@@ -242,7 +271,8 @@ module _ (file : List ℕ) {kind : TreeKind} {k : ℕ} {children : List ℕ} {p 
       ap (λ q. undamaged q p (usable_size file) (page_bytes file p)) (sym kinds) ∙ ap (λ u. undamaged kind' p u (page_bytes file p)) (sym usables)
       ∙ ap (λ b. undamaged kind' p usable b) (sym (bytes_are bytes e)) ∙ f)
 
-  pub found_interior : (walk : Walk) → is_followed (rules_of file) walk.visits c ≡ true → IsOpen usable kind' levels' (length children) (record { page = p; next = 0 }) → IsInterior file walk c levels'
+  pub found_interior : (walk : Walk) → is_followed (rules_of file) walk.visits c ≡ true
+      → IsOpen usable kind' levels' (length children) (record { page = p; next = 0 }) → IsInterior file walk c levels'
   found_interior walk followed is = record {
     followed = followed;
     frame = record { page = refl; view = is.view; viewed = view_of is.bytes (Some is.view) is.there is.viewed; interior = is.interior; within = omega arith };
@@ -257,7 +287,8 @@ module _ (file : List ℕ) {kind : TreeKind} {k : ℕ} {children : List ℕ} {p 
   found_view found = view_of found.bytes (Some found.view) found.there found.viewed
 
   -- a leaf, for the state at its cells
-  module _ {kind'' : TreeKind} (now_is : kind'' ≡ kind) {k' : ℕ} (starts : k' ≡ k) {children' : List ℕ} (ways : children' ≡ children) (found : IsOpenLeaf usable kind' levels' (length children) p) where
+  module _ {kind'' : TreeKind} (now_is : kind'' ≡ kind) {k' : ℕ} (starts : k' ≡ k) {children' : List ℕ} (ways : children' ≡ children)
+      (found : IsOpenLeaf usable kind' levels' (length children) p) where
     pub found_leaf : IsLeafAt file kind'' k' children' c levels' p
     found_leaf = record {
       page = candidate.page;

@@ -78,7 +78,8 @@ module _ (file : List ℕ) where
   told_refused W c es h =
       told_join W (Go c ∷ []) es (quiet_go c)
       ∙ ap (λ L. L ++ told_below file (W ++ visited_below file W (Go c ∷ [])) es)
-      (below_refused (rules_of file) (story_of file) pages (are_rules file) own_visit (told_at file) (shows_visits file) W c h ∙ ap (told_at file W) (of_refused c))
+      (below_refused (rules_of file) (story_of file) pages (are_rules file) own_visit (told_at file) (shows_visits file) W c h
+      ∙ ap (told_at file W) (of_refused c))
       ∙ ap (λ V. told_at file W (at_refused c) ++ told_below file (W ++ V) es) (visited_refused W c [] h ∙ visited_none W)
       ∙ ap (λ U. told_at file W (at_refused c) ++ told_below file U es) (append-nil W)
 
@@ -100,9 +101,12 @@ module _ (file : List ℕ) where
       ∙ ap (λ L. told_at file U (at_page c) ++ L) (sym (told_join U fs es quiet))
 
 -- what is visited below a reference begins with its address
-pub below_begins : (file : List ℕ) (U : List Reference) (d u : Reference) → IsIn u (visited_below file U (Go d ∷ [])) → (b : Address) × (u.address ≡ d.address ++ b)
+pub below_begins : (file : List ℕ) (U : List Reference) (d u : Reference) → IsIn u (visited_below file U (Go d ∷ [])) → (b : Address)
+    × (u.address ≡ d.address ++ b)
 below_begins file U d u i =
-    let part : IsPart (rules_of file) U (d ∷ []) (part_of (rules_of file) (geometry file).pages U (d ∷ [])) = traverse_part (rules_of file) (geometry file).pages (are_rules file) (geometry file).pages U (d ∷ []) (free_at_most (geometry file).pages U) ((λ y j. absurd j), tt) in
+    let part : IsPart (rules_of file) U (d ∷ []) (part_of (rules_of file) (geometry file).pages U (d ∷ [])) =
+    traverse_part (rules_of file) (geometry file).pages (are_rules file) (geometry file).pages U (d ∷ []) (free_at_most (geometry file).pages U)
+    ((λ y j. absurd j), tt) in
     let m = part_below (rules_of file) U (d ∷ []) (part_of (rules_of file) (geometry file).pages U (d ∷ [])) part u i in
     elim m.1 [
       | inl e ↦ (m.2.0, m.2.1 ∙ ap (λ r. r.address ++ m.2.0) e)

@@ -1,5 +1,6 @@
 -- What is left of a walk, step by step.
-use Rattle.std.proofs.Common.{◌≡◌, ℕ, true, false, inl, inr, List, [], ◌∷◌, ◌++◌, Ok, Err, refl, sym, ap, subst, ◌∙◌, append_assoc, ◌-◌, Bool, set, Option, Some, None}
+use Rattle.std.proofs.Common.{◌≡◌, ℕ, true, false, inl, inr, List, [], ◌∷◌, ◌++◌, Ok, Err, refl, sym, ap, subst, ◌∙◌, append_assoc, ◌-◌, Bool, set, Option}
+use Rattle.std.proofs.Common.{Some, None}
 use Rattle.std.proofs.lemmas.List.{append-nil}
 use Rattle.dbsurvey.specs.Address.{IsIn, IsBefore, IsLeftOf}
 use Rattle.dbsurvey.specs.Traverse.{is_followed}
@@ -27,7 +28,8 @@ use Rattle.dbtrace.specs.Finding.{Finding, told_at, told_below, visited_below, t
 use Rattle.dbwalk.specs.Telling.{StopsBy}
 use Rattle.dbwalk.specs.Done.{IsDone, IsLeft}
 use Rattle.dbwalk.specs.Entered.{Enters, IsNext, IsStepOf}
-use Rattle.dbwalk.proofs.Telling.Belows.{stops_by_first, stops_by_after, visited_none, visited_refused, visited_visit, visited_join, told_none, told_join, told_refused, told_visit}
+use Rattle.dbwalk.proofs.Telling.Belows.{stops_by_first, stops_by_after, visited_none, visited_refused, visited_visit, visited_join, told_none, told_join}
+use Rattle.dbwalk.proofs.Telling.Belows.{told_refused, told_visit}
 use Rattle.std.specs.Prelude.{pos}
 use Rattle.dbformat.specs.ReferenceFaults.{refusal_fault}
 use Rattle.dbformat.specs.declared.FaultCode.{FaultCode}
@@ -39,18 +41,25 @@ past_rest : (U : List Reference) (e : Errand Way Event) (es : List (Errand Way E
 past_rest U e es h u f i j = h u f i (inr j)
 
 -- the errands of a visited candidate are apart, and left of those after it
-pub visit_apart : (file : List ℕ) (c : Reference) (es : List (Errand Way Event)) → AreErrandsApart (Go c ∷ es) → AreErrandsApart (errands_of (story_of file) c ++ es)
+pub visit_apart : (file : List ℕ) (c : Reference) (es : List (Errand Way Event)) → AreErrandsApart (Go c ∷ es)
+    → AreErrandsApart (errands_of (story_of file) c ++ es)
 visit_apart file c es h = EachPair-append (λ e f. IsLeftOf (errand_key e) (errand_key f)) (errands_of (story_of file) c) es
     (errands_apart (rules_of file) (story_of file) (is_story file) c) h.1
     (λ e f i j. let k = errands_at-step c.address ((story_of file).items c) e i in
-    subst (λ a. IsLeftOf a (errand_key f)) (sym k.2) (subst (λ b. IsLeftOf (c.address ++ (step_of k.0 ∷ [])) b) (append-nil (errand_key f)) (IsLeftOf-longer c.address (errand_key f) (step_of k.0 ∷ []) [] (h.0 f j))))
+    subst (λ a. IsLeftOf a (errand_key f)) (sym k.2) (subst (λ b. IsLeftOf (c.address ++ (step_of k.0 ∷ [])) b) (append-nil (errand_key f))
+    (IsLeftOf-longer c.address (errand_key f) (step_of k.0 ∷ []) [] (h.0 f j))))
 
-pub past_visit_all : (file : List ℕ) (U : List Reference) (c : Reference) (es : List (Errand Way Event)) → IsPast U (Go c ∷ es) → AreErrandsApart (Go c ∷ es) → IsPast (U ++ (c ∷ [])) (errands_of (story_of file) c ++ es)
+pub past_visit_all : (file : List ℕ) (U : List Reference) (c : Reference) (es : List (Errand Way Event)) → IsPast U (Go c ∷ es) → AreErrandsApart (Go c ∷ es)
+    → IsPast (U ++ (c ∷ [])) (errands_of (story_of file) c ++ es)
 past_visit_all file U c es past apart u f i j = elim (IsIn-cases f (errands_of (story_of file) c) es j) [
   | inl k ↦ past_visit (story_of file) U c (λ v g m n. past v g m (first g n)) u f i k
   | inr k ↦ (elim (IsIn-cases u U (c ∷ []) i) [
     | inl m ↦ past u f m (inr k)
-    | inr m ↦ (elim m [ inl e ↦ subst (λ w. IsBefore w.address (errand_key f)) (sym e) (IsLeftOf-before c.address (errand_key f) (apart.0 f k)) | inr n ↦ absurd n ])
+    | inr m ↦ (elim m [
+      | inl e ↦ subst (λ w. IsBefore w.address (errand_key f)) (sym e) (IsLeftOf-before c.address (errand_key f) (apart.0 f k))
+      | inr n ↦ absurd
+          n
+    ])
   ])
 ]
   where
@@ -60,12 +69,14 @@ past_visit_all file U c es past apart u f i j = elim (IsIn-cases f (errands_of (
 
 module _ {S : Type 0} (takes : S → Finding → S → Type 0) (file : List ℕ) (W : List Reference) (errands : List (Errand Way Event)) (before : S) where
   -- at the start all is left
-  pub left_start : (marks : List Mark) → AreMarksOf file W marks → IsPast W errands → AreErrandsApart errands → IsLeft takes file W errands before W errands (marks, before)
+  pub left_start : (marks : List Mark) → AreMarksOf file W marks → IsPast W errands → AreErrandsApart errands
+      → IsLeft takes file W errands before W errands (marks, before)
   left_start marks m p a = record { marked = m; past = p; apart = a; visits = refl; items = []; told = refl; rest = refl }
 
   module _ (U : List Reference) (marks : List Mark) (s : S) where
     -- a candidate is refused, and that is reported
-    pub left_refused : (t : S) (marks' : List Mark) (c : Reference) (es : List (Errand Way Event)) → IsLeft takes file W errands before U (Go c ∷ es) (marks, s) → is_followed (rules_of file) U c ≡ false
+    pub left_refused : (t : S) (marks' : List Mark) (c : Reference) (es : List (Errand Way Event)) → IsLeft takes file W errands before U (Go c ∷ es) (marks, s)
+        → is_followed (rules_of file) U c ≡ false
         → AreMarksOf file U marks' → Moves takes s (told_at file U (at_refused c)) t → IsLeft takes file W errands before U es (marks', t)
     left_refused t marks' c es h f marked m = record {
       marked = marked;
@@ -78,9 +89,11 @@ module _ {S : Type 0} (takes : S → Finding → S → Type 0) (file : List ℕ)
     }
 
     -- a candidate is visited: it is marked, and its own event is reported
-    pub left_visit : (t : S) (marks' : List Mark) (c : Reference) (es : List (Errand Way Event)) → IsLeft takes file W errands before U (Go c ∷ es) (marks, s) → is_followed (rules_of file) U c ≡ true
+    pub left_visit : (t : S) (marks' : List Mark) (c : Reference) (es : List (Errand Way Event)) → IsLeft takes file W errands before U (Go c ∷ es) (marks, s)
+        → is_followed (rules_of file) U c ≡ true
         → AreQuiet own_visit (errands_of (story_of file) c) → AreMarksOf file (U ++ (c ∷ [])) marks'
-        → Moves takes s (told_at file (U ++ (c ∷ [])) (at_page c)) t → IsLeft takes file W errands before (U ++ (c ∷ [])) (errands_of (story_of file) c ++ es) (marks', t)
+        → Moves takes s (told_at file (U ++ (c ∷ [])) (at_page c)) t
+        → IsLeft takes file W errands before (U ++ (c ∷ [])) (errands_of (story_of file) c ++ es) (marks', t)
     left_visit t marks' c es h f quiet marked m = record {
       marked = marked;
       past = past_visit_all file U c es h.past h.apart;
@@ -93,27 +106,33 @@ module _ {S : Type 0} (takes : S → Finding → S → Type 0) (file : List ℕ)
     }
 
     -- a call does the first errands
-    pub left_call : {A : Type 0} (drops : S → Finding → S → Type 0) (t : S) (marks' : List Mark) (a : A) (es fs : List (Errand Way Event)) → IsLeft takes file W errands before U (es ++ fs) (marks, s)
-        → AreQuiet own_visit es → IsDone takes drops file U es (Ok a) marks' s t → IsLeft takes file W errands before (U ++ visited_below file U es) fs (marks', t)
+    pub left_call : {A : Type 0} (drops : S → Finding → S → Type 0) (t : S) (marks' : List Mark) (a : A) (es fs : List (Errand Way Event))
+        → IsLeft takes file W errands before U (es ++ fs) (marks, s)
+        → AreQuiet own_visit es → IsDone takes drops file U es (Ok a) marks' s t
+        → IsLeft takes file W errands before (U ++ visited_below file U es) fs (marks', t)
     left_call drops t marks' a es fs h quiet done = record {
       marked = done.marked;
-      past = past_join (rules_of file) (geometry file).pages (are_rules file) U es fs h.apart (EachPair-left (λ e f. IsLeftOf (errand_key e) (errand_key f)) es fs h.apart) (λ u f i j. h.past u f i (IsIn-right f es fs j));
+      past = past_join (rules_of file) (geometry file).pages (are_rules file) U es fs h.apart
+          (EachPair-left (λ e f. IsLeftOf (errand_key e) (errand_key f)) es fs h.apart) (λ u f i j. h.past u f i (IsIn-right f es fs j));
       apart = EachPair-right (λ e f. IsLeftOf (errand_key e) (errand_key f)) es fs h.apart;
       visits = sym (visited_join file U es fs) ∙ h.visits;
       items = h.items ++ told_below file U es;
       told = Moves-append takes before s t h.items (told_below file U es) h.told done.told;
-      rest = append_assoc h.items (told_below file U es) (told_below file (U ++ visited_below file U es) fs) ∙ ap (λ L. h.items ++ L) (sym (told_join file U es fs quiet)) ∙ h.rest;
+      rest = append_assoc h.items (told_below file U es) (told_below file (U ++ visited_below file U es) fs)
+          ∙ ap (λ L. h.items ++ L) (sym (told_join file U es fs quiet)) ∙ h.rest;
     }
 
     -- nothing is left
-    pub left_none : {A : Type 0} (drops : S → Finding → S → Type 0) (a : A) → IsLeft takes file W errands before U [] (marks, s) → IsDone takes drops file W errands (Ok a) marks before s
+    pub left_none : {A : Type 0} (drops : S → Finding → S → Type 0) (a : A) → IsLeft takes file W errands before U [] (marks, s)
+        → IsDone takes drops file W errands (Ok a) marks before s
     left_none drops a h = record {
       marked = subst (λ V. AreMarksOf file V marks) (sym (append-nil U) ∙ ap (λ V. U ++ V) (sym (visited_none file U)) ∙ h.visits) h.marked;
       told = subst (λ L. Moves takes before L s) (sym (append-nil h.items) ∙ ap (λ L. h.items ++ L) (sym (told_none file U)) ∙ h.rest) h.told;
     }
 
     -- an error, while the first items of what is left are reported
-    pub left_stop : {A : Type 0} (drops : S → Finding → S → Type 0) (t : S) (marks' : List Mark) (e : RunError) (left : List (Errand Way Event)) (part rest : List Finding)
+    pub left_stop : {A : Type 0} (drops : S → Finding → S → Type 0) (t : S) (marks' : List Mark) (e : RunError) (left : List (Errand Way Event))
+        (part rest : List Finding)
         → IsLeft takes file W errands before U left (marks, s) → part ++ rest ≡ told_below file U left
         → StopsBy takes drops e s part t → IsDone {A = A} takes drops file W errands (Err e) marks' before t
     left_stop drops t marks' e left part rest h whole k = record {
@@ -124,7 +143,8 @@ module _ {S : Type 0} (takes : S → Finding → S → Type 0) (file : List ℕ)
 
     -- an error, while the refusal of a reference is reported
     pub left_untold : (drops : S → Finding → S → Type 0) (t : S) (marks' : List Mark) (e : RunError) (c : Reference) (es : List (Errand Way Event))
-        → IsLeft takes file W errands before U (Go c ∷ es) (marks, s) → Enters takes drops file U c (Err e) marks' s t → IsDone {A = Unit {0}} takes drops file W errands (Err e) marks' before t
+        → IsLeft takes file W errands before U (Go c ∷ es) (marks, s) → Enters takes drops file U c (Err e) marks' s t
+        → IsDone {A = Unit {0}} takes drops file W errands (Err e) marks' before t
     left_untold drops t marks' e c es h n = left_stop drops t marks' e (Go c ∷ es) _ (told_below file U es) h (sym (told_refused file U c es n.0)) n.2
 
 -- How a candidate is entered.
@@ -152,19 +172,22 @@ refusal_none (Some (Child from)) false e = absurd (cc)
 pub no_chain_refusal : (file : List ℕ) (W : List Reference) (c : Reference) → bytes_left (role_of c) ≡ None → refusal_cause file W c ≡ Itself
 no_chain_refusal file W c h = ap (λ o. chain_cause file W c o 0 (is_from_zeros file c)) h
 
-pub tree_refusal : {kind : TreeKind} {k : ℕ} {path : List ℕ} {p from item : ℕ} (file : List ℕ) (W : List Reference) (c : Reference) → IsCandidate kind k path p from item c → refusal_cause file W c ≡ Itself
+pub tree_refusal : {kind : TreeKind} {k : ℕ} {path : List ℕ} {p from item : ℕ} (file : List ℕ) (W : List Reference) (c : Reference)
+    → IsCandidate kind k path p from item c → refusal_cause file W c ≡ Itself
 tree_refusal {kind} {path = path} file W c h = no_chain_refusal file W c (ap (λ (w : Way). bytes_left w.role) h.way ∙ by_path path)
   where
     by_path : (path : List ℕ) → bytes_left (role_at kind path) ≡ None
     by_path [] = refl
     by_path (n ∷ path) = refl
 
-module _ (file : List ℕ) (W : List Reference) (c : Reference) (marks : List Mark) (step : Step) (is : IsStepOf step c) (next : IsNext W c) (m : AreMarksOf file W marks) where
+module _ (file : List ℕ) (W : List Reference) (c : Reference) (marks : List Mark) (step : Step) (is : IsStepOf step c) (next : IsNext W c)
+    (m : AreMarksOf file W marks) where
   before : (u : Reference) → IsIn u W → IsBefore u.address c.address
   before u i = next u (Go c) i (inl refl)
 
   refused-is : refused file W c ≡ refusal_by (page_mark marks step.page) step.is_too_deep
-  refused-is = refused-by_mark file W c marks before m ∙ ap (λ p. refusal_by (page_mark marks p) (is_too_deep c)) is.page ∙ ap (λ d. refusal_by (page_mark marks step.page) d) is.deep
+  refused-is = refused-by_mark file W c marks before m ∙ ap (λ p. refusal_by (page_mark marks p) (is_too_deep c)) is.page
+      ∙ ap (λ d. refusal_by (page_mark marks step.page) d) is.deep
 
   pub entered_yes : refusal_by (page_mark marks step.page) step.is_too_deep ≡ None
       → (is_followed (rules_of file) W c ≡ true) × AreMarksOf file (W ++ (c ∷ [])) (set marks (step.page - 1) step.mark)
@@ -176,7 +199,8 @@ module _ (file : List ℕ) (W : List Reference) (c : Reference) (marks : List Ma
   )
 
   pub entered_no : (code : FaultCode) (why : Cause) → refusal_cause file W c ≡ why → refusal_by (page_mark marks step.page) step.is_too_deep ≡ Some code
-      → (is_followed (rules_of file) W c ≡ false) × (told_at file W (at_refused c) ≡ told_fault (record { code = code; page = step.from; item = step.item; value = pos step.page }) why ∷ [])
+      → (is_followed (rules_of file) W c ≡ false) × (told_at file W (at_refused c)
+      ≡ told_fault (record { code = code; page = step.from; item = step.item; value = pos step.page }) why ∷ [])
   entered_no code why causes h = (
     followed-refused file W c code before (refused-is ∙ h),
     told (refused file W c) (refused-is ∙ h) ∙ ap (λ p. told_fault (record { code = code; page = from_of c; item = item_of c; value = pos p }) why ∷ []) is.page

@@ -43,15 +43,21 @@ last_same (z ∷ xs) (w ∷ ys) x y e =
 
 -- pages at their levels
 
-pub read_front : (file : List ℕ) (levels : List (List ℕ)) (level : ℕ) (fs : List StackFrame) (f : StackFrame) → AreRead file levels level (fs ++ (f ∷ [])) → AreRead file levels level fs
+pub read_front : (file : List ℕ) (levels : List (List ℕ)) (level : ℕ) (fs : List StackFrame) (f : StackFrame) → AreRead file levels level (fs ++ (f ∷ []))
+    → AreRead file levels level fs
 read_front file levels level [] f r = tt
 read_front file levels level (g ∷ fs) f r = (r.0, read_front file levels (level + 1) fs f r.1)
 
-pub read_push : (file : List ℕ) (levels : List (List ℕ)) (level : ℕ) (fs : List StackFrame) (f : StackFrame) → AreRead file levels level fs → slice_get levels (level + length fs) ≡ Some (page_bytes file f.page) → AreRead file levels level (fs ++ (f ∷ []))
+pub read_push : (file : List ℕ) (levels : List (List ℕ)) (level : ℕ) (fs : List StackFrame) (f : StackFrame) → AreRead file levels level fs
+    → slice_get levels (level + length fs) ≡ Some (page_bytes file f.page) → AreRead file levels level (fs ++ (f ∷ []))
 read_push file levels level [] f r e = (ap (slice_get levels) (let n : level ≡ level + 0 = omega arith in n) ∙ e, tt)
-read_push file levels level (g ∷ fs) f r e = (r.0, read_push file levels (level + 1) fs f r.1 (ap (slice_get levels) (let n : level + 1 + length fs ≡ level + suc (length fs) = omega arith in n) ∙ e))
+read_push file levels level (g ∷ fs) f r e = (
+  r.0,
+  read_push file levels (level + 1) fs f r.1 (ap (slice_get levels) (let n : level + 1 + length fs ≡ level + suc (length fs) = omega arith in n) ∙ e),
+)
 
-pub read_kept : (file : List ℕ) (old new : List (List ℕ)) (level : ℕ) (fs : List StackFrame) → ((n : ℕ) → n < level + length fs → slice_get new n ≡ slice_get old n) → AreRead file old level fs → AreRead file new level fs
+pub read_kept : (file : List ℕ) (old new : List (List ℕ)) (level : ℕ) (fs : List StackFrame)
+    → ((n : ℕ) → n < level + length fs → slice_get new n ≡ slice_get old n) → AreRead file old level fs → AreRead file new level fs
 read_kept file old new level [] same r = tt
 read_kept file old new level (f ∷ fs) same r = (same level (omega arith) ∙ r.0, read_kept file old new (level + 1) fs (λ n l. same n (omega arith)) r.1)
 
@@ -67,7 +73,8 @@ calls_on [] f g a = tt
 calls_on (h ∷ []) f g a = (a.0, tt)
 calls_on (h ∷ i ∷ fs) f g a = (a.0, calls_on (i ∷ fs) f g a.1)
 
-pub calls_push : (fs : List StackFrame) (g h : StackFrame) (n : ℕ) → g.next ≡ suc (child_step n) → AreCalls (fs ++ (g ∷ [])) → AreCalls ((fs ++ (g ∷ [])) ++ (h ∷ []))
+pub calls_push : (fs : List StackFrame) (g h : StackFrame) (n : ℕ) → g.next ≡ suc (child_step n) → AreCalls (fs ++ (g ∷ []))
+    → AreCalls ((fs ++ (g ∷ [])) ++ (h ∷ []))
 calls_push [] g h n e a = ((n, e), tt)
 calls_push (i ∷ []) g h n e a = (a.0, ((n, e), tt))
 calls_push (i ∷ j ∷ fs) g h n e a = (a.0, calls_push (j ∷ fs) g h n e a.1)
@@ -82,18 +89,25 @@ on_ok_all (Err e) q = tt
 -- open frames
 
 module _ (usable : ℕ) (kind : TreeKind) (levels : List (List ℕ)) where
-  pub open_front : (level : ℕ) (fs : List StackFrame) (f : StackFrame) → AreOpen usable kind levels level (fs ++ (f ∷ [])) → AreOpen usable kind levels level fs × IsOpen usable kind levels (level + length fs) f
+  pub open_front : (level : ℕ) (fs : List StackFrame) (f : StackFrame) → AreOpen usable kind levels level (fs ++ (f ∷ [])) → AreOpen usable kind levels level fs
+      × IsOpen usable kind levels (level + length fs) f
   open_front level [] f a = (tt, subst (λ n. IsOpen usable kind levels n f) (let e : level ≡ level + 0 = omega arith in e) a.0)
   open_front level (g ∷ fs) f a =
       let m = open_front (level + 1) fs f a.1 in
       ((a.0, m.0), subst (λ n. IsOpen usable kind levels n f) (let e : level + 1 + length fs ≡ level + suc (length fs) = omega arith in e) m.1)
 
-  pub open_push : (level : ℕ) (fs : List StackFrame) (f : StackFrame) → AreOpen usable kind levels level fs → IsOpen usable kind levels (level + length fs) f → AreOpen usable kind levels level (fs ++ (f ∷ []))
+  pub open_push : (level : ℕ) (fs : List StackFrame) (f : StackFrame) → AreOpen usable kind levels level fs → IsOpen usable kind levels (level + length fs) f
+      → AreOpen usable kind levels level (fs ++ (f ∷ []))
   open_push level [] f a o = (subst (λ n. IsOpen usable kind levels n f) (let e : level + 0 ≡ level = omega arith in e) o, tt)
-  open_push level (g ∷ fs) f a o = (a.0, open_push (level + 1) fs f a.1 (subst (λ n. IsOpen usable kind levels n f) (let e : level + suc (length fs) ≡ level + 1 + length fs = omega arith in e) o))
+  open_push level (g ∷ fs) f a o = (
+    a.0,
+    open_push (level + 1) fs f a.1
+        (subst (λ n. IsOpen usable kind levels n f) (let e : level + suc (length fs) ≡ level + 1 + length fs = omega arith in e) o),
+  )
 
   -- a frame a step on
-  pub open_on : (level : ℕ) (f g : StackFrame) → g.page ≡ f.page → g.next ≡ suc f.next → (o : IsOpen usable kind levels level f) → suc f.next ≤ 3 * count o.view + 2 → IsOpen usable kind levels level g
+  pub open_on : (level : ℕ) (f g : StackFrame) → g.page ≡ f.page → g.next ≡ suc f.next → (o : IsOpen usable kind levels level f) → suc f.next ≤ 3 * count o.view
+      + 2 → IsOpen usable kind levels level g
   open_on level f g page next o within = record {
     low = subst (λ p. p ≤ most_pages) (sym page) o.low;
     bytes = o.bytes;
@@ -106,7 +120,8 @@ module _ (usable : ℕ) (kind : TreeKind) (levels : List (List ℕ)) where
 
   -- where the bytes at the levels stay
   module _ (usable' : ℕ) (kind' : TreeKind) (levels' : List (List ℕ)) (usables : usable' ≡ usable) (kinds : kind' ≡ kind) where
-    pub one_kept : (level : ℕ) (f : StackFrame) → slice_get levels' level ≡ slice_get levels level → IsOpen usable kind levels level f → IsOpen usable' kind' levels' level f
+    pub one_kept : (level : ℕ) (f : StackFrame) → slice_get levels' level ≡ slice_get levels level → IsOpen usable kind levels level f
+        → IsOpen usable' kind' levels' level f
     one_kept level f same o = record {
       low = o.low;
       bytes = o.bytes;
@@ -117,7 +132,8 @@ module _ (usable : ℕ) (kind : TreeKind) (levels : List (List ℕ)) where
       within = o.within;
     }
 
-    pub open_kept : (level : ℕ) (fs : List StackFrame) → ((n : ℕ) → n < level + length fs → slice_get levels' n ≡ slice_get levels n) → AreOpen usable kind levels level fs → AreOpen usable' kind' levels' level fs
+    pub open_kept : (level : ℕ) (fs : List StackFrame) → ((n : ℕ) → n < level + length fs → slice_get levels' n ≡ slice_get levels n)
+        → AreOpen usable kind levels level fs → AreOpen usable' kind' levels' level fs
     open_kept level [] same a = tt
     open_kept level (f ∷ fs) same a = (one_kept level f (same level (omega arith)) a.0, open_kept (level + 1) fs (λ n l. same n (omega arith)) a.1)
 
@@ -133,12 +149,15 @@ ends_behind marks fs f l = let p = cost_push fs f in omega arith
 pub ends_past : (marks : List Mark) (fs : List StackFrame) (f g : StackFrame) → f.next ≤ g.next → cost marks (fs ++ (g ∷ [])) ≤ cost marks (fs ++ (f ∷ []))
 ends_past marks fs f g l = let p = cost_push fs f in let q = cost_push fs g in omega arith
 
-pub ends_on : (marks marks' : List Mark) (fs : List StackFrame) (f g : StackFrame) {items : List StackFrame} → items ≡ fs ++ (g ∷ []) → unmarked_pages marks' ≤ unmarked_pages marks → g.next ≡ suc f.next → f.next ≤ 98306 → cost marks' items < cost marks (fs ++ (f ∷ []))
+pub ends_on : (marks marks' : List Mark) (fs : List StackFrame) (f g : StackFrame) {items : List StackFrame} → items ≡ fs ++ (g ∷ []) → unmarked_pages marks'
+    ≤ unmarked_pages marks → g.next ≡ suc f.next → f.next ≤ 98306 → cost marks' items < cost marks (fs ++ (f ∷ []))
 ends_on marks marks' fs f g are fewer next l = let p = cost_push fs f in let q = ap frames_cost are ∙ cost_push fs g in omega arith
 
-pub ends_enter : (marks marks' : List Mark) (fs : List StackFrame) (f g h : StackFrame) {items : List StackFrame} → items ≡ (fs ++ (g ∷ [])) ++ (h ∷ []) → unmarked_pages marks' < unmarked_pages marks → g.next ≡ suc f.next → f.next ≤ 98306 → h.next ≡ 0
+pub ends_enter : (marks marks' : List Mark) (fs : List StackFrame) (f g h : StackFrame) {items : List StackFrame} → items ≡ (fs ++ (g ∷ [])) ++ (h ∷ [])
+    → unmarked_pages marks' < unmarked_pages marks → g.next ≡ suc f.next → f.next ≤ 98306 → h.next ≡ 0
     → cost marks' items < cost marks (fs ++ (f ∷ []))
-ends_enter marks marks' fs f g h are fewer next l start = let p = cost_push fs f in let q = cost_push fs g in let r = ap frames_cost are ∙ cost_push (fs ++ (g ∷ [])) h in omega arith
+ends_enter marks marks' fs f g h are fewer next l start = let p = cost_push fs f in let q = cost_push fs g in let r = ap frames_cost are
+    ∙ cost_push (fs ++ (g ∷ [])) h in omega arith
 
 -- the way
 
@@ -149,15 +168,18 @@ pub path_length : (fs : List StackFrame) → length (path_of fs) ≡ length fs
 path_length fs = length-map fs (λ f. cell_of_step (f.next - 1))
 
 -- the last frame is no part of it
-pub path_last : (items fs : List StackFrame) (f : StackFrame) (path : List ℕ) → items ≡ fs ++ (f ∷ []) → path ≡ path_of fs → (gs : List StackFrame) (g : StackFrame) → items ≡ gs ++ (g ∷ []) → path ≡ path_of gs
+pub path_last : (items fs : List StackFrame) (f : StackFrame) (path : List ℕ) → items ≡ fs ++ (f ∷ []) → path ≡ path_of fs
+    → (gs : List StackFrame) (g : StackFrame) → items ≡ gs ++ (g ∷ []) → path ≡ path_of gs
 path_last items fs f path e p gs g h = p ∙ ap path_of (last_same fs gs f g (sym e ∙ h)).0
 
 -- The step of the last frame.
 
 -- the page at the last frame's level
-pub read_last : (file : List ℕ) (levels : List (List ℕ)) (level : ℕ) (fs : List StackFrame) (f : StackFrame) → AreRead file levels level (fs ++ (f ∷ [])) → slice_get levels (level + length fs) ≡ Some (page_bytes file f.page)
+pub read_last : (file : List ℕ) (levels : List (List ℕ)) (level : ℕ) (fs : List StackFrame) (f : StackFrame) → AreRead file levels level (fs ++ (f ∷ []))
+    → slice_get levels (level + length fs) ≡ Some (page_bytes file f.page)
 read_last file levels level [] f r = ap (slice_get levels) (let e : level + 0 ≡ level = omega arith in e) ∙ r.0
-read_last file levels level (g ∷ fs) f r = ap (slice_get levels) (let e : level + suc (length fs) ≡ level + 1 + length fs = omega arith in e) ∙ read_last file levels (level + 1) fs f r.1
+read_last file levels level (g ∷ fs) f r = ap (slice_get levels) (let e : level + suc (length fs) ≡ level + 1 + length fs = omega arith in e)
+    ∙ read_last file levels (level + 1) fs f r.1
 
 -- each step of a page but those after it
 pub step_within : (v : View) (s : ℕ) (next : Next) → (next ≡ End → ⊥) → IsNextStep v s next → suc s ≤ 3 * count v + 2
@@ -184,11 +206,14 @@ pub record IsAtStep (usable : ℕ) (kind : TreeKind) (levels : List (List ℕ)) 
   pub stands : IsNextStep last.view f.next next
 
 -- by another number of the level, and of what was found there
-pub next_at : {usable : ℕ} {kind : TreeKind} {levels : List (List ℕ)} {level level' page s : ℕ} {next next' : Next} → level ≡ level' → next ≡ next' → HasNext usable kind levels level page s next → HasNext usable kind levels level' page s next'
-next_at {usable = usable} {kind = kind} {levels = levels} {level' = level'} {page = page} {s = s} {next = next} deep is has = subst (λ n. HasNext usable kind levels level' page s n) is (subst (λ n. HasNext usable kind levels n page s next) deep has)
+pub next_at : {usable : ℕ} {kind : TreeKind} {levels : List (List ℕ)} {level level' page s : ℕ} {next next' : Next} → level ≡ level' → next ≡ next'
+    → HasNext usable kind levels level page s next → HasNext usable kind levels level' page s next'
+next_at {usable = usable} {kind = kind} {levels = levels} {level' = level'} {page = page} {s = s} {next = next} deep is has =
+    subst (λ n. HasNext usable kind levels level' page s n) is (subst (λ n. HasNext usable kind levels n page s next) deep has)
 
 module _ {usable : ℕ} {kind : TreeKind} {levels : List (List ℕ)} (fs : List StackFrame) (f : StackFrame) {next : Next} where
-  pub at_step : AreOpen usable kind levels 0 (fs ++ (f ∷ [])) → HasNext usable kind levels (length fs) f.page f.next next → IsAtStep usable kind levels fs f next
+  pub at_step : AreOpen usable kind levels 0 (fs ++ (f ∷ [])) → HasNext usable kind levels (length fs) f.page f.next next
+      → IsAtStep usable kind levels fs f next
   at_step a has =
       let m = open_front usable kind levels 0 fs f a in
       let there = ap (slice_get levels) (let e : length fs ≡ 0 + length fs = omega arith in e) ∙ m.1.there in
@@ -201,14 +226,17 @@ module _ {usable : ℕ} {kind : TreeKind} {levels : List (List ℕ)} (fs : List 
       }
 
   -- the frame a step on, where the bytes at the levels stay
-  pub step_on : IsAtStep usable kind levels fs f next → (g : StackFrame) → g.page ≡ f.page → g.next ≡ suc f.next → (next ≡ End → ⊥) → {items : List StackFrame} → items ≡ fs ++ (g ∷ []) → (usable' : ℕ) (kind' : TreeKind) (levels' : List (List ℕ)) → usable' ≡ usable → kind' ≡ kind
+  pub step_on : IsAtStep usable kind levels fs f next → (g : StackFrame) → g.page ≡ f.page → g.next ≡ suc f.next → (next ≡ End → ⊥) → {items : List StackFrame}
+      → items ≡ fs ++ (g ∷ []) → (usable' : ℕ) (kind' : TreeKind) (levels' : List (List ℕ)) → usable' ≡ usable → kind' ≡ kind
       → ((n : ℕ) → n < length (fs ++ (g ∷ [])) → slice_get levels' n ≡ slice_get levels n) → AreOpen usable' kind' levels' 0 items
   step_on s g page on other are usable' kind' levels' usables kinds same = subst (λ l. AreOpen usable' kind' levels' 0 l) (sym are)
       (open_kept usable kind levels usable' kind' levels' usables kinds 0 (fs ++ (g ∷ [])) (λ n l. same n (omega arith))
-      (open_push usable kind levels 0 fs g s.front (open_on usable kind levels (0 + length fs) f g page on s.last (step_within s.last.view f.next next other s.stands))))
+      (open_push usable kind levels 0 fs g s.front (open_on usable kind levels (0 + length fs) f g page on s.last
+      (step_within s.last.view f.next next other s.stands))))
 
 -- the way to a child of the last frame's page
-module _ (fs : List StackFrame) (f g : StackFrame) (on : g.next ≡ suc f.next) (children : List ℕ) (ways : children ≡ path_of fs ++ (cell_of_step f.next ∷ [])) where
+module _ (fs : List StackFrame) (f g : StackFrame) (on : g.next ≡ suc f.next) (children : List ℕ)
+    (ways : children ≡ path_of fs ++ (cell_of_step f.next ∷ [])) where
   pub as_deep : length (fs ++ (g ∷ [])) ≡ length children
   as_deep =
       let a = ap length ways in

@@ -1,5 +1,6 @@
 -- What is left of a walk with a stack, step by step.
-use Rattle.std.proofs.Common.{◌≡◌, ℕ, suc, ◌+◌, ◌<◌, ◌≤◌, inl, inr, List, [], ◌∷◌, Option, Some, None, refl, sym, ap, subst, arith, ◌∙◌, zero, ◌-◌, true, false, cond, ◌++◌, map, Result, Ok, Err, append_assoc}
+use Rattle.std.proofs.Common.{◌≡◌, ℕ, suc, ◌+◌, ◌<◌, ◌≤◌, inl, inr, List, [], ◌∷◌, Option, Some, None, refl, sym, ap, subst, arith, ◌∙◌, zero, ◌-◌, true, false}
+use Rattle.std.proofs.Common.{cond, ◌++◌, map, Result, Ok, Err, append_assoc}
 use Rattle.std.specs.Prelude.{filter_map, option_map, filter, flat_map, nat_le, option_to_list, option_and_then, unwrap_or, ◌==◌}
 use Rattle.std.specs.List.{range_with_len, cons_option}
 use Rattle.std.specs.Result.{result_ok}
@@ -27,11 +28,15 @@ use Rattle.dbwalk.specs.declared.steps.StackFrame.{StackFrame}
 
 -- The readable cells of a page.
 
-pub cells_at : (v : View) (is : List ℕ) (x : ℕ × Cell) → IsIn x (filter_map (λ i. option_map (λ c. (i, c)) (result_ok (cell v i))) is) → IsIn x.0 is × (cell v x.0 ≡ Ok x.1)
+pub cells_at : (v : View) (is : List ℕ) (x : ℕ × Cell) → IsIn x (filter_map (λ i. option_map (λ c. (i, c)) (result_ok (cell v i))) is) → IsIn x.0 is
+    × (cell v x.0 ≡ Ok x.1)
 cells_at v [] x h = absurd h
 cells_at v (i ∷ is) x h = by_cell (cells_at v is x) (cell v i) refl h
   where
-    by_cell : (IsIn x (filter_map (λ i. option_map (λ c. (i, c)) (result_ok (cell v i))) is) → IsIn x.0 is × (cell v x.0 ≡ Ok x.1)) → (r : Result Cell CellFault) → cell v i ≡ r → IsIn x (cons_option (option_map (λ c. (i, c)) (result_ok r)) (filter_map (λ i. option_map (λ c. (i, c)) (result_ok (cell v i))) is)) → IsIn x.0 (i ∷ is) × (cell v x.0 ≡ Ok x.1)
+    by_cell : (IsIn x (filter_map (λ i. option_map (λ c. (i, c)) (result_ok (cell v i))) is) → IsIn x.0 is × (cell v x.0 ≡ Ok x.1))
+        → (r : Result Cell CellFault) → cell v i ≡ r → IsIn x
+        (cons_option (option_map (λ c. (i, c)) (result_ok r)) (filter_map (λ i. option_map (λ c. (i, c)) (result_ok (cell v i))) is)) → IsIn x.0 (i ∷ is)
+        × (cell v x.0 ≡ Ok x.1)
     by_cell go (Ok c) e (inl f) = (inl (ap (λ x. x.0) f), ap (λ x. cell v x.0) f ∙ e ∙ ap (λ x. Ok x.1) (sym f))
     by_cell go (Ok c) e (inr h) = let m = go h in (inr m.0, m.1)
     by_cell go (Err f) e h = let m = go h in (inr m.0, m.1)
@@ -58,10 +63,13 @@ cells_in v i c l e = at (range_with_len 0 (count v)) (range_has 0 (count v) i (o
   where
     at : (is : List ℕ) → IsIn i is → IsIn {X = ℕ × Cell} (i, c) (filter_map (λ i. option_map (λ c. (i, c)) (result_ok (cell v i))) is)
     at [] h = absurd h
-    at (j ∷ is) (inl f) = subst (λ r. IsIn {X = ℕ × Cell} (i, c) (cons_option (option_map (λ c. (j, c)) (result_ok r)) (filter_map (λ i. option_map (λ c. (i, c)) (result_ok (cell v i))) is))) (sym (ap (cell v) (sym f) ∙ e)) (inl (ap (λ j. (j, c)) f))
+    at (j ∷ is) (inl f) = subst (λ r. IsIn {X = ℕ × Cell} (i, c)
+        (cons_option (option_map (λ c. (j, c)) (result_ok r)) (filter_map (λ i. option_map (λ c. (i, c)) (result_ok (cell v i))) is)))
+        (sym (ap (cell v) (sym f) ∙ e)) (inl (ap (λ j. (j, c)) f))
     at (j ∷ is) (inr h) = later (result_ok (cell v j)) (at is h)
       where
-        later : (o : Option Cell) → IsIn {X = ℕ × Cell} (i, c) (filter_map (λ i. option_map (λ c. (i, c)) (result_ok (cell v i))) is) → IsIn {X = ℕ × Cell} (i, c) (cons_option (option_map (λ c. (j, c)) o) (filter_map (λ i. option_map (λ c. (i, c)) (result_ok (cell v i))) is))
+        later : (o : Option Cell) → IsIn {X = ℕ × Cell} (i, c) (filter_map (λ i. option_map (λ c. (i, c)) (result_ok (cell v i))) is)
+            → IsIn {X = ℕ × Cell} (i, c) (cons_option (option_map (λ c. (j, c)) o) (filter_map (λ i. option_map (λ c. (i, c)) (result_ok (cell v i))) is))
         later None h = h
         later (Some d) h = inr h
 
@@ -81,7 +89,8 @@ module _ {R E : Type 0} where
 
   from_all : (s : ℕ) (items : List (PageStep R E)) → ((i : PageStep R E) → IsIn i items → s ≤ step_of i) → from s items ≡ items
   from_all s [] h = refl
-  from_all s (i ∷ items) h = ap (λ b. cond b (i ∷ from s items) (from s items)) (le_yes s (step_of i) (h i (inl refl))) ∙ ap (λ l. i ∷ l) (from_all s items (λ j m. h j (inr m)))
+  from_all s (i ∷ items) h = ap (λ b. cond b (i ∷ from s items) (from s items)) (le_yes s (step_of i) (h i (inl refl)))
+      ∙ ap (λ l. i ∷ l) (from_all s items (λ j m. h j (inr m)))
 
   from_end : (s : ℕ) (items : List (PageStep R E)) → ((i : PageStep R E) → IsIn i items → step_of i < s) → from s items ≡ []
   from_end s [] h = refl
@@ -89,7 +98,8 @@ module _ {R E : Type 0} where
 
   from_none : (s : ℕ) (items : List (PageStep R E)) → ((i : PageStep R E) → IsIn i items → step_of i ≡ s → ⊥) → from s items ≡ from (suc s) items
   from_none s [] h = refl
-  from_none s (i ∷ items) h = ap (λ b. cond b (i ∷ from s items) (from s items)) same ∙ ap (λ l. cond (nat_le (suc s) (step_of i)) (i ∷ l) l) (from_none s items (λ j m. h j (inr m)))
+  from_none s (i ∷ items) h = ap (λ b. cond b (i ∷ from s items) (from s items)) same
+      ∙ ap (λ l. cond (nat_le (suc s) (step_of i)) (i ∷ l) l) (from_none s items (λ j m. h j (inr m)))
     where
       same : nat_le s (step_of i) ≡ nat_le (suc s) (step_of i)
       same = let d = h i (inl refl) in elim (cases_Bool (nat_le (suc s) (step_of i))) [
@@ -127,7 +137,8 @@ module _ (file : List ℕ) (r : Reference) (kind : TreeKind) (v : View) (role : 
 
   -- at which step an item is
   data IsItem (i : PageStep Way Event) : Type 0 where
-    of_overflow : (n : ℕ) (x : Cell) (p : ℕ) → n < count v → cell v n ≡ Ok x → x.overflow ≡ Some p → i ≡ Follow (link r.page (overflow_step n) n (first_overflow (overflow_size x)) p) → IsItem i
+    of_overflow : (n : ℕ) (x : Cell) (p : ℕ) → n < count v → cell v n ≡ Ok x → x.overflow ≡ Some p → i
+        ≡ Follow (link r.page (overflow_step n) n (first_overflow (overflow_size x)) p) → IsItem i
     of_left : (n : ℕ) (x : Cell) (p : ℕ) → n < count v → cell v n ≡ Ok x → x.left ≡ Some p → i ≡ Follow (link r.page (child_step n) n (child kind) p) → IsItem i
     of_key : (n : ℕ) (x : Cell) → n < count v → cell v n ≡ Ok x → i ≡ Place (key_step n) (at_key r v (n, x)) → IsItem i
     of_right : (p : ℕ) → right_child v ≡ Some p → i ≡ Follow (link r.page (child_step (count v)) (count v) (child kind) p) → IsItem i
@@ -147,18 +158,24 @@ module _ (file : List ℕ) (r : Reference) (kind : TreeKind) (v : View) (role : 
       of_cell : (n : ℕ) (x : Cell) → (cell v n ≡ Ok x) × (n < count v) → IsIn i (cell_items r kind v (n, x)) → IsItem i
       of_cell n x read k = elim (IsIn-cases i (map Follow (cell_links r.page kind (n, x))) (Place (key_step n) (at_key r v (n, x)) ∷ []) k) [
         | inl j ↦ (let m = IsIn-from_map Follow (cell_links r.page kind (n, x)) i j in
-            elim (IsIn-cases m.0 (option_to_list (option_map (link r.page (overflow_step n) n (first_overflow (overflow_size x))) x.overflow)) (option_to_list (option_map (link r.page (child_step n) n (child kind)) x.left)) m.1) [
-              | inl q ↦ (let w = listed (link r.page (overflow_step n) n (first_overflow (overflow_size x))) x.overflow m.0 q in of_overflow n x w.0 read.1 read.0 w.1 (m.2 ∙ ap Follow w.2))
+            elim (IsIn-cases m.0 (option_to_list (option_map (link r.page (overflow_step n) n (first_overflow (overflow_size x))) x.overflow))
+            (option_to_list (option_map (link r.page (child_step n) n (child kind)) x.left)) m.1) [
+              | inl q ↦ (let w = listed (link r.page (overflow_step n) n (first_overflow (overflow_size x))) x.overflow m.0 q in of_overflow n x w.0 read.1
+                  read.0 w.1 (m.2 ∙ ap Follow w.2))
               | inr q ↦ (let w = listed (link r.page (child_step n) n (child kind)) x.left m.0 q in of_left n x w.0 read.1 read.0 w.1 (m.2 ∙ ap Follow w.2))
             ])
         | inr j ↦ (elim j [ inl e ↦ of_key n x read.1 read.0 e | inr z ↦ absurd z ])
       ]
 
-  in_cell : (n : ℕ) (x : Cell) (i : PageStep Way Event) → n < count v → cell v n ≡ Ok x → IsIn i (cell_items r kind v (n, x)) → IsIn i (page_items r kind (Some v))
-  in_cell n x i l e h = IsIn-left i (flat_map (cell_items r kind v) (cells v)) (map Follow (right_links r.page kind v)) (IsIn-flat_map (cell_items r kind v) (cells v) (n, x) i (cells_in v n x l e) h)
+  in_cell : (n : ℕ) (x : Cell) (i : PageStep Way Event) → n < count v → cell v n ≡ Ok x → IsIn i (cell_items r kind v (n, x))
+      → IsIn i (page_items r kind (Some v))
+  in_cell n x i l e h = IsIn-left i (flat_map (cell_items r kind v) (cells v)) (map Follow (right_links r.page kind v))
+      (IsIn-flat_map (cell_items r kind v) (cells v) (n, x) i (cells_in v n x l e) h)
 
-  next_item : (s : ℕ) (i : PageStep Way Event) → IsIn i (page_items r kind (Some v)) → step_of i ≡ s → errands_from file r s ≡ errands_at r.address (i ∷ from (suc s) (page_items r kind (Some v)))
-  next_item s i h e = ap (λ is. errands_at r.address (from s is)) items_are ∙ ap (λ is. errands_at r.address is) (from_item s (page_items r kind (Some v)) i rising h e)
+  next_item : (s : ℕ) (i : PageStep Way Event) → IsIn i (page_items r kind (Some v)) → step_of i ≡ s → errands_from file r s
+      ≡ errands_at r.address (i ∷ from (suc s) (page_items r kind (Some v)))
+  next_item s i h e = ap (λ is. errands_at r.address (from s is)) items_are
+      ∙ ap (λ is. errands_at r.address is) (from_item s (page_items r kind (Some v)) i rising h e)
 
   no_item : (s : ℕ) → ((i : PageStep Way Event) → IsItem i → step_of i ≡ s → ⊥) → errands_from file r s ≡ errands_from file r (suc s)
   no_item s h = ap (λ is. errands_at r.address (from s is)) items_are
@@ -174,19 +191,24 @@ module _ (file : List ℕ) (r : Reference) (kind : TreeKind) (v : View) (role : 
 
   -- the overflow chain of a cell
   pub step_chain : (n : ℕ) (x : Cell) (p : ℕ) → n < count v → cell v n ≡ Ok x → x.overflow ≡ Some p
-      → errands_from file r (overflow_step n) ≡ go r (link r.page (overflow_step n) n (first_overflow (overflow_size x)) p) ∷ errands_from file r (suc (overflow_step n))
+      → errands_from file r (overflow_step n) ≡ go r (link r.page (overflow_step n) n (first_overflow (overflow_size x)) p)
+      ∷ errands_from file r (suc (overflow_step n))
   step_chain n x p l e f =
       let k = link r.page (overflow_step n) n (first_overflow (overflow_size x)) p in
       next_item (overflow_step n) (Follow k)
       (in_cell n x (Follow k) l e (IsIn-left (Follow k) (map Follow (cell_links r.page kind (n, x))) _ (IsIn-map Follow (cell_links r.page kind (n, x)) k
-      (IsIn-left k (option_to_list (option_map (link r.page (overflow_step n) n (first_overflow (overflow_size x))) x.overflow)) _ (is_listed (option_map (link r.page (overflow_step n) n (first_overflow (overflow_size x))) x.overflow) k (ap (option_map (link r.page (overflow_step n) n (first_overflow (overflow_size x)))) f)))))) refl
+      (IsIn-left k (option_to_list (option_map (link r.page (overflow_step n) n (first_overflow (overflow_size x))) x.overflow)) _
+      (is_listed (option_map (link r.page (overflow_step n) n (first_overflow (overflow_size x))) x.overflow) k
+      (ap (option_map (link r.page (overflow_step n) n (first_overflow (overflow_size x)))) f)))))) refl
       ∙ ap (λ es. go r k ∷ es) (behind (suc (overflow_step n)))
 
   -- the place of a cell's key
-  pub step_key : (n : ℕ) (x : Cell) → n < count v → cell v n ≡ Ok x → errands_from file r (key_step n) ≡ tell_cell r v n x ∷ errands_from file r (suc (key_step n))
+  pub step_key : (n : ℕ) (x : Cell) → n < count v → cell v n ≡ Ok x → errands_from file r (key_step n) ≡ tell_cell r v n x
+      ∷ errands_from file r (suc (key_step n))
   step_key n x l e =
       next_item (key_step n) (Place (key_step n) (at_key r v (n, x)))
-      (in_cell n x (Place (key_step n) (at_key r v (n, x))) l e (IsIn-right (Place (key_step n) (at_key r v (n, x))) (map Follow (cell_links r.page kind (n, x))) _ (inl refl))) refl
+      (in_cell n x (Place (key_step n) (at_key r v (n, x))) l e
+      (IsIn-right (Place (key_step n) (at_key r v (n, x))) (map Follow (cell_links r.page kind (n, x))) _ (inl refl))) refl
       ∙ ap (λ es. tell_cell r v n x ∷ es) (behind (suc (key_step n)))
 
   -- the left child of a cell
@@ -196,22 +218,26 @@ module _ (file : List ℕ) (r : Reference) (kind : TreeKind) (v : View) (role : 
       let k = link r.page (child_step n) n (child kind) p in
       next_item (child_step n) (Follow k)
       (in_cell n x (Follow k) l e (IsIn-left (Follow k) (map Follow (cell_links r.page kind (n, x))) _ (IsIn-map Follow (cell_links r.page kind (n, x)) k
-      (IsIn-right k (option_to_list (option_map (link r.page (overflow_step n) n (first_overflow (overflow_size x))) x.overflow)) _ (is_listed (option_map (link r.page (child_step n) n (child kind)) x.left) k (ap (option_map (link r.page (child_step n) n (child kind))) f)))))) refl
+      (IsIn-right k (option_to_list (option_map (link r.page (overflow_step n) n (first_overflow (overflow_size x))) x.overflow)) _
+      (is_listed (option_map (link r.page (child_step n) n (child kind)) x.left) k (ap (option_map (link r.page (child_step n) n (child kind))) f)))))) refl
       ∙ ap (λ es. go r k ∷ es) (behind (suc (child_step n)))
 
   -- the right child
   step_right : (p : ℕ) → right_child v ≡ Some p
-      → errands_from file r (child_step (count v)) ≡ go r (link r.page (child_step (count v)) (count v) (child kind) p) ∷ errands_from file r (suc (child_step (count v)))
+      → errands_from file r (child_step (count v)) ≡ go r (link r.page (child_step (count v)) (count v) (child kind) p)
+      ∷ errands_from file r (suc (child_step (count v)))
   step_right p f =
       let k = link r.page (child_step (count v)) (count v) (child kind) p in
       next_item (child_step (count v)) (Follow k)
       (IsIn-right (Follow k) (flat_map (cell_items r kind v) (cells v)) (map Follow (right_links r.page kind v)) (IsIn-map Follow (right_links r.page kind v) k
-      (is_listed (option_map (link r.page (child_step (count v)) (count v) (child kind)) (right_child v)) k (ap (option_map (link r.page (child_step (count v)) (count v) (child kind))) f)))) refl
+      (is_listed (option_map (link r.page (child_step (count v)) (count v) (child kind)) (right_child v)) k
+      (ap (option_map (link r.page (child_step (count v)) (count v) (child kind))) f)))) refl
       ∙ ap (λ es. go r k ∷ es) (behind (suc (child_step (count v))))
 
   -- after the right child there is nothing
   pub step_end : (s : ℕ) → child_step (count v) < s → errands_from file r s ≡ []
-  step_end s l = ap (λ is. errands_at r.address (from s is)) items_are ∙ ap (λ is. errands_at r.address is) (from_end s (page_items r kind (Some v)) (λ i h. low i (item_from i h)))
+  step_end s l = ap (λ is. errands_at r.address (from s is)) items_are
+      ∙ ap (λ is. errands_at r.address is) (from_end s (page_items r kind (Some v)) (λ i h. low i (item_from i h)))
     where
       low : (i : PageStep Way Event) → IsItem i → step_of i < s
       low i (of_overflow n x p m e f g) = let k : step_of i ≡ overflow_step n = ap step_of g in omega arith
@@ -220,7 +246,8 @@ module _ (file : List ℕ) (r : Reference) (kind : TreeKind) (v : View) (role : 
       low i (of_right p f g) = let k : step_of i ≡ child_step (count v) = ap step_of g in omega arith
 
   -- no chain
-  pub step_no_chain : (n : ℕ) → ((x : Cell) → n < count v → cell v n ≡ Ok x → x.overflow ≡ None) → errands_from file r (overflow_step n) ≡ errands_from file r (suc (overflow_step n))
+  pub step_no_chain : (n : ℕ) → ((x : Cell) → n < count v → cell v n ≡ Ok x → x.overflow ≡ None) → errands_from file r (overflow_step n)
+      ≡ errands_from file r (suc (overflow_step n))
   step_no_chain n none = no_item (overflow_step n) no_chain
     where
       no_chain : (i : PageStep Way Event) → IsItem i → step_of i ≡ overflow_step n → ⊥
@@ -244,13 +271,16 @@ module _ (file : List ℕ) (r : Reference) (kind : TreeKind) (v : View) (role : 
 -- frames
 
 module _ (file : List ℕ) (kind : TreeKind) where
-  pub left-push : (c : Reference) (fs : List StackFrame) (f : StackFrame) → left_over file kind c (fs ++ (f ∷ [])) ≡ errands_from file (top_visit file kind c fs) f.next ++ left_over file kind c fs
+  pub left-push : (c : Reference) (fs : List StackFrame) (f : StackFrame) → left_over file kind c (fs ++ (f ∷ []))
+      ≡ errands_from file (top_visit file kind c fs) f.next ++ left_over file kind c fs
   left-push c [] f = sym (append-nil (errands_from file c f.next))
   left-push c (g ∷ fs) f =
       ap (λ es. es ++ errands_from file c g.next) (left-push (child_at file kind c (g.next - 1)) fs f)
-      ∙ append_assoc (errands_from file (top_visit file kind (child_at file kind c (g.next - 1)) fs) f.next) (left_over file kind (child_at file kind c (g.next - 1)) fs) (errands_from file c g.next)
+      ∙ append_assoc (errands_from file (top_visit file kind (child_at file kind c (g.next - 1)) fs) f.next)
+      (left_over file kind (child_at file kind c (g.next - 1)) fs) (errands_from file c g.next)
 
-  pub top-push : (c : Reference) (fs : List StackFrame) (f : StackFrame) → top_visit file kind c (fs ++ (f ∷ [])) ≡ child_at file kind (top_visit file kind c fs) (f.next - 1)
+  pub top-push : (c : Reference) (fs : List StackFrame) (f : StackFrame) → top_visit file kind c (fs ++ (f ∷ []))
+      ≡ child_at file kind (top_visit file kind c fs) (f.next - 1)
   top-push c [] f = refl
   top-push c (g ∷ fs) f = top-push (child_at file kind c (g.next - 1)) fs f
 
@@ -265,11 +295,19 @@ module _ (file : List ℕ) (r : Reference) (kind : TreeKind) (v : View) (role : 
 
   child_is : (n p : ℕ) → child_number v n ≡ Some p → go r (link r.page (child_step n) n (child kind) p) ≡ Go (child_at file kind r (child_step n))
   child_is n p e =
-      let page : p ≡ child_page file r (cell_of_step (child_step n)) = sym (ap (λ i. child_page file r i) (cell_is n) ∙ ap (λ o. option_map_or (λ v. unwrap_or (child_number v n) 0) o 0) viewed ∙ ap (λ o. unwrap_or o 0) e) in
+      let page : p ≡ child_page file r (cell_of_step (child_step n)) =
+      sym (ap (λ i. child_page file r i) (cell_is n) ∙ ap (λ o. option_map_or (λ v. unwrap_or (child_number v n) 0) o 0) viewed ∙ ap (λ o. unwrap_or o 0) e)
+      in
       ap (λ q. Go (record { address = then_step r.address (child_step n); page = q; role = record { role = child kind; from = r.page; item = n } })) page
-      ∙ ap (λ i. Go (record { address = then_step r.address (child_step n); page = child_page file r (cell_of_step (child_step n)); role = record { role = child kind; from = r.page; item = i } })) (sym (cell_is n))
+      ∙ ap (λ i. Go (record {
+        address = then_step r.address (child_step n);
+        page = child_page file r (cell_of_step (child_step n));
+        role =
+            record { role = child kind; from = r.page; item = i };
+      })) (sym (cell_is n))
 
-  readable_left : (n p : ℕ) (c : Result Cell CellFault) → cell v n ≡ c → option_and_then (λ c. c.left) (result_ok c) ≡ Some p → (x : Cell) × (cell v n ≡ Ok x) × (x.left ≡ Some p)
+  readable_left : (n p : ℕ) (c : Result Cell CellFault) → cell v n ≡ c → option_and_then (λ c. c.left) (result_ok c) ≡ Some p → (x : Cell) × (cell v n ≡ Ok x)
+      × (x.left ≡ Some p)
   readable_left n p (Ok x) f e = (x, f, e)
   readable_left n p (Err b) f e = cc
 
@@ -279,9 +317,11 @@ module _ (file : List ℕ) (r : Reference) (kind : TreeKind) (v : View) (role : 
   step_child n p l e = elim (cases_Bool (n == count v)) [
     | inl b ↦ (let m : n ≡ count v = eqb-true n (count v) b in
         let f : right_child v ≡ Some p = sym (ap (λ b. cond b (right_child v) (option_and_then (λ c. c.left) (result_ok (cell v n)))) b) ∙ e in
-        subst (λ k. errands_from file r (child_step k) ≡ go r (link r.page (child_step k) k (child kind) p) ∷ errands_from file r (suc (child_step k))) (sym m) (step_right file r kind v role viewed p f)
+        subst (λ k. errands_from file r (child_step k) ≡ go r (link r.page (child_step k) k (child kind) p) ∷ errands_from file r (suc (child_step k))) (sym m)
+        (step_right file r kind v role viewed p f)
         ∙ ap (λ g. g ∷ errands_from file r (suc (child_step n))) (child_is n p e))
-    | inr b ↦ (let f : option_and_then (λ c. c.left) (result_ok (cell v n)) ≡ Some p = sym (ap (λ b. cond b (right_child v) (option_and_then (λ c. c.left) (result_ok (cell v n)))) b) ∙ e in
+    | inr b ↦ (let f : option_and_then (λ c. c.left) (result_ok (cell v n)) ≡ Some p =
+        sym (ap (λ b. cond b (right_child v) (option_and_then (λ c. c.left) (result_ok (cell v n)))) b) ∙ e in
         let x = readable_left n p (cell v n) refl f in
         let k : n < count v = below n (count v) l b in
         step_left file r kind v role viewed n x.0 p k x.1 x.2
@@ -300,7 +340,8 @@ module _ (file : List ℕ) (r : Reference) (kind : TreeKind) (v : View) (role : 
       no_child i (of_left m x p k f g q) h =
           let j : m ≡ n = (let w : step_of i ≡ child_step m = ap step_of q in omega arith) in
           let b : (n == count v) ≡ false = apart n (count v) (omega arith) in
-          let d : option_and_then (λ c. c.left) (result_ok (cell v n)) ≡ None = sym (ap (λ b. cond b (right_child v) (option_and_then (λ c. c.left) (result_ok (cell v n)))) b) ∙ e in
+          let d : option_and_then (λ c. c.left) (result_ok (cell v n)) ≡ None =
+          sym (ap (λ b. cond b (right_child v) (option_and_then (λ c. c.left) (result_ok (cell v n)))) b) ∙ e in
           let w : Some p ≡ None = sym g ∙ sym (ap (λ c. option_and_then (λ c. c.left) (result_ok c)) (ap (cell v) (sym j) ∙ f)) ∙ d in cc
         where
           apart : (n m : ℕ) → n < m → (n == m) ≡ false

@@ -1,5 +1,6 @@
 -- The visits of frames: each is a page of the tree, reached through the children of the frames below.
-use Rattle.std.proofs.Common.{◌≡◌, ℕ, suc, ◌+◌, ◌-◌, ◌*◌, ◌%◌, Bool, true, false, cond, List, [], ◌∷◌, ◌++◌, length, Option, Some, None, refl, sym, ap, subst, arith, ◌∙◌, append_assoc}
+use Rattle.std.proofs.Common.{◌≡◌, ℕ, suc, ◌+◌, ◌-◌, ◌*◌, ◌%◌, Bool, true, false, cond, List, [], ◌∷◌, ◌++◌, length, Option, Some, None, refl, sym, ap, subst}
+use Rattle.std.proofs.Common.{arith, ◌∙◌, append_assoc}
 use Rattle.std.specs.Prelude.{◌==◌}
 use Rattle.std.proofs.lemmas.Bool.Decides.{nat_tests}
 use Rattle.std.proofs.lemmas.List.{append-nil, length-append}
@@ -24,7 +25,8 @@ children_more [] s e h = (ap (λ b. cond b (cell_of_step s ∷ []) []) e, ap (λ
 children_more (t ∷ steps) s e h = by_step (is_child_step t) h (λ g. children_more steps s e g)
   where
     by_step : (b : Bool) → ◌≡◌ {A = Option (ℕ × ℕ)} (cond b (chain_on steps) (Some (cell_of_step t, length steps))) None
-        → (chain_on steps ≡ None → (children_on (steps ++ (s ∷ [])) ≡ children_on steps ++ (cell_of_step s ∷ [])) × (◌≡◌ {A = Option (ℕ × ℕ)} (chain_on (steps ++ (s ∷ []))) None))
+        → (chain_on steps ≡ None → (children_on (steps ++ (s ∷ [])) ≡ children_on steps ++ (cell_of_step s ∷ []))
+        × (◌≡◌ {A = Option (ℕ × ℕ)} (chain_on (steps ++ (s ∷ []))) None))
         → (cond b (cell_of_step t ∷ children_on (steps ++ (s ∷ []))) [] ≡ cond b (cell_of_step t ∷ children_on steps) [] ++ (cell_of_step s ∷ []))
         × (◌≡◌ {A = Option (ℕ × ℕ)} (cond b (chain_on (steps ++ (s ∷ []))) (Some (cell_of_step t, length (steps ++ (s ∷ []))))) None)
     by_step true h deeper = let k = deeper h in (ap (λ l. cell_of_step t ∷ l) k.0, k.1)
@@ -46,7 +48,8 @@ module _ (file : List ℕ) (kind : TreeKind) (k : ℕ) where
       long : length (l ++ (cell_of_step s ∷ [])) ≡ length l + 1
       long = length-append l (cell_of_step s ∷ [])
 
-      by_address : (a : List ℕ) → c.address ≡ a → IsCandidate kind k (l ++ (cell_of_step s ∷ [])) (child_at file kind c s).page c.page (cell_of_step s) (child_at file kind c s)
+      by_address : (a : List ℕ) → c.address ≡ a → IsCandidate kind k (l ++ (cell_of_step s ∷ [])) (child_at file kind c s).page c.page (cell_of_step s)
+          (child_at file kind c s)
       by_address [] e = absurd (none (length l) (sym (ap length e) ∙ is.depth))
         where
           none : (m : ℕ) → ◌≡◌ {A = ℕ} 0 (m + 1) → ⊥
@@ -63,7 +66,8 @@ module _ (file : List ℕ) (kind : TreeKind) (k : ℕ) where
             chain = ap chain_place at ∙ more.1;
           }
 
-  calls_first : (g : StackFrame) (fs : List StackFrame) (f : StackFrame) → AreCalls (g ∷ (fs ++ (f ∷ []))) → ((n : ℕ) × (g.next ≡ suc (child_step n))) × AreCalls (fs ++ (f ∷ []))
+  calls_first : (g : StackFrame) (fs : List StackFrame) (f : StackFrame) → AreCalls (g ∷ (fs ++ (f ∷ []))) → ((n : ℕ) × (g.next ≡ suc (child_step n)))
+      × AreCalls (fs ++ (f ∷ []))
   calls_first g [] f a = a
   calls_first g (h ∷ fs) f a = a
 
@@ -74,12 +78,20 @@ module _ (file : List ℕ) (kind : TreeKind) (k : ℕ) where
     pub item : ℕ
     pub candidate : IsCandidate kind k (l ++ path_of fs) p from item (top_visit file kind c fs)
 
-  pub top_candidate : (fs : List StackFrame) (f : StackFrame) (l : List ℕ) (p from item : ℕ) (c : Reference) → IsCandidate kind k l p from item c → AreCalls (fs ++ (f ∷ [])) → IsOnWay l fs c
-  top_candidate [] f l p from item c is calls = record { p = p; from = from; item = item; candidate = subst (λ m. IsCandidate kind k m p from item c) (sym (append-nil l)) is }
+  pub top_candidate : (fs : List StackFrame) (f : StackFrame) (l : List ℕ) (p from item : ℕ) (c : Reference) → IsCandidate kind k l p from item c
+      → AreCalls (fs ++ (f ∷ [])) → IsOnWay l fs c
+  top_candidate [] f l p from item c is calls = record
+      { p = p; from = from; item = item; candidate = subst (λ m. IsCandidate kind k m p from item c) (sym (append-nil l)) is }
   top_candidate (g ∷ fs) f l p from item c is calls =
       let m = calls_first g fs f calls in
       let s : g.next - 1 ≡ child_step m.0.0 = (let e = m.0.1 in omega arith) in
       let x = cell_of_step (g.next - 1) in
       let d = child_at file kind c (g.next - 1) in
       let r = top_candidate fs f (l ++ (x ∷ [])) d.page c.page x d (child_candidate l p from item c is (g.next - 1) m.0.0 s) m.1 in
-      record { p = r.p; from = r.from; item = r.item; candidate = subst (λ q. IsCandidate kind k q r.p r.from r.item (top_visit file kind d fs)) (append_assoc l (x ∷ []) (path_of fs)) r.candidate }
+      record {
+        p = r.p;
+        from = r.from;
+        item = r.item;
+        candidate =
+            subst (λ q. IsCandidate kind k q r.p r.from r.item (top_visit file kind d fs)) (append_assoc l (x ∷ []) (path_of fs)) r.candidate;
+      }

@@ -34,13 +34,16 @@ only_found (found f ∷ items) e = ap (λ l. found f ∷ l) (only_found items e)
 only_found (given c ∷ items) e = cc
 
 -- what a call that answers nothing has done
-abbrev pub HasEnded : {P : Type 0} → (P → Item → P → Type 0) → (RunError → P → Item → P → Type 0) → List ℕ → Walk → Result (Unit {0}) RunError → List Mark × Tree → P → P → Type 0
+abbrev pub HasEnded : {P : Type 0} → (P → Item → P → Type 0) → (RunError → P → Item → P → Type 0) → List ℕ → Walk → Result (Unit {0}) RunError → List Mark
+    × Tree → P → P → Type 0
 HasEnded moves stops file done r now w x = HasDone moves stops file done r now w x
 
 -- what a call that failed has done, by what was handed out
-pub stopped_as : {P A : Type 0} {moves : P → Item → P → Type 0} {stops : RunError → P → Item → P → Type 0} {file : List ℕ} {done : Walk} {now : List Mark × Tree} {w x : P} {r : Result A RunError} {e : RunError}
+pub stopped_as : {P A : Type 0} {moves : P → Item → P → Type 0} {stops : RunError → P → Item → P → Type 0} {file : List ℕ} {done : Walk}
+    {now : List Mark × Tree} {w x : P} {r : Result A RunError} {e : RunError}
     → r ≡ Err e → StopsAt moves stops e w done.items x → HasDone moves stops file done r now w x
-stopped_as {moves = moves} {stops = stops} {file = file} {done = done} {now = now} {w = w} {x = x} q h = subst (λ r. HasDone moves stops file done r now w x) (sym q) (record { at = tt; handed = h })
+stopped_as {moves = moves} {stops = stops} {file = file} {done = done} {now = now} {w = w} {x = x} q h =
+    subst (λ r. HasDone moves stops file done r now w x) (sym q) (record { at = tt; handed = h })
 
 -- no memory is asked for where only reading and writing can fail
 pub no_memory : {A : Type 0} (r : Result A RunError) → IfErr r IsReadOrWrite → r ≡ Err OutOfMemory → ⊥
@@ -64,7 +67,8 @@ module _ {P : Type 0} (moves : P → Item → P → Type 0) (stops : RunError �
   stop_after WriteFailed w m x L M h k = stops_after moves (stops WriteFailed) w m x L M h k
 
   -- some items, and then those of a call
-  pub handed_after : {A : Type 0} (r : Result A RunError) (w m x : P) (L M : List Item) → Moves moves w L m → Handed moves stops r m M x → Handed moves stops r w (L ++ M) x
+  pub handed_after : {A : Type 0} (r : Result A RunError) (w m x : P) (L M : List Item) → Moves moves w L m → Handed moves stops r m M x
+      → Handed moves stops r w (L ++ M) x
   handed_after (Ok a) w m x L M h k = Moves-append moves w m x L M h k
   handed_after (Err e) w m x L M h k = stop_after e w m x L M h k
 
@@ -79,13 +83,15 @@ module _ {S T : Type 0} (takes drops : S → Finding → S → Type 0) (keeps : 
   found_some (f ∷ fs) s s' t (inl e) = inl (ap (λ m. (m, t)) e)
   found_some (f ∷ fs) s s' t (inr h) = inr ((h.0, t), (h.1, refl), found_some fs h.0 s' t h.2)
 
-  pub found_stops : (fs : List Finding) (s s' : S) (t : T) → Stops takes drops s fs s' → Stops (watches takes keeps) (fails takes drops keeps refuses WriteFailed) (s, t) (map found fs) (s', t)
+  pub found_stops : (fs : List Finding) (s s' : S) (t : T) → Stops takes drops s fs s'
+      → Stops (watches takes keeps) (fails takes drops keeps refuses WriteFailed) (s, t) (map found fs) (s', t)
   found_stops [] s s' t h = absurd h
   found_stops (f ∷ fs) s s' t (inl h) = inl (h, refl)
   found_stops (f ∷ fs) s s' t (inr h) = inr ((h.0, t), (h.1, refl), found_stops fs h.0 s' t h.2)
 
   -- at Ok and after an error of reading or writing
-  pub found_handed : {A : Type 0} (r : Result A RunError) (fs : List Finding) (s s' : S) (t : T) → (r ≡ Err OutOfMemory → ⊥) → Tells takes drops r s fs s' → Handed (watches takes keeps) (fails takes drops keeps refuses) r (s, t) (map found fs) (s', t)
+  pub found_handed : {A : Type 0} (r : Result A RunError) (fs : List Finding) (s s' : S) (t : T) → (r ≡ Err OutOfMemory → ⊥) → Tells takes drops r s fs s'
+      → Handed (watches takes keeps) (fails takes drops keeps refuses) r (s, t) (map found fs) (s', t)
   found_handed (Ok a) fs s s' t quiet h = found_moves fs s s' t h
   found_handed (Err (Refused e)) fs s s' t quiet h = found_some fs s s' t h
   found_handed (Err ReadFailed) fs s s' t quiet h = found_some fs s s' t h
@@ -102,7 +108,8 @@ module _ {S T : Type 0} (takes drops : S → Finding → S → Type 0) (keeps : 
   some_found (f ∷ fs) w x (inl e) = inl (ap (λ p. p.0) e)
   some_found (f ∷ fs) w x (inr h) = inr (h.0.0, h.1.0, some_found fs h.0 x h.2)
 
-  stops_found : (fs : List Finding) (w x : S × T) → Stops (watches takes keeps) (fails takes drops keeps refuses WriteFailed) w (map found fs) x → Stops takes drops w.0 fs x.0
+  stops_found : (fs : List Finding) (w x : S × T) → Stops (watches takes keeps) (fails takes drops keeps refuses WriteFailed) w (map found fs) x
+      → Stops takes drops w.0 fs x.0
   stops_found [] w x h = absurd h
   stops_found (f ∷ fs) w x (inl h) = inl h.0
   stops_found (f ∷ fs) w x (inr h) = inr (h.0.0, h.1.0, stops_found fs h.0 x h.2)
@@ -113,7 +120,8 @@ module _ {S T : Type 0} (takes drops : S → Finding → S → Type 0) (keeps : 
   never_refused (f ∷ fs) w x (inl h) = h
   never_refused (f ∷ fs) w x (inr h) = never_refused fs h.0 x h.2
 
-  pub handed_found : {A : Type 0} (r : Result A RunError) (fs : List Finding) (w x : S × T) → Handed (watches takes keeps) (fails takes drops keeps refuses) r w (map found fs) x → Tells takes drops r w.0 fs x.0
+  pub handed_found : {A : Type 0} (r : Result A RunError) (fs : List Finding) (w x : S × T)
+      → Handed (watches takes keeps) (fails takes drops keeps refuses) r w (map found fs) x → Tells takes drops r w.0 fs x.0
   handed_found (Ok a) fs w x h = moves_found fs w x h
   handed_found (Err (Refused e)) fs w x h = some_found fs w x h
   handed_found (Err ReadFailed) fs w x h = some_found fs w x h
@@ -121,7 +129,8 @@ module _ {S T : Type 0} (takes drops : S → Finding → S → Type 0) (keeps : 
   handed_found (Err OutOfMemory) fs w x h = absurd (never_refused fs w x h)
 
   -- a row of the schema alone, and none
-  pub row_handed : (r : Result (Unit {0}) RunError) (c : SchemaCell) (w x : S × T) → TellsRow takes drops keeps refuses (row_at c) r w x → Handed (watches takes keeps) (fails takes drops keeps refuses) r w (given c ∷ []) x
+  pub row_handed : (r : Result (Unit {0}) RunError) (c : SchemaCell) (w x : S × T) → TellsRow takes drops keeps refuses (row_at c) r w x
+      → Handed (watches takes keeps) (fails takes drops keeps refuses) r w (given c ∷ []) x
   row_handed (Ok a) c w x h = (x, h, refl)
   row_handed (Err (Refused e)) c w x h = absurd h
   row_handed (Err ReadFailed) c w x h = absurd h
@@ -138,10 +147,12 @@ bare_visits file m es =
 
 module _ {P : Type 0} (moves : P → Item → P → Type 0) (stops : RunError → P → Item → P → Type 0) (file : List ℕ) (m : Walk) (es : List (Errand Way Event)) where
   -- what a walk has handed out already, and then some errands
-  pub done_on : {A : Type 0} (r : Result A RunError) (now : List Mark × Tree) (w x y : P) → Moves moves w m.items x → HasDone moves stops file (done_below file m es) r now x y → HasDone moves stops file (run_below file m es) r now w y
+  pub done_on : {A : Type 0} (r : Result A RunError) (now : List Mark × Tree) (w x y : P) → Moves moves w m.items x
+      → HasDone moves stops file (done_below file m es) r now x y → HasDone moves stops file (run_below file m es) r now w y
   done_on {A = A} r now w x y h k = record {
     at = on_ok r k.at;
-    handed = subst (λ items. Handed moves stops r w items y) (sym ((has_steps file).items m es)) (handed_after moves stops r w x y m.items (done_below file m es).items h k.handed);
+    handed = subst (λ items. Handed moves stops r w items y) (sym ((has_steps file).items m es))
+        (handed_after moves stops r w x y m.items (done_below file m es).items h k.handed);
   }
     where
       on_ok : (r : Result A RunError) → OnOk r (IsAt file (done_below file m es) now.0 now.1) → OnOk r (IsAt file (run_below file m es) now.0 now.1)
@@ -150,23 +161,30 @@ module _ {P : Type 0} (moves : P → Item → P → Type 0) (stops : RunError �
       on_ok (Err e) h = tt
 
   -- an error in what it should have handed out already
-  pub stops_on : {A : Type 0} (e : RunError) (now : List Mark × Tree) (w x : P) → StopsAt moves stops e w m.items x → HasDone {A = A} moves stops file (run_below file m es) (Err e) now w x
+  pub stops_on : {A : Type 0} (e : RunError) (now : List Mark × Tree) (w x : P) → StopsAt moves stops e w m.items x
+      → HasDone {A = A} moves stops file (run_below file m es) (Err e) now w x
   stops_on e now w x h = record {
     at = tt;
-    handed = subst (λ items. StopsAt moves stops e w items x) (sym ((has_steps file).items m es)) (stop_first moves stops e w x m.items (done_below file m es).items h);
+    handed = subst (λ items. StopsAt moves stops e w items x) (sym ((has_steps file).items m es))
+        (stop_first moves stops e w x m.items (done_below file m es).items h);
   }
 
 module _ {P : Type 0} (moves : P → Item → P → Type 0) (stops : RunError → P → Item → P → Type 0) (file : List ℕ) (from : Walk) where
   -- nothing
-  pub done_none : {A : Type 0} (a : A) (now : List Mark × Tree) (w : P) → IsAt file from now.0 now.1 → HasDone moves stops file (done_below file from []) (Ok a) now w w
+  pub done_none : {A : Type 0} (a : A) (now : List Mark × Tree) (w : P) → IsAt file from now.0 now.1
+      → HasDone moves stops file (done_below file from []) (Ok a) now w w
   done_none a now w at = subst (λ m. HasDone moves stops file m (Ok a) now w w) (sym ((has_steps file).none (bare from))) (record { at = at; handed = refl })
 
   -- some errands, and then others
-  pub done_then : {A B : Type 0} (a : A) (r : Result B RunError) (es fs : List (Errand Way Event)) (mid now : List Mark × Tree) (w x y : P) → AreQuiet own_visit es → HasDone moves stops file (done_below file from es) (Ok a) mid w x
+  pub done_then : {A B : Type 0} (a : A) (r : Result B RunError) (es fs : List (Errand Way Event)) (mid now : List Mark × Tree) (w x y : P)
+      → AreQuiet own_visit es → HasDone moves stops file (done_below file from es) (Ok a) mid w x
       → HasDone moves stops file (done_below file (done_below file from es) fs) r now x y → HasDone moves stops file (done_below file from (es ++ fs)) r now w y
-  done_then a r es fs mid now w x y q h k = subst (λ m. HasDone moves stops file m r now w y) (sym ((has_steps file).join (bare from) es fs q)) (done_on moves stops file (done_below file from es) fs r now w x y h.handed k)
+  done_then a r es fs mid now w x y q h k = subst (λ m. HasDone moves stops file m r now w y) (sym ((has_steps file).join (bare from) es fs q))
+      (done_on moves stops file (done_below file from es) fs r now w x y h.handed k)
 
   -- an error in the first of them
-  pub done_stops : {A B : Type 0} (e : RunError) (es fs : List (Errand Way Event)) (mid now : List Mark × Tree) (w x : P) → AreQuiet own_visit es → HasDone {A = A} moves stops file (done_below file from es) (Err e) mid w x
+  pub done_stops : {A B : Type 0} (e : RunError) (es fs : List (Errand Way Event)) (mid now : List Mark × Tree) (w x : P) → AreQuiet own_visit es
+      → HasDone {A = A} moves stops file (done_below file from es) (Err e) mid w x
       → HasDone {A = B} moves stops file (done_below file from (es ++ fs)) (Err e) now w x
-  done_stops {B = B} e es fs mid now w x q h = subst (λ m. HasDone {A = B} moves stops file m (Err e) now w x) (sym ((has_steps file).join (bare from) es fs q)) (stops_on moves stops file (done_below file from es) fs e now w x h.handed)
+  done_stops {B = B} e es fs mid now w x q h = subst (λ m. HasDone {A = B} moves stops file m (Err e) now w x) (sym ((has_steps file).join (bare from) es fs q))
+      (stops_on moves stops file (done_below file from es) fs e now w x h.handed)

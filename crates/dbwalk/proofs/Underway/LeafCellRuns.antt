@@ -1,5 +1,6 @@
 -- A cell of a leaf: its overflow chain, its row, where the tree is the schema's, and its key.
-use Rattle.std.proofs.Common.{◌≡◌, ℕ, ℤ, ◌≤◌, arith, true, false, not, inl, inr, List, [], ◌∷◌, ◌++◌, map, Option, Some, None, Result, Ok, Err, refl, sym, ap, subst, ◌∙◌}
+use Rattle.std.proofs.Common.{◌≡◌, ℕ, ℤ, ◌≤◌, arith, true, false, not, inl, inr, List, [], ◌∷◌, ◌++◌, map, Option, Some, None, Result, Ok, Err, refl, sym, ap}
+use Rattle.std.proofs.Common.{subst, ◌∙◌}
 use Rattle.std.specs.Prelude.{OnOk, IfErr, is_some, option_and_then, ◌==◌}
 use Rattle.std.specs.Result.{result_ok}
 use Rattle.std.proofs.lemmas.Bool.{cases_Bool, eqb-true}
@@ -49,7 +50,8 @@ rows_behind file U c v i None = []
 rows_behind file U c v i (Some x) = rows_of file U c v (i, x)
 
 module _ (file : List ℕ) (from : Walk) (c : Reference) (kind : TreeKind) (v : View) (leaf : is_interior v.kind ≡ false) (i : ℕ)
-    (overflow : Option (ℕ × ℕ)) (overflow_is : overflow ≡ read_overflow (result_ok (cell v i))) (key : Option ℤ) (key_is : key ≡ option_and_then (λ c. c.key) (result_ok (cell v i))) where
+    (overflow : Option (ℕ × ℕ)) (overflow_is : overflow ≡ read_overflow (result_ok (cell v i))) (key : Option ℤ)
+    (key_is : key ≡ option_and_then (λ c. c.key) (result_ok (cell v i))) where
   abbrev chain : List (Errand Way Event)
   chain = overflow_errands c i overflow
 
@@ -70,8 +72,10 @@ module _ (file : List ℕ) (from : Walk) (c : Reference) (kind : TreeKind) (v : 
   chained : (m.state ≡ from.state) × (m.items ≡ map found (told_below file from.visits chain))
   chained = by_chain overflow
     where
-      by_chain : (o : Option (ℕ × ℕ)) → ((done_below file from (overflow_errands c i o)).state ≡ from.state) × ((done_below file from (overflow_errands c i o)).items ≡ map found (told_below file from.visits (overflow_errands c i o)))
-      by_chain None = let none = (has_steps file).none (bare from) in (ap (λ w. w.state) none, ap (λ w. w.items) none ∙ ap (map found) (sym (told_none file from.visits)))
+      by_chain : (o : Option (ℕ × ℕ)) → ((done_below file from (overflow_errands c i o)).state ≡ from.state)
+          × ((done_below file from (overflow_errands c i o)).items ≡ map found (told_below file from.visits (overflow_errands c i o)))
+      by_chain None = let none = (has_steps file).none (bare from) in
+          (ap (λ w. w.state) none, ap (λ w. w.items) none ∙ ap (map found) (sym (told_none file from.visits)))
       by_chain (Some o) =
           let aside = are_aside file (bare from) _ refl in
           (aside.state, aside.items)
@@ -103,14 +107,18 @@ module _ (file : List ℕ) (from : Walk) (c : Reference) (kind : TreeKind) (v : 
       by_cell (Some x) e =
           let U = m.visits ++ [] in
           let here : rows_of file U c v (i, x) ≡ rows_of file m.visits c v (i, x) = ap (λ U. rows_of file U c v (i, x)) (append-nil m.visits) in
-          subst (IsBehind (Some x)) (sym ((has_steps file).event (bare m) _ [] refl ∙ (has_steps file).none (advance file (bare m) (at_key c v (i, x))))) (record {
+          subst (IsBehind (Some x)) (sym ((has_steps file).event (bare m) _ [] refl ∙ (has_steps file).none (advance file (bare m) (at_key c v (i, x)))))
+          (record {
             visits = append-nil m.visits;
-            greatest_is = greatest_behind file c v i x (bare m) ∙ ap (λ p. top_after p.greatest c.page i x.key) chained.0 ∙ ap (top_after from.state.greatest c.page i) (sym e);
+            greatest_is = greatest_behind file c v i x (bare m) ∙ ap (λ p. top_after p.greatest c.page i x.key) chained.0
+                ∙ ap (top_after from.state.greatest c.page i) (sym e);
             leaf_is = ap (λ p. p.leaf) chained.0;
             items = cell_items file c v i x U m.state (rows_of file m.visits c v (i, x)) here
-                ∙ ap (λ p. map given (rows_of file m.visits c v (i, x)) ++ map found (order_told_of (not (is_interior v.kind)) p.greatest c.page i x.key)) chained.0
+                ∙ ap (λ p. map given (rows_of file m.visits c v (i, x)) ++ map found (order_told_of (not (is_interior v.kind)) p.greatest c.page i x.key))
+                chained.0
                 ∙ ap (λ b. map given (rows_of file m.visits c v (i, x)) ++ map found (order_told_of (not b) from.state.greatest c.page i x.key)) leaf
-                ∙ ap (λ fs. map given (rows_of file m.visits c v (i, x)) ++ map found fs) (same_faults from.state.greatest x.key ∙ ap (late_told from.state.greatest c.page i) (sym e));
+                ∙ ap (λ fs. map given (rows_of file m.visits c v (i, x)) ++ map found fs)
+                (same_faults from.state.greatest x.key ∙ ap (late_told from.state.greatest c.page i) (sym e));
           })
 
   split : cell_errands c kind v i ≡ chain ++ own
@@ -118,52 +126,76 @@ module _ (file : List ℕ) (from : Walk) (c : Reference) (kind : TreeKind) (v : 
 
   -- the visits after the cell are those of its chain
   pub cell_visits : (done_below file from (cell_errands c kind v i)).visits ≡ from.visits ++ visited_below file from.visits chain
-  cell_visits = ap (λ es. (done_below file from es).visits) split ∙ ap (λ w. w.visits) ((has_steps file).join (bare from) chain own (quiet_overflow c i overflow)) ∙ bare_visits file m own ∙ behind.visits ∙ visited
+  cell_visits = ap (λ es. (done_below file from es).visits) split
+      ∙ ap (λ w. w.visits) ((has_steps file).join (bare from) chain own (quiet_overflow c i overflow)) ∙ bare_visits file m own ∙ behind.visits ∙ visited
 
   module _ {S T : Type 0} (takes drops : S → Finding → S → Type 0) (keeps : T → SchemaRow → Taken → T → Type 0) (refuses : T → SchemaRow → T → Type 0) where
     abbrev pub Whole : Result (Unit {0}) RunError → List Mark × Tree → (S × T) → (S × T) → Type 0
     Whole r now w x = HasEnded (watches takes keeps) (fails takes drops keeps refuses) file (done_below file from (cell_errands c kind v i)) r now w x
 
     -- what the chain's call has done
-    chain_done : (r : Result (Unit {0}) RunError) (marks : List Mark) (tree : Tree) (s s' : S) (t : T) → IfErr r IsReadOrWrite → tree.greatest ≡ from.state.greatest → tree.leaf ≡ from.state.leaf
-        → IsDone takes drops file from.visits chain r marks s s' → HasEnded (watches takes keeps) (fails takes drops keeps refuses) file m r (marks, tree) (s, t) (s', t)
+    chain_done : (r : Result (Unit {0}) RunError) (marks : List Mark) (tree : Tree) (s s' : S) (t : T) → IfErr r IsReadOrWrite → tree.greatest
+        ≡ from.state.greatest → tree.leaf ≡ from.state.leaf
+        → IsDone takes drops file from.visits chain r marks s s'
+        → HasEnded (watches takes keeps) (fails takes drops keeps refuses) file m r (marks, tree) (s, t) (s', t)
     chain_done r marks tree s s' t only top depth done = record {
       at = by_ok r done.marked;
-      handed = subst (λ l. Handed (watches takes keeps) (fails takes drops keeps refuses) r (s, t) l (s', t)) (sym chained.1) (found_handed takes drops keeps refuses r (told_below file from.visits chain) s s' t (no_memory r only) done.told);
+      handed = subst (λ l. Handed (watches takes keeps) (fails takes drops keeps refuses) r (s, t) l (s', t)) (sym chained.1)
+          (found_handed takes drops keeps refuses r (told_below file from.visits chain) s s' t (no_memory r only) done.told);
     }
       where
-        by_ok : (r : Result (Unit {0}) RunError) → OnOk r (AreMarksOf file (from.visits ++ visited_below file from.visits chain) marks) → OnOk r (IsAt file m marks tree)
-        by_ok (Ok a) h = (subst (λ U. AreMarksOf file U marks) (sym visited) h, top ∙ ap (λ p. p.greatest) (sym chained.0), depth ∙ ap (λ p. p.leaf) (sym chained.0))
+        by_ok : (r : Result (Unit {0}) RunError) → OnOk r (AreMarksOf file (from.visits ++ visited_below file from.visits chain) marks)
+            → OnOk r (IsAt file m marks tree)
+        by_ok (Ok a) h = (
+          subst (λ U. AreMarksOf file U marks) (sym visited) h,
+          top ∙ ap (λ p. p.greatest) (sym chained.0),
+          depth
+              ∙ ap (λ p. p.leaf) (sym chained.0),
+        )
         by_ok (Err e) h = tt
 
     -- it could not be walked to its end
-    pub chain_stops : (e : RunError) (marks : List Mark) (now : List Mark × Tree) (s s' : S) (t : T) → IsReadOrWrite e → (tree : Tree) → tree.greatest ≡ from.state.greatest → tree.leaf ≡ from.state.leaf
+    pub chain_stops : (e : RunError) (marks : List Mark) (now : List Mark × Tree) (s s' : S) (t : T) → IsReadOrWrite e → (tree : Tree) → tree.greatest
+        ≡ from.state.greatest → tree.leaf ≡ from.state.leaf
         → IsDone {A = Unit {0}} takes drops file from.visits chain (Err e) marks s s' → Whole (Err e) now (s, t) (s', t)
-    chain_stops e marks now s s' t only tree top depth done = subst (λ es. HasEnded (watches takes keeps) (fails takes drops keeps refuses) file (done_below file from es) (Err e) now (s, t) (s', t)) (sym split)
-        (done_stops (watches takes keeps) (fails takes drops keeps refuses) file from e chain own (marks, tree) now (s, t) (s', t) (quiet_overflow c i overflow) (chain_done (Err e) marks tree s s' t only top depth done))
+    chain_stops e marks now s s' t only tree top depth done =
+        subst (λ es. HasEnded (watches takes keeps) (fails takes drops keeps refuses) file (done_below file from es) (Err e) now (s, t) (s', t)) (sym split)
+        (done_stops (watches takes keeps) (fails takes drops keeps refuses) file from e chain own (marks, tree) now (s, t) (s', t) (quiet_overflow c i overflow)
+        (chain_done (Err e) marks tree s s' t only top depth done))
 
     -- it was, and then row and key were handed out, or not
-    pub own_done : (r : Result (Unit {0}) RunError) (marks : List Mark) (old new : Tree) (s s' : S) (t : T) (x : S × T) → old.greatest ≡ from.state.greatest → old.leaf ≡ from.state.leaf → IsDone {A = Unit {0}} takes drops file from.visits chain (Ok tt) marks s s'
+    pub own_done : (r : Result (Unit {0}) RunError) (marks : List Mark) (old new : Tree) (s s' : S) (t : T) (x : S × T) → old.greatest ≡ from.state.greatest
+        → old.leaf ≡ from.state.leaf → IsDone {A = Unit {0}} takes drops file from.visits chain (Ok tt) marks s s'
         → Handed (watches takes keeps) (fails takes drops keeps refuses) r (s', t) (map given rows ++ key_items) x
         → OnOk r ((new.greatest ≡ top_after old.greatest c.page i key) × (new.leaf ≡ old.leaf)) → Whole r (marks, new) (s, t) x
-    own_done r marks old new s s' t x top depth done handed tree_is = subst (λ es. HasEnded (watches takes keeps) (fails takes drops keeps refuses) file (done_below file from es) r (marks, new) (s, t) x) (sym split)
-        (done_then (watches takes keeps) (fails takes drops keeps refuses) file from tt r chain own (marks, old) (marks, new) (s, t) (s', t) x (quiet_overflow c i overflow) (chain_done (Ok tt) marks old s s' t tt top depth done) (record {
+    own_done r marks old new s s' t x top depth done handed tree_is =
+        subst (λ es. HasEnded (watches takes keeps) (fails takes drops keeps refuses) file (done_below file from es) r (marks, new) (s, t) x) (sym split)
+        (done_then (watches takes keeps) (fails takes drops keeps refuses) file from tt r chain own (marks, old) (marks, new) (s, t) (s', t) x
+        (quiet_overflow c i overflow) (chain_done (Ok tt) marks old s s' t tt top depth done) (record {
           at = by_ok r tree_is;
           handed = subst (λ l. Handed (watches takes keeps) (fails takes drops keeps refuses) r (s', t) l x) (sym behind.items) handed;
         }))
       where
-        by_ok : (r : Result (Unit {0}) RunError) → OnOk r ((new.greatest ≡ top_after old.greatest c.page i key) × (new.leaf ≡ old.leaf)) → OnOk r (IsAt file (done_below file m own) marks new)
-        by_ok (Ok a) h = (subst (λ U. AreMarksOf file U marks) (sym (behind.visits ∙ visited)) done.marked, h.0 ∙ ap (λ top. top_after top c.page i key) top ∙ sym behind.greatest_is, h.1 ∙ depth ∙ sym behind.leaf_is)
+        by_ok : (r : Result (Unit {0}) RunError) → OnOk r ((new.greatest ≡ top_after old.greatest c.page i key) × (new.leaf ≡ old.leaf))
+            → OnOk r (IsAt file (done_below file m own) marks new)
+        by_ok (Ok a) h = (
+          subst (λ U. AreMarksOf file U marks) (sym (behind.visits ∙ visited)) done.marked,
+          h.0 ∙ ap (λ top. top_after top c.page i key) top
+              ∙ sym behind.greatest_is,
+          h.1 ∙ depth ∙ sym behind.leaf_is,
+        )
         by_ok (Err e) h = tt
 
     -- the row: by the sieve that took the payload
-    module _ (t t' : T) (place : RowPlace) (p : ℕ) (place_is : place ≡ row_place p i key) (page : c.page ≡ p) (e : Encoding) (coded : e ≡ encoding file) (r : Result (Unit {0}) RunError) (s s' : S) (new : Option RowSieve)
+    module _ (t t' : T) (place : RowPlace) (p : ℕ) (place_is : place ≡ row_place p i key) (page : c.page ≡ p) (e : Encoding) (coded : e ≡ encoding file)
+        (r : Result (Unit {0}) RunError) (s s' : S) (new : Option RowSieve)
         (quiet : new ≡ None → (r ≡ Ok tt) × (s' ≡ s) × (t' ≡ t)) where
       abbrev Rows : List SchemaCell → Type 0
       Rows cells = Handed (watches takes keeps) (fails takes drops keeps refuses) r (s, t) (map given cells) (s', t')
 
       none_handed : new ≡ None → Rows []
-      none_handed none = let q = quiet none in subst (λ r. Handed (watches takes keeps) (fails takes drops keeps refuses) r (s, t) [] (s', t')) (sym q.0) (subst (λ s'. ◌≡◌ {A = S × T} (s, t) (s', t')) (sym q.1) (subst (λ t'. ◌≡◌ {A = S × T} (s, t) (s, t')) (sym q.2) refl))
+      none_handed none = let q = quiet none in subst (λ r. Handed (watches takes keeps) (fails takes drops keeps refuses) r (s, t) [] (s', t')) (sym q.0)
+          (subst (λ s'. ◌≡◌ {A = S × T} (s, t) (s', t')) (sym q.1) (subst (λ t'. ◌≡◌ {A = S × T} (s, t) (s, t')) (sym q.2) refl))
 
       -- in other trees there is none
       no_row_handed : (start_of c.address == schema_start) ≡ false → new ≡ None → Rows rows
@@ -173,8 +205,10 @@ module _ (file : List ℕ) (from : Walk) (c : Reference) (kind : TreeKind) (v : 
           by_cell None = refl
           by_cell (Some x) = no_row_elsewhere file m.visits c v (i, x) other
 
-      cell_row_handed : (start_of c.address == schema_start) ≡ true → (old : Option RowSieve) → HoldsCell old e (result_ok (cell v i)) → AreBefore from.visits (then_step c.address (overflow_step i)) → FeedsPayload file from.visits c i overflow old new
-          → is_some new ≡ is_some old → ((size : ℕ) (e : Encoding) (bytes : List ℕ) → HasFed new size e bytes → TellsRow takes drops keeps refuses (place, schema_row bytes size e) r (s, t) (s', t')) → Rows rows
+      cell_row_handed : (start_of c.address == schema_start) ≡ true → (old : Option RowSieve) → HoldsCell old e (result_ok (cell v i))
+          → AreBefore from.visits (then_step c.address (overflow_step i)) → FeedsPayload file from.visits c i overflow old new
+          → is_some new ≡ is_some old → ((size : ℕ) (e : Encoding) (bytes : List ℕ) → HasFed new size e bytes
+          → TellsRow takes drops keeps refuses (place, schema_row bytes size e) r (s, t) (s', t')) → Rows rows
       cell_row_handed schema old holds before fed kept told = by_cell (result_ok (cell v i)) key_is holds
         where
           gone : (o : Option RowSieve) → is_some o ≡ false → o ≡ None
@@ -184,18 +218,23 @@ module _ (file : List ℕ) (from : Walk) (c : Reference) (kind : TreeKind) (v : 
           by_cell : (o : Option Cell) → key ≡ option_and_then (λ c. c.key) o → HoldsCell old e o → Rows (rows_behind file m.visits c v i o)
           by_cell None key_is h = none_handed (gone new (kept ∙ ap is_some h))
           by_cell (Some x) key_is h =
-              let bytes : payload file (from.visits ++ visited_below file from.visits chain) c.address i x ≡ payload file m.visits c.address i x = ap (λ U. payload file U c.address i x) (sym visited) in
+              let bytes : payload file (from.visits ++ visited_below file from.visits chain) c.address i x ≡ payload file m.visits c.address i x =
+              ap (λ U. payload file U c.address i x) (sym visited) in
               let one : rows_of file m.visits c v (i, x) ≡ schema_cell file m.visits c (i, x) ∷ [] = rw (schema, leaf) refl in
               let here : place ≡ row_place c.page i x.key = place_is ∙ ap (λ q. row_place q i key) (sym page) ∙ ap (row_place c.page i) key_is in
               subst Rows (sym one) (row_handed takes drops keeps refuses r (schema_cell file m.visits c (i, x)) (s, t) (s', t')
-              (subst (λ q. TellsRow takes drops keeps refuses (q, schema_row (payload file m.visits c.address i x) x.size (encoding file)) r (s, t) (s', t')) here
+              (subst (λ q. TellsRow takes drops keeps refuses (q, schema_row (payload file m.visits c.address i x) x.size (encoding file)) r (s, t) (s', t'))
+              here
               (subst (λ e. TellsRow takes drops keeps refuses (place, schema_row (payload file m.visits c.address i x) x.size e) r (s, t) (s', t')) coded
-              (subst (λ b. TellsRow takes drops keeps refuses (place, schema_row b x.size e) r (s, t) (s', t')) bytes (told x.size e _ (fed.fed x e before h))))))
+              (subst (λ b. TellsRow takes drops keeps refuses (place, schema_row b x.size e) r (s, t) (s', t')) bytes
+              (told x.size e _ (fed.fed x e before h))))))
 
       -- by the start of the tree
-      pub row_told : (k : ℕ) → start_of c.address ≡ k → (old : Option RowSieve) → (k ≡ schema_start → HoldsCell old e (result_ok (cell v i))) → (1 ≤ k → old ≡ None)
+      pub row_told : (k : ℕ) → start_of c.address ≡ k → (old : Option RowSieve) → (k ≡ schema_start → HoldsCell old e (result_ok (cell v i)))
+          → (1 ≤ k → old ≡ None)
           → AreBefore from.visits (then_step c.address (overflow_step i)) → FeedsPayload file from.visits c i overflow old new → is_some new ≡ is_some old
-          → ((size : ℕ) (e : Encoding) (bytes : List ℕ) → HasFed new size e bytes → TellsRow takes drops keeps refuses (place, schema_row bytes size e) r (s, t) (s', t')) → Rows rows
+          → ((size : ℕ) (e : Encoding) (bytes : List ℕ) → HasFed new size e bytes
+          → TellsRow takes drops keeps refuses (place, schema_row bytes size e) r (s, t) (s', t')) → Rows rows
       row_told k start old holds other before fed kept told = elim (cases_Bool (start_of c.address == schema_start)) [
         | inl f ↦ (let z : k ≡ schema_start = sym start ∙ eqb-true (start_of c.address) schema_start f in cell_row_handed f old (holds z) before fed kept told)
         | inr f ↦ no_row_handed f (gone new (kept ∙ ap is_some (other (later start f))))
@@ -209,12 +248,19 @@ module _ (file : List ℕ) (from : Walk) (c : Reference) (kind : TreeKind) (v : 
           later e f = grind (arith, nat_tests)
 
     -- the row could not be taken, or not all was reported of it
-    pub row_stops : (e : RunError) (marks : List Mark) (old new : Tree) (s s' : S) (t : T) (x : S × T) → old.greatest ≡ from.state.greatest → old.leaf ≡ from.state.leaf → IsDone {A = Unit {0}} takes drops file from.visits chain (Ok tt) marks s s'
+    pub row_stops : (e : RunError) (marks : List Mark) (old new : Tree) (s s' : S) (t : T) (x : S × T) → old.greatest ≡ from.state.greatest → old.leaf
+        ≡ from.state.leaf → IsDone {A = Unit {0}} takes drops file from.visits chain (Ok tt) marks s s'
         → StopsAt (watches takes keeps) (fails takes drops keeps refuses) e (s', t) (map given rows) x → Whole (Err e) (marks, new) (s, t) x
-    row_stops e marks old new s s' t x top depth done stops = own_done (Err e) marks old new s s' t x top depth done (stop_first (watches takes keeps) (fails takes drops keeps refuses) e (s', t) x (map given rows) key_items stops) tt
+    row_stops e marks old new s s' t x top depth done stops =
+        own_done (Err e) marks old new s s' t x top depth done
+        (stop_first (watches takes keeps) (fails takes drops keeps refuses) e (s', t) x (map given rows) key_items stops) tt
 
     -- the key's fault was reported, or not completely
-    pub key_done : (r : Result (Unit {0}) RunError) (marks : List Mark) (old new : Tree) (s s' s'' : S) (t t' : T) (x : S × T) → old.greatest ≡ from.state.greatest → old.leaf ≡ from.state.leaf → IsDone {A = Unit {0}} takes drops file from.visits chain (Ok tt) marks s s'
-        → Moves (watches takes keeps) (s', t) (map given rows) (s'', t') → Handed (watches takes keeps) (fails takes drops keeps refuses) r (s'', t') key_items x
+    pub key_done : (r : Result (Unit {0}) RunError) (marks : List Mark) (old new : Tree) (s s' s'' : S) (t t' : T) (x : S × T) → old.greatest
+        ≡ from.state.greatest → old.leaf ≡ from.state.leaf → IsDone {A = Unit {0}} takes drops file from.visits chain (Ok tt) marks s s'
+        → Moves (watches takes keeps) (s', t) (map given rows) (s'', t')
+        → Handed (watches takes keeps) (fails takes drops keeps refuses) r (s'', t') key_items x
         → OnOk r ((new.greatest ≡ top_after old.greatest c.page i key) × (new.leaf ≡ old.leaf)) → Whole r (marks, new) (s, t) x
-    key_done r marks old new s s' s'' t t' x top depth done moved handed tree_is = own_done r marks old new s s' t x top depth done (handed_after (watches takes keeps) (fails takes drops keeps refuses) r (s', t) (s'', t') x (map given rows) key_items moved handed) tree_is
+    key_done r marks old new s s' s'' t t' x top depth done moved handed tree_is =
+        own_done r marks old new s s' t x top depth done (handed_after (watches takes keeps) (fails takes drops keeps refuses) r (s', t) (s'', t') x
+        (map given rows) key_items moved handed) tree_is

@@ -30,17 +30,20 @@ module _ {usable : ℕ} {kind : TreeKind} {levels : List (List ℕ)} (fs : List 
   open_by zero f g page next none h = subst (λ (x : StackFrame). AreOpen usable kind levels 0 (fs ++ (x ∷ []))) (same_frame f g page (omega arith)) h
   open_by (suc n) f g page next none h =
       open_by n (on f) g page (omega arith) (λ s l k. none s (omega arith) k)
-      (step_on fs f {next = Nothing} (at_step fs f h (none f.next (omega arith) (omega arith))) (on f) refl refl (λ x. cc) refl usable kind levels refl refl (λ n l. refl))
+      (step_on fs f {next = Nothing} (at_step fs f h (none f.next (omega arith) (omega arith))) (on f) refl refl (λ x. cc) refl usable kind levels refl refl
+      (λ n l. refl))
 
   pub open_past : {level : ℕ} (f g : StackFrame) → level ≡ length fs → g.page ≡ f.page → AreEmpty usable kind levels level f.page f.next g.next
       → AreOpen usable kind levels 0 (fs ++ (f ∷ [])) → AreOpen usable kind levels 0 (fs ++ (g ∷ []))
   open_past f g deep page past h = let l = past.rise in open_by (g.next - f.next) f g page (omega arith) (λ s l k. next_at deep refl (past.empty s l k)) h
 
-module _ {P : Type 0} {moves : P → Item → P → Type 0} {file : List ℕ} {W : List Reference} {c : Reference} {before : P} {levels : List (List ℕ)} {marks : List Mark} {tree : Tree} {w : P} {usable : ℕ}
+module _ {P : Type 0} {moves : P → Item → P → Type 0} {file : List ℕ} {W : List Reference} {c : Reference} {before : P} {levels : List (List ℕ)}
+    {marks : List Mark} {tree : Tree} {w : P} {usable : ℕ}
     (fs : List StackFrame) (usables : usable ≡ usable_size file) (candidate : IsCandidate tree.kind tree.start [] c.page 0 tree.start c) where
   walking_by : (n : ℕ) (f g : StackFrame) → g.page ≡ f.page → g.next ≡ n + f.next → AreNothing usable tree.kind levels (length fs) f g
       → IsWalkingOn moves file W c before (fs ++ (f ∷ []), levels) (marks, tree) w → IsWalkingOn moves file W c before (fs ++ (g ∷ []), levels) (marks, tree) w
-  walking_by zero f g page next none h = subst (λ (x : StackFrame). IsWalkingOn moves file W c before (fs ++ (x ∷ []), levels) (marks, tree) w) (same_frame f g page (omega arith)) h
+  walking_by zero f g page next none h = subst (λ (x : StackFrame). IsWalkingOn moves file W c before (fs ++ (x ∷ []), levels) (marks, tree) w)
+      (same_frame f g page (omega arith)) h
   walking_by (suc n) f g page next none h =
       walking_by n (on f) g page (omega arith) (λ s l k. none s (omega arith) k)
       (turned_empty fs f h candidate (on f) refl refl (next_here fs f h candidate usables (none f.next (omega arith) (omega arith))))

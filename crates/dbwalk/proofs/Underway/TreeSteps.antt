@@ -1,5 +1,6 @@
 -- One turn of the loop over the interior pages of a tree.
-use Rattle.std.proofs.Common.{◌≡◌, ℕ, suc, ◌+◌, ◌-◌, ◌*◌, ◌<◌, ◌≤◌, true, false, not, inl, inr, List, [], ◌∷◌, ◌++◌, map, length, Some, Ok, Err, refl, sym, ap, subst, arith, ◌∙◌, append_assoc, None, Result}
+use Rattle.std.proofs.Common.{◌≡◌, ℕ, suc, ◌+◌, ◌-◌, ◌*◌, ◌<◌, ◌≤◌, true, false, not, inl, inr, List, [], ◌∷◌, ◌++◌, map, length, Some, Ok, Err, refl, sym, ap}
+use Rattle.std.proofs.Common.{subst, arith, ◌∙◌, append_assoc, None, Result}
 use Rattle.std.specs.Prelude.{slice_get, OnOk, IfErr}
 use Rattle.std.proofs.lemmas.List.{append-nil}
 use Rattle.dbsurvey.specs.InOrder.{AreQuiet}
@@ -41,15 +42,18 @@ use Rattle.dbwalk.proofs.Underway.Handing.{found_handed, no_memory}
 -- frames
 
 module _ (file : List ℕ) (kind : TreeKind) where
-  open_front : (c : Reference) (fs : List StackFrame) (f : StackFrame) → AreOpenFrames file kind c (fs ++ (f ∷ [])) → AreOpenFrames file kind c fs × IsOpenFrame file (top_visit file kind c fs) f
+  open_front : (c : Reference) (fs : List StackFrame) (f : StackFrame) → AreOpenFrames file kind c (fs ++ (f ∷ [])) → AreOpenFrames file kind c fs
+      × IsOpenFrame file (top_visit file kind c fs) f
   open_front c [] f a = (tt, a.0)
   open_front c (g ∷ fs) f a = let k = open_front (child_at file kind c (g.next - 1)) fs f a.1 in ((a.0, k.0), k.1)
 
-  open_push : (c : Reference) (fs : List StackFrame) (f : StackFrame) → AreOpenFrames file kind c fs → IsOpenFrame file (top_visit file kind c fs) f → AreOpenFrames file kind c (fs ++ (f ∷ []))
+  open_push : (c : Reference) (fs : List StackFrame) (f : StackFrame) → AreOpenFrames file kind c fs → IsOpenFrame file (top_visit file kind c fs) f
+      → AreOpenFrames file kind c (fs ++ (f ∷ []))
   open_push c [] f a e = (e, tt)
   open_push c (g ∷ fs) f a e = (a.0, open_push (child_at file kind c (g.next - 1)) fs f a.1 e)
 
-read_on : (file : List ℕ) (levels : List (List ℕ)) (f g : StackFrame) → g.page ≡ f.page → (level : ℕ) (hs : List StackFrame) → AreRead file levels level (hs ++ (f ∷ [])) → AreRead file levels level (hs ++ (g ∷ []))
+read_on : (file : List ℕ) (levels : List (List ℕ)) (f g : StackFrame) → g.page ≡ f.page → (level : ℕ) (hs : List StackFrame)
+    → AreRead file levels level (hs ++ (f ∷ [])) → AreRead file levels level (hs ++ (g ∷ []))
 read_on file levels f g page level [] r = (r.0 ∙ ap (λ p. Some (page_bytes file p)) (sym page), tt)
 read_on file levels f g page level (h ∷ hs) r = (r.0, read_on file levels f g page (level + 1) hs r.1)
 
@@ -58,10 +62,13 @@ quiet_go d e (inl h) = cc
 quiet_go d e (inr h) = absurd h
 
 -- the same by another state of the tree, other buffers, and another name of the frames
-pub by_other : {P : Type 0} {moves : P → Item → P → Type 0} {file : List ℕ} {W : List Reference} {c : Reference} {before : P} {frames items : List StackFrame} {levels levels' : List (List ℕ)} {marks : List Mark} {tree tree' : Tree} {w : P}
-    → IsWalkingOn moves file W c before (frames, levels) (marks, tree) w → items ≡ frames → tree'.kind ≡ tree.kind → tree'.greatest ≡ tree.greatest → tree'.leaf ≡ tree.leaf → ((n : ℕ) → n < length frames → slice_get levels' n ≡ slice_get levels n)
+pub by_other : {P : Type 0} {moves : P → Item → P → Type 0} {file : List ℕ} {W : List Reference} {c : Reference} {before : P} {frames items : List StackFrame}
+    {levels levels' : List (List ℕ)} {marks : List Mark} {tree tree' : Tree} {w : P}
+    → IsWalkingOn moves file W c before (frames, levels) (marks, tree) w → items ≡ frames → tree'.kind ≡ tree.kind → tree'.greatest ≡ tree.greatest → tree'.leaf
+    ≡ tree.leaf → ((n : ℕ) → n < length frames → slice_get levels' n ≡ slice_get levels n)
     → IsWalkingOn moves file W c before (items, levels') (marks, tree') w
-by_other {moves = moves} {file = file} {W = W} {c = c} {before = before} {frames = frames} {levels = levels} {levels' = levels'} {marks = marks} {tree' = tree'} {w = w} on are kinds tops leafs same =
+by_other {moves = moves} {file = file} {W = W} {c = c} {before = before} {frames = frames} {levels = levels} {levels' = levels'} {marks = marks} {tree' = tree'}
+    {w = w} on are kinds tops leafs same =
     let u = on.under in subst (λ l. IsWalkingOn moves file W c before (l, levels') (marks, tree') w) (sym are) (record {
       now = on.now;
       under = subst (λ k. IsUnderway moves file (tree_walk file W c) before on.now (left_over file k c frames) (marks, tree') w) (sym kinds)
@@ -71,7 +78,8 @@ by_other {moves = moves} {file = file} {W = W} {c = c} {before = before} {frames
       read = read_kept file levels levels' 0 frames (λ n l. same n (omega arith)) on.read;
     })
 
-module _ {P : Type 0} {moves : P → Item → P → Type 0} {file : List ℕ} {W : List Reference} {c : Reference} {before : P} {levels : List (List ℕ)} (fs : List StackFrame) (f : StackFrame) {marks : List Mark} {tree : Tree} {w : P}
+module _ {P : Type 0} {moves : P → Item → P → Type 0} {file : List ℕ} {W : List Reference} {c : Reference} {before : P} {levels : List (List ℕ)}
+    (fs : List StackFrame) (f : StackFrame) {marks : List Mark} {tree : Tree} {w : P}
     (on : IsWalkingOn moves file W c before (fs ++ (f ∷ []), levels) (marks, tree) w) where
   abbrev pub top : Reference
   top = top_visit file tree.kind c fs
@@ -101,10 +109,12 @@ module _ {P : Type 0} {moves : P → Item → P → Type 0} {file : List ℕ} {W
     rest = left_over file tree.kind c on_frames
 
     open_on : AreOpenFrames file tree.kind c on_frames
-    open_on = open_push file tree.kind c fs g frames.0 (record { page = page ∙ frames.1.page; view = frames.1.view; viewed = frames.1.viewed; interior = frames.1.interior; within = omega arith })
+    open_on = open_push file tree.kind c fs g frames.0
+        (record { page = page ∙ frames.1.page; view = frames.1.view; viewed = frames.1.viewed; interior = frames.1.interior; within = omega arith })
 
     -- what stays, whatever is at the step
-    turn : (now : Walk) (marks' : List Mark) (tree' : Tree) (x : P) → tree'.kind ≡ tree.kind → IsUnderway moves file (tree_walk file W c) before now rest (marks', tree') x
+    turn : (now : Walk) (marks' : List Mark) (tree' : Tree) (x : P) → tree'.kind ≡ tree.kind
+        → IsUnderway moves file (tree_walk file W c) before now rest (marks', tree') x
         → IsWalkingOn moves file W c before (on_frames, levels) (marks', tree') x
     turn now marks' tree' x kinds under = record {
       now = now;
@@ -115,8 +125,10 @@ module _ {P : Type 0} {moves : P → Item → P → Type 0} {file : List ℕ} {W
     }
 
     first_errands : (es : List (Errand Way Event)) → errands_from file top f.next ≡ es ++ errands_from file top (suc f.next) → Left (es ++ rest)
-    first_errands es e = subst Left (left-push file tree.kind c fs f ∙ ap (λ l. l ++ left_over file tree.kind c fs) e ∙ append_assoc es (errands_from file top (suc f.next)) (left_over file tree.kind c fs)
-        ∙ ap (λ n. es ++ (errands_from file top n ++ left_over file tree.kind c fs)) (sym next) ∙ ap (λ l. es ++ l) (sym (left-push file tree.kind c fs g))) on.under
+    first_errands es e = subst Left (left-push file tree.kind c fs f ∙ ap (λ l. l ++ left_over file tree.kind c fs) e
+        ∙ append_assoc es (errands_from file top (suc f.next)) (left_over file tree.kind c fs)
+        ∙ ap (λ n. es ++ (errands_from file top n ++ left_over file tree.kind c fs)) (sym next) ∙ ap (λ l. es ++ l) (sym (left-push file tree.kind c fs g)))
+        on.under
 
     -- a step at which nothing is
     pub on_skip : errands_from file top f.next ≡ errands_from file top (suc f.next) → IsWalkingOn moves file W c before (on_frames, levels) (marks, tree) w
@@ -138,10 +150,12 @@ module _ {P : Type 0} {moves : P → Item → P → Type 0} {file : List ℕ} {W
           ∙ ap (λ b. map found (order_told_of (not b) on.now.state.greatest top.page n cell.key)) frames.1.interior
           ∙ ap (λ top_key. map found (order_told_of false top_key top.page n cell.key)) (sym on.under.at.1)
 
-      pub on_cell : (tree' : Tree) → tree'.kind ≡ tree.kind → tree'.greatest ≡ top_after tree.greatest top.page n cell.key → tree'.leaf ≡ tree.leaf → Moves moves w told x
+      pub on_cell : (tree' : Tree) → tree'.kind ≡ tree.kind → tree'.greatest ≡ top_after tree.greatest top.page n cell.key → tree'.leaf ≡ tree.leaf
+          → Moves moves w told x
           → IsWalkingOn moves file W c before (on_frames, levels) (marks, tree') x
       on_cell tree' kinds tops leafs m = turn (advance file on.now event) marks tree' x kinds
-          (under_event moves file (tree_walk file W c) before on.now (marks, tree) (marks, tree') w x (record { key = _; event = event }) rest (first_errands (tell_cell top frames.1.view n cell ∷ []) e) refl (
+          (under_event moves file (tree_walk file W c) before on.now (marks, tree) (marks, tree') w x (record { key = _; event = event }) rest
+          (first_errands (tell_cell top frames.1.view n cell ∷ []) e) refl (
             subst (λ U. AreMarksOf file U marks) (sym (append-nil on.now.visits)) on.under.at.0,
             tops ∙ ap (λ top_key. top_after top_key top.page n cell.key) on.under.at.1 ∙ sym (greatest_behind file top frames.1.view n cell on.now),
             leafs ∙ on.under.at.2,
@@ -149,8 +163,10 @@ module _ {P : Type 0} {moves : P → Item → P → Type 0} {file : List ℕ} {W
           (subst (λ l. Moves moves w l x) (sym items_are) m))
 
       -- and its fault could not be reported
-      pub cell_stopped : (stops : RunError → P → Item → P → Type 0) (x_error : RunError) → StopsAt moves stops x_error w told x → StopsAt moves stops x_error before (tree_walk file W c).items x
-      cell_stopped stops x_error k = stop_event moves file (tree_walk file W c) before on.now (marks, tree) (marks, tree) w x stops x_error (record { key = _; event = event }) rest
+      pub cell_stopped : (stops : RunError → P → Item → P → Type 0) (x_error : RunError) → StopsAt moves stops x_error w told x
+          → StopsAt moves stops x_error before (tree_walk file W c).items x
+      cell_stopped stops x_error k = stop_event moves file (tree_walk file W c) before on.now (marks, tree) (marks, tree) w x stops x_error
+          (record { key = _; event = event }) rest
           (first_errands (tell_cell top frames.1.view n cell ∷ []) e) refl (subst (λ l. StopsAt moves stops x_error w l x) (sym items_are) k)
 
     -- a reference
@@ -165,14 +181,19 @@ module _ {P : Type 0} {moves : P → Item → P → Type 0} {file : List ℕ} {W
         pub on_call : {A : Type 0} (a : A) → tree'.kind ≡ tree.kind → HasDone moves stops file (done_below file on.now (Go d ∷ [])) (Ok a) (marks', tree') w x
             → IsWalkingOn moves file W c before (on_frames, levels) (marks', tree') x
         on_call a kinds done = turn (run_below file on.now (Go d ∷ [])) marks' tree' x kinds
-            (under_call moves file (tree_walk file W c) before on.now (marks, tree) (marks', tree') w x stops a (Go d ∷ []) rest (first_errands (Go d ∷ []) e) (quiet_go d) done)
+            (under_call moves file (tree_walk file W c) before on.now (marks, tree) (marks', tree') w x stops a (Go d ∷ []) rest (first_errands (Go d ∷ []) e)
+            (quiet_go d) done)
 
         -- not all could be done
-        pub call_stopped : {A : Type 0} (x_error : RunError) → HasDone {A = A} moves stops file (done_below file on.now (Go d ∷ [])) (Err x_error) (marks', tree') w x → StopsAt moves stops x_error before (tree_walk file W c).items x
-        call_stopped x_error done = stop_call moves file (tree_walk file W c) before on.now (marks, tree) (marks', tree') w x stops x_error (Go d ∷ []) rest (first_errands (Go d ∷ []) e) (quiet_go d) done
+        pub call_stopped : {A : Type 0} (x_error : RunError)
+            → HasDone {A = A} moves stops file (done_below file on.now (Go d ∷ [])) (Err x_error) (marks', tree') w x
+            → StopsAt moves stops x_error before (tree_walk file W c).items x
+        call_stopped x_error done = stop_call moves file (tree_walk file W c) before on.now (marks, tree) (marks', tree') w x stops x_error (Go d ∷ []) rest
+            (first_errands (Go d ∷ []) e) (quiet_go d) done
 
         -- an interior child is entered, and gets a frame
-        pub on_enter : (n : ℕ) (h : StackFrame) (levels' : List (List ℕ)) → tree'.kind ≡ tree.kind → f.next ≡ child_step n → d ≡ child_at file tree.kind top f.next → h.page ≡ d.page → h.next ≡ 0 → length d.address - 1 ≡ length on_frames
+        pub on_enter : (n : ℕ) (h : StackFrame) (levels' : List (List ℕ)) → tree'.kind ≡ tree.kind → f.next ≡ child_step n → d
+            ≡ child_at file tree.kind top f.next → h.page ≡ d.page → h.next ≡ 0 → length d.address - 1 ≡ length on_frames
             → ((level : ℕ) → level < length on_frames → slice_get levels' level ≡ slice_get levels level)
             → HasDone moves stops file (entered file on.now d (Ok true)) (Ok true) (marks', tree') w x → IsInterior file on.now d levels'
             → IsWalkingOn moves file W c before (on_frames ++ (h ∷ []), levels') (marks', tree') x
@@ -181,23 +202,37 @@ module _ {P : Type 0} {moves : P → Item → P → Type 0} {file : List ℕ} {W
             let at : g.next - 1 ≡ f.next = omega arith in
             let up : top_visit file k c on_frames ≡ d = top-push file k c fs g ∙ ap (λ n. child_at file k top n) at ∙ sym is in
             let pushed : left_over file k c (on_frames ++ (h ∷ [])) ≡ errands_of (story_of file) d ++ rest = left-push file k c on_frames h
-            ∙ ap (λ r. errands_from file r h.next ++ rest) up ∙ ap (λ n. errands_from file d n ++ rest) zero ∙ ap (λ es. es ++ rest) (from_first file d k inside.frame.view (ap (λ r. tree_kind (role_of r)) is) inside.frame.viewed) in
-            let frame : IsOpenFrame file d h = record { page = here; view = inside.frame.view; viewed = inside.frame.viewed; interior = inside.frame.interior; within = omega arith } in
+            ∙ ap (λ r. errands_from file r h.next ++ rest) up ∙ ap (λ n. errands_from file d n ++ rest) zero
+            ∙ ap (λ es. es ++ rest) (from_first file d k inside.frame.view (ap (λ r. tree_kind (role_of r)) is) inside.frame.viewed) in
+            let frame : IsOpenFrame file d h = record {
+              page = here;
+              view = inside.frame.view;
+              viewed = inside.frame.viewed;
+              interior = inside.frame.interior;
+              within = omega arith;
+            } in
             record {
               now = advance file on.now (at_page d);
-              under = subst (λ k. IsUnderway moves file (tree_walk file W c) before (advance file on.now (at_page d)) (left_over file k c (on_frames ++ (h ∷ []))) (marks', tree') x) (sym kinds)
+              under = subst (λ k. IsUnderway moves file (tree_walk file W c) before (advance file on.now (at_page d))
+                  (left_over file k c (on_frames ++ (h ∷ []))) (marks', tree') x) (sym kinds)
                   (subst (λ es. IsUnderway moves file (tree_walk file W c) before (advance file on.now (at_page d)) es (marks', tree') x) (sym pushed)
-                  (under_visit moves file (tree_walk file W c) before on.now (marks, tree) (marks', tree') w x d rest (first_errands (Go d ∷ []) e) inside.followed done.at done.handed));
-              frames_are = subst (λ k. AreOpenFrames file k c (on_frames ++ (h ∷ []))) (sym kinds) (open_push file k c on_frames h open_on (subst (λ r. IsOpenFrame file r h) (sym up) frame));
+                  (under_visit moves file (tree_walk file W c) before on.now (marks, tree) (marks', tree') w x d rest (first_errands (Go d ∷ []) e)
+                  inside.followed done.at done.handed));
+              frames_are = subst (λ k. AreOpenFrames file k c (on_frames ++ (h ∷ []))) (sym kinds)
+                  (open_push file k c on_frames h open_on (subst (λ r. IsOpenFrame file r h) (sym up) frame));
               calls = calls_push fs g h n (next ∙ ap suc step) (calls_on fs f g on.calls);
-              read = read_push file levels' 0 on_frames h (read_kept file levels levels' 0 on_frames (λ n l. kept n (omega arith)) (read_on file levels f g page 0 fs on.read))
-                  (ap (slice_get levels') (let z : 0 + length on_frames ≡ length d.address - 1 = omega arith in z) ∙ inside.bytes ∙ ap (λ p. Some (page_bytes file p)) (sym here));
+              read = read_push file levels' 0 on_frames h (read_kept file levels levels' 0 on_frames (λ n l. kept n (omega arith))
+                  (read_on file levels f g page 0 fs on.read))
+                  (ap (slice_get levels') (let z : 0 + length on_frames ≡ length d.address - 1 = omega arith in z) ∙ inside.bytes
+                  ∙ ap (λ p. Some (page_bytes file p)) (sym here));
             }
 
 -- A call that walks over an overflow chain, by what it promises of the visits: it has done its part of a walk.
 
-module _ {S T A : Type 0} (takes drops : S → Finding → S → Type 0) (keeps : T → SchemaRow → Taken → T → Type 0) (refuses : T → SchemaRow → T → Type 0) (file : List ℕ) (from : Walk) (c : Reference) (none : tree_kind (role_of c) ≡ None) where
-  pub aside_done : (r : Result A RunError) (marks marks' : List Mark) (tree : Tree) (s s' : S) (t : T) → IfErr r IsReadOrWrite → IsAt file from marks tree → IsDone takes drops file from.visits (Go c ∷ []) r marks' s s'
+module _ {S T A : Type 0} (takes drops : S → Finding → S → Type 0) (keeps : T → SchemaRow → Taken → T → Type 0) (refuses : T → SchemaRow → T → Type 0)
+    (file : List ℕ) (from : Walk) (c : Reference) (none : tree_kind (role_of c) ≡ None) where
+  pub aside_done : (r : Result A RunError) (marks marks' : List Mark) (tree : Tree) (s s' : S) (t : T) → IfErr r IsReadOrWrite → IsAt file from marks tree
+      → IsDone takes drops file from.visits (Go c ∷ []) r marks' s s'
       → HasDone (watches takes keeps) (fails takes drops keeps refuses) file (done_below file from (Go c ∷ [])) r (marks', tree) (s, t) (s', t)
   aside_done r marks marks' tree s s' t only at done = record {
     at = on_ok r done.marked;
@@ -208,7 +243,8 @@ module _ {S T A : Type 0} (takes drops : S → Finding → S → Type 0) (keeps 
       aside : IsAside file (bare from) c
       aside = are_aside file (bare from) c none
 
-      on_ok : (r : Result A RunError) → OnOk r (AreMarksOf file (from.visits ++ visited_below file from.visits (Go c ∷ [])) marks') → OnOk r (IsAt file (done_below file from (Go c ∷ [])) marks' tree)
+      on_ok : (r : Result A RunError) → OnOk r (AreMarksOf file (from.visits ++ visited_below file from.visits (Go c ∷ [])) marks')
+          → OnOk r (IsAt file (done_below file from (Go c ∷ [])) marks' tree)
       on_ok (Ok a) h = (
         subst (λ V. AreMarksOf file V marks') (sym ((has_steps file).visits (bare from) (Go c ∷ []) (quiet_go c))) h,
         at.1 ∙ ap (λ p. p.greatest) (sym aside.state),

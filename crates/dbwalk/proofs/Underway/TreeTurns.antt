@@ -1,5 +1,6 @@
 -- One turn of the loop over the interior pages of a tree, by what the last frame's page has at its step.
-use Rattle.std.proofs.Common.{◌≡◌, ℕ, suc, ◌+◌, ◌-◌, ◌*◌, ◌/◌, ◌<◌, ◌≤◌, false, true, List, [], ◌∷◌, ◌++◌, map, length, Option, Some, Ok, Err, Result, ℤ, refl, sym, ap, subst, arith, ◌∙◌, Bool}
+use Rattle.std.proofs.Common.{◌≡◌, ℕ, suc, ◌+◌, ◌-◌, ◌*◌, ◌/◌, ◌<◌, ◌≤◌, false, true, List, [], ◌∷◌, ◌++◌, map, length, Option, Some, Ok, Err, Result, ℤ, refl}
+use Rattle.std.proofs.Common.{sym, ap, subst, arith, ◌∙◌, Bool}
 use Rattle.std.specs.Prelude.{option_and_then, slice_get, unwrap_or, OnOk, IfErr}
 use Rattle.std.specs.Option.{option_map_or}
 use Rattle.std.specs.Result.{result_ok}
@@ -40,8 +41,10 @@ use Rattle.dbwalk.proofs.Underway.CellSteps.{order_told_of}
 use Rattle.dbwalk.proofs.Underway.TreeSteps as steps
 use Rattle.dbwalk.proofs.Underway.TreeSteps.{by_other}
 
-module _ {P : Type 0} {moves : P → Item → P → Type 0} {file : List ℕ} {W : List Reference} {c : Reference} {before : P} {levels : List (List ℕ)} (fs : List StackFrame) (f : StackFrame) {marks : List Mark} {tree : Tree} {w : P}
-    (on : IsWalkingOn moves file W c before (fs ++ (f ∷ []), levels) (marks, tree) w) (candidate : IsCandidate tree.kind tree.start [] c.page 0 tree.start c) where
+module _ {P : Type 0} {moves : P → Item → P → Type 0} {file : List ℕ} {W : List Reference} {c : Reference} {before : P} {levels : List (List ℕ)}
+    (fs : List StackFrame) (f : StackFrame) {marks : List Mark} {tree : Tree} {w : P}
+    (on : IsWalkingOn moves file W c before (fs ++ (f ∷ []), levels) (marks, tree) w)
+    (candidate : IsCandidate tree.kind tree.start [] c.page 0 tree.start c) where
   abbrev pub top : Reference
   top = top_visit file tree.kind c fs
 
@@ -58,7 +61,8 @@ module _ {P : Type 0} {moves : P → Item → P → Type 0} {file : List ℕ} {W
   role = top_kind file tree.kind c fs (kind_is file tree.kind tree.start [] c.page 0 tree.start c candidate)
 
   -- what the page is known to have at the step
-  pub next_here : {usable : ℕ} {next : Next} → usable ≡ usable_size file → HasNext usable tree.kind levels (length fs) f.page f.next next → IsNextStep v f.next next
+  pub next_here : {usable : ℕ} {next : Next} → usable ≡ usable_size file → HasNext usable tree.kind levels (length fs) f.page f.next next
+      → IsNextStep v f.next next
   next_here usables has = has.stands (page_bytes file f.page) v
       (ap (slice_get levels) (let e : length fs ≡ 0 + length fs = omega arith in e) ∙ read_last file levels 0 fs f on.read)
       (ap (λ u. undamaged tree.kind f.page u (page_bytes file f.page)) usables ∙ ap (λ p. undamaged tree.kind p (usable_size file) (page_bytes file p)) on_page
@@ -102,7 +106,8 @@ module _ {P : Type 0} {moves : P → Item → P → Type 0} {file : List ℕ} {W
         by_case (unreadable n b step l bad) = steps.on_skip fs f on g page next within
             (subst (λ s. errands_from file top s ≡ errands_from file top (suc s)) (sym step) (step_no_key file top tree.kind v role viewed n b bad))
         by_case (without_key n x step l read none) = steps.on_cell fs f on g page next within n x w
-            (subst (λ s. errands_from file top s ≡ tell_cell top v n x ∷ errands_from file top (suc s)) (sym step) (step_key file top tree.kind v role viewed n x l read))
+            (subst (λ s. errands_from file top s ≡ tell_cell top v n x ∷ errands_from file top (suc s)) (sym step)
+            (step_key file top tree.kind v role viewed n x l read))
             tree refl (ap (λ o. top_after tree.greatest top.page n o) (sym none)) refl
             (subst (λ o. Moves moves w (map found (order_told_of false tree.greatest top.page n o)) w) (sym none) refl)
 
@@ -115,7 +120,8 @@ module _ {P : Type 0} {moves : P → Item → P → Type 0} {file : List ℕ} {W
           other e = cc
 
       key_errand : errands_from file top f.next ≡ tell_cell top v h.n h.x ∷ errands_from file top (suc f.next)
-      key_errand = subst (λ s. errands_from file top s ≡ tell_cell top v h.n h.x ∷ errands_from file top (suc s)) (sym h.step) (step_key file top tree.kind v role viewed h.n h.x h.low h.read)
+      key_errand = subst (λ s. errands_from file top s ≡ tell_cell top v h.n h.x ∷ errands_from file top (suc s)) (sym h.step)
+          (step_key file top tree.kind v role viewed h.n h.x h.low h.read)
 
       at_cell : f.next / 3 ≡ h.n
       at_cell = ap (λ s. s / 3) h.step ∙ item h.n
@@ -127,13 +133,17 @@ module _ {P : Type 0} {moves : P → Item → P → Type 0} {file : List ℕ} {W
       told_key = ap (λ p. order_told false tree.greatest p (f.next / 3) value) on_page ∙ ap (λ i. order_told false tree.greatest top.page i value) at_cell
           ∙ ap (order_told_of false tree.greatest top.page h.n) (sym h.key)
 
-      pub turned_key : (tree' : Tree) → tree'.kind ≡ tree.kind → tree'.greatest ≡ top_after tree.greatest f.page (f.next / 3) (Some value) → tree'.leaf ≡ tree.leaf → Moves moves w (map found (order_told false tree.greatest f.page (f.next / 3) value)) x
+      pub turned_key : (tree' : Tree) → tree'.kind ≡ tree.kind → tree'.greatest ≡ top_after tree.greatest f.page (f.next / 3) (Some value) → tree'.leaf
+          ≡ tree.leaf → Moves moves w (map found (order_told false tree.greatest f.page (f.next / 3) value)) x
           → IsWalkingOn moves file W c before (fs ++ (g ∷ []), levels) (marks, tree') x
-      turned_key tree' kinds tops leafs m = steps.on_cell fs f on g page next within_key h.n h.x x key_errand tree' kinds (tops ∙ ap (λ p. top_after tree.greatest p (f.next / 3) (Some value)) on_page ∙ ap (λ i. top_after tree.greatest top.page i (Some value)) at_cell ∙ ap (top_after tree.greatest top.page h.n) (sym h.key)) leafs
+      turned_key tree' kinds tops leafs m = steps.on_cell fs f on g page next within_key h.n h.x x key_errand tree' kinds
+          (tops ∙ ap (λ p. top_after tree.greatest p (f.next / 3) (Some value)) on_page ∙ ap (λ i. top_after tree.greatest top.page i (Some value)) at_cell
+          ∙ ap (top_after tree.greatest top.page h.n) (sym h.key)) leafs
           (subst (λ l. Moves moves w (map found l) x) told_key m)
 
       -- its fault could not be reported
-      pub stopped_key : (stops : RunError → P → Item → P → Type 0) (e : RunError) → StopsAt moves stops e w (map found (order_told false tree.greatest f.page (f.next / 3) value)) x
+      pub stopped_key : (stops : RunError → P → Item → P → Type 0) (e : RunError)
+          → StopsAt moves stops e w (map found (order_told false tree.greatest f.page (f.next / 3) value)) x
           → StopsAt moves stops e before (tree_walk file W c).items x
       stopped_key stops e k = steps.cell_stopped fs f on g page next within_key h.n h.x x key_errand stops e
           (subst (λ l. StopsAt moves stops e w (map found l) x) told_key k)
@@ -141,11 +151,27 @@ module _ {P : Type 0} {moves : P → Item → P → Type 0} {file : List ℕ} {W
     -- an overflow chain
     module _ (first left : ℕ) (rowid : Option ℤ) (h : IsChainAt v f.next first left rowid) where
       abbrev pub chained : Reference
-      chained = record { address = then_step top.address (overflow_step h.n); page = first; role = record { role = first_overflow left; from = top.page; item = h.n } }
+      chained = record {
+        address = then_step top.address (overflow_step h.n);
+        page = first;
+        role =
+            record { role = first_overflow left; from = top.page; item = h.n };
+      }
 
       chain_errand : errands_from file top f.next ≡ Go chained ∷ errands_from file top (suc f.next)
-      chain_errand = subst (λ l. errands_from file top f.next ≡ Go (record { address = then_step top.address (overflow_step h.n); page = first; role = record { role = first_overflow l; from = top.page; item = h.n } }) ∷ errands_from file top (suc f.next)) (sym h.rest)
-          (subst (λ s. errands_from file top s ≡ Go (record { address = then_step top.address (overflow_step h.n); page = first; role = record { role = first_overflow (overflow_size h.x); from = top.page; item = h.n } }) ∷ errands_from file top (suc s)) (sym h.step)
+      chain_errand = subst (λ l. errands_from file top f.next
+          ≡ Go (record {
+            address = then_step top.address (overflow_step h.n);
+            page = first;
+            role =
+                record { role = first_overflow l; from = top.page; item = h.n };
+          }) ∷ errands_from file top (suc f.next)) (sym h.rest)
+          (subst (λ s. errands_from file top s ≡ Go (record {
+            address = then_step top.address (overflow_step h.n);
+            page = first;
+            role =
+                record { role = first_overflow (overflow_size h.x); from = top.page; item = h.n };
+          }) ∷ errands_from file top (suc s)) (sym h.step)
           (step_chain file top tree.kind v role viewed h.n h.x first h.low h.read h.page))
 
       within_chain : suc f.next ≤ 3 * count v + 2
@@ -155,9 +181,13 @@ module _ {P : Type 0} {moves : P → Item → P → Type 0} {file : List ℕ} {W
           other e = cc
 
       -- it is the one that a call is given, and all visits so far are before it
-      pub chain_is : (chain : Chain) → chain.start ≡ tree.start → chain.path.now ≡ path_of fs → chain.page ≡ f.page → chain.cell ≡ f.next / 3 → chain.first ≡ first → chain.left ≡ left → chain.rowid ≡ rowid → IsChainOf file chain chained
-      chain_is chain starts ways pages items ones rests keys = chain_start chain file tree.kind tree.start (path_of fs) top levels f.page h.n first left top_at starts ways pages (items ∙ ap (λ s. s / 3) h.step ∙ third h.n) ones rests
-          (rowid_in file tree.kind f.page v h.n (ap (λ p. undamaged tree.kind p (usable_size file) (page_bytes file p)) on_page ∙ sym (view_is file top tree.kind role) ∙ viewed) ∙ ap (λ r. option_and_then (λ c. c.key) (result_ok r)) h.read ∙ sym (keys ∙ h.key))
+      pub chain_is : (chain : Chain) → chain.start ≡ tree.start → chain.path.now ≡ path_of fs → chain.page ≡ f.page → chain.cell ≡ f.next / 3 → chain.first
+          ≡ first → chain.left ≡ left → chain.rowid ≡ rowid → IsChainOf file chain chained
+      chain_is chain starts ways pages items ones rests keys =
+          chain_start chain file tree.kind tree.start (path_of fs) top levels f.page h.n first left top_at starts ways pages
+          (items ∙ ap (λ s. s / 3) h.step ∙ third h.n) ones rests
+          (rowid_in file tree.kind f.page v h.n (ap (λ p. undamaged tree.kind p (usable_size file) (page_bytes file p)) on_page
+          ∙ sym (view_is file top tree.kind role) ∙ viewed) ∙ ap (λ r. option_and_then (λ c. c.key) (result_ok r)) h.read ∙ sym (keys ∙ h.key))
         where
           third : (n : ℕ) → (3 * n) / 3 ≡ n
           third n = omega arith
@@ -166,9 +196,15 @@ module _ {P : Type 0} {moves : P → Item → P → Type 0} {file : List ℕ} {W
       chain_next = steps.next_is fs f on g page next within_chain chained chain_errand
 
       -- a call walks along it: the walk goes on after it, or not all of it could be done
-      module _ (stops : RunError → P → Item → P → Type 0) (marks' : List Mark) (x : P) {items : List StackFrame} {levels' : List (List ℕ)} (are : items ≡ fs ++ (g ∷ [])) (same : levels' ≡ levels) where
-        pub turned_chain : (r : Result (Unit {0}) RunError) → HasDone moves stops file (done_below file on.now (Go chained ∷ [])) r (marks', tree) w x → HasTurned moves stops file (W, c, before) r (items, levels') (marks', tree) x
-        turned_chain (Ok a) done = (by_other (steps.on_call fs f on g page next within_chain chained chain_errand stops marks' tree x a refl done) are refl refl refl (λ n l. ap (λ ls. slice_get ls n) same), tt)
+      module _ (stops : RunError → P → Item → P → Type 0) (marks' : List Mark) (x : P) {items : List StackFrame} {levels' : List (List ℕ)}
+          (are : items ≡ fs ++ (g ∷ [])) (same : levels' ≡ levels) where
+        pub turned_chain : (r : Result (Unit {0}) RunError) → HasDone moves stops file (done_below file on.now (Go chained ∷ [])) r (marks', tree) w x
+            → HasTurned moves stops file (W, c, before) r (items, levels') (marks', tree) x
+        turned_chain (Ok a) done = (
+          by_other (steps.on_call fs f on g page next within_chain chained chain_errand stops marks' tree x a refl done) are refl refl
+              refl (λ n l. ap (λ ls. slice_get ls n) same),
+          tt,
+        )
         turned_chain (Err e) done = (tt, steps.call_stopped fs f on g page next within_chain chained chain_errand stops marks' tree x e done)
 
     -- a child
@@ -177,7 +213,8 @@ module _ {P : Type 0} {moves : P → Item → P → Type 0} {file : List ℕ} {W
       d = child_at file tree.kind top f.next
 
       child_errand : errands_from file top f.next ≡ Go d ∷ errands_from file top (suc f.next)
-      child_errand = subst (λ s. errands_from file top s ≡ Go (child_at file tree.kind top s) ∷ errands_from file top (suc s)) (sym h.step) (step_child file top tree.kind v role viewed h.n number h.low h.number)
+      child_errand = subst (λ s. errands_from file top s ≡ Go (child_at file tree.kind top s) ∷ errands_from file top (suc s)) (sym h.step)
+          (step_child file top tree.kind v role viewed h.n number h.low h.number)
 
       number_is : d.page ≡ number
       number_is = ap (λ o. option_map_or (λ v. unwrap_or (child_number v (cell_of_step f.next)) 0) o 0) viewed
@@ -197,7 +234,8 @@ module _ {P : Type 0} {moves : P → Item → P → Type 0} {file : List ℕ} {W
 
       -- what is promised of it
       pub child_asked : {children : List ℕ} → children ≡ path_of fs ++ (cell_of_step f.next ∷ []) → {X : Walk → Reference → Type 0}
-          → ((at : Walk) (e : Reference) → IsCandidate tree.kind tree.start children number f.page (f.next / 3) e → IsNext at.visits e → IsAt file at marks tree → X at e) → X on.now d
+          → ((at : Walk) (e : Reference) → IsCandidate tree.kind tree.start children number f.page (f.next / 3) e → IsNext at.visits e → IsAt file at marks tree
+          → X at e) → X on.now d
       child_asked ways promised = promised on.now d
           (subst (λ l. IsCandidate tree.kind tree.start l number f.page (f.next / 3) d) (sym ways)
           (subst (λ p. IsCandidate tree.kind tree.start (path_of fs ++ (cell_of_step f.next ∷ [])) number p (f.next / 3) d) (sym on_page)
@@ -210,16 +248,21 @@ module _ {P : Type 0} {moves : P → Item → P → Type 0} {file : List ℕ} {W
 
       module _ (stops : RunError → P → Item → P → Type 0) {marks' : List Mark} {tree' : Tree} {x : P} (kinds : tree'.kind ≡ tree.kind) where
         -- it is refused, damaged, or a leaf
-        pub child_passed : {levels' : List (List ℕ)} {yes : Bool} → yes ≡ false → Entered stops levels' (marks', tree') x (Ok yes) → IsWalkingOn moves file W c before (fs ++ (g ∷ []), levels) (marks', tree') x
-        child_passed {levels' = levels'} is done = steps.on_call fs f on g page next within_child d child_errand stops marks' tree' x false kinds (subst (λ y. Entered stops levels' (marks', tree') x (Ok y)) is done).0
+        pub child_passed : {levels' : List (List ℕ)} {yes : Bool} → yes ≡ false → Entered stops levels' (marks', tree') x (Ok yes)
+            → IsWalkingOn moves file W c before (fs ++ (g ∷ []), levels) (marks', tree') x
+        child_passed {levels' = levels'} is done = steps.on_call fs f on g page next within_child d child_errand stops marks' tree' x false kinds
+            (subst (λ y. Entered stops levels' (marks', tree') x (Ok y)) is done).0
 
         -- not all of it could be read and reported
-        pub child_stopped : (e : RunError) → HasDone {A = Bool} moves stops file (entered file on.now d (Err e)) (Err e) (marks', tree') w x → StopsAt moves stops e before (tree_walk file W c).items x
+        pub child_stopped : (e : RunError) → HasDone {A = Bool} moves stops file (entered file on.now d (Err e)) (Err e) (marks', tree') w x
+            → StopsAt moves stops e before (tree_walk file W c).items x
         child_stopped e done = steps.call_stopped fs f on g page next within_child d child_errand stops marks' tree' x e done
 
         -- it is an undamaged interior page
-        pub child_entered : {levels' : List (List ℕ)} (frame : StackFrame) → frame.page ≡ number → frame.next ≡ 0 → ((n : ℕ) → n < length (fs ++ (g ∷ [])) → slice_get levels' n ≡ slice_get levels n)
-            → {yes : Bool} → yes ≡ true → Entered stops levels' (marks', tree') x (Ok yes) → IsWalkingOn moves file W c before ((fs ++ (g ∷ [])) ++ (frame ∷ []), levels') (marks', tree') x
+        pub child_entered : {levels' : List (List ℕ)} (frame : StackFrame) → frame.page ≡ number → frame.next ≡ 0
+            → ((n : ℕ) → n < length (fs ++ (g ∷ [])) → slice_get levels' n ≡ slice_get levels n)
+            → {yes : Bool} → yes ≡ true → Entered stops levels' (marks', tree') x (Ok yes)
+            → IsWalkingOn moves file W c before ((fs ++ (g ∷ [])) ++ (frame ∷ []), levels') (marks', tree') x
         child_entered {levels' = levels'} frame pages start kept is done =
             let e = child_is.depth in
             let q = path_length fs in
@@ -227,7 +270,8 @@ module _ {P : Type 0} {moves : P → Item → P → Type 0} {file : List ℕ} {W
             let n = length-append fs (g ∷ []) in
             let deep : length d.address - 1 ≡ length (fs ++ (g ∷ [])) = omega arith in
             let entry = subst (λ y. Entered stops levels' (marks', tree') x (Ok y)) is done in
-            steps.on_enter fs f on g page next within_child d child_errand stops marks' tree' x h.n frame levels' kinds h.step refl (pages ∙ sym number_is) start deep kept entry.0 (entry.1 refl)
+            steps.on_enter fs f on g page next within_child d child_errand stops marks' tree' x h.n frame levels' kinds h.step refl (pages ∙ sym number_is)
+            start deep kept entry.0 (entry.1 refl)
 
 -- what a turn leaves where it failed
 pub turn_failed : {A E : Type 0} (Q : Type 0) (R : E → Type 0) (r : Result A E) (e : E) → r ≡ Err e → R e → OnOk r Q × IfErr r R

@@ -64,7 +64,8 @@ visited file from c = advance file (bare from) (at_page c)
 
 module _ {P : Type 0} (moves : P → Item → P → Type 0) (stops : RunError → P → Item → P → Type 0) (file : List ℕ) (from : Walk) (c : Reference) where
   -- a reference that is refused leaves marks and state
-  pub done_refused : {A : Type 0} (r : Result A RunError) (now : List Mark × Tree) (w x : P) → is_followed (rules_of file) from.visits c ≡ false → IsAt file from now.0 now.1
+  pub done_refused : {A : Type 0} (r : Result A RunError) (now : List Mark × Tree) (w x : P) → is_followed (rules_of file) from.visits c ≡ false
+      → IsAt file from now.0 now.1
       → Handed moves stops r w (refused file from c).items x → HasDone moves stops file (done_below file from (Go c ∷ [])) r now w x
   done_refused {A = A} r now w x f at h = subst (λ m. HasDone moves stops file m r now w x) (sym whole) (record { at = on_ok r; handed = h })
     where
@@ -81,45 +82,60 @@ module _ {P : Type 0} (moves : P → Item → P → Type 0) (stops : RunError �
 
     -- the items of the page were handed out, and then what it leads to was done
     pub visit_then : {A : Type 0} (r : Result A RunError) (now : List Mark × Tree) (w x y : P) → Moves moves w (visited file from c).items x
-        → HasDone moves stops file (done_below file (visited file from c) (errands_of (story_of file) c)) r now x y → HasDone moves stops file (done_below file from (Go c ∷ [])) r now w y
-    visit_then r now w x y h k = subst (λ m. HasDone moves stops file m r now w y) (sym whole) (done_on moves stops file (visited file from c) (errands_of (story_of file) c) r now w x y h k)
+        → HasDone moves stops file (done_below file (visited file from c) (errands_of (story_of file) c)) r now x y
+        → HasDone moves stops file (done_below file from (Go c ∷ [])) r now w y
+    visit_then r now w x y h k = subst (λ m. HasDone moves stops file m r now w y) (sym whole)
+        (done_on moves stops file (visited file from c) (errands_of (story_of file) c) r now w x y h k)
 
     -- a page that leads to nothing
-    pub visit_alone : {A : Type 0} (a : A) (now : List Mark × Tree) (w x : P) → errands_of (story_of file) c ≡ [] → IsAt file (visited file from c) now.0 now.1 → Moves moves w (visited file from c).items x
+    pub visit_alone : {A : Type 0} (a : A) (now : List Mark × Tree) (w x : P) → errands_of (story_of file) c ≡ [] → IsAt file (visited file from c) now.0 now.1
+        → Moves moves w (visited file from c).items x
         → HasDone moves stops file (done_below file from (Go c ∷ [])) (Ok a) now w x
     visit_alone a now w x none at h = visit_then (Ok a) now w x x h
-        (subst (λ es. HasDone moves stops file (done_below file (visited file from c) es) (Ok a) now x x) (sym none) (done_none moves stops file (visited file from c) a now x at))
+        (subst (λ es. HasDone moves stops file (done_below file (visited file from c) es) (Ok a) now x x) (sym none)
+        (done_none moves stops file (visited file from c) a now x at))
 
     -- an error among the items of the page
-    pub visit_stops : {A : Type 0} (e : RunError) (now : List Mark × Tree) (w x : P) → StopsAt moves stops e w (visited file from c).items x → HasDone {A = A} moves stops file (done_below file from (Go c ∷ [])) (Err e) now w x
-    visit_stops {A = A} e now w x h = subst (λ m. HasDone {A = A} moves stops file m (Err e) now w x) (sym whole) (stops_on moves stops file (visited file from c) (errands_of (story_of file) c) e now w x h)
+    pub visit_stops : {A : Type 0} (e : RunError) (now : List Mark × Tree) (w x : P) → StopsAt moves stops e w (visited file from c).items x
+        → HasDone {A = A} moves stops file (done_below file from (Go c ∷ [])) (Err e) now w x
+    visit_stops {A = A} e now w x h = subst (λ m. HasDone {A = A} moves stops file m (Err e) now w x) (sym whole)
+        (stops_on moves stops file (visited file from c) (errands_of (story_of file) c) e now w x h)
 
-module _ {P : Type 0} (moves : P → Item → P → Type 0) (stops : RunError → P → Item → P → Type 0) (file : List ℕ) (from : Walk) (c : Reference) (levels : List (List ℕ)) where
+module _ {P : Type 0} (moves : P → Item → P → Type 0) (stops : RunError → P → Item → P → Type 0) (file : List ℕ) (from : Walk) (c : Reference)
+    (levels : List (List ℕ)) where
   -- what a function that looks at a reference answers, where all below it is done
   pub entered_past : {A : Type 0} (a : A) (now : List Mark × Tree) (w x : P) → HasDone moves stops file (done_below file from (Go c ∷ [])) (Ok a) now w x
       → HasDone moves stops file (entered file from c (Ok false)) (Ok false) now w x × IsEntered file from c (Ok false) levels
   entered_past a now w x h = (record { at = h.at; handed = h.handed }, λ yes. cc)
 
   -- and after an error
-  pub entered_err : {A : Type 0} (r : Result Bool RunError) (e : RunError) (now : List Mark × Tree) (w x : P) → r ≡ Err e → HasDone {A = A} moves stops file (done_below file from (Go c ∷ [])) (Err e) now w x
+  pub entered_err : {A : Type 0} (r : Result Bool RunError) (e : RunError) (now : List Mark × Tree) (w x : P) → r ≡ Err e
+      → HasDone {A = A} moves stops file (done_below file from (Go c ∷ [])) (Err e) now w x
       → HasDone moves stops file (entered file from c r) r now w x × IsEntered file from c r levels
-  entered_err r e now w x q h = subst (λ r. HasDone moves stops file (entered file from c r) r now w x × IsEntered file from c r levels) (sym q) (record { at = tt; handed = h.handed }, tt)
+  entered_err r e now w x q h = subst (λ r. HasDone moves stops file (entered file from c r) r now w x × IsEntered file from c r levels) (sym q)
+      (record { at = tt; handed = h.handed }, tt)
 
 -- all below the reference was done, where the answer is false
-pub entered_done : {P A : Type 0} {moves : P → Item → P → Type 0} {stops : RunError → P → Item → P → Type 0} {file : List ℕ} (from : Walk) (c : Reference) {now : List Mark × Tree} {w x : P} {yes : Bool} (a : A)
-    → yes ≡ false → HasDone moves stops file (entered file from c (Ok yes)) (Ok yes) now w x → HasDone moves stops file (done_below file from (Go c ∷ [])) (Ok a) now w x
+pub entered_done : {P A : Type 0} {moves : P → Item → P → Type 0} {stops : RunError → P → Item → P → Type 0} {file : List ℕ} (from : Walk) (c : Reference)
+    {now : List Mark × Tree} {w x : P} {yes : Bool} (a : A)
+    → yes ≡ false → HasDone moves stops file (entered file from c (Ok yes)) (Ok yes) now w x
+    → HasDone moves stops file (done_below file from (Go c ∷ [])) (Ok a) now w x
 entered_done {moves = moves} {stops = stops} {file = file} from c {now = now} {w = w} {x = x} a is h =
     let k = subst (λ y. HasDone moves stops file (entered file from c (Ok y)) (Ok y) now w x) is h in
     record { at = k.at; handed = k.handed }
 
 -- a page that could not be read
-pub unread : {P A : Type 0} (moves : P → Item → P → Type 0) (stops : RunError → P → Item → P → Type 0) (file : List ℕ) (done : Walk) (now : List Mark × Tree) (w : P) → HasDone {A = A} moves stops file done (Err ReadFailed) now w w
+pub unread : {P A : Type 0} (moves : P → Item → P → Type 0) (stops : RunError → P → Item → P → Type 0) (file : List ℕ) (done : Walk) (now : List Mark × Tree)
+    (w : P) → HasDone {A = A} moves stops file done (Err ReadFailed) now w w
 unread moves stops file done now w = record { at = tt; handed = some_none moves w done.items }
 
 -- the reason against a reference, as the items of its refusal
-pub refused_handed : {S T A : Type 0} (takes drops : S → Finding → S → Type 0) (keeps : T → SchemaRow → Taken → T → Type 0) (refuses : T → SchemaRow → T → Type 0) (file : List ℕ) (from : Walk) (c : Reference)
-    (r : Result A RunError) (s s' : S) (t : T) → (r ≡ Err OutOfMemory → ⊥) → Tells takes drops r s (told_at file from.visits (at_refused c)) s' → Handed (watches takes keeps) (fails takes drops keeps refuses) r (s, t) (refused file from c).items (s', t)
-refused_handed takes drops keeps refuses file from c r s s' t quiet h = subst (λ items. Handed (watches takes keeps) (fails takes drops keeps refuses) r (s, t) items (s', t)) (sym are)
+pub refused_handed : {S T A : Type 0} (takes drops : S → Finding → S → Type 0) (keeps : T → SchemaRow → Taken → T → Type 0)
+    (refuses : T → SchemaRow → T → Type 0) (file : List ℕ) (from : Walk) (c : Reference)
+    (r : Result A RunError) (s s' : S) (t : T) → (r ≡ Err OutOfMemory → ⊥) → Tells takes drops r s (told_at file from.visits (at_refused c)) s'
+    → Handed (watches takes keeps) (fails takes drops keeps refuses) r (s, t) (refused file from c).items (s', t)
+refused_handed takes drops keeps refuses file from c r s s' t quiet h =
+    subst (λ items. Handed (watches takes keeps) (fails takes drops keeps refuses) r (s, t) items (s', t)) (sym are)
     (found_handed takes drops keeps refuses r (told_at file from.visits (at_refused c)) s s' t quiet h)
   where
     are : (refused file from c).items ≡ map found (told_at file from.visits (at_refused c))
@@ -138,13 +154,22 @@ module _ (file : List ℕ) (from : Walk) (c : Reference) {leaf : Option TreeLeaf
       ap (λ L. map found (map told_row (option_to_list (event_row file (at_page c))) ++ L)) (page_causes file U from.state c role)
       ∙ ap (λ l. map found (page_findings file l c)) (sym leaf_is)
 
-  pub page_moves : {kind : TreeKind} → tree_kind (role_of c) ≡ Some kind → {S T : Type 0} (takes drops : S → Finding → S → Type 0) (keeps : T → SchemaRow → Taken → T → Type 0) (refuses : T → SchemaRow → T → Type 0) (s s' : S) (t : T) → Moves takes s (page_findings file leaf c) s' → Moves (watches takes keeps) (s, t) (visited file from c).items (s', t)
-  page_moves role takes drops keeps refuses s s' t h = subst (λ items. Moves (watches takes keeps) (s, t) items (s', t)) (sym (page_items role)) (found_moves takes drops keeps refuses (page_findings file leaf c) s s' t h)
+  pub page_moves : {kind : TreeKind} → tree_kind (role_of c) ≡ Some kind
+      → {S T : Type 0} (takes drops : S → Finding → S → Type 0) (keeps : T → SchemaRow → Taken → T → Type 0) (refuses : T → SchemaRow → T → Type 0) (s s' : S)
+      (t : T) → Moves takes s (page_findings file leaf c) s' → Moves (watches takes keeps) (s, t) (visited file from c).items (s', t)
+  page_moves role takes drops keeps refuses s s' t h =
+      subst (λ items. Moves (watches takes keeps) (s, t) items (s', t)) (sym (page_items role))
+      (found_moves takes drops keeps refuses (page_findings file leaf c) s s' t h)
 
-  pub page_stops : {kind : TreeKind} → tree_kind (role_of c) ≡ Some kind → {S T : Type 0} (takes drops : S → Finding → S → Type 0) (keeps : T → SchemaRow → Taken → T → Type 0) (refuses : T → SchemaRow → T → Type 0) (s s' : S) (t : T) → Stops takes drops s (page_findings file leaf c) s'
+  pub page_stops : {kind : TreeKind} → tree_kind (role_of c) ≡ Some kind
+      → {S T : Type 0} (takes drops : S → Finding → S → Type 0) (keeps : T → SchemaRow → Taken → T → Type 0) (refuses : T → SchemaRow → T → Type 0) (s s' : S)
+      (t : T) → Stops takes drops s (page_findings file leaf c) s'
       → Stops (watches takes keeps) (fails takes drops keeps refuses WriteFailed) (s, t) (visited file from c).items (s', t)
-  page_stops role takes drops keeps refuses s s' t h = subst (λ items. Stops (watches takes keeps) (fails takes drops keeps refuses WriteFailed) (s, t) items (s', t)) (sym (page_items role)) (found_stops takes drops keeps refuses (page_findings file leaf c) s s' t h)
+  page_stops role takes drops keeps refuses s s' t h =
+      subst (λ items. Stops (watches takes keeps) (fails takes drops keeps refuses WriteFailed) (s, t) items (s', t)) (sym (page_items role))
+      (found_stops takes drops keeps refuses (page_findings file leaf c) s s' t h)
 
   -- and this is the point of the walk after it
-  pub visited_at : {marks : List Mark} (tree : Tree) → AreMarksOf file (from.visits ++ (c ∷ [])) marks → tree.greatest ≡ from.state.greatest → tree.leaf ≡ leaf_after file leaf c → IsAt file (visited file from c) marks tree
+  pub visited_at : {marks : List Mark} (tree : Tree) → AreMarksOf file (from.visits ++ (c ∷ [])) marks → tree.greatest ≡ from.state.greatest → tree.leaf
+      ≡ leaf_after file leaf c → IsAt file (visited file from c) marks tree
   visited_at tree m top first = (m, top, first ∙ ap (λ l. leaf_after file l c) leaf_is)

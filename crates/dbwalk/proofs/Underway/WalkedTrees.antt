@@ -1,5 +1,6 @@
 -- The walk over a whole tree: its root, and the end of the loop.
-use Rattle.std.proofs.Common.{◌≡◌, ℕ, [], ◌∷◌, length, ap, arith, ◌<◌, ◌≤◌, true, false, inl, inr, List, Option, Some, None, refl, sym, subst, ◌↔◌, ◌-◌, cond, ◌++◌, map, Result, Ok, Err, ◌∙◌}
+use Rattle.std.proofs.Common.{◌≡◌, ℕ, [], ◌∷◌, length, ap, arith, ◌<◌, ◌≤◌, true, false, inl, inr, List, Option, Some, None, refl, sym, subst, ◌↔◌, ◌-◌, cond}
+use Rattle.std.proofs.Common.{◌++◌, map, Result, Ok, Err, ◌∙◌}
 use Rattle.dbsurvey.specs.Address.{Address, IsIn, IsBefore}
 use Rattle.dbformat.specs.Address.{start_of, schema_start}
 use Rattle.std.specs.Prelude.{Bool, ◌==◌, IsSome, OnOk, IfErr, slice_get}
@@ -51,13 +52,16 @@ root_address (x ∷ y ∷ a) k l s = absurd (omega arith)
 -- The root of a tree, and the end of the loop.
 
 -- a candidate by other names
-pub candidate_as : (kind kind' : TreeKind) (k k' : ℕ) (l l' : List ℕ) (p p' from item item' : ℕ) (c : Reference) → kind' ≡ kind → k' ≡ k → l' ≡ l → p' ≡ p → item' ≡ item → IsCandidate kind k l p from item c → IsCandidate kind' k' l' p' from item' c
+pub candidate_as : (kind kind' : TreeKind) (k k' : ℕ) (l l' : List ℕ) (p p' from item item' : ℕ) (c : Reference) → kind' ≡ kind → k' ≡ k → l' ≡ l → p' ≡ p
+    → item' ≡ item → IsCandidate kind k l p from item c → IsCandidate kind' k' l' p' from item' c
 candidate_as kind kind' k k' l l' p p' from item item' c a b d e f is =
     subst (λ x. IsCandidate x k' l' p' from item' c) (sym a) (subst (λ x. IsCandidate kind x l' p' from item' c) (sym b)
-    (subst (λ x. IsCandidate kind k x p' from item' c) (sym d) (subst (λ x. IsCandidate kind k l x from item' c) (sym e) (subst (λ x. IsCandidate kind k l p from x c) (sym f) is))))
+    (subst (λ x. IsCandidate kind k x p' from item' c) (sym d)
+    (subst (λ x. IsCandidate kind k l x from item' c) (sym e) (subst (λ x. IsCandidate kind k l p from x c) (sym f) is))))
 
 -- the root
-module _ (file : List ℕ) (kind : TreeKind) (k : ℕ) (p from item : ℕ) (W : List Reference) (c : Reference) (candidate : IsCandidate kind k [] p from item c) (early : AreOfEarlierStarts k W) where
+module _ (file : List ℕ) (kind : TreeKind) (k : ℕ) (p from item : ℕ) (W : List Reference) (c : Reference) (candidate : IsCandidate kind k [] p from item c)
+    (early : AreOfEarlierStarts k W) where
   at_root : c.address ≡ k ∷ []
   at_root = root_address c.address k (candidate.depth) candidate.start
 
@@ -83,39 +87,48 @@ none_left {X} (x ∷ xs) o e h = absurd (none o e (h.1 (omega arith)))
 
 -- The walk over a whole tree: how it starts and ends, and what it has done by the definitions.
 
-module _ {S T : Type 0} (takes drops : S → Finding → S → Type 0) (keeps : T → SchemaRow → Taken → T → Type 0) (refuses : T → SchemaRow → T → Type 0) (file : List ℕ) (k : ℕ) (W : List Reference) (c : Reference)
+module _ {S T : Type 0} (takes drops : S → Finding → S → Type 0) (keeps : T → SchemaRow → Taken → T → Type 0) (refuses : T → SchemaRow → T → Type 0)
+    (file : List ℕ) (k : ℕ) (W : List Reference) (c : Reference)
     (at : c.address ≡ k ∷ []) (early : AreOfEarlierStarts k W) where
   -- by the marks, and what was handed out
   pub tree_handed : (r : Result (Unit {0}) RunError) (marks : List Mark) (before after : S × T) → OnOk r (AreMarksOf file (tree_walk file W c).visits marks)
-      → Handed (watches takes keeps) (fails takes drops keeps refuses) r before (tree_walk file W c).items after → IsTreeDone takes drops keeps refuses file W c r marks before after
+      → Handed (watches takes keeps) (fails takes drops keeps refuses) r before (tree_walk file W c).items after
+      → IsTreeDone takes drops keeps refuses file W c r marks before after
   tree_handed r marks before after marked h = record {
     marked = subst (λ U. OnOk r (AreMarksOf file U marks)) ((is_fold file).visits_are k W c at early) marked;
     handed = h;
     others = λ l.
         let items = (tree_walk file W c).items in
-        let none : given_cells items ≡ [] = (is_fold file).rows_are k W c at early ∙ ap (λ b. cond b (schema file (W ++ visited_below file W (Go c ∷ []))) []) (other (start_of c.address) l (ap start_of at)) in
+        let none : given_cells items ≡ [] = (is_fold file).rows_are k W c at early
+        ∙ ap (λ b. cond b (schema file (W ++ visited_below file W (Go c ∷ []))) []) (other (start_of c.address) l (ap start_of at)) in
         handed_found takes drops keeps refuses r (told_below file W (Go c ∷ [])) before after
-        (subst (λ L. Handed (watches takes keeps) (fails takes drops keeps refuses) r before L after) (only_found items none ∙ ap (map found) ((is_fold file).findings_are k W c at early)) h);
+        (subst (λ L. Handed (watches takes keeps) (fails takes drops keeps refuses) r before L after)
+        (only_found items none ∙ ap (map found) ((is_fold file).findings_are k W c at early)) h);
   }
     where
       other : (n : ℕ) → 1 ≤ n → n ≡ k → (k == schema_start) ≡ false
       other n l e = grind (arith, nat_tests)
 
-  pub tree_done : (r : Result (Unit {0}) RunError) (marks : List Mark) (tree : Tree) (before after : S × T) → HasDone (watches takes keeps) (fails takes drops keeps refuses) file (tree_walk file W c) r (marks, tree) before after
+  pub tree_done : (r : Result (Unit {0}) RunError) (marks : List Mark) (tree : Tree) (before after : S × T)
+      → HasDone (watches takes keeps) (fails takes drops keeps refuses) file (tree_walk file W c) r (marks, tree) before after
       → IsTreeDone takes drops keeps refuses file W c r marks before after
   tree_done r marks tree before after h = tree_handed r marks before after (marked r h.at) h.handed
     where
-      marked : (r : Result (Unit {0}) RunError) → OnOk r (IsAt file (tree_walk file W c) marks tree) → OnOk r (AreMarksOf file (tree_walk file W c).visits marks)
+      marked : (r : Result (Unit {0}) RunError) → OnOk r (IsAt file (tree_walk file W c) marks tree)
+          → OnOk r (AreMarksOf file (tree_walk file W c).visits marks)
       marked (Ok u) h = h.0
       marked (Err e) h = tt
 
   -- the root is refused, and that was reported, or not completely
-  pub tree_refused : (r : Result (Unit {0}) RunError) (marks : List Mark) (s s' : S) (t : T) → IfErr r IsReadOrWrite → is_followed (rules_of file) W c ≡ false → AreMarksOf file W marks
+  pub tree_refused : (r : Result (Unit {0}) RunError) (marks : List Mark) (s s' : S) (t : T) → IfErr r IsReadOrWrite → is_followed (rules_of file) W c ≡ false
+      → AreMarksOf file W marks
       → Tells takes drops r s (told_at file W (at_refused c)) s' → IsTreeDone takes drops keeps refuses file W c r marks (s, t) (s', t)
   tree_refused r marks s s' t only refused m told =
-      let whole : tree_walk file W c ≡ advance file (begin W) (at_refused c) = (has_steps file).refused (begin W) c [] refused ∙ (has_steps file).none (advance file (begin W) (at_refused c)) in
+      let whole : tree_walk file W c ≡ advance file (begin W) (at_refused c) = (has_steps file).refused (begin W) c [] refused
+      ∙ (has_steps file).none (advance file (begin W) (at_refused c)) in
       tree_handed r marks (s, t) (s', t) (on_ok r (sym (ap (λ m. m.visits) whole ∙ append-nil W)))
-      (subst (λ items. Handed (watches takes keeps) (fails takes drops keeps refuses) r (s, t) items (s', t)) (ap (λ U. map found (told_at file U (at_refused c))) (sym (append-nil W)) ∙ sym (ap (λ m. m.items) whole))
+      (subst (λ items. Handed (watches takes keeps) (fails takes drops keeps refuses) r (s, t) items (s', t))
+      (ap (λ U. map found (told_at file U (at_refused c))) (sym (append-nil W)) ∙ sym (ap (λ m. m.items) whole))
       (found_handed takes drops keeps refuses r (told_at file W (at_refused c)) s s' t (no_memory r only) told))
     where
       on_ok : (r : Result (Unit {0}) RunError) → W ≡ (tree_walk file W c).visits → OnOk r (AreMarksOf file (tree_walk file W c).visits marks)
@@ -126,29 +139,38 @@ module _ {S T : Type 0} (takes drops : S → Finding → S → Type 0) (keeps : 
   pub tree_unread : (marks : List Mark) (s : S) (t : T) → IsTreeDone takes drops keeps refuses file W c (Err ReadFailed) marks (s, t) (s, t)
   tree_unread marks s t = tree_handed (Err ReadFailed) marks (s, t) (s, t) tt (some_none (watches takes keeps) (s, t) (tree_walk file W c).items)
 
-module _ {P : Type 0} {moves : P → Item → P → Type 0} {stops : RunError → P → Item → P → Type 0} {file : List ℕ} (W : List Reference) (c : Reference) {w : P} where
+module _ {P : Type 0} {moves : P → Item → P → Type 0} {stops : RunError → P → Item → P → Type 0} {file : List ℕ} (W : List Reference) (c : Reference)
+    {w : P} where
   -- the root is an undamaged interior page: the first frame
-  pub tree_started : {levels : List (List ℕ)} {marks : List Mark} {tree : Tree} {x : P} {items : List StackFrame} (f : StackFrame) → items ≡ f ∷ [] → f.page ≡ c.page → f.next ≡ 0 → IsNext W c → tree_kind (role_of c) ≡ Some tree.kind → length c.address ≡ 1
-      → {yes : Bool} → yes ≡ true → HasDone moves stops file (entered file (begin W) c (Ok yes)) (Ok yes) (marks, tree) w x × IsEntered file (begin W) c (Ok yes) levels → IsWalkingOn moves file W c w (items, levels) (marks, tree) x
+  pub tree_started : {levels : List (List ℕ)} {marks : List Mark} {tree : Tree} {x : P} {items : List StackFrame} (f : StackFrame) → items ≡ f ∷ [] → f.page
+      ≡ c.page → f.next ≡ 0 → IsNext W c → tree_kind (role_of c) ≡ Some tree.kind → length c.address ≡ 1
+      → {yes : Bool} → yes ≡ true → HasDone moves stops file (entered file (begin W) c (Ok yes)) (Ok yes) (marks, tree) w x
+      × IsEntered file (begin W) c (Ok yes) levels → IsWalkingOn moves file W c w (items, levels) (marks, tree) x
   tree_started {levels = levels} {marks = marks} {tree = tree} {x = x} f are page start next role one is entry =
-      let first = subst (λ y. HasDone moves stops file (entered file (begin W) c (Ok y)) (Ok y) (marks, tree) w x × IsEntered file (begin W) c (Ok y) levels) is entry in
+      let first = subst (λ y. HasDone moves stops file (entered file (begin W) c (Ok y)) (Ok y) (marks, tree) w x × IsEntered file (begin W) c (Ok y) levels) is
+      entry in
       let done = first.0 in
       let inside = first.1 refl in
       let none : Tree = record tree { greatest = None; leaf = None } in
       let all : errands_of (story_of file) c ++ [] ≡ left_over file tree.kind c (f ∷ []) = append-nil (errands_of (story_of file) c)
-      ∙ sym (from_first file c tree.kind inside.frame.view role inside.frame.viewed) ∙ ap (λ n. left_over file tree.kind c (record f { next = n } ∷ [])) (sym start) in
+      ∙ sym (from_first file c tree.kind inside.frame.view role inside.frame.viewed)
+      ∙ ap (λ n. left_over file tree.kind c (record f { next = n } ∷ [])) (sym start) in
       subst (λ l. IsWalkingOn moves file W c w (l, levels) (marks, tree) x) (sym are) (record {
         now = advance file (begin W) (at_page c);
         under = subst (λ es. IsUnderway moves file (tree_walk file W c) w (advance file (begin W) (at_page c)) es (marks, tree) x) all
             (under_visit moves file (tree_walk file W c) w (begin W) (marks_of (geometry file) W, none) (marks, tree) w x c []
             (record { rest = refl; at = (refl, refl, refl); past = next; apart = ((λ e i. absurd i), tt); handed = refl }) inside.followed done.at done.handed);
-        frames_are = (record { page = page; view = inside.frame.view; viewed = inside.frame.viewed; interior = inside.frame.interior; within = omega arith }, tt);
+        frames_are = (
+          record { page = page; view = inside.frame.view; viewed = inside.frame.viewed; interior = inside.frame.interior; within = omega arith },
+          tt,
+        );
         calls = tt;
         read = (ap (slice_get levels) (let e : 0 ≡ length c.address - 1 = omega arith in e) ∙ inside.bytes ∙ ap (λ q. Some (page_bytes file q)) (sym page), tt);
       })
 
   -- no frame is left
-  pub tree_ended : {levels : List (List ℕ)} {marks : List Mark} {tree : Tree} {frames : List StackFrame} {x : P} → frames ≡ [] → IsWalkingOn moves file W c w (frames, levels) (marks, tree) x
+  pub tree_ended : {levels : List (List ℕ)} {marks : List Mark} {tree : Tree} {frames : List StackFrame} {x : P} → frames ≡ []
+      → IsWalkingOn moves file W c w (frames, levels) (marks, tree) x
       → HasDone {A = Unit {0}} moves stops file (tree_walk file W c) (Ok tt) (marks, tree) w x
   tree_ended {marks = marks} {tree = tree} {x = x} empty on = under_end moves stops file (tree_walk file W c) w tt on.now (marks, tree) x
       (subst (λ l. IsUnderway moves file (tree_walk file W c) w on.now (left_over file tree.kind c l) (marks, tree) x) empty on.under)

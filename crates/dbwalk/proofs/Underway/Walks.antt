@@ -38,12 +38,16 @@ without_memory start (Err e) l (inr h) = let z = h.1 in absurd (omega arith)
 
 -- a walk that borrows the same, over the same tree
 abbrev pub IsSame : {A S K T : Type 0} → TreeWalk A S K T → TreeWalk A S K T → Type 0
-IsSame old new = (new.source.ghost_name ≡ old.source.ghost_name) × (new.marks.ghost_name ≡ old.marks.ghost_name) × (new.taker.ghost_name ≡ old.taker.ghost_name) × (new.sink.ghost_name ≡ old.sink.ghost_name)
+IsSame old new = (new.source.ghost_name ≡ old.source.ghost_name) × (new.marks.ghost_name ≡ old.marks.ghost_name) × (new.taker.ghost_name ≡ old.taker.ghost_name)
+    × (new.sink.ghost_name ≡ old.sink.ghost_name)
     × (new.encoding ≡ old.encoding) × (new.tree.start ≡ old.tree.start) × (new.tree.kind ≡ old.tree.kind)
 
 module _ {A S K T : Type 0} (told : S → SourceState) (held : K → SinkState) (refusals : T → ℕ) where
-  pub walked_by : {R : Type 0} {r : Result R RunError} {g h : Geometry} {old new : TreeWalk A S K T} → IsSame old new → h ≡ g → (told new.source.now).failures ≡ failures_after is_read_failed r (told old.source.now).failures
-      → SinkAfter is_write_failed r (held old.sink.now) (held new.sink.now) → refusals new.taker.now ≡ failures_after is_out_of_memory r (refusals old.taker.now) → IfErr r (IsTreeError old.tree.start) → (1 ≤ old.tree.start → new.taker.now ≡ old.taker.now)
+  pub walked_by : {R : Type 0} {r : Result R RunError} {g h : Geometry} {old new : TreeWalk A S K T} → IsSame old new → h ≡ g → (told new.source.now).failures
+      ≡ failures_after is_read_failed r (told old.source.now).failures
+      → SinkAfter is_write_failed r (held old.sink.now) (held new.sink.now) → refusals new.taker.now
+      ≡ failures_after is_out_of_memory r (refusals old.taker.now) → IfErr r (IsTreeError old.tree.start)
+      → (1 ≤ old.tree.start → new.taker.now ≡ old.taker.now)
       → Walked told held refusals r g h old new
   walked_by same shape reads writes refused only others = record {
     source = same.0;
@@ -66,15 +70,19 @@ module _ {A S K T : Type 0} (told : S → SourceState) (held : K → SinkState) 
   same_of w = (w.source, w.marks, w.taker, w.sink, w.coded, w.start, w.kind)
 
   -- the same error, of a call that answers something else
-  pub walked_as : {R Q : Type 0} {r : Result Q RunError} {e : RunError} {g g' : Geometry} {old new : TreeWalk A S K T} → r ≡ Err e → Walked {R = R} told held refusals (Err e) g g' old new → Walked told held refusals r g g' old new
-  walked_as {g = g} {g' = g'} {old = old} {new = new} q w = subst (λ r. Walked told held refusals r g g' old new) (sym q) (walked_by (same_of w) w.shape w.reads w.writes w.refused w.only w.others)
+  pub walked_as : {R Q : Type 0} {r : Result Q RunError} {e : RunError} {g g' : Geometry} {old new : TreeWalk A S K T} → r ≡ Err e
+      → Walked {R = R} told held refusals (Err e) g g' old new → Walked told held refusals r g g' old new
+  walked_as {g = g} {g' = g'} {old = old} {new = new} q w =
+      subst (λ r. Walked told held refusals r g g' old new) (sym q) (walked_by (same_of w) w.shape w.reads w.writes w.refused w.only w.others)
 
   -- and so where there is none
-  pub walked_as_ok : {R Q : Type 0} {a : R} {b : Q} {g g' : Geometry} {old new : TreeWalk A S K T} → Walked told held refusals (Ok a) g g' old new → Walked told held refusals (Ok b) g g' old new
+  pub walked_as_ok : {R Q : Type 0} {a : R} {b : Q} {g g' : Geometry} {old new : TreeWalk A S K T} → Walked told held refusals (Ok a) g g' old new
+      → Walked told held refusals (Ok b) g g' old new
   walked_as_ok w = walked_by (same_of w) w.shape w.reads w.writes w.refused tt w.others
 
   -- a call after another
-  pub walked_behind : {R Q : Type 0} {a : R} {r : Result Q RunError} {g h k : Geometry} {old mid new : TreeWalk A S K T} → Walked told held refusals r h k mid new → Walked told held refusals (Ok a) g h old mid → Walked told held refusals r g k old new
+  pub walked_behind : {R Q : Type 0} {a : R} {r : Result Q RunError} {g h k : Geometry} {old mid new : TreeWalk A S K T}
+      → Walked told held refusals r h k mid new → Walked told held refusals (Ok a) g h old mid → Walked told held refusals r g k old new
   walked_behind {r = r} {new = new} v w = record {
     source = v.source ∙ w.source;
     marks = v.marks ∙ w.marks;
@@ -92,5 +100,7 @@ module _ {A S K T : Type 0} (told : S → SourceState) (held : K → SinkState) 
   }
 
   -- the tree's state moves on
-  pub walked_tree : {R : Type 0} {r : Result R RunError} {g h : Geometry} {old new : TreeWalk A S K T} {tree : Tree} → tree.start ≡ new.tree.start → tree.kind ≡ new.tree.kind → Walked told held refusals r g h old new → Walked told held refusals r g h old (record new { tree = tree })
-  walked_tree start kind w = walked_by (w.source, w.marks, w.taker, w.sink, w.coded, start ∙ w.start, kind ∙ w.kind) w.shape w.reads w.writes w.refused w.only w.others
+  pub walked_tree : {R : Type 0} {r : Result R RunError} {g h : Geometry} {old new : TreeWalk A S K T} {tree : Tree} → tree.start ≡ new.tree.start → tree.kind
+      ≡ new.tree.kind → Walked told held refusals r g h old new → Walked told held refusals r g h old (record new { tree = tree })
+  walked_tree start kind w = walked_by (w.source, w.marks, w.taker, w.sink, w.coded, start ∙ w.start, kind ∙ w.kind) w.shape w.reads w.writes w.refused w.only
+      w.others

@@ -14,7 +14,8 @@ returns-in_err-put_char g c =
     let all = chars c.args.text.now in
     let at = length c.loop-char.yielded in
     let p = err_from_is_err_and c.from_residual.result c.from_residual.ensures.1 in
-    let turn = YieldsList-turn (YieldsList-from_chars c.args.text.now c.utf8.text cc) c.loop-char.yielded _ c.loop-char.yielded_by _ _ c.in-Some.char c.in-Some.is c.next.ensures.steps in
+    let turn = YieldsList-turn (YieldsList-from_chars c.args.text.now c.utf8.text cc) c.loop-char.yielded _ c.loop-char.yielded_by _ _ c.in-Some.char
+    c.in-Some.is c.next.ensures.steps in
     put_stop (plain_char c.in-Some.char) (flat_map plain_char (drop (at + 1) all)) c.loop-char.invariant c.in_err-put_char.was p.1
     c.put_char.ensures (rest_items plain_char all at c.in-Some.char c.in-Some.char turn)
 
@@ -22,12 +23,14 @@ pub loop-char-preserved : goal.loop-char-preserved
 loop-char-preserved g c =
     let all = chars c.args.text.now in
     let at = length c.loop-char.yielded in
-    let turn = YieldsList-turn (YieldsList-from_chars c.args.text.now c.utf8.text cc) c.loop-char.yielded _ c.loop-char.yielded_by _ _ c.in-Some.char c.in-Some.is c.next.ensures.steps in
+    let turn = YieldsList-turn (YieldsList-from_chars c.args.text.now c.utf8.text cc) c.loop-char.yielded _ c.loop-char.yielded_by _ _ c.in-Some.char
+    c.in-Some.is c.next.ensures.steps in
     rw (length_push c.loop-char.yielded c.in-Some.char)
     (put_more (plain_char c.in-Some.char) (flat_map plain_char (drop (at + 1) all)) c.loop-char.invariant c.in_ok-put_char.was
     c.put_char.ensures (rest_items plain_char all at c.in-Some.char c.in-Some.char turn))
 
 pub returns : goal.returns
 returns g c =
-    let end = YieldsList-end (YieldsList-from_chars c.args.text.now c.utf8.text cc) c.loop-char.yielded _ c.loop-char.yielded_by _ _ c.in-None.is c.next.ensures.steps in
+    let end = YieldsList-end (YieldsList-from_chars c.args.text.now c.utf8.text cc) c.loop-char.yielded _ c.loop-char.yielded_by _ _ c.in-None.is
+    c.next.ensures.steps in
     put_all c.loop-char.invariant (at_drop_all (flat_map plain_char) (chars c.args.text.now) (length c.loop-char.yielded) (omega (arith, end.1)))

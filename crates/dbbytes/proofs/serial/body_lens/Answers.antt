@@ -11,4 +11,5 @@ loop-i-preserved c = record {
 
 pub returns-then-left-eq0 : goal.returns-then-left-eq0
 returns-then-left-eq0 c =
-    rw c.if-left-eq0.true at (sym (lens_from-all c.loop-i.i c.loop-i.left c.loop-i.lens c.args.types.now (omega arith) c.loop-i.invariant.five c.told-types) ∙ c.loop-i.invariant.same)
+    rw c.if-left-eq0.true at (sym (lens_from-all c.loop-i.i c.loop-i.left c.loop-i.lens c.args.types.now (omega arith) c.loop-i.invariant.five c.told-types)
+    ∙ c.loop-i.invariant.same)

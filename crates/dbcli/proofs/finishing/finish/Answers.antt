@@ -1,7 +1,8 @@
 use Rattle.std.proofs.Common.{ap}
 use Rattle.dbsource.proofs.Runs.{read_weaker}
 use Rattle.dbcli.proofs.Exits.{finish_of, known, refused_at_3, untold, unwritten_at_3}
-use Rattle.dbcli.proofs.Handing.{failed_at_6, first_at_error, line_at_error, quiet_at_verdict, second_at_error, second_few, second_kept, source_failures, still_for, still_refused, still_unwritten, tried_of, whole_at_verdict}
+use Rattle.dbcli.proofs.Handing.{failed_at_6, first_at_error, line_at_error, quiet_at_verdict, second_at_error, second_few, second_kept, source_failures}
+use Rattle.dbcli.proofs.Handing.{still_for, still_refused, still_unwritten, tried_of, whole_at_verdict}
 use Rattle.dbcli.proofs.finishing.finish.Goals as goal
 
 pub returns-clause-read : goal.returns-clause-read
@@ -22,7 +23,8 @@ returns-clause-read g c =
         finish_of c.args.request file r out out2 err err2 err3
             (still_for out1 out2 err1 err2 c.args.request file o r out err h t.1)
             (untold (λ x. (g.O.Out.held x).bytes) r c.args.out.now c.hand_on-outcome.new.out
-            (still_unwritten out1 out2 err1 err2 o r c.args.out.now c.run_request-outcome.new.out c.hand_on-outcome.new.out h c.run_request-outcome.ensures.refused.first c.hand_on-outcome.ensures.refused))
+            (still_unwritten out1 out2 err1 err2 o r c.args.out.now c.run_request-outcome.new.out c.hand_on-outcome.new.out h
+            c.run_request-outcome.ensures.refused.first c.hand_on-outcome.ensures.refused))
             (λ w. second_kept out err out1 err1 out2 err2 err3 o r h (ap g.E.Out.held (c.run_request-outcome.ensures.second w)))
             c.end.ensures.quiet (second_few out err out1 err1 out2 err2 err3 c.args.request o r c.run_request-outcome.ensures.writes h) c.end.ensures.line,
       ));

@@ -8,7 +8,8 @@ returns-in-Report-clause-read g c = rw c.in-Report.is (read_weaker _ _ c.run.ens
 
 pub returns-in-Report-clause-writes : goal.returns-in-Report-clause-writes
 returns-in-Report-clause-writes g c =
-    fail_as_answered c.run.result c.args.request (g.O.Out.held c.args.out.now) (g.O.Out.held c.run.new.out) (g.E.Out.held c.args.err.now) (g.E.Out.held c.run.new.err) c.run.ensures.failed.writes
+    fail_as_answered c.run.result c.args.request (g.O.Out.held c.args.out.now) (g.O.Out.held c.run.new.out) (g.E.Out.held c.args.err.now)
+    (g.E.Out.held c.run.new.err) c.run.ensures.failed.writes
 
 pub returns-in-Explain-clause-read : goal.returns-in-Explain-clause-read
 returns-in-Explain-clause-read g c = rw c.in-Explain.is (read_weaker _ _ c.explain.ensures.read (λ ranges p. p) (λ file ranges p t. t))
@@ -30,8 +31,10 @@ returns-in-Map-clause-read g c = rw c.in-Map.is (read_weaker _ _ c.map.ensures.r
 
 pub returns-in-Map-clause-writes : goal.returns-in-Map-clause-writes
 returns-in-Map-clause-writes g c =
-    fail_as_answered c.map.result c.args.request (g.O.Out.held c.args.out.now) (g.O.Out.held c.map.new.out) (g.E.Out.held c.args.err.now) (g.E.Out.held c.args.err.now)
-    (first_failures c.map.result (g.O.Out.held c.args.out.now).failures (g.O.Out.held c.map.new.out).failures (g.E.Out.held c.args.err.now).failures c.map.ensures.failed.writes)
+    fail_as_answered c.map.result c.args.request (g.O.Out.held c.args.out.now) (g.O.Out.held c.map.new.out) (g.E.Out.held c.args.err.now)
+    (g.E.Out.held c.args.err.now)
+    (first_failures c.map.result (g.O.Out.held c.args.out.now).failures (g.O.Out.held c.map.new.out).failures (g.E.Out.held c.args.err.now).failures
+    c.map.ensures.failed.writes)
 
 pub returns-in-Map-clause-refused : goal.returns-in-Map-clause-refused
 returns-in-Map-clause-refused g c = record {

@@ -23,7 +23,8 @@ returns-in-Key-clause-lines g c = λ file V o t.
     let held = g.O.Out.held in
     let key = c.in-Key.key in
     lines_then file V c.args.page c.args.cause.now (cause.Key key) c.put_page.result c.in-Key.is c.in_ok-put_cause.was c.put_cause.ensures
-    (put_by c.put_page.result (held c.put_cause.new.out) (held c.put_page.new.out) (place_line file V key.page) (c.put_page.ensures.line file V o t) c.put_page.ensures.count)
+    (put_by c.put_page.result (held c.put_cause.new.out) (held c.put_page.new.out) (place_line file V key.page) (c.put_page.ensures.line file V o t)
+    c.put_page.ensures.count)
 
 pub returns-in-Leaf-clause-lines : goal.returns-in-Leaf-clause-lines
 returns-in-Leaf-clause-lines g c = λ file V o t.
@@ -39,7 +40,8 @@ returns-in-Page-clause-lines g c = λ file V o t.
     let facts = c.in-Page.facts in
     let size = ap (λ (g : Geometry). g.page_size) (c.geometry.ensures.shape ∙ o.header.shape) in
     lines_then file V c.args.page c.args.cause.now (cause.Page c.in-Page.page facts) c.put_facts.result c.in-Page.is c.in_ok-put_cause.was c.put_cause.ensures
-    (subst (λ (n : ℕ). Puts c.put_facts.result (held c.put_cause.new.out) (held c.put_facts.new.out) (facts_text n c.in-Page.page facts)) size c.put_facts.ensures)
+    (subst (λ (n : ℕ). Puts c.put_facts.result (held c.put_cause.new.out) (held c.put_facts.new.out) (facts_text n c.in-Page.page facts)) size
+    c.put_facts.ensures)
 
 pub returns-in-Look-clause-lines : goal.returns-in-Look-clause-lines
 returns-in-Look-clause-lines g c = λ file V o t.

@@ -37,7 +37,8 @@ loop-entry-preserved g c =
 
 pub returns-clause-lines : goal.returns-clause-lines
 returns-clause-lines g c = λ file V es o t is.
-    (put_all (c.loop-entry.invariant.lines file V es o t is) (no_text (entry_text file V) es c.loop-entry.entry-index (beyond c.args.entries.now es is c.loop-entry.entry-index c.loop-entry-test.false))).held
+    (put_all (c.loop-entry.invariant.lines file V es o t is)
+    (no_text (entry_text file V) es c.loop-entry.entry-index (beyond c.args.entries.now es is c.loop-entry.entry-index c.loop-entry-test.false))).held
 
 pub returns-in_err-put_entry-clause-count : goal.returns-in_err-put_entry-clause-count
 returns-in_err-put_entry-clause-count g c =

@@ -10,7 +10,8 @@ use Rattle.dbexplain.proofs.entry_lines.put_entries.Given as goal
 
 abbrev pub invariant-loop-entry : goal.invariant-loop-entry
 invariant-loop-entry g l = record {
-  lines : (file : List ℕ) (V : List Reference) (es : List listing.Entry) → AreOwnersOf l.owners file V → AreTrees file V l.initial.trees.known → l.entries ≡ map kept_of es
+  lines : (file : List ℕ) (V : List Reference) (es : List listing.Entry) → AreOwnersOf l.owners file V → AreTrees file V l.initial.trees.known → l.entries
+      ≡ map kept_of es
       → HasPut (g.O.Out.held l.initial.out) (g.O.Out.held l.out) (flat_map (entry_text file V) (drop l.entry-index es)) (flat_map (entry_text file V) es);
   trees : (file : List ℕ) (V : List Reference) → AreOwnersOf l.owners file V → AreTrees file V l.initial.trees.known → AreTrees file V l.trees.known;
   count : (g.O.Out.held l.out).failures ≡ (g.O.Out.held l.initial.out).failures;

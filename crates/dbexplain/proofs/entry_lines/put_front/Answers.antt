@@ -23,7 +23,8 @@ returns-in_err-put_below-clause-lines g c = λ file V o t.
     let below = lines_below file V f f.code in
     let last = missing_line file f.code in
     (puts_then r first (below ++ last) c.in_ok-put_fault.was c.put_fault.ensures
-    (puts_stop below last c.in_err-put_below.was p.1 (put_by c.put_below.result (held c.put_fault.new.out) (held c.put_below.new.out) below (c.put_below.ensures.lines file V o t) c.put_below.ensures.count))).held
+    (puts_stop below last c.in_err-put_below.was p.1 (put_by c.put_below.result (held c.put_fault.new.out) (held c.put_below.new.out) below
+    (c.put_below.ensures.lines file V o t) c.put_below.ensures.count))).held
 
 pub returns-clause-lines : goal.returns-clause-lines
 returns-clause-lines g c = λ file V o t.
@@ -34,5 +35,6 @@ returns-clause-lines g c = λ file V o t.
     let below = lines_below file V f f.code in
     let last = missing_line file f.code in
     (puts_then r first (below ++ last) c.in_ok-put_fault.was c.put_fault.ensures
-    (puts_then r below last c.in_ok-put_below.was (put_by c.put_below.result (held c.put_fault.new.out) (held c.put_below.new.out) below (c.put_below.ensures.lines file V o t) c.put_below.ensures.count)
+    (puts_then r below last c.in_ok-put_below.was (put_by c.put_below.result (held c.put_fault.new.out) (held c.put_below.new.out) below
+    (c.put_below.ensures.lines file V o t) c.put_below.ensures.count)
     (put_by r (held c.put_below.new.out) (held c.put_missing.new.out) last (c.put_missing.ensures.line file o.header) c.put_missing.ensures.count))).held

@@ -17,4 +17,5 @@ returns-in-H06-clause-line g c = λ file h.
     let first : c.from-first.result + 1 ≡ (geometry file).pages + 1 = ap (λ n. n + 1) (c.from-first.ensures ∙ pages) in
     let last : c.from.result ≡ stated_pages file = c.from.ensures ∙ c.stated_pages.ensures ∙ ap stated_pages h.begins ∙ stated_pages_within file in
     subst (λ (code : FaultCode). Writes c.put.result old new (missing_line file code)) (sym c.in-H06.is)
-    (subst (λ text. Writes c.put.result old new text) (c.as_slice.ensures.value ∙ c.missing_text-line.ensures ∙ ap₂ (λ a b. indented (missing_text a b)) first last) c.put.ensures.held)
+    (subst (λ text. Writes c.put.result old new text) (c.as_slice.ensures.value ∙ c.missing_text-line.ensures
+    ∙ ap₂ (λ a b. indented (missing_text a b)) first last) c.put.ensures.held)

@@ -14,4 +14,5 @@ returns g c =
     let first : nat_le 1 p ≡ true = grind (arith, nat_tests, c.if-spot-eq0.false, c.if-spot-shape.false) in
     let last : nat_le p n ≡ true = grind (arith, nat_tests, c.if-spot-eq0.false, c.if-spot-shape.false) in
     rw (page_pieces c.args.shape tree p c.args.spot.place c.args.spot.start (and_from (nat_le 1 p) (nat_le p n) first last)) at
-    (rw (c.as_slice.ensures.value, c.as_slice-2.ensures.value, c.page_front-front.ensures, c.place_end-end.ensures, c.place_tree-tree.ensures) at c.put_line.ensures)
+    (rw (c.as_slice.ensures.value, c.as_slice-2.ensures.value, c.page_front-front.ensures, c.place_end-end.ensures, c.place_tree-tree.ensures) at
+    c.put_line.ensures)

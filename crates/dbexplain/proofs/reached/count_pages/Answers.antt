@@ -30,5 +30,6 @@ pub returns-clause-pages : goal.returns-clause-pages
 returns-clause-pages g c = λ file V ts s m t is room.
     (let at = c.loop-index.invariant.tally file V ts s m t is room in
     let all : length c.args.marks.now ≡ (geometry file).pages = ap length m ∙ marks_of-length (geometry file) V in
-    let end : c.loop-index.index ≡ (geometry file).pages = omega (arith, c.loop-index-test.false, c.pages-index-end.ensures.count, all, c.loop-index.auto.index-end) in
+    let end : c.loop-index.index ≡ (geometry file).pages =
+    omega (arith, c.loop-index-test.false, c.pages-index-end.ensures.count, all, c.loop-index.auto.index-end) in
     subst (λ n. IsTallyTo V ts n c.loop-index.tally) end at.0)

@@ -10,4 +10,5 @@ pub returns-clause-lines : goal.returns-clause-lines
 returns-clause-lines g c = λ limit told are.
     let listing = c.args.kept.now.listing in
     let same = ap lines_of c.listed.ensures ∙ found_lines limit (entries told) listing (shown limit told listing are) in
-    subst (Writes c.put_fault_lines.result (g.O.Out.held c.args.out.now).bytes (g.O.Out.held c.put_fault_lines.new.out).bytes) same c.put_fault_lines.ensures.held
+    subst (Writes c.put_fault_lines.result (g.O.Out.held c.args.out.now).bytes (g.O.Out.held c.put_fault_lines.new.out).bytes) same
+    c.put_fault_lines.ensures.held

@@ -26,7 +26,8 @@ returns-in_err-put_entries-clause-report g c = λ limit file V d all some.
     let first = flat_map (entry_text file V) (take limit es) in
     let rest = more_text (sum_by size (drop limit es)) in
     let last = summary file V (told_faults file V) in
-    let is = of_desk c.owners_of-owners.result c.args.desk.now file V c.owners_of-owners.ensures.header c.owners_of-owners.ensures.marks c.owners_of-owners.ensures.roots d in
+    let is = of_desk c.owners_of-owners.result c.args.desk.now file V c.owners_of-owners.ensures.header c.owners_of-owners.ensures.marks
+    c.owners_of-owners.ensures.roots d in
     let known = c.make_ready.ensures.trees limit file V d all in
     let kept = c.make_ready.ensures.listed limit file V all in
     let put = put_by c.put_entries.result (held c.args.out.now) (held c.put_entries.new.out) first
@@ -43,7 +44,8 @@ returns-in_err-put_rest-clause-report g c = λ limit file V d all some.
     let first = flat_map (entry_text file V) (take limit es) in
     let rest = more_text (sum_by size (drop limit es)) in
     let last = summary file V (told_faults file V) in
-    let is = of_desk c.owners_of-owners.result c.args.desk.now file V c.owners_of-owners.ensures.header c.owners_of-owners.ensures.marks c.owners_of-owners.ensures.roots d in
+    let is = of_desk c.owners_of-owners.result c.args.desk.now file V c.owners_of-owners.ensures.header c.owners_of-owners.ensures.marks
+    c.owners_of-owners.ensures.roots d in
     let known = c.make_ready.ensures.trees limit file V d all in
     let kept = c.make_ready.ensures.listed limit file V all in
     let put = put_by c.put_entries.result (held c.args.out.now) (held c.put_entries.new.out) first
@@ -63,7 +65,8 @@ returns-clause-report g c = λ limit file V d all some.
     let first = flat_map (entry_text file V) (take limit es) in
     let rest = more_text (sum_by size (drop limit es)) in
     let last = summary file V (told_faults file V) in
-    let is = of_desk c.owners_of-owners.result c.args.desk.now file V c.owners_of-owners.ensures.header c.owners_of-owners.ensures.marks c.owners_of-owners.ensures.roots d in
+    let is = of_desk c.owners_of-owners.result c.args.desk.now file V c.owners_of-owners.ensures.header c.owners_of-owners.ensures.marks
+    c.owners_of-owners.ensures.roots d in
     let known = c.make_ready.ensures.trees limit file V d all in
     let kept = c.make_ready.ensures.listed limit file V all in
     let put = put_by c.put_entries.result (held c.args.out.now) (held c.put_entries.new.out) first

@@ -24,7 +24,8 @@ module _ (index : Bool) (rows : List SchemaRow) (cs : List StartCount) where
       → n + cond b 1 0 ≡ count_by test (range_with_len 1 (start + 1 - 1))
   one_more test start n b low e is =
       let last : start + 1 - 1 ≡ start - 1 + 1 = omega (arith, low) in
-      ap₂ (λ m b. m + cond b 1 0) is (sym e) ∙ sym (count_push test 1 (start - 1) start (omega (arith, low))) ∙ ap (λ m. count_by test (range_with_len 1 m)) (sym last)
+      ap₂ (λ m b. m + cond b 1 0) is (sym e) ∙ sym (count_push test 1 (start - 1) start (omega (arith, low)))
+      ∙ ap (λ m. count_by test (range_with_len 1 m)) (sym last)
 
   next : (start whole all : ℕ) (a b : Bool) → 1 ≤ start → is_of_kind index rows start ≡ a → ((slice_index_or cs start no_count).faults == 0) ≡ b
       → AreBefore start (record { whole = whole; all = all }) → AreBefore (start + 1) (record { whole = whole + cond (a && b) 1 0; all = all + cond a 1 0 })
@@ -54,10 +55,12 @@ loop-start-preserved g c =
     let cs = c.args.counts.now in
     let start = c.loop-start.start in
     let t = c.loop-start.sum in
-    let turn : (a b : Bool) → c.is_of_kind.result ≡ a → ((slice_index_or cs start no_count).faults == 0) ≡ b → AreBefore index rows cs (start + 1) (record { whole = t.whole + cond (a && b) 1 0; all = t.all + cond a 1 0 })
+    let turn : (a b : Bool) → c.is_of_kind.result ≡ a → ((slice_index_or cs start no_count).faults == 0) ≡ b
+    → AreBefore index rows cs (start + 1) (record { whole = t.whole + cond (a && b) 1 0; all = t.all + cond a 1 0 })
     = λ a b e f. next index rows cs start t.whole t.all a b (omega (arith, c.loop-start.auto.start)) (sym c.is_of_kind.ensures ∙ e) f c.loop-start.invariant in
     elim c.if-is_of_kind.branch [
-      | then-is_of_kind+then-counts-start-eq0 w ↦ rw w.sum-is (turn true true w.if-is_of_kind.true (let z = w.if-counts-start-eq0.true in grind (arith, nat_tests, z)))
+      | then-is_of_kind+then-counts-start-eq0 w ↦ rw w.sum-is
+          (turn true true w.if-is_of_kind.true (let z = w.if-counts-start-eq0.true in grind (arith, nat_tests, z)))
       | then-is_of_kind+else-counts-start-eq0 w ↦
           rw (w.sum-is, none_more t.whole) (turn true false w.if-is_of_kind.true (let z = w.if-counts-start-eq0.false in grind (arith, nat_tests, z)))
       | else-is_of_kind w ↦

@@ -5,4 +5,5 @@ use Rattle.dblines.proofs.first_bytes.append_hex.Given as goal
 
 abbrev pub invariant-loop-byte : goal.invariant-loop-byte
 invariant-loop-byte g l =
-    (l.line.items ≡ l.initial.line.items ++ flat_map hex_column (take l.byte-index l.bytes)) × (length l.line.items ≡ length l.initial.line.items + 3 * l.byte-index)
+    (l.line.items ≡ l.initial.line.items ++ flat_map hex_column (take l.byte-index l.bytes))
+    × (length l.line.items ≡ length l.initial.line.items + 3 * l.byte-index)

@@ -15,4 +15,5 @@ loop-index-preserved g c =
     (next_line names c.args.geometry c.args.lines.now i _ c.loop-index-test.true)
 
 pub returns : goal.returns
-returns g c = drawn_all c.loop-index.invariant (no_line c.args.labels.now.names.items c.args.geometry c.args.lines.now c.loop-index.index c.loop-index-test.false)
+returns g c = drawn_all c.loop-index.invariant (no_line c.args.labels.now.names.items c.args.geometry c.args.lines.now c.loop-index.index
+    c.loop-index-test.false)

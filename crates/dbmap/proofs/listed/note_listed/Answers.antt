@@ -9,7 +9,8 @@ framed_push : (xs : List Entry) (e : Entry) → framed (leading xs) ++ framed_of
 framed_push [] e = refl
 framed_push (x ∷ xs) e = ap (λ l. framed_of x.first ++ l) (framed_push xs e)
 
-framed_next : (es : List Entry) (i : ℕ) (none : Entry) → i < length es → framed (leading (take i es)) ++ framed_of (get_or es i none).first ≡ framed (leading (take (i + 1) es))
+framed_next : (es : List Entry) (i : ℕ) (none : Entry) → i < length es → framed (leading (take i es)) ++ framed_of (get_or es i none).first
+    ≡ framed (leading (take (i + 1) es))
 framed_next es i none h = framed_push (take i es) (get_or es i none) ∙ ap (λ (l : List Entry). framed (leading l)) (sym (take_more es i none h))
 
 pub loop-entry-preserved : goal.loop-entry-preserved
@@ -22,5 +23,6 @@ loop-entry-preserved g c = λ count fs pages h.
 
 pub returns : goal.returns
 returns g c = λ count fs pages h.
-    subst (λ (l : List Entry). AreNoted count fs (pages ++ framed (leading l)) c.loop-entry.notes) (take_all c.loop-entry.entry-index c.args.listed.now c.loop-entry-test.false)
+    subst (λ (l : List Entry). AreNoted count fs (pages ++ framed (leading l)) c.loop-entry.notes)
+    (take_all c.loop-entry.entry-index c.args.listed.now c.loop-entry-test.false)
     (c.loop-entry.invariant count fs pages h)

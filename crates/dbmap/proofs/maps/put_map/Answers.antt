@@ -63,17 +63,20 @@ returns g c =
           let shorten : (ℕ → List ℕ) → ℕ → List ℕ = λ names start. short_text (names start) in
           let tree = ap shorten (ap₂ tree_of_row (c.encoding.ensures ∙ ap (λ (h : HeaderBytes). encoding h.bytes) c.header.ensures.value)
           (ap (λ (l : Listed). l.rows) c.roots-2.ensures) ∙ known_trees file V c.args.desk.now.header c.args.desk.now.roots.rows desk.header desk.rows) in
-          let names = c.new-2.ensures ∙ ap (λ (ts : List RankedTree). map (shown_tree c.encoding.result c.roots-2.result.now.rows) (tree_starts ts)) c.as_slice.ensures.value ∙ ap₂ map tree largest in
+          let names = c.new-2.ensures ∙ ap (λ (ts : List RankedTree). map (shown_tree c.encoding.result c.roots-2.result.now.rows) (tree_starts ts))
+          c.as_slice.ensures.value ∙ ap₂ map tree largest in
           let fixed = ap (λ (h : HeaderBytes). geometry_of h.bytes h.file_len) c.header-3.ensures.value ∙ desk.header.shape in
           let marks = c.marks-3.ensures ∙ desk.marks in
           let lines = (rw c.as_slice-2.ensures.value at c.new-legend.ensures)
           ∙ legend_is file V c.count.new.self c.roots-3.result.now.rows starts c.framed-strong.result.0 c.framed-strong.result.1 tally
-          (λ k i. largest_within (pages_at c.count.new.self.starts) c.count.new.self.trees freelist_start 12 k (omega (arith, tally.all.few)) (subst (IsIn k) c.largest-largest.ensures.largest i))
+          (λ k i. largest_within (pages_at c.count.new.self.starts) c.count.new.self.trees freelist_start 12 k (omega (arith, tally.all.few))
+          (subst (IsIn k) c.largest-largest.ensures.largest i))
           (ap (λ (l : Listed). l.rows) c.roots-3.ensures ∙ desk.rows)
           ∙ ap (λ ks. legend_lines file V ks c.framed-strong.result.0 c.framed-strong.result.1) largest
           ∙ ap₂ (legend_lines file V (largest_of file V))
           (c.framed-strong.ensures.strong ∙ ap (strong_pages (is_marked_framed notes)) (ap (λ (s : Geometry). s.pages) shape) ∙ strong_is file V notes noted)
-          (c.framed-strong.ensures.weak ∙ ap (weak_pages (is_marked_faulty notes) (is_marked_framed notes)) (ap (λ (s : Geometry). s.pages) shape) ∙ weak_is file V notes noted) in
+          (c.framed-strong.ensures.weak ∙ ap (weak_pages (is_marked_faulty notes) (is_marked_framed notes)) (ap (λ (s : Geometry). s.pages) shape)
+          ∙ weak_is file V notes noted) in
           c.draw_picture.ensures.same file V counted
           ∙ (λ i. picture_text (record { file = c.shown_file.ensures i; geometry = shape i; faults = found i })
           (record {

@@ -11,7 +11,8 @@ loop-place-preserved g c =
     let grid = c.args.grid.now in
     let place = c.loop-place.place in
     let e : c.args.end - place ≡ suc (c.args.end - (place + 1)) = omega arith in
-    drawn_more (outline_text grid place) (outlines_from grid (place + 1) (c.args.end - (place + 1))) c.loop-place.invariant c.draw_outline.ensures (ap (outlines_from grid place) e)
+    drawn_more (outline_text grid place) (outlines_from grid (place + 1) (c.args.end - (place + 1))) c.loop-place.invariant c.draw_outline.ensures
+    (ap (outlines_from grid place) e)
 
 pub returns : goal.returns
 returns g c =

@@ -16,8 +16,10 @@ returns g c =
     let lines = c.args.legend.now.lines.items in
     let head = rw (c.top_of-bottom.ensures.top, c.rows.ensures, c.from-height.ensures, c.height.ensures, c.missing.ensures) at c.draw_head.ensures in
     let legend = rw (c.top_of-bottom.ensures.top, c.rows.ensures) at c.draw-2.ensures in
-    as_then {g = d} (λ file V of. of) (as_drawn {g = d} (λ d. head_text h.file (top_of d.grid (rows d.grid) + height lines (d.grid.stated - d.grid.pages))) (λ V. refl) head)
+    as_then {g = d} (λ file V of. of) (as_drawn {g = d} (λ d. head_text h.file (top_of d.grid (rows d.grid) + height lines (d.grid.stated - d.grid.pages)))
+    (λ V. refl) head)
     (as_then {g = d} (λ file V of. of) (as_drawn {g = d} (λ d. heading_text h d.grid.run) (λ V. refl) c.draw_heading.ensures)
     (as_then {g = d} (λ file V of. of) (as_drawn {g = d} (λ d. row_names d.grid) (λ V. refl) c.draw_row_names.ensures)
     (as_then {g = d} (λ file V of. of) c.draw.ensures
-    (as_drawn {g = d} (λ d. legend_text lines d.names h.geometry d.grid (top_of d.grid (rows d.grid)) ++ codes "</svg>\n") (λ V. refl) (draws_then legend c.draw-3.ensures)))))
+    (as_drawn {g = d} (λ d. legend_text lines d.names h.geometry d.grid (top_of d.grid (rows d.grid)) ++ codes "</svg>\n") (λ V. refl)
+    (draws_then legend c.draw-3.ensures)))))

@@ -17,7 +17,8 @@ returns-in_err-put g c =
 pub returns-in-Some : goal.returns-in-Some
 returns-in-Some g c =
     let kind = kind_text c.args.row.now.kind in
-    subst (λ o. Puts c.plain_name_text.result (g.O.Out.held c.args.out.now) (g.O.Out.held c.plain_name_text.new.out) (kind ++ option_map_or (plain_name c.args.encoding) (option_copied o) (codes "?")))
+    subst (λ o. Puts c.plain_name_text.result (g.O.Out.held c.args.out.now) (g.O.Out.held c.plain_name_text.new.out)
+    (kind ++ option_map_or (plain_name c.args.encoding) (option_copied o) (codes "?")))
     (sym c.in-Some.is)
     (puts_then c.plain_name_text.result kind (plain_name c.args.encoding c.in-Some.name.now) c.in_ok-put.was
     (rw (c.as_bytes.ensures.value, c.kind_text.ensures) at c.put.ensures) c.plain_name_text.ensures)
@@ -25,7 +26,8 @@ returns-in-Some g c =
 pub returns-in-None : goal.returns-in-None
 returns-in-None g c =
     let kind = kind_text c.args.row.now.kind in
-    subst (λ o. Puts c.put-in-None.result (g.O.Out.held c.args.out.now) (g.O.Out.held c.put-in-None.new.self) (kind ++ option_map_or (plain_name c.args.encoding) (option_copied o) (codes "?")))
+    subst (λ o. Puts c.put-in-None.result (g.O.Out.held c.args.out.now) (g.O.Out.held c.put-in-None.new.self)
+    (kind ++ option_map_or (plain_name c.args.encoding) (option_copied o) (codes "?")))
     (sym c.in-None.is)
     (puts_then c.put-in-None.result kind (codes "?") c.in_ok-put.was
     (rw (c.as_bytes.ensures.value, c.kind_text.ensures) at c.put.ensures) c.put-in-None.ensures)

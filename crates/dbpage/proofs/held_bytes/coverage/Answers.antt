@@ -17,7 +17,8 @@ returns-in-Ok-mark_freeblocks-clause-items g c =
     let none = first_overlap_none (items v) (content_start v.number v.bytes) v.usable c.mark_freeblocks.new.table c.in-Ok-mark_freeblocks.held are in
     let start = ap (λ (w : View). content_start w.number w.bytes) c.view.view_is in
     let usable = ap (λ (w : View). w.usable) c.view.view_is in
-    let left : c.view.inside.usable - c.view.inside.start - c.in-Ok-mark_freeblocks.held ≡ unheld v = omega (arith, are.counted, start, usable, c.view.invariant.start_is) in
+    let left : c.view.inside.usable - c.view.inside.start - c.in-Ok-mark_freeblocks.held ≡ unheld v =
+    omega (arith, are.counted, start, usable, c.view.invariant.start_is) in
     ap (λ (n : ℕ). Unheld n) left ∙ sym (ap (coverage_of v) none)
 
 pub returns-in-Err-mark_freeblocks-clause-items : goal.returns-in-Err-mark_freeblocks-clause-items

@@ -13,11 +13,17 @@ pub returns-then-not-claim : goal.returns-then-not-claim
 returns-then-not-claim g c =
     let v = c.args.view.now in
     let now = c.loop-i.invariant in
-    let within : c.loop-i.i < count v = omega (arith, c.loop-i-test.true, c.view.invariant.cells_is, ap (λ (w : View). cell_count w.number w.bytes) c.view.view_is) in
+    let within : c.loop-i.i < count v = omega (
+      arith,
+      c.loop-i-test.true,
+      c.view.invariant.cells_is,
+      ap (λ (w : View). cell_count w.number w.bytes) c.view.view_is,
+    ) in
     record {
       marked = (
         omega (arith, c.if-not-claim.ensures.counted, now.counted, now.marked.counted),
-        cell_overlaps v c.loop-i.i c.loop-i.table c.loop-i.held now.marked c.in-Some.offset c.in-Some.len within c.in-Some.ensures c.if-not-claim.ensures.marked,
+        cell_overlaps v c.loop-i.i c.loop-i.table c.loop-i.held now.marked c.in-Some.offset c.in-Some.len within c.in-Some.ensures
+            c.if-not-claim.ensures.marked,
       );
     }
 
@@ -29,7 +35,8 @@ loop-i-preserved g c =
     let marked = λ (table : List ℕ) (held : ℕ). AreMarked (cells_upto v (c.loop-i.i + 1)) (content_start v.number v.bytes) v.usable table held in
     elim to.branch [
       | in-Some+else-not-claim w ↦
-          let more = cell_marked v c.loop-i.i c.loop-i.table c.loop-i.held now.marked w.in-Some.offset w.in-Some.len w.claim.new.table w.in-Some.ensures w.if-not-claim.ensures.marked in
+          let more = cell_marked v c.loop-i.i c.loop-i.table c.loop-i.held now.marked w.in-Some.offset w.in-Some.len w.claim.new.table w.in-Some.ensures
+          w.if-not-claim.ensures.marked in
           record {
             marked = subst (λ (t : List ℕ). marked t to.held) (sym w.table-is) (subst (marked w.claim.new.table) (sym w.held-is) more);
             counted = omega (arith, w.mark_count-is, w.held-is, w.if-not-claim.ensures.counted, now.counted);

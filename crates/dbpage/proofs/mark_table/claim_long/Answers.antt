@@ -9,7 +9,8 @@ loop-at-preserved c =
       after = omega arith;
       before = omega arith;
       whole = omega arith;
-      marked = Marks_more c.args.table.now c.loop-at.table c.args.from c.loop-at.at (c.loop-at.at + 256) now.after (omega arith) now.marked c.claim_lanes.new.table c.if-not-claim_lanes.ensures;
+      marked = Marks_more c.args.table.now c.loop-at.table c.args.from c.loop-at.at (c.loop-at.at + 256) now.after (omega arith) now.marked
+          c.claim_lanes.new.table c.if-not-claim_lanes.ensures;
     }
 
 pub returns : goal.returns
@@ -17,4 +18,5 @@ returns c =
     let now = c.loop-at.invariant in
     let at = c.loop-at.at in
     let end : at + (c.args.from + c.args.len - at) ≡ c.args.from + c.args.len = omega arith in
-    either_more c.args.table.now c.loop-at.table c.args.from at (c.args.from + c.args.len) now.after now.before now.marked c.claim_plain.result c.claim_plain.new.table (rw end at c.claim_plain.ensures)
+    either_more c.args.table.now c.loop-at.table c.args.from at (c.args.from + c.args.len) now.after now.before now.marked c.claim_plain.result
+    c.claim_plain.new.table (rw end at c.claim_plain.ensures)

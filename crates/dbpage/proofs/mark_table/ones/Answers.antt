@@ -18,5 +18,6 @@ returns c =
       | then-to-eq64 w ↦ rw (w.end-is, one_shl from 64 c.requires.1, w.if-to-eq64.true) (up_to_the_last (2 ^ from) (pow_mono {i = 0} {j = from} (omega arith)))
       | else-to-eq64 w ↦
           let small : 2 ^ to ≤ 2 ^ 63 = pow_mono {i = to} {j = 63} (omega (arith, w.if-to-eq64.false, c.requires.2)) in
-          rw (w.end-is, one_shl from 64 c.requires.1, one_shl to 64 (omega (arith, w.if-to-eq64.false, c.requires.2))) (up_to_another (2 ^ from) (2 ^ to) (pow_mono {i = from} {j = to} c.requires.0) (omega (arith, small)))
+          rw (w.end-is, one_shl from 64 c.requires.1, one_shl to 64 (omega (arith, w.if-to-eq64.false, c.requires.2)))
+          (up_to_another (2 ^ from) (2 ^ to) (pow_mono {i = from} {j = to} c.requires.0) (omega (arith, small)))
     ]

@@ -5,7 +5,8 @@ use Rattle.dbreport.proofs.jobs.run_job.Goals as goal
 pub returns-in_err-desk : goal.returns-in_err-desk
 returns-in_err-desk g c =
     let q = err_from_is_err_and c.from_residual.result c.from_residual.ensures.1 in
-    rw q.1 (rw q.2 (not_begun g.S.Source c.args.source.now g.J.Job.leaves g.J.Job.ends c.in_err-desk.field-0.0 c.open_in.new.source c.in_err-desk.ensures c.args.job.now))
+    rw q.1 (rw q.2 (not_begun g.S.Source c.args.source.now g.J.Job.leaves g.J.Job.ends c.in_err-desk.field-0.0 c.open_in.new.source c.in_err-desk.ensures
+    c.args.job.now))
 
 pub returns-in_err-kept : goal.returns-in_err-kept
 returns-in_err-kept g c =

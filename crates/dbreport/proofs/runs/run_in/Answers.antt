@@ -15,7 +15,8 @@ returns-clause-read g c =
     let same_err = ends.same_err in
     let k : c.out-1.given.0 ≡ job.out.now = search (rules, same_out) in
     let k' : c.err-1.given.0 ≡ job.err.now = search (rules, same_err) in
-    rw k (rw k' (read_weaker IsSomeRunLog _ c.run_job.ensures.read (λ ranges p. p) (λ file ranges p t. (t.0, job_left g.O.Out.held g.E.Out.held r _ job file t.1.0 t.1.1))))
+    rw k (rw k' (read_weaker IsSomeRunLog _ c.run_job.ensures.read (λ ranges p. p)
+    (λ file ranges p t. (t.0, job_left g.O.Out.held g.E.Out.held r _ job file t.1.0 t.1.1))))
 
 pub returns-clause-sound : goal.returns-clause-sound
 returns-clause-sound g c = read_weaker IsSomeRunLog _ (returns-clause-read g c) (λ ranges p. p) (λ file ranges p t. t.1.run.sound)

@@ -19,4 +19,5 @@ returns-clause-read g c =
     after_weaker _ _ c.run_over.ensures.read (λ file is told V v.
     let for = for_file file c.args.desk.now.header c.geometry-page_size.result s is (c.geometry-page_size.ensures.shape ∙ is.shape)
     (new.encoding ∙ c.encoding-encoding.ensures ∙ ap (λ (h : HeaderBytes). encoding_of h.bytes) c.header.ensures.value) new.page_size new.sums in
-    stat_reported g.O.Out.held g.E.Out.held file V v r s c.run_over.new.reporter c.args.out.now c.out-1.given.0 c.args.err.now c.err-1.given.0 c.args.form new.out new.err new.form new.found for k k' is.is_read (told V v))
+    stat_reported g.O.Out.held g.E.Out.held file V v r s c.run_over.new.reporter c.args.out.now c.out-1.given.0 c.args.err.now c.err-1.given.0 c.args.form
+    new.out new.err new.form new.found for k k' is.is_read (told V v))

@@ -13,6 +13,8 @@ loop-index-preserved g c =
     let most : c.free_page-free.result ≤ 1 = bit_most (is_free_mark mark) c.free_page-free.result one in record {
       free = ap₂ (λ a b. a + b) c.loop-index.invariant.free one ∙ sym (count_more is_free_mark marks i mark c.get-mark.ensures);
       most = let k = c.loop-index.invariant.most in omega arith;
-      greatest = c.greater_root-greatest_root.ensures ∙ ap (λ n. cond (is_root_mark mark) (max n (i + 1)) n) c.loop-index.invariant.greatest ∙ greatest_more is_root_mark marks i mark c.get-mark.ensures;
-      least = c.first_other-least_other.ensures ∙ ap (λ o. option_or o (cond (is_other_mark mark) (Some (i + 1)) None)) c.loop-index.invariant.least ∙ least_more is_other_mark marks i mark c.get-mark.ensures;
+      greatest = c.greater_root-greatest_root.ensures ∙ ap (λ n. cond (is_root_mark mark) (max n (i + 1)) n) c.loop-index.invariant.greatest
+          ∙ greatest_more is_root_mark marks i mark c.get-mark.ensures;
+      least = c.first_other-least_other.ensures ∙ ap (λ o. option_or o (cond (is_other_mark mark) (Some (i + 1)) None)) c.loop-index.invariant.least
+          ∙ least_more is_other_mark marks i mark c.get-mark.ensures;
     }

@@ -28,8 +28,12 @@ returns-in_err-load-clause-asks g c =
     let size = c.args.bench.now.geometry.page_size in
     let level = c.in_err-load.ensures.level in
     rw q.1 (rw q.2 (record {
-      log = has_weaker _ _ (log_load size c.args.page level.bytes (Err c.in_err-load.field-0.0) c.in_err-load.ensures.told level.size level.holds) (λ log l. inr (l, used))
-          (λ file bytes mark m e ok same chain. (moves_none g.K.Reporter.hears c.args.reporter.now (page_notices file c.args.least_other c.args.page mark), tt));
+      log = has_weaker _ _ (log_load size c.args.page level.bytes (Err c.in_err-load.field-0.0) c.in_err-load.ensures.told level.size level.holds)
+          (λ log l. inr (l, used))
+          (λ file bytes mark m e ok same chain. (
+            moves_none g.K.Reporter.hears c.args.reporter.now (page_notices file c.args.least_other c.args.page mark),
+            tt,
+          ));
       count = c.in_err-load.ensures.count;
     }))
 
@@ -44,10 +48,13 @@ returns-in_ok-load-clause-asks g c =
           (λ file bytes mark m e ok same chain.
           let k : mark ≡ c.get-mark.result = let q = c.get-mark.ensures in cc in
           let fixed : is_fixed_mark mark ≡ true = ap is_fixed_mark k ∙ sym c.is_fixed.ensures ∙ c.if-is_fixed.true in
-          let map : fixed_use (geometry file) c.args.page ≡ Some Map = ap (λ (g : Geometry). fixed_use g c.args.page) (sym (c.geometry.ensures.value ∙ e)) ∙ used.0 in
+          let map : fixed_use (geometry file) c.args.page ≡ Some Map = ap (λ (g : Geometry). fixed_use g c.args.page) (sym (c.geometry.ensures.value ∙ e))
+          ∙ used.0 in
           let read : c.load.new.self.chain ≡ level.bytes = ap (λ (b : Pages). b.chain) level.only in (
-            subst (λ l. Moves g.K.Reporter.hears c.args.reporter.now l c.args.reporter.now) (sym (fixed_items file c.args.least_other c.args.page mark fixed)) refl,
-            next_read file c.load.new.self.chain c.args.page map (read ∙ page_read file level.bytes size c.args.page level.size bytes (ap (λ (g : Geometry). g.page_size) (sym e))),
+            subst (λ l. Moves g.K.Reporter.hears c.args.reporter.now l c.args.reporter.now) (sym (fixed_items file c.args.least_other c.args.page mark fixed))
+                refl,
+            next_read file c.load.new.self.chain c.args.page map
+                (read ∙ page_read file level.bytes size c.args.page level.size bytes (ap (λ (g : Geometry). g.page_size) (sym e))),
           ));
       count = c.in_ok-load.ensures.count;
     }
@@ -57,7 +64,8 @@ returns-else-is_map_in_use-clause-asks g c = asks_nothing g.S.Source.step _ _ _ 
     let k : mark ≡ c.get-mark.result = let q = c.get-mark.ensures in cc in
     let fixed : is_fixed_mark mark ≡ true = ap is_fixed_mark k ∙ sym c.is_fixed.ensures ∙ c.if-is_fixed.true in
     let shape = c.geometry.ensures.value ∙ e in
-    let last = not_in_use (geometry file) c.args.page (λ u. both_ways c.is_map_in_use.result c.if-is_map_in_use.false (c.is_map_in_use.ensures.1 (subst (λ (g : Geometry). IsMapInUse g c.args.page) (sym shape) u))) in (
+    let last = not_in_use (geometry file) c.args.page (λ u. both_ways c.is_map_in_use.result c.if-is_map_in_use.false
+    (c.is_map_in_use.ensures.1 (subst (λ (g : Geometry). IsMapInUse g c.args.page) (sym shape) u))) in (
       subst (λ l. Moves g.K.Reporter.hears c.args.reporter.now l c.args.reporter.now) (sym (fixed_items file c.args.least_other c.args.page mark fixed)) refl,
       next_kept file c.args.bench.now.chain c.args.page ok c.requires.page.0 last chain,
     ))
@@ -67,10 +75,12 @@ returns-clause-asks g c = asks_nothing g.S.Source.step _ c.tell_all.result _ c.t
     let k : mark ≡ c.get-mark.result = let q = c.get-mark.ensures in cc in
     let free : is_fixed (geometry file) c.args.page ≡ false = sym same ∙ ap is_fixed_mark k ∙ sym c.is_fixed.ensures ∙ c.if-is_fixed.false in
     let entry = c.entry_of-entry.ensures file e (subst (λ g. HasMapFor file g c.args.page c.args.bench.now.chain) (sym e) chain) in
-    let items = other_items file c.args.least_other c.args.page mark c.use_fault.result c.late_fault.result (option_map entry_value c.entry_of-entry.result) c.geometry-has_map.result.has_map entry
+    let items = other_items file c.args.least_other c.args.page mark c.use_fault.result c.late_fault.result (option_map entry_value c.entry_of-entry.result)
+    c.geometry-has_map.result.has_map entry
     (ap (λ (g : Geometry). g.has_map) (c.geometry-has_map.ensures.value ∙ e))
     (c.use_fault.ensures ∙ ap (λ m. mark_fault c.args.page (option_map entry_value c.entry_of-entry.result) m) (sym k))
     (c.late_fault.ensures ∙ ap (λ m. late_fault c.geometry-has_map.result.has_map c.args.page m c.args.least_other) (sym k)) in (
       subst (λ l. Tells g.K.Reporter.hears g.K.Reporter.cuts c.tell_all.result c.args.reporter.now l c.tell_all.new.reporter) items c.tell_all.ensures.told,
-      on_ok c.tell_all.result (next_kept file c.args.bench.now.chain c.args.page ok c.requires.page.0 (λ z. absurd (not_map (geometry file) c.args.page free z)) chain),
+      on_ok c.tell_all.result (next_kept file c.args.bench.now.chain c.args.page ok c.requires.page.0 (λ z. absurd (not_map (geometry file) c.args.page free z))
+          chain),
     ))

@@ -18,7 +18,11 @@ use Rattle.dbscan.proofs.end_pass.end_pages.Goals as goal
 
 pub loop-index-init : goal.loop-index-init
 loop-index-init g c = record {
-  asks = record { log = has_none _ _ refl refl (reads_none c.args.bench.now.geometry.page_size (IsMapInUse c.args.bench.now.geometry) 1) (λ file e ok V m. (refl, λ has low high. absurd (omega arith))); count = refl };
+  asks = record {
+    log = has_none _ _ refl refl (reads_none c.args.bench.now.geometry.page_size (IsMapInUse c.args.bench.now.geometry) 1)
+        (λ file e ok V m. (refl, λ has low high. absurd (omega arith)));
+    count = refl;
+  };
   writes = refl;
   bench = refl;
 }
@@ -29,9 +33,11 @@ returns-in_err-end_page-clause-asks g c =
     let shape = c.args.bench.now.geometry in
     let same = ap (λ (b : Pages). b.geometry) c.loop-index.invariant.bench in
     let q = err_from_is_err_and c.from_residual.result c.from_residual.ensures.1 in
-    rw q.1 (rw q.2 (asks_then (MapReadsBefore shape (i + 1)) (IsMapTurn c.loop-index.bench.geometry (i + 1)) _ _ (Err c.in_err-end_page.field-0.0) (λ n. refl) (λ n. refl)
+    rw q.1 (rw q.2 (asks_then (MapReadsBefore shape (i + 1)) (IsMapTurn c.loop-index.bench.geometry (i + 1)) _ _ (Err c.in_err-end_page.field-0.0) (λ n. refl)
+    (λ n. refl)
     c.loop-index.invariant.asks c.in_err-end_page.ensures.asks
-    (λ a b e f. (reads_more shape.page_size (IsMapInUse shape) (i + 1) (i + 1) a b (omega arith) e (subst (λ (s : Geometry). IsMapTurn s (i + 1) b) same f)).reads)
+    (λ a b e f. (reads_more shape.page_size (IsMapInUse shape) (i + 1) (i + 1) a b (omega arith) e
+    (subst (λ (s : Geometry). IsMapTurn s (i + 1) b) same f)).reads)
     (λ file way turn e ok V m.
     let k = way e ok V m in
     let len : length c.args.marks.now ≡ (geometry file).pages = ap length m ∙ marks_of-length (geometry file) V in
@@ -39,11 +45,14 @@ returns-in_err-end_page-clause-asks g c =
     let mark = mark_of (geometry file) V (i + 1) in
     let at = ap (λ l. page_mark l (i + 1)) m ∙ page_mark-in (geometry file) V (i + 1) (omega arith) (omega arith) in
     let t = turn mark at (same ∙ e) ok (fixed_by_mark (geometry file) V (i + 1)) k.1 in
-    let some = stops_by_after g.K.Reporter.hears g.K.Reporter.cuts c.in_err-end_page.field-0.0 c.args.reporter.now c.loop-index.reporter c.end_page.new.reporter (pages_items file V c.args.least_other i) (page_notices file c.args.least_other (i + 1) mark) k.0 t.0 in
-    let more = subst (λ l. StopsBy g.K.Reporter.hears g.K.Reporter.cuts c.in_err-end_page.field-0.0 c.args.reporter.now l c.end_page.new.reporter) (sym (items_one_more file V c.args.least_other i)) some in
+    let some = stops_by_after g.K.Reporter.hears g.K.Reporter.cuts c.in_err-end_page.field-0.0 c.args.reporter.now c.loop-index.reporter c.end_page.new.reporter
+    (pages_items file V c.args.least_other i) (page_notices file c.args.least_other (i + 1) mark) k.0 t.0 in
+    let more = subst (λ l. StopsBy g.K.Reporter.hears g.K.Reporter.cuts c.in_err-end_page.field-0.0 c.args.reporter.now l c.end_page.new.reporter)
+    (sym (items_one_more file V c.args.least_other i)) some in
     let rest = items_begin file V c.args.least_other (i + 1) (geometry file).pages (omega arith) in
     subst (λ l. StopsBy g.K.Reporter.hears g.K.Reporter.cuts c.in_err-end_page.field-0.0 c.args.reporter.now l c.end_page.new.reporter) rest.1
-    (stops_by_first g.K.Reporter.hears g.K.Reporter.cuts c.in_err-end_page.field-0.0 c.args.reporter.now c.end_page.new.reporter (pages_items file V c.args.least_other (i + 1)) rest.0 more))))
+    (stops_by_first g.K.Reporter.hears g.K.Reporter.cuts c.in_err-end_page.field-0.0 c.args.reporter.now c.end_page.new.reporter
+    (pages_items file V c.args.least_other (i + 1)) rest.0 more))))
 
 pub loop-index-preserved : goal.loop-index-preserved
 loop-index-preserved g c =
@@ -52,7 +61,8 @@ loop-index-preserved g c =
     let same = ap (λ (b : Pages). b.geometry) c.loop-index.invariant.bench in record {
       asks = asks_then (MapReadsBefore shape (i + 1)) (IsMapTurn c.loop-index.bench.geometry (i + 1)) _ _ (Ok tt) (λ n. refl) (λ n. refl)
           c.loop-index.invariant.asks c.in_ok-end_page.ensures.asks
-          (λ a b e f. reads_more shape.page_size (IsMapInUse shape) (i + 1) (i + 1) a b (omega arith) e (subst (λ (s : Geometry). IsMapTurn s (i + 1) b) same f))
+          (λ a b e f. reads_more shape.page_size (IsMapInUse shape) (i + 1) (i + 1) a b (omega arith) e
+          (subst (λ (s : Geometry). IsMapTurn s (i + 1) b) same f))
           (λ file way turn e ok V m.
           let k = way e ok V m in
           let len : length c.args.marks.now ≡ (geometry file).pages = ap length m ∙ marks_of-length (geometry file) V in
@@ -61,7 +71,8 @@ loop-index-preserved g c =
           let at = ap (λ l. page_mark l (i + 1)) m ∙ page_mark-in (geometry file) V (i + 1) (omega arith) (omega arith) in
           let t = turn mark at (same ∙ e) ok (fixed_by_mark (geometry file) V (i + 1)) k.1 in (
             subst (λ l. Moves g.K.Reporter.hears c.args.reporter.now l c.end_page.new.reporter) (sym (items_one_more file V c.args.least_other i))
-                (Moves-append g.K.Reporter.hears c.args.reporter.now c.loop-index.reporter c.end_page.new.reporter (pages_items file V c.args.least_other i) (page_notices file c.args.least_other (i + 1) mark) k.0 t.0),
+                (Moves-append g.K.Reporter.hears c.args.reporter.now c.loop-index.reporter c.end_page.new.reporter (pages_items file V c.args.least_other i)
+                (page_notices file c.args.least_other (i + 1) mark) k.0 t.0),
             t.1,
           ));
       writes = c.in_ok-end_page.ensures.writes ∙ c.loop-index.invariant.writes;
@@ -69,7 +80,8 @@ loop-index-preserved g c =
     }
 
 pub returns-clause-asks : goal.returns-clause-asks
-returns-clause-asks g c = asks_weaker (MapReadsBefore c.args.bench.now.geometry (c.loop-index.index + 1)) _ (Ok tt) (λ n. refl) c.loop-index.invariant.asks (λ log h. h.reads)
+returns-clause-asks g c = asks_weaker (MapReadsBefore c.args.bench.now.geometry (c.loop-index.index + 1)) _ (Ok tt) (λ n. refl) c.loop-index.invariant.asks
+    (λ log h. h.reads)
     (λ file way e ok V m.
     let k = way e ok V m in
     let len : length c.args.marks.now ≡ (geometry file).pages = ap length m ∙ marks_of-length (geometry file) V in

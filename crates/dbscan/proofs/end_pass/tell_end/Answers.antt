@@ -14,7 +14,7 @@ use Rattle.dbmarks.specs.EndMarks.{least_other_marked}
 use Rattle.dbmarks.specs.Marking.{AreMarksOf, marks_of}
 use Rattle.dbwalk.specs.Telling.{Tells, StopsBy}
 use Rattle.dbwalk.proofs.Telling.Belows.{stops_by_first}
-use Rattle.dbscan.specs.Desks.{Things}
+use Rattle.dbscan.specs.Desks.{DeskView}
 use Rattle.dbscan.specs.EndPass.{pages_items}
 use Rattle.dbscan.specs.MapReads.{IsMapInUse, MapReads}
 use Rattle.dbscan.specs.Notices.{end_notices, walked}
@@ -28,41 +28,53 @@ pub returns-in_err-walked-clause-asks : goal.returns-in_err-walked-clause-asks
 returns-in_err-walked-clause-asks g c =
     let q = err_from_is_err_and c.from_residual.result c.from_residual.ensures.1 in
     let shape = geometry_of c.args.desk.now.header.bytes c.args.desk.now.header.file_len in
-    let header = ap (λ (d : Things). d.header) c.desk.view_is in
-    let marks = ap (λ (d : Things). d.marks) c.desk.view_is in
+    let header = ap (λ (d : DeskView). d.header) c.desk.view_is in
+    let marks = ap (λ (d : DeskView). d.marks) c.desk.view_is in
     rw q.1 (rw q.2 (asks_nothing g.S.Source.step _ (Err WriteFailed) _ refl (reads_none shape.page_size (IsMapInUse shape) 1).reads (λ file is V s m rows.
-    inl (subst (λ n. g.K.Reporter.cuts c.args.reporter.now n c.walked.new.self) (ap₂ walked (c.geometry.ensures.shape ∙ (subst (λ h. IsHeaderOf h file) (sym header) is).shape) (marks ∙ m)) c.in_err-walked.ensures.notice))))
+    inl (subst (λ n. g.K.Reporter.cuts c.args.reporter.now n c.walked.new.self)
+    (ap₂ walked (c.geometry.ensures.shape ∙ (subst (λ h. IsHeaderOf h file) (sym header) is).shape) (marks ∙ m)) c.in_err-walked.ensures.notice))))
 
 pub returns-in_err-tell_all-clause-asks : goal.returns-in_err-tell_all-clause-asks
 returns-in_err-tell_all-clause-asks g c =
     let q = err_from_is_err_and c.from_residual-in_err-tell_all.result c.from_residual-in_err-tell_all.ensures.1 in
     let shape = geometry_of c.args.desk.now.header.bytes c.args.desk.now.header.file_len in
-    let header = ap (λ (d : Things). d.header) c.desk.view_is in
-    let marks = ap (λ (d : Things). d.marks) c.desk.view_is in
-    rw q.1 (rw q.2 (asks_nothing g.S.Source.step _ (Err c.in_err-tell_all.field-0.0) _ c.in_err-tell_all.ensures.only (reads_none shape.page_size (IsMapInUse shape) 1).reads (λ file is V s m rows.
+    let header = ap (λ (d : DeskView). d.header) c.desk.view_is in
+    let marks = ap (λ (d : DeskView). d.marks) c.desk.view_is in
+    rw q.1 (rw q.2 (asks_nothing g.S.Source.step _ (Err c.in_err-tell_all.field-0.0) _ c.in_err-tell_all.ensures.only
+    (reads_none shape.page_size (IsMapInUse shape) 1).reads (λ file is V s m rows.
     let counts = c.count_marks-counts.result in
     let pages = pages_items file V (least_other_marked (marks_of (geometry file) V)) (geometry file).pages in
     let its = subst (λ h. IsHeaderOf h file) (sym header) is in
-    let items = all_items file V s c.desk.inside.header c.args.any_rows c.desk.inside.marks counts.greatest_root counts.free_pages c.counted_faults-faults.result its (marks ∙ m) rows
+    let items = all_items file V s c.desk.inside.header c.args.any_rows c.desk.inside.marks counts.greatest_root counts.free_pages
+    c.counted_faults-faults.result its (marks ∙ m) rows
     c.count_marks-counts.ensures.greatest c.count_marks-counts.ensures.free c.counted_faults-faults.ensures in
-    walked_then {A = Unit {0}} g.K.Reporter.hears g.K.Reporter.cuts file V (Err c.in_err-tell_all.field-0.0) c.args.reporter.now c.walked.new.self c.tell_all.new.reporter c.geometry.result c.desk.inside.marks
+    walked_then {A = Unit {0}} g.K.Reporter.hears g.K.Reporter.cuts file V (Err c.in_err-tell_all.field-0.0) c.args.reporter.now c.walked.new.self
+    c.tell_all.new.reporter c.geometry.result c.desk.inside.marks
     (c.geometry.ensures.shape ∙ its.shape) (marks ∙ m) c.in_ok-walked.ensures.notice
     (subst (λ l. StopsBy g.K.Reporter.hears g.K.Reporter.cuts c.in_err-tell_all.field-0.0 c.walked.new.self l c.tell_all.new.reporter) items
-    (stops_by_first g.K.Reporter.hears g.K.Reporter.cuts c.in_err-tell_all.field-0.0 c.walked.new.self c.tell_all.new.reporter (items_of part.End c.counted_faults-faults.result) pages c.in_err-tell_all.ensures.told)))))
+    (stops_by_first g.K.Reporter.hears g.K.Reporter.cuts c.in_err-tell_all.field-0.0 c.walked.new.self c.tell_all.new.reporter
+    (items_of part.End c.counted_faults-faults.result) pages c.in_err-tell_all.ensures.told)))))
 
 pub returns-clause-asks : goal.returns-clause-asks
 returns-clause-asks g c =
-    subst (λ (d : Things). Asks g.S.Source.step (MapReads (geometry_of d.header.bytes d.header.file_len)) (λ file. IsHeaderOf d.header file → (V : List Reference) → Survey file V → AreMarksOf file V d.marks
-    → c.args.any_rows ≡ has_rows file V → Tells g.K.Reporter.hears g.K.Reporter.cuts c.end_pages.result c.args.reporter.now (end_notices file V) c.end_pages.new.reporter)
+    subst (λ (d : DeskView). Asks g.S.Source.step (MapReads (geometry_of d.header.bytes d.header.file_len))
+    (λ file. IsHeaderOf d.header file → (V : List Reference) → Survey file V → AreMarksOf file V d.marks
+    → c.args.any_rows ≡ has_rows file V → Tells g.K.Reporter.hears g.K.Reporter.cuts c.end_pages.result c.args.reporter.now (end_notices file V)
+    c.end_pages.new.reporter)
     is_read_failed c.end_pages.result (g.S.Source.held c.args.source.now) (g.S.Source.held c.end_pages.new.source)) c.desk.view_is
-    (asks_weaker _ _ c.end_pages.result (λ n. refl) c.end_pages.ensures.asks (λ log r. subst (λ g. MapReads g log) c.desk.invariant.shape r) (λ file ended is V s m rows.
+    (asks_weaker _ _ c.end_pages.result (λ n. refl) c.end_pages.ensures.asks (λ log r. subst (λ g. MapReads g log) c.desk.invariant.shape r)
+    (λ file ended is V s m rows.
     let counts = c.count_marks-counts.result in
-    let items = all_items file V s c.desk.inside.header c.args.any_rows c.desk.inside.marks counts.greatest_root counts.free_pages c.counted_faults-faults.result is m rows
+    let items = all_items file V s c.desk.inside.header c.args.any_rows c.desk.inside.marks counts.greatest_root counts.free_pages
+    c.counted_faults-faults.result is m rows
     c.count_marks-counts.ensures.greatest c.count_marks-counts.ensures.free c.counted_faults-faults.ensures in
     let least = c.count_marks-counts.ensures.least ∙ ap least_other_marked m in
-    let rest = subst (λ o. Tells g.K.Reporter.hears g.K.Reporter.cuts c.end_pages.result c.tell_all.new.reporter (pages_items file V o (geometry file).pages) c.end_pages.new.reporter) least (ended (c.desk.invariant.shape ∙ is.shape) is.is_read V m) in
-    walked_then g.K.Reporter.hears g.K.Reporter.cuts file V c.end_pages.result c.args.reporter.now c.walked.new.self c.end_pages.new.reporter c.geometry.result c.desk.inside.marks
+    let rest = subst (λ o. Tells g.K.Reporter.hears g.K.Reporter.cuts c.end_pages.result c.tell_all.new.reporter (pages_items file V o (geometry file).pages)
+    c.end_pages.new.reporter) least (ended (c.desk.invariant.shape ∙ is.shape) is.is_read V m) in
+    walked_then g.K.Reporter.hears g.K.Reporter.cuts file V c.end_pages.result c.args.reporter.now c.walked.new.self c.end_pages.new.reporter c.geometry.result
+    c.desk.inside.marks
     (c.geometry.ensures.shape ∙ is.shape) m c.in_ok-walked.ensures.notice
     (subst (λ l. Tells g.K.Reporter.hears g.K.Reporter.cuts c.end_pages.result c.walked.new.self l c.end_pages.new.reporter) items
-    (tells_then g.K.Reporter.hears g.K.Reporter.cuts c.end_pages.result c.walked.new.self c.tell_all.new.reporter c.end_pages.new.reporter (items_of part.End c.counted_faults-faults.result) (pages_items file V (least_other_marked (marks_of (geometry file) V)) (geometry file).pages)
+    (tells_then g.K.Reporter.hears g.K.Reporter.cuts c.end_pages.result c.walked.new.self c.tell_all.new.reporter c.end_pages.new.reporter
+    (items_of part.End c.counted_faults-faults.result) (pages_items file V (least_other_marked (marks_of (geometry file) V)) (geometry file).pages)
     c.in_ok-tell_all.ensures.told rest))))

@@ -22,7 +22,8 @@ returns-in_err-load-clause-asks g c =
     let size = c.args.bench.now.geometry.page_size in
     let level = c.in_err-load.ensures.level in
     rw q.1 (rw q.2 (record {
-      log = has_weaker _ _ (log_load size c.args.page level.bytes (Err c.in_err-load.field-0.0) c.in_err-load.ensures.told level.size level.holds) (λ log l. l) (λ file bytes e. tt);
+      log = has_weaker _ _ (log_load size c.args.page level.bytes (Err c.in_err-load.field-0.0) c.in_err-load.ensures.told level.size level.holds) (λ log l. l)
+          (λ file bytes e. tt);
       count = c.in_err-load.ensures.count;
     }))
 
@@ -35,6 +36,7 @@ returns-clause-asks g c =
     record {
       log = has_weaker _ _ (log_load size c.args.page level.bytes (Ok tt) c.in_ok-load.ensures.told level.size level.holds) (λ log l. l)
           (λ file bytes e. seen (is_unmarked c.args.marks.now) file c.args.page c.args.bench.now.geometry _ _ c.lost_cause.result e usable
-          (c.page.ensures.bytes ∙ chain ∙ page_read file level.bytes size c.args.page level.size bytes (ap (λ (s : Geometry). s.page_size) (sym e))) c.lost_cause.ensures);
+          (c.page.ensures.bytes ∙ chain ∙ page_read file level.bytes size c.args.page level.size bytes (ap (λ (s : Geometry). s.page_size) (sym e)))
+          c.lost_cause.ensures);
       count = c.in_ok-load.ensures.count;
     }

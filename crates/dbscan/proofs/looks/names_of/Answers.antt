@@ -12,7 +12,8 @@ use Rattle.dbscan.proofs.looks.names_of.Goals.{in-Some+then-is_lost, in-Some+els
 -- so many of the first i pages that a page names, and so many of them are lost
 abbrev IsOf : View → (ℕ → Bool) → ℕ → ℕ → ℕ → Type 0
 IsOf v lost i pages gone =
-    (pages ≡ count_by (λ k. is_some (named_page v k)) (range_with_len 0 i)) × (gone ≡ count_by (λ k. option_map_or lost (named_page v k) false) (range_with_len 0 i))
+    (pages ≡ count_by (λ k. is_some (named_page v k)) (range_with_len 0 i))
+    × (gone ≡ count_by (λ k. option_map_or lost (named_page v k) false) (range_with_len 0 i))
     × (pages ≤ i) × (gone ≤ i)
 
 one_at_most : (n i : ℕ) (b : Bool) → n ≤ i → n + cond b 1 0 ≤ i + 1
@@ -20,12 +21,14 @@ one_at_most n i true l = omega (arith, l)
 one_at_most n i false l = omega (arith, l)
 
 -- with the next one
-next : (v : View) (lost : ℕ → Bool) (i pages gone : ℕ) (o : Option ℕ) (b : Bool) → named_page v i ≡ o → option_map_or lost o false ≡ b → IsOf v lost i pages gone
+next : (v : View) (lost : ℕ → Bool) (i pages gone : ℕ) (o : Option ℕ) (b : Bool) → named_page v i ≡ o → option_map_or lost o false ≡ b
+    → IsOf v lost i pages gone
     → IsOf v lost (i + 1) (pages + cond (is_some o) 1 0) (gone + cond b 1 0)
 next v lost i pages gone o b e f is = (
   ap (λ n. n + cond (is_some o) 1 0) is.0 ∙ ap (λ o. count_by (λ k. is_some (named_page v k)) (range_with_len 0 i) + cond (is_some o) 1 0) (sym e)
       ∙ sym (count_push (λ k. is_some (named_page v k)) 0 i i (omega arith)),
-  ap (λ n. n + cond b 1 0) is.1 ∙ ap (λ b. count_by (λ k. option_map_or lost (named_page v k) false) (range_with_len 0 i) + cond b 1 0) (sym f ∙ ap (λ o. option_map_or lost o false) (sym e))
+  ap (λ n. n + cond b 1 0) is.1 ∙ ap (λ b. count_by (λ k. option_map_or lost (named_page v k) false) (range_with_len 0 i) + cond b 1 0)
+      (sym f ∙ ap (λ o. option_map_or lost o false) (sym e))
       ∙ sym (count_push (λ k. option_map_or lost (named_page v k) false) 0 i i (omega arith)),
   one_at_most pages i (is_some o) is.2,
   one_at_most gone i b is.3,
@@ -40,10 +43,12 @@ loop-i-preserved g c =
     let lost = is_unmarked c.args.marks.now in
     let i = c.loop-i.i in
     let named = c.loop-i.named in
-    let turn : (o : Option ℕ) (b : Bool) → c.named_page.result ≡ o → option_map_or lost o false ≡ b → IsOf v lost (i + 1) (named.pages + cond (is_some o) 1 0) (named.lost + cond b 1 0)
+    let turn : (o : Option ℕ) (b : Bool) → c.named_page.result ≡ o → option_map_or lost o false ≡ b
+    → IsOf v lost (i + 1) (named.pages + cond (is_some o) 1 0) (named.lost + cond b 1 0)
     = λ o b e f. next v lost i named.pages named.lost o b (sym c.named_page.ensures ∙ e) f c.loop-i.invariant in
     elim c.match-named_page.branch [
       | in-Some+then-is_lost w ↦ rw w.named-is (turn (Some w.in-Some.page) true w.in-Some.is (sym w.is_lost.ensures.mark ∙ w.if-is_lost.true))
-      | in-Some+else-is_lost w ↦ rw (w.named-is, none_more named.lost) (turn (Some w.in-Some.page) false w.in-Some.is (sym w.is_lost.ensures.mark ∙ w.if-is_lost.false))
+      | in-Some+else-is_lost w ↦ rw (w.named-is, none_more named.lost)
+          (turn (Some w.in-Some.page) false w.in-Some.is (sym w.is_lost.ensures.mark ∙ w.if-is_lost.false))
       | in_default w ↦ rw (w.named-is, none_more named.pages, none_more named.lost) (turn None false w.in_default.is refl)
     ]

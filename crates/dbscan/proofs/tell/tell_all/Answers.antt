@@ -16,11 +16,15 @@ returns-in_err-hear-clause-told g c =
     let faults = c.args.faults.now in
     let i = c.loop-fault.fault-index in
     let before = items_of c.args.part (take i faults) in
-    let one = stops_after g.K.Reporter.hears g.K.Reporter.cuts c.args.reporter.now c.loop-fault.reporter c.hear.new.self before (whole c.args.part c.in-Some.fault ∷ []) c.loop-fault.invariant.told
-    (stops_here g.K.Reporter.hears g.K.Reporter.cuts c.loop-fault.reporter c.hear.new.self (whole c.args.part c.in-Some.fault) [] c.in_err-hear.ensures.notice) in
-    let all = stops_first g.K.Reporter.hears g.K.Reporter.cuts c.args.reporter.now c.hear.new.self (before ++ (whole c.args.part c.in-Some.fault ∷ [])) (items_of c.args.part (drop (i + 1) faults)) one in
+    let one = stops_after g.K.Reporter.hears g.K.Reporter.cuts c.args.reporter.now c.loop-fault.reporter c.hear.new.self before
+    (whole c.args.part c.in-Some.fault ∷ []) c.loop-fault.invariant.told
+    (stops_here g.K.Reporter.hears g.K.Reporter.cuts c.loop-fault.reporter c.hear.new.self (whole c.args.part c.in-Some.fault) [] c.in_err-hear.ensures.notice)
+    in
+    let all = stops_first g.K.Reporter.hears g.K.Reporter.cuts c.args.reporter.now c.hear.new.self (before ++ (whole c.args.part c.in-Some.fault ∷ []))
+    (items_of c.args.part (drop (i + 1) faults)) one in
     subst (λ r. Tells g.K.Reporter.hears g.K.Reporter.cuts r c.args.reporter.now (items_of c.args.part faults) c.hear.new.self) (sym (p.1 ∙ ap Err p.2))
-    (subst (λ l. Stops g.K.Reporter.hears g.K.Reporter.cuts c.args.reporter.now l c.hear.new.self) (items_around c.args.part faults i c.in-Some.fault c.loop-fault-test.true c.in-Some.is) all)
+    (subst (λ l. Stops g.K.Reporter.hears g.K.Reporter.cuts c.args.reporter.now l c.hear.new.self)
+    (items_around c.args.part faults i c.in-Some.fault c.loop-fault-test.true c.in-Some.is) all)
 
 pub loop-fault-preserved : goal.loop-fault-preserved
 loop-fault-preserved g c =
@@ -28,15 +32,20 @@ loop-fault-preserved g c =
     let i = c.loop-fault.fault-index in
     elim c.match-fault.branch [
       | in-Some+in_ok-hear w ↦ record {
-        told = subst (λ l. Moves g.K.Reporter.hears c.args.reporter.now l c.match-fault.reporter) (sym (items_more c.args.part faults i (Some w.in-Some.fault) c.loop-fault-test.true w.in-Some.is))
-            (subst (λ s. Moves g.K.Reporter.hears c.args.reporter.now (items_of c.args.part (take i faults) ++ (whole c.args.part w.in-Some.fault ∷ [])) s) (sym w.reporter-is)
-            (Moves-append g.K.Reporter.hears c.args.reporter.now c.loop-fault.reporter w.hear.new.self (items_of c.args.part (take i faults)) (whole c.args.part w.in-Some.fault ∷ []) c.loop-fault.invariant.told
+        told = subst (λ l. Moves g.K.Reporter.hears c.args.reporter.now l c.match-fault.reporter)
+            (sym (items_more c.args.part faults i (Some w.in-Some.fault) c.loop-fault-test.true w.in-Some.is))
+            (subst (λ s. Moves g.K.Reporter.hears c.args.reporter.now (items_of c.args.part (take i faults) ++ (whole c.args.part w.in-Some.fault ∷ [])) s)
+            (sym w.reporter-is)
+            (Moves-append g.K.Reporter.hears c.args.reporter.now c.loop-fault.reporter w.hear.new.self (items_of c.args.part (take i faults))
+            (whole c.args.part w.in-Some.fault ∷ []) c.loop-fault.invariant.told
             (Moves-one g.K.Reporter.hears c.loop-fault.reporter w.hear.new.self (whole c.args.part w.in-Some.fault) w.in_ok-hear.ensures.notice)));
         writes = ap g.K.Reporter.held w.reporter-is ∙ w.in_ok-hear.ensures.count ∙ c.loop-fault.invariant.writes;
       }
       | in_default w ↦ record {
-        told = subst (λ l. Moves g.K.Reporter.hears c.args.reporter.now l c.match-fault.reporter) (sym (items_more c.args.part faults i None c.loop-fault-test.true w.in_default.is ∙ append-nil (items_of c.args.part (take i faults))))
-            (subst (λ s. Moves g.K.Reporter.hears c.args.reporter.now (items_of c.args.part (take i faults)) s) (sym w.reporter-is) c.loop-fault.invariant.told);
+        told = subst (λ l. Moves g.K.Reporter.hears c.args.reporter.now l c.match-fault.reporter)
+            (sym (items_more c.args.part faults i None c.loop-fault-test.true w.in_default.is ∙ append-nil (items_of c.args.part (take i faults))))
+            (subst (λ s. Moves g.K.Reporter.hears c.args.reporter.now (items_of c.args.part (take i faults)) s) (sym w.reporter-is)
+            c.loop-fault.invariant.told);
         writes = ap g.K.Reporter.held w.reporter-is ∙ c.loop-fault.invariant.writes;
       }
     ]

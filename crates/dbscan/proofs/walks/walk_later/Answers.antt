@@ -19,6 +19,7 @@ returns-clause-asks g c =
     let same = c.in_ok-walk_roots.ensures.keeps.header in
     asks_then _ _ (ap (λ (h : HeaderBytes). (geometry_of h.bytes h.file_len).page_size) same) c.in_ok-walk_roots.ensures.asks c.walk_trunks.ensures.asks
     (λ file done walked is V s before h.
-    let left = subst (λ x. IsBetweenStarts g.K.Reporter.hears g.K.Reporter.cuts file V before [] c.walk_roots.new.desk.marks x) (sym c.new.ensures.reporter) (done is V s before h) in
+    let left = subst (λ x. IsBetweenStarts g.K.Reporter.hears g.K.Reporter.cuts file V before [] c.walk_roots.new.desk.marks x) (sym c.new.ensures.reporter)
+    (done is V s before h) in
     subst (λ x. AreTold g.K.Reporter.hears g.K.Reporter.cuts file V c.walk_trunks.result c.walk_trunks.new.desk.marks before x) (search rules)
     (walked (subst (λ (h : HeaderBytes). IsHeaderOf h file) (sym same) is) V s before left))

@@ -9,7 +9,7 @@ use Rattle.dbformat.specs.declared.Encoding.{Encoding}
 use Rattle.dbformat.specs.declared.Geometry.{Geometry}
 use Rattle.dbformat.proofs.HeaderPrefix.{encoding_within}
 use Rattle.dbmarks.proofs.Readings.{asks_then, log_none}
-use Rattle.dbscan.specs.Desks.{Things, things}
+use Rattle.dbscan.specs.Desks.{DeskView, desk_view}
 use Rattle.dbscan.specs.Roots.{Listed}
 use Rattle.dbwalk.specs.Roots.{IsRootAfter}
 use Rattle.dbscan.specs.Starts.{root_of}
@@ -25,7 +25,11 @@ loop-index-init g c = record {
   roots = refl;
   shape = refl;
   marks = c.desk.invariant.marks;
-  asks = record { log = log_none c.desk.inside.bench.geometry.page_size c.desk.inside.marks c.desk.inside.marks (g.S.Source.held c.args.source.now) refl (λ file e code V s before h. h); count = refl };
+  asks = record {
+    log = log_none c.desk.inside.bench.geometry.page_size c.desk.inside.marks c.desk.inside.marks (g.S.Source.held c.args.source.now) refl
+        (λ file e code V s before h. h);
+    count = refl;
+  };
   writes = refl;
 }
 
@@ -36,14 +40,15 @@ returns-in_err-walk_row-clause-asks g c =
     let d = c.desk.inside in
     let marks = c.walk_row.new.marks in
     let e = c.in_err-walk_row.field-0.0 in
-    let stops = λ (o : Things) (file : List ℕ). (V : List Reference) → Survey file V → (before : g.row.K.Denot)
+    let stops = λ (o : DeskView) (file : List ℕ). (V : List Reference) → Survey file V → (before : g.row.K.Denot)
     → IsBetweenStarts g.K.Reporter.hears g.K.Reporter.cuts file V before (enumerate_from 1 o.roots.rows) o.marks c.args.reporter.now
     → StopsTelling g.K.Reporter.hears g.K.Reporter.cuts file V before [] (Err e) marks c.walk_row.new.reporter in
-    rw q.1 (rw q.2 (desk_asks g.S.Source.step d c.args.desk.now marks (λ file. c.encoding-encoding.result ≡ encoding file → stops (things d) file) stops
+    rw q.1 (rw q.2 (desk_asks g.S.Source.step d c.args.desk.now marks (λ file. c.encoding-encoding.result ≡ encoding file → stops (desk_view d) file) stops
     (Err e) c.desk.invariant c.desk.view_is (λ n. refl)
     (asks_then _ _ (ap (λ (s : Geometry). s.page_size) at.invariant.shape) at.invariant.asks c.in_err-walk_row.ensures.asks
     (λ file left walked same code V s before h.
-    root_told g.K.Reporter.hears g.K.Reporter.cuts file V s before at.desk-inside.marks marks at.reporter c.walk_row.new.reporter d.roots.rows at.index (Err e) (omega arith) (left same code V s before h)
+    root_told g.K.Reporter.hears g.K.Reporter.cuts file V s before at.desk-inside.marks marks at.reporter c.walk_row.new.reporter d.roots.rows at.index (Err e)
+    (omega arith) (left same code V s before h)
     (λ row is W r after. walked (at.invariant.shape ∙ same) code row (ap (λ (l : Listed). slice_get l.rows (at.index + 1 - 1)) at.invariant.roots ∙ is) W r
     (subst (λ (x : Encoding). IsRootAfter file (root_of x (at.index + 1) row) W r at.desk-inside.marks) (sym code) after))))
     (λ file is told. told (c.encoding-encoding.ensures ∙ ap encoding is.begins ∙ encoding_within file))))
@@ -58,8 +63,10 @@ loop-index-preserved g c =
       marks = search rules;
       asks = asks_then _ _ (ap (λ (s : Geometry). s.page_size) at.invariant.shape) at.invariant.asks c.in_ok-walk_row.ensures.asks
           (λ file left walked same code V s before h.
-          root_told g.K.Reporter.hears g.K.Reporter.cuts file V s before at.desk-inside.marks marks at.reporter c.walk_row.new.reporter c.desk.inside.roots.rows at.index (Ok tt) (omega arith) (left same code V s before h)
-          (λ row is W r after. walked (at.invariant.shape ∙ same) code row (ap (λ (l : Listed). slice_get l.rows (at.index + 1 - 1)) at.invariant.roots ∙ is) W r
+          root_told g.K.Reporter.hears g.K.Reporter.cuts file V s before at.desk-inside.marks marks at.reporter c.walk_row.new.reporter c.desk.inside.roots.rows
+          at.index (Ok tt) (omega arith) (left same code V s before h)
+          (λ row is W r after. walked (at.invariant.shape ∙ same) code row (ap (λ (l : Listed). slice_get l.rows (at.index + 1 - 1)) at.invariant.roots ∙ is) W
+          r
           (subst (λ (x : Encoding). IsRootAfter file (root_of x (at.index + 1) row) W r at.desk-inside.marks) (sym code) after)));
       writes = c.in_ok-walk_row.ensures.writes ∙ at.invariant.writes;
     }
@@ -68,7 +75,8 @@ pub returns-clause-asks : goal.returns-clause-asks
 returns-clause-asks g c =
     let at = c.loop-index in
     desk_asks g.S.Source.step c.desk.inside c.args.desk.now at.desk-inside.marks _
-    (λ o file. (V : List Reference) → Survey file V → (before : g.row.K.Denot) → IsBetweenStarts g.K.Reporter.hears g.K.Reporter.cuts file V before (enumerate_from 1 o.roots.rows) o.marks c.args.reporter.now
+    (λ o file. (V : List Reference) → Survey file V → (before : g.row.K.Denot)
+    → IsBetweenStarts g.K.Reporter.hears g.K.Reporter.cuts file V before (enumerate_from 1 o.roots.rows) o.marks c.args.reporter.now
     → IsBetweenStarts g.K.Reporter.hears g.K.Reporter.cuts file V before [] at.desk-inside.marks at.reporter)
     (Ok tt) c.desk.invariant c.desk.view_is (λ n. refl) at.invariant.asks
     (λ file is left V s before h.

@@ -18,6 +18,7 @@ returns-then-piece-gt-CAPACITY-clause-grows g c =
 
 pub returns-clause-grows : goal.returns-clause-grows
 returns-clause-grows g c = elim c.if-piece-len.branch [
-  | then-piece-len+in_ok-make_room+else-piece-gt-CAPACITY w ↦ rw w.writer-is (begins_longer _ _ c.args.gathered.now.items c.args.piece.now w.in_ok-make_room.ensures.begins)
+  | then-piece-len+in_ok-make_room+else-piece-gt-CAPACITY w ↦ rw w.writer-is
+      (begins_longer _ _ c.args.gathered.now.items c.args.piece.now w.in_ok-make_room.ensures.begins)
   | else-piece-len w ↦ rw w.writer-is (begins_nothing _ _)
 ]

@@ -13,7 +13,9 @@ returns-clause-passed g c =
     record {
       ahead = c.rise_from-rise.ensures.within.0;
       rising = λ bytes v there viewed low.
-          let same = same_view c.in-Ok.view v (seen b t.kind (length t.path.items) c.args.page c.requires c.geometry-usable.result.usable (ap (λ s. s.usable) c.geometry-usable.ensures.value)
+          let same = same_view c.in-Ok.view v (seen b t.kind (length t.path.items) c.args.page c.requires c.geometry-usable.result.usable
+          (ap (λ s. s.usable) c.geometry-usable.ensures.value)
           c.page.result.now (c.page.ensures.bytes ∙ ap (bytes_at b) c.len.ensures.value) (Some c.in-Ok.view) c.in-Ok.ensures.view bytes v there viewed) in
-          subst (λ v. (rise.end ≤ count v) × AreRisingFrom c.args.page v c.args.from (rise.end - c.args.from) t.greatest rise.greatest) same (c.rise_from-rise.ensures.within.1, c.rise_from-rise.ensures.rising);
+          subst (λ v. (rise.end ≤ count v) × AreRisingFrom c.args.page v c.args.from (rise.end - c.args.from) t.greatest rise.greatest) same
+          (c.rise_from-rise.ensures.within.1, c.rise_from-rise.ensures.rising);
     }

@@ -11,47 +11,77 @@ use Rattle.dbwalk.proofs.Telling.Lefts.{left_untold}
 use Rattle.dbwalk.proofs.chain.enter_overflow.Goals as goal
 
 pub returns-in_err-enter-clause-log : goal.returns-in_err-enter-clause-log
-returns-in_err-enter-clause-log g c = log_none c.args.bench.now.geometry.page_size c.args.marks.now c.enter.new.marks (g.S.Source.held c.args.source.now) c.in_err-enter.ensures.after_error.1 (λ file e W d before first on.
+returns-in_err-enter-clause-log g c = log_none c.args.bench.now.geometry.page_size c.args.marks.now c.enter.new.marks (g.S.Source.held c.args.source.now)
+    c.in_err-enter.ensures.after_error.1 (λ file e W d before first on.
     let q = err_from_is_err_and c.from_residual.result c.from_residual.ensures.1 in
-    subst (λ r. Turns g.K.Sink.takes g.K.Sink.drops file W d before c.args.chain.now r c.enter.new.marks c.enter.new.sink first c.args.sieve.now) (sym (q.1 ∙ ap Err q.2))
-    (left_untold g.K.Sink.takes file W (Go d ∷ []) before on.visited c.args.marks.now c.args.sink.now g.K.Sink.drops c.enter.new.sink c.enter.new.marks c.in_err-enter.field-0.0 on.d [] on.rest
-    (c.in_err-enter.ensures.entered file on.visited on.d on.step on.rest.past on.rest.marked (refusal_here file (ap (λ s. s.usable) (c.geometry-usable.ensures.value ∙ e)) c.args.chain.now c.args.place.number c.args.place.left on.d on.visited on.zeros on.left on.on on.head c.chain_cause-cause.ensures))))
+    subst (λ r. Turns g.K.Sink.takes g.K.Sink.drops file W d before c.args.chain.now r c.enter.new.marks c.enter.new.sink first c.args.sieve.now)
+    (sym (q.1 ∙ ap Err q.2))
+    (left_untold g.K.Sink.takes file W (Go d ∷ []) before on.visited c.args.marks.now c.args.sink.now g.K.Sink.drops c.enter.new.sink c.enter.new.marks
+    c.in_err-enter.field-0.0 on.d [] on.rest
+    (c.in_err-enter.ensures.entered file on.visited on.d on.step on.rest.past on.rest.marked
+    (refusal_here file (ap (λ s. s.usable) (c.geometry-usable.ensures.value ∙ e)) c.args.chain.now c.args.place.number c.args.place.left on.d on.visited
+    on.zeros on.left on.on on.head c.chain_cause-cause.ensures))))
 
 pub returns-then-not-branch-clause-log : goal.returns-then-not-branch-clause-log
-returns-then-not-branch-clause-log g c = log_none c.args.bench.now.geometry.page_size c.args.marks.now c.enter.new.marks (g.S.Source.held c.args.source.now) (c.in_ok-enter.ensures.unmarked c.if-not-branch.true) (λ file e W d before first on.
-    turn_refused g.K.Sink.takes g.K.Sink.drops file W d before c.args.chain.now c.args.place c.args.marks.now c.args.sink.now on c.enter.new.marks c.enter.new.sink
+returns-then-not-branch-clause-log g c = log_none c.args.bench.now.geometry.page_size c.args.marks.now c.enter.new.marks (g.S.Source.held c.args.source.now)
+    (c.in_ok-enter.ensures.unmarked c.if-not-branch.true) (λ file e W d before first on.
+    turn_refused g.K.Sink.takes g.K.Sink.drops file W d before c.args.chain.now c.args.place c.args.marks.now c.args.sink.now on c.enter.new.marks
+    c.enter.new.sink
     (subst (λ b. Enters g.K.Sink.takes g.K.Sink.drops file on.visited on.d (Ok b) c.enter.new.marks c.args.sink.now c.enter.new.sink) c.if-not-branch.true
-    (c.in_ok-enter.ensures.entered file on.visited on.d on.step on.rest.past on.rest.marked (refusal_here file (ap (λ s. s.usable) (c.geometry-usable.ensures.value ∙ e)) c.args.chain.now c.args.place.number c.args.place.left on.d on.visited on.zeros on.left on.on on.head c.chain_cause-cause.ensures))))
+    (c.in_ok-enter.ensures.entered file on.visited on.d on.step on.rest.past on.rest.marked
+    (refusal_here file (ap (λ s. s.usable) (c.geometry-usable.ensures.value ∙ e)) c.args.chain.now c.args.place.number c.args.place.left on.d on.visited
+    on.zeros on.left on.on on.head c.chain_cause-cause.ensures))))
 
 pub returns-in_err-next-clause-log : goal.returns-in_err-next-clause-log
 returns-in_err-next-clause-log g c =
     let k = c.in_ok-enter.ensures.marked (search rules) in
-    log_page _ c.args.bench.now.geometry.page_size c.args.marks.now c.enter.new.marks c.args.place.step.page c.args.place.step.mark k.0 k.1 c.requires.place.used c.in_err-next.ensures.log (λ file v e W d before first on.
+    log_page _ c.args.bench.now.geometry.page_size c.args.marks.now c.enter.new.marks c.args.place.step.page c.args.place.step.mark k.0 k.1
+    c.requires.place.used c.in_err-next.ensures.log (λ file v e W d before first on.
     let q = err_from_is_err_and c.from_residual-in_err-next.result c.from_residual-in_err-next.ensures.1 in
-    let n = subst (λ b. Enters g.K.Sink.takes g.K.Sink.drops file on.visited on.d (Ok b) c.enter.new.marks c.args.sink.now c.enter.new.sink) c.if-not-branch.false
-    (c.in_ok-enter.ensures.entered file on.visited on.d on.step on.rest.past on.rest.marked (refusal_here file (ap (λ s. s.usable) (c.geometry-usable.ensures.value ∙ e)) c.args.chain.now c.args.place.number c.args.place.left on.d on.visited on.zeros on.left on.on on.head c.chain_cause-cause.ensures)) in
-    subst (λ r. Turns g.K.Sink.takes g.K.Sink.drops file W d before c.args.chain.now r c.enter.new.marks c.visit_overflow.new.sink first c.visit_overflow.new.sieve) (sym (q.1 ∙ ap Err q.2))
-    (turn_stopped g.K.Sink.takes g.K.Sink.drops file W d before c.args.chain.now c.args.place c.args.marks.now c.args.sink.now on c.in_err-next.field-0.0 c.enter.new.marks c.enter.new.sink c.visit_overflow.new.sink
-    n ((v e).told (on.visited ++ (on.d ∷ [])) on.d on.step.page on.left on.on (head_visited file c.args.chain.now on.visited c.args.place.number on.d on.on on.head))))
+    let n = subst (λ b. Enters g.K.Sink.takes g.K.Sink.drops file on.visited on.d (Ok b) c.enter.new.marks c.args.sink.now c.enter.new.sink)
+    c.if-not-branch.false
+    (c.in_ok-enter.ensures.entered file on.visited on.d on.step on.rest.past on.rest.marked
+    (refusal_here file (ap (λ s. s.usable) (c.geometry-usable.ensures.value ∙ e)) c.args.chain.now c.args.place.number c.args.place.left on.d on.visited
+    on.zeros on.left on.on on.head c.chain_cause-cause.ensures)) in
+    subst (λ r. Turns g.K.Sink.takes g.K.Sink.drops file W d before c.args.chain.now r c.enter.new.marks c.visit_overflow.new.sink first
+    c.visit_overflow.new.sieve) (sym (q.1 ∙ ap Err q.2))
+    (turn_stopped g.K.Sink.takes g.K.Sink.drops file W d before c.args.chain.now c.args.place c.args.marks.now c.args.sink.now on c.in_err-next.field-0.0
+    c.enter.new.marks c.enter.new.sink c.visit_overflow.new.sink
+    n ((v e).told (on.visited ++ (on.d ∷ [])) on.d on.step.page on.left on.on
+    (head_visited file c.args.chain.now on.visited c.args.place.number on.d on.on on.head))))
 
 pub returns-then-place-room-clause-log : goal.returns-then-place-room-clause-log
 returns-then-place-room-clause-log g c =
     let k = c.in_ok-enter.ensures.marked (search rules) in
-    log_page _ c.args.bench.now.geometry.page_size c.args.marks.now c.enter.new.marks c.args.place.step.page c.args.place.step.mark k.0 k.1 c.requires.place.used c.in_ok-next.ensures.log (λ file v e W d before first on.
-    let n = subst (λ b. Enters g.K.Sink.takes g.K.Sink.drops file on.visited on.d (Ok b) c.enter.new.marks c.args.sink.now c.enter.new.sink) c.if-not-branch.false
-    (c.in_ok-enter.ensures.entered file on.visited on.d on.step on.rest.past on.rest.marked (refusal_here file (ap (λ s. s.usable) (c.geometry-usable.ensures.value ∙ e)) c.args.chain.now c.args.place.number c.args.place.left on.d on.visited on.zeros on.left on.on on.head c.chain_cause-cause.ensures)) in
+    log_page _ c.args.bench.now.geometry.page_size c.args.marks.now c.enter.new.marks c.args.place.step.page c.args.place.step.mark k.0 k.1
+    c.requires.place.used c.in_ok-next.ensures.log (λ file v e W d before first on.
+    let n = subst (λ b. Enters g.K.Sink.takes g.K.Sink.drops file on.visited on.d (Ok b) c.enter.new.marks c.args.sink.now c.enter.new.sink)
+    c.if-not-branch.false
+    (c.in_ok-enter.ensures.entered file on.visited on.d on.step on.rest.past on.rest.marked
+    (refusal_here file (ap (λ s. s.usable) (c.geometry-usable.ensures.value ∙ e)) c.args.chain.now c.args.place.number c.args.place.left on.d on.visited
+    on.zeros on.left on.on on.head c.chain_cause-cause.ensures)) in
     let u : c.geometry-usable.result.usable ≡ usable_size file = ap (λ s. s.usable) (c.geometry-usable.ensures.value ∙ e) in
     let l : c.args.place.left ≤ usable_size file - 4 = subst (λ s. c.args.place.left ≤ s - 4) u c.if-place-room.true in
-    turn_last g.K.Sink.takes g.K.Sink.drops file W d before c.args.chain.now c.args.place c.args.marks.now c.args.sink.now on c.enter.new.marks c.enter.new.sink c.visit_overflow.new.sink
-    n ((v e).told (on.visited ++ (on.d ∷ [])) on.d on.step.page on.left on.on (head_visited file c.args.chain.now on.visited c.args.place.number on.d on.on on.head)) l c.visit_overflow.new.sieve ((v e).fed on.d on.step.page on.left))
+    turn_last g.K.Sink.takes g.K.Sink.drops file W d before c.args.chain.now c.args.place c.args.marks.now c.args.sink.now on c.enter.new.marks c.enter.new.sink
+    c.visit_overflow.new.sink
+    n ((v e).told (on.visited ++ (on.d ∷ [])) on.d on.step.page on.left on.on
+    (head_visited file c.args.chain.now on.visited c.args.place.number on.d on.on on.head)) l c.visit_overflow.new.sieve
+    ((v e).fed on.d on.step.page on.left))
 
 pub returns-clause-log : goal.returns-clause-log
 returns-clause-log g c =
     let k = c.in_ok-enter.ensures.marked (search rules) in
-    log_page _ c.args.bench.now.geometry.page_size c.args.marks.now c.enter.new.marks c.args.place.step.page c.args.place.step.mark k.0 k.1 c.requires.place.used c.in_ok-next.ensures.log (λ file v e W d before first on.
-    let n = subst (λ b. Enters g.K.Sink.takes g.K.Sink.drops file on.visited on.d (Ok b) c.enter.new.marks c.args.sink.now c.enter.new.sink) c.if-not-branch.false
-    (c.in_ok-enter.ensures.entered file on.visited on.d on.step on.rest.past on.rest.marked (refusal_here file (ap (λ s. s.usable) (c.geometry-usable.ensures.value ∙ e)) c.args.chain.now c.args.place.number c.args.place.left on.d on.visited on.zeros on.left on.on on.head c.chain_cause-cause.ensures)) in
+    log_page _ c.args.bench.now.geometry.page_size c.args.marks.now c.enter.new.marks c.args.place.step.page c.args.place.step.mark k.0 k.1
+    c.requires.place.used c.in_ok-next.ensures.log (λ file v e W d before first on.
+    let n = subst (λ b. Enters g.K.Sink.takes g.K.Sink.drops file on.visited on.d (Ok b) c.enter.new.marks c.args.sink.now c.enter.new.sink)
+    c.if-not-branch.false
+    (c.in_ok-enter.ensures.entered file on.visited on.d on.step on.rest.past on.rest.marked
+    (refusal_here file (ap (λ s. s.usable) (c.geometry-usable.ensures.value ∙ e)) c.args.chain.now c.args.place.number c.args.place.left on.d on.visited
+    on.zeros on.left on.on on.head c.chain_cause-cause.ensures)) in
     let u : c.geometry-usable.result.usable ≡ usable_size file = ap (λ s. s.usable) (c.geometry-usable.ensures.value ∙ e) in
     let l : usable_size file - 4 < c.args.place.left = subst (λ s. s - 4 < c.args.place.left) u c.if-place-room.false in
-    turn_more_by g.K.Sink.takes g.K.Sink.drops file W d before c.args.chain.now c.args.place c.args.marks.now c.args.sink.now on c.enter.new.marks c.enter.new.sink c.visit_overflow.new.sink c.in_ok-next.next (c.geometry-usable.result.usable - 4)
-    (ap (λ s. s - 4) u) n ((v e).told (on.visited ++ (on.d ∷ [])) on.d on.step.page on.left on.on (head_visited file c.args.chain.now on.visited c.args.place.number on.d on.on on.head)) l (v e).next c.visit_overflow.new.sieve ((v e).fed on.d on.step.page on.left))
+    turn_more_by g.K.Sink.takes g.K.Sink.drops file W d before c.args.chain.now c.args.place c.args.marks.now c.args.sink.now on c.enter.new.marks
+    c.enter.new.sink c.visit_overflow.new.sink c.in_ok-next.next (c.geometry-usable.result.usable - 4)
+    (ap (λ s. s - 4) u) n ((v e).told (on.visited ++ (on.d ∷ [])) on.d on.step.page on.left on.on
+    (head_visited file c.args.chain.now on.visited c.args.place.number on.d on.on on.head)) l (v e).next c.visit_overflow.new.sieve
+    ((v e).fed on.d on.step.page on.left))

@@ -21,18 +21,22 @@ loop-next-init g c = record {
 }
 
 pub returns-in_err-next-clause-log : goal.returns-in_err-next-clause-log
-returns-in_err-next-clause-log g c = log_then _ _ (ap (λ b. b.geometry.page_size) c.loop-next.invariant.bench) c.loop-next.invariant.log c.in_err-next.ensures.log
+returns-in_err-next-clause-log g c = log_then _ _ (ap (λ b. b.geometry.page_size) c.loop-next.invariant.bench) c.loop-next.invariant.log
+    c.in_err-next.ensures.log
     (λ file way turned e W d h next m.
     let q = err_from_is_err_and c.from_residual.result c.from_residual.ensures.1 in
-    let done : IsDone g.K.Sink.takes g.K.Sink.drops file W (Go d ∷ []) (Err c.in_err-next.field-0.0) c.enter_overflow.new.marks c.args.sink.now c.enter_overflow.new.sink =
+    let done : IsDone g.K.Sink.takes g.K.Sink.drops file W (Go d ∷ []) (Err c.in_err-next.field-0.0) c.enter_overflow.new.marks c.args.sink.now
+    c.enter_overflow.new.sink =
     turned (ap (λ b. b.geometry) c.loop-next.invariant.bench ∙ e) W d c.args.sink.now c.args.sieve.now (way e W d h next m) in
-    subst (λ r. IsDone g.K.Sink.takes g.K.Sink.drops file W (Go d ∷ []) r c.enter_overflow.new.marks c.args.sink.now c.enter_overflow.new.sink × OnOk r (FeedsChain file W d c.args.sieve.now c.enter_overflow.new.sieve)) (sym (q.1 ∙ ap Err q.2)) (done, tt))
+    subst (λ r. IsDone g.K.Sink.takes g.K.Sink.drops file W (Go d ∷ []) r c.enter_overflow.new.marks c.args.sink.now c.enter_overflow.new.sink
+    × OnOk r (FeedsChain file W d c.args.sieve.now c.enter_overflow.new.sieve)) (sym (q.1 ∙ ap Err q.2)) (done, tt))
 
 pub loop-next-preserved : goal.loop-next-preserved
 loop-next-preserved g c = record {
   log = log_then _ _ (ap (λ b. b.geometry.page_size) c.loop-next.invariant.bench) c.loop-next.invariant.log c.in_ok-next.ensures.log
       (λ file way turned e W d h next m.
-      subst (λ o. Turns g.K.Sink.takes g.K.Sink.drops file W d c.args.sink.now c.args.chain.now (Ok o) c.enter_overflow.new.marks c.enter_overflow.new.sink c.args.sieve.now c.enter_overflow.new.sieve) c.in-Some.is
+      subst (λ o. Turns g.K.Sink.takes g.K.Sink.drops file W d c.args.sink.now c.args.chain.now (Ok o) c.enter_overflow.new.marks c.enter_overflow.new.sink
+      c.args.sieve.now c.enter_overflow.new.sieve) c.in-Some.is
       (turned (ap (λ b. b.geometry) c.loop-next.invariant.bench ∙ e) W d c.args.sink.now c.args.sieve.now (way e W d h next m)));
   reads = c.in_ok-next.ensures.reads ∙ c.loop-next.invariant.reads;
   writes = c.in_ok-next.ensures.writes ∙ c.loop-next.invariant.writes;
@@ -44,5 +48,6 @@ loop-next-preserved g c = record {
 pub returns-clause-log : goal.returns-clause-log
 returns-clause-log g c = log_then _ _ (ap (λ b. b.geometry.page_size) c.loop-next.invariant.bench) c.loop-next.invariant.log c.in_ok-next.ensures.log
     (λ file way turned e W d h next m.
-    subst (λ o. Turns g.K.Sink.takes g.K.Sink.drops file W d c.args.sink.now c.args.chain.now (Ok o) c.enter_overflow.new.marks c.enter_overflow.new.sink c.args.sieve.now c.enter_overflow.new.sieve) c.in_default.is
+    subst (λ o. Turns g.K.Sink.takes g.K.Sink.drops file W d c.args.sink.now c.args.chain.now (Ok o) c.enter_overflow.new.marks c.enter_overflow.new.sink
+    c.args.sieve.now c.enter_overflow.new.sieve) c.in_default.is
     (turned (ap (λ b. b.geometry) c.loop-next.invariant.bench ∙ e) W d c.args.sink.now c.args.sieve.now (way e W d h next m)))

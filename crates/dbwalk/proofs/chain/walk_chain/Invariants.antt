@@ -14,8 +14,10 @@ decreases-loop-next g l = l.place.left
 
 abbrev pub invariant-loop-next : goal.invariant-loop-next
 invariant-loop-next g l = record {
-  log : HasLog g.S.Source.step (Reads l.initial.bench.geometry.page_size l.initial.marks l.marks) (λ file. l.initial.bench.geometry ≡ geometry file → (W : List Reference) (c : Reference)
-      → IsChainOf file l.chain c → IsNext W c → AreMarksOf file W l.initial.marks → IsOnWay g.K.Sink.takes file W c l.initial.sink l.chain l.place l.marks l.sink l.initial.sieve l.sieve)
+  log : HasLog g.S.Source.step (Reads l.initial.bench.geometry.page_size l.initial.marks l.marks)
+      (λ file. l.initial.bench.geometry ≡ geometry file → (W : List Reference) (c : Reference)
+      → IsChainOf file l.chain c → IsNext W c → AreMarksOf file W l.initial.marks
+      → IsOnWay g.K.Sink.takes file W c l.initial.sink l.chain l.place l.marks l.sink l.initial.sieve l.sieve)
       (g.S.Source.held l.initial.source) (g.S.Source.held l.source);
   reads : (g.S.Source.held l.source).failures ≡ (g.S.Source.held l.initial.source).failures;
   writes : g.K.Sink.held l.sink ≡ g.K.Sink.held l.initial.sink;

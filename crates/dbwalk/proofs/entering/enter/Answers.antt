@@ -9,16 +9,24 @@ use Rattle.dbwalk.proofs.entering.enter.Goals as goal
 
 pub returns-in-None-clause-entered : goal.returns-in-None-clause-entered
 returns-in-None-clause-entered g c = λ file W d is next m causes.
-    let k = entered_yes file W d c.args.marks.now c.args.step is next m (sym c.follow.ensures.why ∙ c.in-None.is) in
-    (k.0, subst (λ l. AreMarksOf file (W ++ (d ∷ [])) l) (sym (c.follow.ensures.marks ∙ ap (followed c.args.marks.now c.args.step.page c.args.step.mark) c.in-None.is)) k.1, refl)
+    let k = entered_yes file W d c.args.marks.now c.args.step is next m (sym c.follow.ensures.why ∙ c.in-None.is) in (
+      k.0,
+      subst (λ l. AreMarksOf file (W ++ (d ∷ [])) l)
+          (sym (c.follow.ensures.marks ∙ ap (followed c.args.marks.now c.args.step.page c.args.step.mark) c.in-None.is)) k.1,
+      refl,
+    )
 
 pub returns-in_ok-fault-in-Some-clause-entered : goal.returns-in_ok-fault-in-Some-clause-entered
 returns-in_ok-fault-in-Some-clause-entered g c = λ file W d is next m causes.
     let k = entered_no file W d c.args.marks.now c.args.step is next m c.in-Some.code c.args.cause.now causes (sym c.follow.ensures.why ∙ c.in-Some.is) in (
       k.0,
       subst (λ l. AreMarksOf file W l) (sym (c.follow.ensures.marks ∙ ap (followed c.args.marks.now c.args.step.page c.args.step.mark) c.in-Some.is)) m,
-      subst (λ l. Moves g.K.Sink.takes c.args.sink.now l c.fault.new.self) (sym k.1)
-          (c.fault.new.self, subst (λ f. g.K.Sink.takes c.args.sink.now (told_fault f c.args.cause.now) c.fault.new.self) c.new-fault.ensures c.in_ok-fault-in-Some.ensures.item, refl),
+      subst (λ l. Moves g.K.Sink.takes c.args.sink.now l c.fault.new.self) (sym k.1) (
+        c.fault.new.self,
+        subst (λ f. g.K.Sink.takes c.args.sink.now (told_fault f c.args.cause.now) c.fault.new.self) c.new-fault.ensures
+            c.in_ok-fault-in-Some.ensures.item,
+        refl,
+      ),
     )
 
 pub returns-in_err-fault-in-Some-clause-entered : goal.returns-in_err-fault-in-Some-clause-entered
@@ -29,7 +37,8 @@ returns-in_err-fault-in-Some-clause-entered g c = λ file W d is next m causes.
       k.0,
       subst (λ l. AreMarksOf file W l) (sym (c.follow.ensures.marks ∙ ap (followed c.args.marks.now c.args.step.page c.args.step.mark) c.in-Some.is)) m,
       subst (λ l. Stops g.K.Sink.takes g.K.Sink.drops c.args.sink.now l c.fault.new.self) (sym k.1)
-          (inl (subst (λ f. g.K.Sink.drops c.args.sink.now (told_fault f c.args.cause.now) c.fault.new.self) c.new-fault.ensures c.in_err-fault-in-Some.ensures.item)),
+          (inl (subst (λ f. g.K.Sink.drops c.args.sink.now (told_fault f c.args.cause.now) c.fault.new.self) c.new-fault.ensures
+          c.in_err-fault-in-Some.ensures.item)),
     )
 
 pub returns-in-None-clause-page : goal.returns-in-None-clause-page

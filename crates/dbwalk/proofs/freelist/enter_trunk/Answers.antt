@@ -18,19 +18,23 @@ use Rattle.dbwalk.proofs.freelist.enter_trunk.Goals as goal
 pub returns-clause-less : goal.returns-clause-less
 returns-clause-less g c = if_some_all _ c.next_trunk.result (λ next.
     let k = c.in_ok-enter.ensures.marked (search rules) in
-    let m : unmarked_pages (set c.args.marks.now (c.args.step.page - 1) c.args.step.mark) + 1 ≡ unmarked_pages c.args.marks.now = put_count c.args.marks.now c.args.step.page c.args.step.mark k.0 (ap is_none c.requires) in
+    let m : unmarked_pages (set c.args.marks.now (c.args.step.page - 1) c.args.step.mark) + 1 ≡ unmarked_pages c.args.marks.now =
+    put_count c.args.marks.now c.args.step.page c.args.step.mark k.0 (ap is_none c.requires) in
     let n : unmarked_pages c.enter.new.marks ≡ unmarked_pages (set c.args.marks.now (c.args.step.page - 1) c.args.step.mark) = ap unmarked_pages k.1 in
     omega (arith, c.in_ok-item.ensures.fewer))
 
 pub returns-in_err-enter-clause-log : goal.returns-in_err-enter-clause-log
-returns-in_err-enter-clause-log g c = log_none c.args.bench.now.geometry.page_size c.args.marks.now c.enter.new.marks (g.S.Source.held c.args.source.now) c.in_err-enter.ensures.after_error.1 (λ file e W d before on.
+returns-in_err-enter-clause-log g c = log_none c.args.bench.now.geometry.page_size c.args.marks.now c.enter.new.marks (g.S.Source.held c.args.source.now)
+    c.in_err-enter.ensures.after_error.1 (λ file e W d before on.
     let q = err_from_is_err_and c.from_residual.result c.from_residual.ensures.1 in
     subst (λ r. TrunkTurns g.K.Sink.takes g.K.Sink.drops file W d before r c.enter.new.marks c.enter.new.sink) (sym (q.1 ∙ ap Err q.2))
-    (left_untold g.K.Sink.takes file W (Go d ∷ []) before on.visited c.args.marks.now c.args.sink.now g.K.Sink.drops c.enter.new.sink c.enter.new.marks c.in_err-enter.field-0.0 on.d [] on.rest
+    (left_untold g.K.Sink.takes file W (Go d ∷ []) before on.visited c.args.marks.now c.args.sink.now g.K.Sink.drops c.enter.new.sink c.enter.new.marks
+    c.in_err-enter.field-0.0 on.d [] on.rest
     (c.in_err-enter.ensures.entered file on.visited on.d on.step on.rest.past on.rest.marked (no_chain_refusal file on.visited on.d (ap bytes_left on.role)))))
 
 pub returns-then-not-branch-clause-log : goal.returns-then-not-branch-clause-log
-returns-then-not-branch-clause-log g c = log_none c.args.bench.now.geometry.page_size c.args.marks.now c.enter.new.marks (g.S.Source.held c.args.source.now) (c.in_ok-enter.ensures.unmarked c.if-not-branch.true) (λ file e W d before on.
+returns-then-not-branch-clause-log g c = log_none c.args.bench.now.geometry.page_size c.args.marks.now c.enter.new.marks (g.S.Source.held c.args.source.now)
+    (c.in_ok-enter.ensures.unmarked c.if-not-branch.true) (λ file e W d before on.
     trunk_refused g.K.Sink.takes g.K.Sink.drops file W d before c.args.step c.args.marks.now c.args.sink.now on c.enter.new.marks c.enter.new.sink
     (subst (λ b. Enters g.K.Sink.takes g.K.Sink.drops file on.visited on.d (Ok b) c.enter.new.marks c.args.sink.now c.enter.new.sink) c.if-not-branch.true
     (c.in_ok-enter.ensures.entered file on.visited on.d on.step on.rest.past on.rest.marked (no_chain_refusal file on.visited on.d (ap bytes_left on.role)))))
@@ -40,25 +44,30 @@ returns-in_err-load-clause-log g c =
     let k = c.in_ok-enter.ensures.marked (search rules) in
     let read = c.in_err-load.ensures.level in
     let size = c.args.bench.now.geometry.page_size in
-    log_page _ size c.args.marks.now c.enter.new.marks c.args.step.page c.args.step.mark k.0 k.1 (subst IsUse (sym c.requires) (record { some = refl; cleared = refl }))
+    log_page _ size c.args.marks.now c.enter.new.marks c.args.step.page c.args.step.mark k.0 k.1
+    (subst IsUse (sym c.requires) (record { some = refl; cleared = refl }))
     (log_load size c.args.step.page read.bytes (Err c.in_err-load.field-0.0) c.load.ensures.told read.size read.holds) (λ file h e W d before on.
     let q = err_from_is_err_and c.from_residual-in_err-load.result c.from_residual-in_err-load.ensures.1 in
-    let n = subst (λ b. Enters g.K.Sink.takes g.K.Sink.drops file on.visited on.d (Ok b) c.enter.new.marks c.args.sink.now c.enter.new.sink) c.if-not-branch.false
+    let n = subst (λ b. Enters g.K.Sink.takes g.K.Sink.drops file on.visited on.d (Ok b) c.enter.new.marks c.args.sink.now c.enter.new.sink)
+    c.if-not-branch.false
     (c.in_ok-enter.ensures.entered file on.visited on.d on.step on.rest.past on.rest.marked (no_chain_refusal file on.visited on.d (ap bytes_left on.role))) in
     subst (λ r. TrunkTurns g.K.Sink.takes g.K.Sink.drops file W d before r c.enter.new.marks c.enter.new.sink) (sym (q.1 ∙ ap Err q.2))
-    (trunk_unread g.K.Sink.takes g.K.Sink.drops file W d before c.args.step c.args.marks.now c.args.sink.now on ReadFailed c.enter.new.marks c.enter.new.sink n refl))
+    (trunk_unread g.K.Sink.takes g.K.Sink.drops file W d before c.args.step c.args.marks.now c.args.sink.now on ReadFailed c.enter.new.marks c.enter.new.sink n
+    refl))
 
 pub returns-in_err-item-clause-log : goal.returns-in_err-item-clause-log
 returns-in_err-item-clause-log g c =
     let k = c.in_ok-enter.ensures.marked (search rules) in
     let read = c.in_ok-load.ensures.level in
     let size = c.args.bench.now.geometry.page_size in
-    log_opened _ size c.args.marks.now c.enter.new.marks c.open_trunk.new.marks c.args.step.page c.args.step.mark k.0 k.1 (subst IsUse (sym c.requires) (record { some = refl; cleared = refl }))
+    log_opened _ size c.args.marks.now c.enter.new.marks c.open_trunk.new.marks c.args.step.page c.args.step.mark k.0 k.1
+    (subst IsUse (sym c.requires) (record { some = refl; cleared = refl }))
     c.open_trunk.ensures.keeps (log_load size c.args.step.page read.bytes (Ok tt) c.load.ensures.told read.size read.holds) (λ file h e W d before on.
     let k = page_read file read.bytes size c.args.step.page read.size h (sym (ap (λ g. g.page_size) e)) in
     let b = c.page-bytes.ensures.bytes ∙ ap (λ b. b.chain) read.only ∙ k in
     let u = ap (λ g. g.usable) (c.geometry-usable.ensures.value ∙ ap (λ b. b.geometry) read.only ∙ e) in
-    let n = subst (λ b. Enters g.K.Sink.takes g.K.Sink.drops file on.visited on.d (Ok b) c.enter.new.marks c.args.sink.now c.enter.new.sink) c.if-not-branch.false
+    let n = subst (λ b. Enters g.K.Sink.takes g.K.Sink.drops file on.visited on.d (Ok b) c.enter.new.marks c.args.sink.now c.enter.new.sink)
+    c.if-not-branch.false
     (c.in_ok-enter.ensures.entered file on.visited on.d on.step on.rest.past on.rest.marked (no_chain_refusal file on.visited on.d (ap bytes_left on.role))) in
     let o = c.in_err-item.ensures.opened file W d before on.visited on.d c.args.marks.now on.step.page on.role b u n.0 n.1
     (subst (λ s. IsLeft g.K.Sink.takes file W (Go d ∷ []) before on.visited (Go on.d ∷ []) (c.args.marks.now, s)) n.2 on.rest) in
@@ -70,14 +79,18 @@ returns-clause-log g c =
     let k = c.in_ok-enter.ensures.marked (search rules) in
     let read = c.in_ok-load.ensures.level in
     let size = c.args.bench.now.geometry.page_size in
-    log_opened _ size c.args.marks.now c.enter.new.marks c.open_trunk.new.marks c.args.step.page c.args.step.mark k.0 k.1 (subst IsUse (sym c.requires) (record { some = refl; cleared = refl }))
+    log_opened _ size c.args.marks.now c.enter.new.marks c.open_trunk.new.marks c.args.step.page c.args.step.mark k.0 k.1
+    (subst IsUse (sym c.requires) (record { some = refl; cleared = refl }))
     c.open_trunk.ensures.keeps (log_load size c.args.step.page read.bytes (Ok tt) c.load.ensures.told read.size read.holds) (λ file h e W d before on.
     let k = page_read file read.bytes size c.args.step.page read.size h (sym (ap (λ g. g.page_size) e)) in
     let b = c.page-bytes.ensures.bytes ∙ ap (λ b. b.chain) read.only ∙ k in
     let u = ap (λ g. g.usable) (c.geometry-usable.ensures.value ∙ ap (λ b. b.geometry) read.only ∙ e) in
-    let n = subst (λ b. Enters g.K.Sink.takes g.K.Sink.drops file on.visited on.d (Ok b) c.enter.new.marks c.args.sink.now c.enter.new.sink) c.if-not-branch.false
+    let n = subst (λ b. Enters g.K.Sink.takes g.K.Sink.drops file on.visited on.d (Ok b) c.enter.new.marks c.args.sink.now c.enter.new.sink)
+    c.if-not-branch.false
     (c.in_ok-enter.ensures.entered file on.visited on.d on.step on.rest.past on.rest.marked (no_chain_refusal file on.visited on.d (ap bytes_left on.role))) in
     let o = c.in_ok-item.ensures.opened file W d before on.visited on.d c.args.marks.now on.step.page on.role b u n.0 n.1
     (subst (λ s. IsLeft g.K.Sink.takes file W (Go d ∷ []) before on.visited (Go on.d ∷ []) (c.args.marks.now, s)) n.2 on.rest) in
-    subst (λ o. TrunkTurns g.K.Sink.takes g.K.Sink.drops file W d before (Ok o) c.open_trunk.new.marks c.open_trunk.new.sink) (sym (c.next_trunk.ensures ∙ ap (λ b. next_step (u32_at 0 b) c.args.step.page c.in_ok-item.item) b))
-    (next_turned g.K.Sink.takes g.K.Sink.drops file W d before on.d c.args.step.page c.in_ok-item.item o.0 c.open_trunk.new.marks c.open_trunk.new.sink on.step.page o.1))
+    subst (λ o. TrunkTurns g.K.Sink.takes g.K.Sink.drops file W d before (Ok o) c.open_trunk.new.marks c.open_trunk.new.sink)
+    (sym (c.next_trunk.ensures ∙ ap (λ b. next_step (u32_at 0 b) c.args.step.page c.in_ok-item.item) b))
+    (next_turned g.K.Sink.takes g.K.Sink.drops file W d before on.d c.args.step.page c.in_ok-item.item o.0 c.open_trunk.new.marks c.open_trunk.new.sink
+    on.step.page o.1))

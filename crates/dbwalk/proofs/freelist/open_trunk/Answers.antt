@@ -26,8 +26,10 @@ returns-in_err-walk_leaves-clause-opened g c = λ file W d before U e old p r b 
     let q = err_from_is_err_and c.from_residual.result c.from_residual.ensures.1 in
     subst (λ r. OpensTrunk g.K.Sink.takes g.K.Sink.drops file W d before e r c.walk_leaves.new.marks c.walk_leaves.new.sink) (sym (q.1 ∙ ap Err q.2))
     (c.in_err-walk_leaves.ensures.done file W (Go d ∷ []) before (U ++ e ∷ []) e tail p
-    (subst (λ b. IsLeft g.K.Sink.takes file W (Go d ∷ []) before (U ++ e ∷ []) (leaf_errands e b c.u32_at-count.result ++ tail) (c.args.marks.now, c.args.sink.now)) (sym k)
-    (subst (λ n. IsLeft g.K.Sink.takes file W (Go d ∷ []) before (U ++ e ∷ []) (leaf_errands e (page_bytes file e.page) n ++ tail) (c.args.marks.now, c.args.sink.now)) (sym n) o)))
+    (subst (λ b. IsLeft g.K.Sink.takes file W (Go d ∷ []) before (U ++ e ∷ []) (leaf_errands e b c.u32_at-count.result ++ tail)
+    (c.args.marks.now, c.args.sink.now)) (sym k)
+    (subst (λ n. IsLeft g.K.Sink.takes file W (Go d ∷ []) before (U ++ e ∷ []) (leaf_errands e (page_bytes file e.page) n ++ tail)
+    (c.args.marks.now, c.args.sink.now)) (sym n) o)))
 
 pub returns-in_ok-walk_leaves-clause-opened : goal.returns-in_ok-walk_leaves-clause-opened
 returns-in_ok-walk_leaves-clause-opened g c = λ file W d before U e old p r b u f m h.
@@ -37,9 +39,14 @@ returns-in_ok-walk_leaves-clause-opened g c = λ file W d before U e old p r b u
     let tail = map (go e) (next_trunk e.page (page_bytes file e.page) (leaf_count (page_bytes file e.page))) in
     let o = opened_fitting g.K.Sink.takes g.K.Sink.drops file W d before U e old c.args.marks.now c.args.sink.now r f m h l in
     let t = c.in_ok-walk_leaves.ensures.done file W (Go d ∷ []) before (U ++ e ∷ []) e tail p
-    (subst (λ b. IsLeft g.K.Sink.takes file W (Go d ∷ []) before (U ++ e ∷ []) (leaf_errands e b c.u32_at-count.result ++ tail) (c.args.marks.now, c.args.sink.now)) (sym k)
-    (subst (λ n. IsLeft g.K.Sink.takes file W (Go d ∷ []) before (U ++ e ∷ []) (leaf_errands e (page_bytes file e.page) n ++ tail) (c.args.marks.now, c.args.sink.now)) (sym n) o)) in
-    (t.0, subst (λ n. IsLeft g.K.Sink.takes file W (Go d ∷ []) before t.0 (map (go e) (next_trunk e.page (page_bytes file e.page) n)) (c.walk_leaves.new.marks, c.walk_leaves.new.sink)) (sym n) t.1)
+    (subst (λ b. IsLeft g.K.Sink.takes file W (Go d ∷ []) before (U ++ e ∷ []) (leaf_errands e b c.u32_at-count.result ++ tail)
+    (c.args.marks.now, c.args.sink.now)) (sym k)
+    (subst (λ n. IsLeft g.K.Sink.takes file W (Go d ∷ []) before (U ++ e ∷ []) (leaf_errands e (page_bytes file e.page) n ++ tail)
+    (c.args.marks.now, c.args.sink.now)) (sym n) o)) in (
+      t.0,
+      subst (λ n. IsLeft g.K.Sink.takes file W (Go d ∷ []) before t.0 (map (go e) (next_trunk e.page (page_bytes file e.page) n))
+          (c.walk_leaves.new.marks, c.walk_leaves.new.sink)) (sym n) t.1,
+    )
 
 pub returns-in_ok-fault-clause-opened : goal.returns-in_ok-fault-clause-opened
 returns-in_ok-fault-clause-opened g c = λ file W d before U e old p r b u f m h.

@@ -28,9 +28,11 @@ returns-in_err-next-clause-asks g c =
     record {
       log = log_then _ _ (ap (λ b. b.geometry.page_size) c.loop-next.invariant.bench) c.loop-next.invariant.log c.in_err-next.ensures.log
           (λ file way turned e W d h next m.
-          subst (λ r. IsDone g.K.Sink.takes g.K.Sink.drops file W (Go d ∷ []) r c.enter_trunk.new.marks c.args.sink.now c.enter_trunk.new.sink) (sym (q.1 ∙ ap Err q.2))
+          subst (λ r. IsDone g.K.Sink.takes g.K.Sink.drops file W (Go d ∷ []) r c.enter_trunk.new.marks c.args.sink.now c.enter_trunk.new.sink)
+          (sym (q.1 ∙ ap Err q.2))
           (turned (ap (λ b. b.geometry) c.loop-next.invariant.bench ∙ e) W d c.args.sink.now (way e W d h next m)));
-      count = subst (λ r. (g.S.Source.held c.enter_trunk.new.source).failures ≡ failures_after is_read_failed r (g.S.Source.held c.args.source.now).failures) (sym (q.1 ∙ ap Err q.2))
+      count = subst (λ r. (g.S.Source.held c.enter_trunk.new.source).failures ≡ failures_after is_read_failed r (g.S.Source.held c.args.source.now).failures)
+          (sym (q.1 ∙ ap Err q.2))
           (c.in_err-next.ensures.reads ∙ ap (failures_after {A = Unit {0}} is_read_failed (Err c.in_err-next.field-0.0)) c.loop-next.invariant.reads);
     }
 

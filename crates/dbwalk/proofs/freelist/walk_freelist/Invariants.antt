@@ -14,7 +14,8 @@ decreases-loop-next g l = unmarked_pages l.marks
 
 abbrev pub invariant-loop-next : goal.invariant-loop-next
 invariant-loop-next g l = record {
-  log : HasLog g.S.Source.step (Reads l.initial.bench.geometry.page_size l.initial.marks l.marks) (λ file. l.initial.bench.geometry ≡ geometry file → (W : List Reference) (c : Reference)
+  log : HasLog g.S.Source.step (Reads l.initial.bench.geometry.page_size l.initial.marks l.marks)
+      (λ file. l.initial.bench.geometry ≡ geometry file → (W : List Reference) (c : Reference)
       → IsFirstTrunk l.first c → IsNext W c → AreMarksOf file W l.initial.marks → IsOnTrunks g.K.Sink.takes file W c l.initial.sink l.step l.marks l.sink)
       (g.S.Source.held l.initial.source) (g.S.Source.held l.source);
   reads : (g.S.Source.held l.source).failures ≡ (g.S.Source.held l.initial.source).failures;

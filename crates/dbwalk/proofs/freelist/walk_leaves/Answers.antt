@@ -13,21 +13,27 @@ use Rattle.dbwalk.proofs.freelist.walk_leaves.Goals as goal
 pub returns-clause-done : goal.returns-clause-done
 returns-clause-done g c = λ file W errands before U d tail p h.
     let k = c.loop-index.invariant.left file W errands before U d tail p h in
-    let z : c.args.count - c.loop-index.index ≡ 0 = omega arith in
-    (k.0, subst (λ n. IsLeft g.K.Sink.takes file W errands before k.0 (leaves_from d c.args.bytes.now c.loop-index.index n ++ tail) (c.loop-index.marks, c.loop-index.sink)) z k.1)
+    let z : c.args.count - c.loop-index.index ≡ 0 = omega arith in (
+      k.0,
+      subst (λ n. IsLeft g.K.Sink.takes file W errands before k.0 (leaves_from d c.args.bytes.now c.loop-index.index n ++ tail)
+          (c.loop-index.marks, c.loop-index.sink)) z k.1,
+    )
 
 pub returns-in_err-enter-clause-done : goal.returns-in_err-enter-clause-done
 returns-in_err-enter-clause-done g c = λ file W errands before U d tail p h.
     let k = c.loop-index.invariant.left file W errands before U d tail p h in
     let n : 0 < c.args.count - c.loop-index.index = omega arith in
-    let l = subst (λ es. IsLeft g.K.Sink.takes file W errands before k.0 (es ++ tail) (c.loop-index.marks, c.loop-index.sink)) (leaves_more d c.args.bytes.now c.loop-index.index (c.args.count - c.loop-index.index) n) k.1 in
+    let l = subst (λ es. IsLeft g.K.Sink.takes file W errands before k.0 (es ++ tail) (c.loop-index.marks, c.loop-index.sink))
+    (leaves_more d c.args.bytes.now c.loop-index.index (c.args.count - c.loop-index.index) n) k.1 in
     let q = err_from_is_err_and c.from_residual.result c.from_residual.ensures.1 in
     let e = leaf_of d c.args.bytes.now c.loop-index.index in
     let es = leaves_from d c.args.bytes.now (c.loop-index.index + 1) (c.args.count - c.loop-index.index - 1) ++ tail in
     subst (λ r. LeavesErrands g.K.Sink.takes g.K.Sink.drops file W errands before tail r c.enter.new.marks c.enter.new.sink) (sym (q.1 ∙ ap Err q.2))
-    (left_untold g.K.Sink.takes file W errands before k.0 c.loop-index.marks c.loop-index.sink g.K.Sink.drops c.enter.new.sink c.enter.new.marks c.in_err-enter.field-0.0 e es l
+    (left_untold g.K.Sink.takes file W errands before k.0 c.loop-index.marks c.loop-index.sink g.K.Sink.drops c.enter.new.sink c.enter.new.marks
+    c.in_err-enter.field-0.0 e es l
     (c.in_err-enter.ensures.entered file k.0 e (record { page = sym c.u32_at.ensures; mark = refl; from = p; item = refl; deep = refl })
-    (next_of_left g.K.Sink.takes g.K.Sink.drops file W errands before k.0 e es c.loop-index.marks c.enter.new.marks c.loop-index.sink c.enter.new.sink l) l.marked refl))
+    (next_of_left g.K.Sink.takes g.K.Sink.drops file W errands before k.0 e es c.loop-index.marks c.enter.new.marks c.loop-index.sink c.enter.new.sink l)
+    l.marked refl))
 
 pub loop-index-preserved : goal.loop-index-preserved
 loop-index-preserved g c = record {
@@ -39,21 +45,29 @@ loop-index-preserved g c = record {
       ]);
   fewer = elim (cases_Bool c.in_ok-enter.field-0) [
     | inl e ↦ (let k = c.in_ok-enter.ensures.marked e in
-        let m : unmarked_pages (set c.loop-index.marks (c.u32_at.result - 1) FreeLeaf) + 1 ≡ unmarked_pages c.loop-index.marks = put_count c.loop-index.marks c.u32_at.result FreeLeaf k.0 refl in
+        let m : unmarked_pages (set c.loop-index.marks (c.u32_at.result - 1) FreeLeaf) + 1 ≡ unmarked_pages c.loop-index.marks =
+        put_count c.loop-index.marks c.u32_at.result FreeLeaf k.0 refl in
         let n : unmarked_pages c.enter.new.marks ≡ unmarked_pages (set c.loop-index.marks (c.u32_at.result - 1) FreeLeaf) = ap unmarked_pages k.1 in
         omega (arith, c.loop-index.invariant.fewer))
-    | inr e ↦ (let n : unmarked_pages c.enter.new.marks ≡ unmarked_pages c.loop-index.marks = ap unmarked_pages (c.in_ok-enter.ensures.unmarked e) in omega (arith, c.loop-index.invariant.fewer))
+    | inr e ↦ (let n : unmarked_pages c.enter.new.marks ≡ unmarked_pages c.loop-index.marks =
+        ap unmarked_pages (c.in_ok-enter.ensures.unmarked e) in omega (arith, c.loop-index.invariant.fewer))
   ];
   writes = c.in_ok-enter.ensures.writes ∙ c.loop-index.invariant.writes;
   left = λ file W errands before U d tail p h.
       let k = c.loop-index.invariant.left file W errands before U d tail p h in
       let n : 0 < c.args.count - c.loop-index.index = omega arith in
-      let l = subst (λ es. IsLeft g.K.Sink.takes file W errands before k.0 (es ++ tail) (c.loop-index.marks, c.loop-index.sink)) (leaves_more d c.args.bytes.now c.loop-index.index (c.args.count - c.loop-index.index) n) k.1 in
+      let l = subst (λ es. IsLeft g.K.Sink.takes file W errands before k.0 (es ++ tail) (c.loop-index.marks, c.loop-index.sink))
+      (leaves_more d c.args.bytes.now c.loop-index.index (c.args.count - c.loop-index.index) n) k.1 in
       let e = leaf_of d c.args.bytes.now c.loop-index.index in
       let es = leaves_from d c.args.bytes.now (c.loop-index.index + 1) (c.args.count - c.loop-index.index - 1) ++ tail in
       let m : c.args.count - c.loop-index.index - 1 ≡ c.args.count - (c.loop-index.index + 1) = omega arith in
-      let r = leaf_entered g.K.Sink.takes g.K.Sink.drops file W errands before k.0 e es c.loop-index.marks c.enter.new.marks c.loop-index.sink c.enter.new.sink l c.in_ok-enter.field-0 refl
+      let r = leaf_entered g.K.Sink.takes g.K.Sink.drops file W errands before k.0 e es c.loop-index.marks c.enter.new.marks c.loop-index.sink c.enter.new.sink
+      l c.in_ok-enter.field-0 refl
       (c.in_ok-enter.ensures.entered file k.0 e (record { page = sym c.u32_at.ensures; mark = refl; from = p; item = refl; deep = refl })
-      (next_of_left g.K.Sink.takes g.K.Sink.drops file W errands before k.0 e es c.loop-index.marks c.enter.new.marks c.loop-index.sink c.enter.new.sink l) l.marked refl) in
-      (r.0, subst (λ n. IsLeft g.K.Sink.takes file W errands before r.0 (leaves_from d c.args.bytes.now (c.loop-index.index + 1) n ++ tail) (c.enter.new.marks, c.enter.new.sink)) m r.1);
+      (next_of_left g.K.Sink.takes g.K.Sink.drops file W errands before k.0 e es c.loop-index.marks c.enter.new.marks c.loop-index.sink c.enter.new.sink l)
+      l.marked refl) in (
+        r.0,
+        subst (λ n. IsLeft g.K.Sink.takes file W errands before r.0 (leaves_from d c.args.bytes.now (c.loop-index.index + 1) n ++ tail)
+            (c.enter.new.marks, c.enter.new.sink)) m r.1,
+      );
 }

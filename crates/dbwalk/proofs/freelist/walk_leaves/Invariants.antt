@@ -13,7 +13,8 @@ invariant-loop-index g l = record {
   keeps : KeepsMarks l.initial.marks l.marks;
   fewer : unmarked_pages l.marks ≤ unmarked_pages l.initial.marks;
   writes : g.K.Sink.held l.sink ≡ g.K.Sink.held l.initial.sink;
-  left : (file : List ℕ) (W : List Reference) (errands : List (Errand Way Event)) (before : g.row.K.Denot) (U : List Reference) (d : Reference) (tail : List (Errand Way Event))
+  left : (file : List ℕ) (W : List Reference) (errands : List (Errand Way Event)) (before : g.row.K.Denot) (U : List Reference) (d : Reference)
+      (tail : List (Errand Way Event))
       → d.page ≡ l.page → IsLeft g.K.Sink.takes file W errands before U (leaf_errands d l.bytes l.count ++ tail) (l.initial.marks, l.initial.sink)
       → (T : List Reference) × IsLeft g.K.Sink.takes file W errands before T (leaves_from d l.bytes l.index (l.count - l.index) ++ tail) (l.marks, l.sink);
 }

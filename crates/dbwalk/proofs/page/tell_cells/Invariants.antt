@@ -9,6 +9,7 @@ use Rattle.dbwalk.proofs.page.tell_cells.Given as goal
 
 abbrev pub invariant-loop-i : goal.invariant-loop-i
 invariant-loop-i g l = record {
-  told : IsReportedTo {E = WriteFailed} g.K.Sink.takes g.K.Sink.drops g.K.Sink.held (Ok l.good) l.initial.sink (told_by (inner_cause l.cause) (flat_map (cell_fault l.view) (range_with_len 0 l.i))) l.sink;
+  told : IsReportedTo {E = WriteFailed} g.K.Sink.takes g.K.Sink.drops g.K.Sink.held (Ok l.good) l.initial.sink
+      (told_by (inner_cause l.cause) (flat_map (cell_fault l.view) (range_with_len 0 l.i))) l.sink;
   good : l.good ≡ (length (flat_map (cell_fault l.view) (range_with_len 0 l.i)) == 0);
 }

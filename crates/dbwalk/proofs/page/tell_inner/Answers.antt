@@ -18,7 +18,8 @@ returns-in_err-tell_found g c =
     let whole : option_to_list c.fragment_fault.result ++ rest ≡ inner_faults v c.args.is_child = grind (arith, common_steps) in
     subst (λ L. IsReportedTo g.K.Sink.takes g.K.Sink.drops g.K.Sink.held c.from_residual.result c.args.sink.now L c.tell_found.new.sink)
     (inner_told v c.args.number c.args.is_child c.requires.number cause c.cause_within-cause.ensures)
-    (faults_stop (inner_cause cause) c.tell_found.result c.from_residual.result _ rest (inner_faults v c.args.is_child) whole c.in_err-tell_found.was p.1 c.tell_found.ensures)
+    (faults_stop (inner_cause cause) c.tell_found.result c.from_residual.result _ rest (inner_faults v c.args.is_child) whole c.in_err-tell_found.was p.1
+    c.tell_found.ensures)
 
 pub returns-in_err-are_cells_good : goal.returns-in_err-are_cells_good
 returns-in_err-are_cells_good g c =
@@ -29,8 +30,10 @@ returns-in_err-are_cells_good g c =
     let whole : (option_to_list c.fragment_fault.result ++ cell_faults v) ++ rest ≡ inner_faults v c.args.is_child = grind (arith, common_steps) in
     subst (λ L. IsReportedTo g.K.Sink.takes g.K.Sink.drops g.K.Sink.held c.from_residual-in_err-are_cells_good.result c.args.sink.now L c.tell_cells.new.sink)
     (inner_told v c.args.number c.args.is_child c.requires.number cause c.cause_within-cause.ensures)
-    (faults_stop (inner_cause cause) c.tell_cells.result c.from_residual-in_err-are_cells_good.result _ rest (inner_faults v c.args.is_child) whole c.in_err-are_cells_good.was p.1
-    (faults_then (inner_cause cause) c.tell_found.result c.tell_cells.result _ (cell_faults v) c.in_ok-tell_found.was c.tell_found.ensures c.tell_cells.ensures.told))
+    (faults_stop (inner_cause cause) c.tell_cells.result c.from_residual-in_err-are_cells_good.result _ rest (inner_faults v c.args.is_child) whole
+    c.in_err-are_cells_good.was p.1
+    (faults_then (inner_cause cause) c.tell_found.result c.tell_cells.result _ (cell_faults v) c.in_ok-tell_found.was c.tell_found.ensures
+    c.tell_cells.ensures.told))
 
 pub returns : goal.returns
 returns g c =
@@ -39,9 +42,11 @@ returns g c =
     let good = c.in_ok-are_cells_good.ensures.good in
     let none : c.is_none.result ≡ is_none c.freeblock_fault-freeblock.result = search rules in
     subst (λ L. IsReportedTo g.K.Sink.takes g.K.Sink.drops g.K.Sink.held c.tell_each.result c.args.sink.now L c.tell_each.new.sink)
-    (ap (told_by (inner_cause cause)) (inner_found v c.args.is_child (c.in_ok-are_cells_good.are_cells_good && c.is_none.result) c.fragment_fault.result c.freeblock_fault-freeblock.result c.coverage_fault-coverage.result c.empty_fault-empty.result (cell_faults v) refl
+    (ap (told_by (inner_cause cause)) (inner_found v c.args.is_child (c.in_ok-are_cells_good.are_cells_good && c.is_none.result) c.fragment_fault.result
+    c.freeblock_fault-freeblock.result c.coverage_fault-coverage.result c.empty_fault-empty.result (cell_faults v) refl
     c.fragment_fault.ensures c.freeblock_fault-freeblock.ensures c.coverage_fault-coverage.ensures c.empty_fault-empty.ensures
     (ap (λ x. x && c.is_none.result) good ∙ ap (λ x. (length (cell_faults v) == 0) && x) none))
     ∙ inner_told v c.args.number c.args.is_child c.requires.number cause c.cause_within-cause.ensures)
     (faults_then (inner_cause cause) c.tell_found.result c.tell_each.result _ _ c.in_ok-tell_found.was c.tell_found.ensures
-    (faults_then (inner_cause cause) c.tell_cells.result c.tell_each.result (cell_faults v) _ c.in_ok-are_cells_good.was c.tell_cells.ensures.told c.tell_each.ensures))
+    (faults_then (inner_cause cause) c.tell_cells.result c.tell_each.result (cell_faults v) _ c.in_ok-are_cells_good.was c.tell_cells.ensures.told
+    c.tell_each.ensures))

@@ -16,9 +16,11 @@ returns g c =
     let page = cause.Page c.args.number (with_run (content_run v)) in
     let none : c.is_none.result ≡ is_none c.freeblock_fault-freeblock.result = search rules in
     subst (λ L. IsReportedTo g.K.Sink.takes g.K.Sink.drops g.K.Sink.held c.tell_each.result c.args.sink.now L c.tell_each.new.sink)
-    (cause_unused why page c.fragment_fault-fragments.result c.freeblock_fault-freeblock.result c.unheld_fault-coverage.result c.empty_fault-empty.result c.cause_found-cause.ensures
+    (cause_unused why page c.fragment_fault-fragments.result c.freeblock_fault-freeblock.result c.unheld_fault-coverage.result c.empty_fault-empty.result
+    c.cause_found-cause.ensures
     (empty_told v c.args.is_child c.empty_fault-empty.result c.empty_fault-empty.ensures why page)
-    ∙ ap (told_by (inner_cause page)) (inner_found v c.args.is_child c.is_none.result c.fragment_fault-fragments.result c.freeblock_fault-freeblock.result c.unheld_fault-coverage.result c.empty_fault-empty.result [] (no_cell_faults v c.requires.cells)
+    ∙ ap (told_by (inner_cause page)) (inner_found v c.args.is_child c.is_none.result c.fragment_fault-fragments.result c.freeblock_fault-freeblock.result
+    c.unheld_fault-coverage.result c.empty_fault-empty.result [] (no_cell_faults v c.requires.cells)
     c.fragment_fault-fragments.ensures c.freeblock_fault-freeblock.ensures c.unheld_fault-coverage.ensures c.empty_fault-empty.ensures none)
     ∙ inner_told v c.args.number c.args.is_child c.requires.number page refl)
     c.tell_each.ensures

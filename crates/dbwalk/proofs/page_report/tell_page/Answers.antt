@@ -15,8 +15,10 @@ returns-in_err-keys-in-Ok-clause-told g c = λ file d from item shape candidate 
     let u = ap (λ s. s.usable) (c.geometry-usable.ensures.value ∙ shape) in
     let b = there c.uses-uses.result.0.now (ap (slice_get c.args.bench.now.levels) (sym level) ∙ c.uses-uses.ensures.page) in
     exit_stop _ _ g.K.Sink.takes g.K.Sink.drops g.K.Sink.held file t.kind t.start t.path.items c.args.page from item d candidate
-    c.geometry-usable.result.usable u c.uses-uses.result.0.now b t.leaf c.as_slice.result.now c.as_slice.ensures.value (c.len-level.result + 1) (ap (λ n. n + 1) level) c.args.sink.now
-    c.in-Ok.view c.in-Ok.ensures.view c.in-Ok.ensures.of.0 c.in-Ok.ensures.faults c.tell_undamaged.result c.tell_undamaged.new.sink c.tell_undamaged.ensures.told
+    c.geometry-usable.result.usable u c.uses-uses.result.0.now b t.leaf c.as_slice.result.now c.as_slice.ensures.value (c.len-level.result + 1)
+    (ap (λ n. n + 1) level) c.args.sink.now
+    c.in-Ok.view c.in-Ok.ensures.view c.in-Ok.ensures.of.0 c.in-Ok.ensures.faults c.tell_undamaged.result c.tell_undamaged.new.sink
+    c.tell_undamaged.ensures.told
     _ c.from_residual.result c.in_err-keys-in-Ok.was q.1
 
 pub returns-in_err-tell_damaged-in-Err-clause-told : goal.returns-in_err-tell_damaged-in-Err-clause-told
@@ -27,8 +29,10 @@ returns-in_err-tell_damaged-in-Err-clause-told g c = λ file d from item shape c
     let u = ap (λ s. s.usable) (c.geometry-usable.ensures.value ∙ shape) in
     let b = there c.uses-uses.result.0.now (ap (slice_get c.args.bench.now.levels) (sym level) ∙ c.uses-uses.ensures.page) in
     exit_damaged_stop _ _ g.K.Sink.takes g.K.Sink.drops g.K.Sink.held file t.kind t.start t.path.items c.args.page from item d candidate
-    c.geometry-usable.result.usable u c.uses-uses.result.0.now b t.leaf c.as_slice.result.now c.as_slice.ensures.value (c.len-level.result + 1) (ap (λ n. n + 1) level) c.args.sink.now
-    (damage_fault c.args.page c.uses-uses.result.0.now c.in-Err.damage) c.in-Err.ensures.view c.in-Err.ensures.faults c.tell_damaged.result c.tell_damaged.new.sink c.tell_damaged.ensures
+    c.geometry-usable.result.usable u c.uses-uses.result.0.now b t.leaf c.as_slice.result.now c.as_slice.ensures.value (c.len-level.result + 1)
+    (ap (λ n. n + 1) level) c.args.sink.now
+    (damage_fault c.args.page c.uses-uses.result.0.now c.in-Err.damage) c.in-Err.ensures.view c.in-Err.ensures.faults c.tell_damaged.result
+    c.tell_damaged.new.sink c.tell_damaged.ensures
     _ c.from_residual-in_err-tell_damaged-in-Err.result c.in_err-tell_damaged-in-Err.was q.1
 
 pub returns-in-Err-clause-told : goal.returns-in-Err-clause-told
@@ -38,8 +42,10 @@ returns-in-Err-clause-told g c = λ file d from item shape candidate there.
     let u = ap (λ s. s.usable) (c.geometry-usable.ensures.value ∙ shape) in
     let b = there c.uses-uses.result.0.now (ap (slice_get c.args.bench.now.levels) (sym level) ∙ c.uses-uses.ensures.page) in
     exit_damaged _ _ g.K.Sink.takes g.K.Sink.drops g.K.Sink.held file t.kind t.start t.path.items c.args.page from item d candidate
-    c.geometry-usable.result.usable u c.uses-uses.result.0.now b t.leaf c.as_slice.result.now c.as_slice.ensures.value (c.len-level.result + 1) (ap (λ n. n + 1) level) c.args.sink.now
-    (damage_fault c.args.page c.uses-uses.result.0.now c.in-Err.damage) c.in-Err.ensures.view c.in-Err.ensures.faults c.tell_damaged.result c.tell_damaged.new.sink c.tell_damaged.ensures
+    c.geometry-usable.result.usable u c.uses-uses.result.0.now b t.leaf c.as_slice.result.now c.as_slice.ensures.value (c.len-level.result + 1)
+    (ap (λ n. n + 1) level) c.args.sink.now
+    (damage_fault c.args.page c.uses-uses.result.0.now c.in-Err.damage) c.in-Err.ensures.view c.in-Err.ensures.faults c.tell_damaged.result
+    c.tell_damaged.new.sink c.tell_damaged.ensures
     Damaged c.in_ok-tell_damaged-in-Err.was
 
 pub returns-then-is_interior-clause-told : goal.returns-then-is_interior-clause-told
@@ -49,8 +55,10 @@ returns-then-is_interior-clause-told g c = λ file d from item shape candidate t
     let u = ap (λ s. s.usable) (c.geometry-usable.ensures.value ∙ shape) in
     let b = there c.uses-uses.result.0.now (ap (slice_get c.args.bench.now.levels) (sym level) ∙ c.uses-uses.ensures.page) in
     exit_interior _ _ g.K.Sink.takes g.K.Sink.drops g.K.Sink.held file t.kind t.start t.path.items c.args.page from item d candidate
-    c.geometry-usable.result.usable u c.uses-uses.result.0.now b t.leaf c.as_slice.result.now c.as_slice.ensures.value (c.len-level.result + 1) (ap (λ n. n + 1) level) c.args.sink.now
-    c.in-Ok.view c.in-Ok.ensures.view c.in-Ok.ensures.of.0 c.in-Ok.ensures.faults c.tell_undamaged.result c.tell_undamaged.new.sink c.tell_undamaged.ensures.told
+    c.geometry-usable.result.usable u c.uses-uses.result.0.now b t.leaf c.as_slice.result.now c.as_slice.ensures.value (c.len-level.result + 1)
+    (ap (λ n. n + 1) level) c.args.sink.now
+    c.in-Ok.view c.in-Ok.ensures.view c.in-Ok.ensures.of.0 c.in-Ok.ensures.faults c.tell_undamaged.result c.tell_undamaged.new.sink
+    c.tell_undamaged.ensures.told
     Interior c.in_ok-keys-in-Ok.was (search rules)
 
 pub returns-in_err-tell_depth-clause-told : goal.returns-in_err-tell_depth-clause-told
@@ -61,8 +69,10 @@ returns-in_err-tell_depth-clause-told g c = λ file d from item shape candidate 
     let u = ap (λ s. s.usable) (c.geometry-usable.ensures.value ∙ shape) in
     let b = there c.uses-uses.result.0.now (ap (slice_get c.args.bench.now.levels) (sym level) ∙ c.uses-uses.ensures.page) in
     exit_leaf_stop _ _ g.K.Sink.takes g.K.Sink.drops g.K.Sink.held file t.kind t.start t.path.items c.args.page from item d candidate
-    c.geometry-usable.result.usable u c.uses-uses.result.0.now b t.leaf c.as_slice.result.now c.as_slice.ensures.value (c.len-level.result + 1) (ap (λ n. n + 1) level) c.args.sink.now
-    c.in-Ok.view c.in-Ok.ensures.view c.in-Ok.ensures.of.0 c.in-Ok.ensures.faults c.tell_undamaged.result c.tell_undamaged.new.sink c.tell_undamaged.ensures.told
+    c.geometry-usable.result.usable u c.uses-uses.result.0.now b t.leaf c.as_slice.result.now c.as_slice.ensures.value (c.len-level.result + 1)
+    (ap (λ n. n + 1) level) c.args.sink.now
+    c.in-Ok.view c.in-Ok.ensures.view c.in-Ok.ensures.of.0 c.in-Ok.ensures.faults c.tell_undamaged.result c.tell_undamaged.new.sink
+    c.tell_undamaged.ensures.told
     c.in_ok-keys-in-Ok.was (search rules) c.tell_depth.result c.tell_depth.new.sink c.tell_depth.ensures.told
     _ c.from_residual-in_err-tell_depth.result c.in_err-tell_depth.was q.1
 
@@ -73,8 +83,10 @@ returns-clause-told g c = λ file d from item shape candidate there.
     let u = ap (λ s. s.usable) (c.geometry-usable.ensures.value ∙ shape) in
     let b = there c.uses-uses.result.0.now (ap (slice_get c.args.bench.now.levels) (sym level) ∙ c.uses-uses.ensures.page) in
     exit_leaf _ _ g.K.Sink.takes g.K.Sink.drops g.K.Sink.held file t.kind t.start t.path.items c.args.page from item d candidate
-    c.geometry-usable.result.usable u c.uses-uses.result.0.now b t.leaf c.as_slice.result.now c.as_slice.ensures.value (c.len-level.result + 1) (ap (λ n. n + 1) level) c.args.sink.now
-    c.in-Ok.view c.in-Ok.ensures.view c.in-Ok.ensures.of.0 c.in-Ok.ensures.faults c.tell_undamaged.result c.tell_undamaged.new.sink c.tell_undamaged.ensures.told
+    c.geometry-usable.result.usable u c.uses-uses.result.0.now b t.leaf c.as_slice.result.now c.as_slice.ensures.value (c.len-level.result + 1)
+    (ap (λ n. n + 1) level) c.args.sink.now
+    c.in-Ok.view c.in-Ok.ensures.view c.in-Ok.ensures.of.0 c.in-Ok.ensures.faults c.tell_undamaged.result c.tell_undamaged.new.sink
+    c.tell_undamaged.ensures.told
     c.in_ok-keys-in-Ok.was (search rules) c.tell_depth.result c.tell_depth.new.sink c.tell_depth.ensures.told
     (Leaf c.in_ok-keys-in-Ok.keys) c.tell_depth.new.self.leaf c.in_ok-tell_depth.was c.tell_depth.ensures.leaf
 

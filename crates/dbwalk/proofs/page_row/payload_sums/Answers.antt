@@ -19,8 +19,10 @@ loop-i-preserved c = elim c.match-cell.branch [
       let short = cell_local v n x read in
       let most = c.requires in
       record {
-        all = w.all-is ∙ ap (λ m. c.loop-i.all + m) len ∙ ap (λ m. m + length x.local) c.loop-i.invariant.all ∙ sym (local_more (first_cells v n) n x) ∙ ap payload_of (sym (first_cells_more v n x read));
-        greatest = w.greatest-is ∙ w.max-greatest.ensures ∙ ord_max-max c.loop-i.greatest w.from.result ∙ ap (λ m. max c.loop-i.greatest m) (w.from.ensures ∙ size) ∙ ap (λ m. max m x.size) c.loop-i.invariant.greatest
+        all = w.all-is ∙ ap (λ m. c.loop-i.all + m) len ∙ ap (λ m. m + length x.local) c.loop-i.invariant.all ∙ sym (local_more (first_cells v n) n x)
+            ∙ ap payload_of (sym (first_cells_more v n x read));
+        greatest = w.greatest-is ∙ w.max-greatest.ensures ∙ ord_max-max c.loop-i.greatest w.from.result
+            ∙ ap (λ m. max c.loop-i.greatest m) (w.from.ensures ∙ size) ∙ ap (λ m. max m x.size) c.loop-i.invariant.greatest
             ∙ sym (greatest_more (first_cells v n) n x) ∙ ap greatest_of (sym (first_cells_more v n x read));
         small = omega arith;
       })
@@ -36,7 +38,9 @@ loop-i-preserved c = elim c.match-cell.branch [
 ]
 
 pub returns-clause-all : goal.returns-clause-all
-returns-clause-all c = let e : c.loop-i.i ≡ count c.args.view.now = omega arith in c.loop-i.invariant.all ∙ ap (λ n. payload_of (first_cells c.args.view.now n)) e ∙ ap payload_of (sym (cells_all c.args.view.now))
+returns-clause-all c = let e : c.loop-i.i ≡ count c.args.view.now = omega arith in c.loop-i.invariant.all
+    ∙ ap (λ n. payload_of (first_cells c.args.view.now n)) e ∙ ap payload_of (sym (cells_all c.args.view.now))
 
 pub returns-clause-greatest : goal.returns-clause-greatest
-returns-clause-greatest c = let e : c.loop-i.i ≡ count c.args.view.now = omega arith in c.loop-i.invariant.greatest ∙ ap (λ n. greatest_of (first_cells c.args.view.now n)) e ∙ ap greatest_of (sym (cells_all c.args.view.now))
+returns-clause-greatest c = let e : c.loop-i.i ≡ count c.args.view.now = omega arith in c.loop-i.invariant.greatest
+    ∙ ap (λ n. greatest_of (first_cells c.args.view.now n)) e ∙ ap greatest_of (sym (cells_all c.args.view.now))

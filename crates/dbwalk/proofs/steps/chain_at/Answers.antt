@@ -14,7 +14,8 @@ pub returns-in-None : goal.returns-in-None
 returns-in-None c =
     let n : c.args.cells ≡ count c.args.view.now = c.requires in
     let l : c.args.i ≤ count c.args.view.now = omega arith in
-    no_chain c.args.i refl l (no_overflow c.args.view.now c.args.i c.in-Ok.cell (sym c.cell.ensures ∙ c.in-Ok.is) (sym (ap (λ (x : Cell). x.overflow) c.cell-in-Ok.view_is) ∙ c.in-None.is))
+    no_chain c.args.i refl l (no_overflow c.args.view.now c.args.i c.in-Ok.cell (sym c.cell.ensures ∙ c.in-Ok.is)
+    (sym (ap (λ (x : Cell). x.overflow) c.cell-in-Ok.view_is) ∙ c.in-None.is))
 
 pub returns-in-Err : goal.returns-in-Err
 returns-in-Err c =

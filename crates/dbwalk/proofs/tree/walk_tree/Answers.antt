@@ -30,15 +30,19 @@ pub returns-in_err-enter-clause-asks : goal.returns-in_err-enter-clause-asks
 returns-in_err-enter-clause-asks g c =
     let q = err_from_is_err_and c.from_residual.result c.from_residual.ensures.1 in
     record {
-      log = log_none c.args.bench.now.geometry.page_size c.args.marks.now c.enter.new.marks (g.S.Source.held c.args.source.now) c.in_err-enter.ensures.after_error.1 (λ file e coded W d at.
+      log = log_none c.args.bench.now.geometry.page_size c.args.marks.now c.enter.new.marks (g.S.Source.held c.args.source.now)
+          c.in_err-enter.ensures.after_error.1 (λ file e coded W d at.
           let root = c.args.root in
           let is = c.tree_step-step.ensures.step (kind_in file root) root.start [] d refl at.candidate in
           let next = root_next file (kind_in file root) root.start root.page 0 root.start W d at.candidate at.early in
           let one = root_address d.address root.start at.candidate.depth at.candidate.start in
-          subst (λ r. IsTreeDone g.K.Sink.takes g.K.Sink.drops g.T.Taker.takes g.T.Taker.refuses file W d r c.enter.new.marks (c.args.sink.now, c.args.taker.now) (c.enter.new.sink, c.args.taker.now)) (sym (q.1 ∙ ap Err q.2))
+          subst (λ r. IsTreeDone g.K.Sink.takes g.K.Sink.drops g.T.Taker.takes g.T.Taker.refuses file W d r c.enter.new.marks
+          (c.args.sink.now, c.args.taker.now) (c.enter.new.sink, c.args.taker.now)) (sym (q.1 ∙ ap Err q.2))
           (let n = c.in_err-enter.ensures.entered file W d is next at.marked (tree_refusal file W d at.candidate) in
-          tree_refused g.K.Sink.takes g.K.Sink.drops g.T.Taker.takes g.T.Taker.refuses file root.start W d one at.early (Err c.in_err-enter.field-0.0) c.enter.new.marks c.args.sink.now c.enter.new.sink c.args.taker.now (inr c.in_err-enter.ensures.after_error.0) n.0 n.1 n.2));
-      count = subst (λ r. (g.S.Source.held c.args.source.now).failures ≡ failures_after is_read_failed r (g.S.Source.held c.args.source.now).failures) (sym (q.1 ∙ ap Err (q.2 ∙ c.in_err-enter.ensures.after_error.0))) refl;
+          tree_refused g.K.Sink.takes g.K.Sink.drops g.T.Taker.takes g.T.Taker.refuses file root.start W d one at.early (Err c.in_err-enter.field-0.0)
+          c.enter.new.marks c.args.sink.now c.enter.new.sink c.args.taker.now (inr c.in_err-enter.ensures.after_error.0) n.0 n.1 n.2));
+      count = subst (λ r. (g.S.Source.held c.args.source.now).failures ≡ failures_after is_read_failed r (g.S.Source.held c.args.source.now).failures)
+          (sym (q.1 ∙ ap Err (q.2 ∙ c.in_err-enter.ensures.after_error.0))) refl;
     }
 
 pub returns-in_err-enter-clause-others : goal.returns-in_err-enter-clause-others
@@ -48,13 +52,16 @@ returns-in_err-enter-clause-others g c =
 
 pub returns-then-not-branch-clause-asks : goal.returns-then-not-branch-clause-asks
 returns-then-not-branch-clause-asks g c = record {
-  log = log_none c.args.bench.now.geometry.page_size c.args.marks.now c.enter.new.marks (g.S.Source.held c.args.source.now) (c.in_ok-enter.ensures.unmarked c.if-not-branch.true) (λ file e coded W d at.
+  log = log_none c.args.bench.now.geometry.page_size c.args.marks.now c.enter.new.marks (g.S.Source.held c.args.source.now)
+      (c.in_ok-enter.ensures.unmarked c.if-not-branch.true) (λ file e coded W d at.
       let root = c.args.root in
       let is = c.tree_step-step.ensures.step (kind_in file root) root.start [] d refl at.candidate in
       let next = root_next file (kind_in file root) root.start root.page 0 root.start W d at.candidate at.early in
       let one = root_address d.address root.start at.candidate.depth at.candidate.start in
-      let none = subst (λ b. Enters g.K.Sink.takes g.K.Sink.drops file W d (Ok b) c.enter.new.marks c.args.sink.now c.enter.new.sink) c.if-not-branch.true (c.in_ok-enter.ensures.entered file W d is next at.marked (tree_refusal file W d at.candidate)) in
-      tree_refused g.K.Sink.takes g.K.Sink.drops g.T.Taker.takes g.T.Taker.refuses file root.start W d one at.early (Ok tt) c.enter.new.marks c.args.sink.now c.enter.new.sink c.args.taker.now tt none.0 none.1 none.2);
+      let none = subst (λ b. Enters g.K.Sink.takes g.K.Sink.drops file W d (Ok b) c.enter.new.marks c.args.sink.now c.enter.new.sink) c.if-not-branch.true
+      (c.in_ok-enter.ensures.entered file W d is next at.marked (tree_refusal file W d at.candidate)) in
+      tree_refused g.K.Sink.takes g.K.Sink.drops g.T.Taker.takes g.T.Taker.refuses file root.start W d one at.early (Ok tt) c.enter.new.marks c.args.sink.now
+      c.enter.new.sink c.args.taker.now tt none.0 none.1 none.2);
   count = refl;
 }
 
@@ -63,7 +70,8 @@ returns-in_err-load-clause-asks g c =
     let q = err_from_is_err_and c.from_residual-in_err-load.result c.from_residual-in_err-load.ensures.1 in
     let mark = c.tree_step-step.result.mark in
     let size = c.args.bench.now.geometry.page_size in
-    let k = subst (λ p. (page_mark c.args.marks.now p ≡ Some Unmarked) × (c.enter.new.marks ≡ set c.args.marks.now (p - 1) mark)) c.tree_step-step.ensures.page (c.in_ok-enter.ensures.marked (search rules)) in
+    let k = subst (λ p. (page_mark c.args.marks.now p ≡ Some Unmarked) × (c.enter.new.marks ≡ set c.args.marks.now (p - 1) mark)) c.tree_step-step.ensures.page
+    (c.in_ok-enter.ensures.marked (search rules)) in
     let read = c.in_err-load.ensures.level in
     record {
       log = log_page _ size c.args.marks.now c.enter.new.marks c.args.root.page mark k.0 k.1 c.tree_step-step.ensures.used
@@ -72,11 +80,16 @@ returns-in_err-load-clause-asks g c =
           let is = c.tree_step-step.ensures.step (kind_in file root) root.start [] d refl at.candidate in
           let next = root_next file (kind_in file root) root.start root.page 0 root.start W d at.candidate at.early in
           let one = root_address d.address root.start at.candidate.depth at.candidate.start in
-          let n = subst (λ b. Enters g.K.Sink.takes g.K.Sink.drops file W d (Ok b) c.enter.new.marks c.args.sink.now c.enter.new.sink) c.if-not-branch.false (c.in_ok-enter.ensures.entered file W d is next at.marked (tree_refusal file W d at.candidate)) in
-          subst (λ r. IsTreeDone g.K.Sink.takes g.K.Sink.drops g.T.Taker.takes g.T.Taker.refuses file W d r c.enter.new.marks (c.args.sink.now, c.args.taker.now) (c.enter.new.sink, c.args.taker.now)) (sym (q.1 ∙ ap Err q.2))
-          (subst (λ s. IsTreeDone g.K.Sink.takes g.K.Sink.drops g.T.Taker.takes g.T.Taker.refuses file W d (Err ReadFailed) c.enter.new.marks (c.args.sink.now, c.args.taker.now) (s, c.args.taker.now)) n.2
-          (tree_unread g.K.Sink.takes g.K.Sink.drops g.T.Taker.takes g.T.Taker.refuses file root.start W d one at.early c.enter.new.marks c.args.sink.now c.args.taker.now)));
-      count = subst (λ r. (g.S.Source.held c.load.new.source).failures ≡ failures_after is_read_failed r (g.S.Source.held c.args.source.now).failures) (sym (q.1 ∙ ap Err q.2)) c.in_err-load.ensures.count;
+          let n = subst (λ b. Enters g.K.Sink.takes g.K.Sink.drops file W d (Ok b) c.enter.new.marks c.args.sink.now c.enter.new.sink) c.if-not-branch.false
+          (c.in_ok-enter.ensures.entered file W d is next at.marked (tree_refusal file W d at.candidate)) in
+          subst (λ r. IsTreeDone g.K.Sink.takes g.K.Sink.drops g.T.Taker.takes g.T.Taker.refuses file W d r c.enter.new.marks
+          (c.args.sink.now, c.args.taker.now) (c.enter.new.sink, c.args.taker.now)) (sym (q.1 ∙ ap Err q.2))
+          (subst (λ s. IsTreeDone g.K.Sink.takes g.K.Sink.drops g.T.Taker.takes g.T.Taker.refuses file W d (Err ReadFailed) c.enter.new.marks
+          (c.args.sink.now, c.args.taker.now) (s, c.args.taker.now)) n.2
+          (tree_unread g.K.Sink.takes g.K.Sink.drops g.T.Taker.takes g.T.Taker.refuses file root.start W d one at.early c.enter.new.marks c.args.sink.now
+          c.args.taker.now)));
+      count = subst (λ r. (g.S.Source.held c.load.new.source).failures ≡ failures_after is_read_failed r (g.S.Source.held c.args.source.now).failures)
+          (sym (q.1 ∙ ap Err q.2)) c.in_err-load.ensures.count;
     }
 
 pub returns-in_err-load-clause-others : goal.returns-in_err-load-clause-others
@@ -88,13 +101,17 @@ pub returns-clause-asks : goal.returns-clause-asks
 returns-clause-asks g c =
     let mark = c.tree_step-step.result.mark in
     let size = c.args.bench.now.geometry.page_size in
-    let k = subst (λ p. (page_mark c.args.marks.now p ≡ Some Unmarked) × (c.enter.new.marks ≡ set c.args.marks.now (p - 1) mark)) c.tree_step-step.ensures.page (c.in_ok-enter.ensures.marked (search rules)) in
+    let k = subst (λ p. (page_mark c.args.marks.now p ≡ Some Unmarked) × (c.enter.new.marks ≡ set c.args.marks.now (p - 1) mark)) c.tree_step-step.ensures.page
+    (c.in_ok-enter.ensures.marked (search rules)) in
     let low : 0 < 20 = omega arith in
     let read = c.in_ok-load.ensures.level in
     let shape = geometry_kept c.args.bench.now c.load.new.self 0 low read.bytes read.only in
-    let says : List Mark → g.row.K.Denot → g.row.T.Denot → g.row.S.Denot → Type 0 = λ m k t s. Asks g.S.Source.step (Reads size c.args.marks.now m) (λ file. c.args.bench.now.geometry ≡ geometry file → c.args.root.encoding ≡ encoding file
+    let says : List Mark → g.row.K.Denot → g.row.T.Denot → g.row.S.Denot → Type 0 =
+    λ m k t s. Asks g.S.Source.step (Reads size c.args.marks.now m)
+    (λ file. c.args.bench.now.geometry ≡ geometry file → c.args.root.encoding ≡ encoding file
     → (W : List Reference) (d : Reference) → IsRootAfter file c.args.root W d c.args.marks.now
-    → IsTreeDone g.K.Sink.takes g.K.Sink.drops g.T.Taker.takes g.T.Taker.refuses file W d c.walk_pages.result m (c.args.sink.now, c.args.taker.now) (k, t)) is_read_failed c.walk_pages.result (g.S.Source.held c.args.source.now) (g.S.Source.held s) in
+    → IsTreeDone g.K.Sink.takes g.K.Sink.drops g.T.Taker.takes g.T.Taker.refuses file W d c.walk_pages.result m (c.args.sink.now, c.args.taker.now) (k, t))
+    is_read_failed c.walk_pages.result (g.S.Source.held c.args.source.now) (g.S.Source.held s) in
     let n = c.walk_pages.new.self in
     let marks : n.marks.now ≡ c.marks-1.given.0 = search rules in
     let sink : n.sink.now ≡ c.sink-1.given.0 = search rules in
@@ -102,21 +119,30 @@ returns-clause-asks g c =
     let source : n.source.now ≡ c.source-1.given.0 = search rules in
     subst (λ m. says m c.sink-1.given.0 c.taker-1.given.0 c.source-1.given.0) marks (subst (λ k. says n.marks.now k c.taker-1.given.0 c.source-1.given.0) sink
     (subst (λ t. says n.marks.now n.sink.now t c.source-1.given.0) taker (subst (λ s. says n.marks.now n.sink.now n.taker.now s) source (record {
-      log = log_then _ _ (ap (λ s. s.page_size) shape) (log_page _ size c.args.marks.now c.enter.new.marks c.args.root.page mark k.0 k.1 c.tree_step-step.ensures.used
-          (log_load size c.args.root.page read.bytes (Ok tt) c.load.ensures.told read.size read.holds) (λ file h. h)) c.walk_pages.ensures.log (λ file h done e coded W d at.
+      log = log_then _ _ (ap (λ s. s.page_size) shape) (log_page _ size c.args.marks.now c.enter.new.marks c.args.root.page mark k.0 k.1
+          c.tree_step-step.ensures.used
+          (log_load size c.args.root.page read.bytes (Ok tt) c.load.ensures.told read.size read.holds) (λ file h. h)) c.walk_pages.ensures.log
+          (λ file h done e coded W d at.
           let root = c.args.root in
           let is = c.tree_step-step.ensures.step (kind_in file root) root.start [] d refl at.candidate in
           let next = root_next file (kind_in file root) root.start root.page 0 root.start W d at.candidate at.early in
           let one = root_address d.address root.start at.candidate.depth at.candidate.start in
           let t = c.new-tree.result in
           let same = page_read file read.bytes size root.page read.size h (sym (ap (λ s. s.page_size) e)) in
-          let there : HasPageAt c.load.new.self.levels 0 (page_bytes file root.page) = read_there c.args.bench.now c.load.new.self 0 low read.bytes read.only (page_bytes file root.page) same in
-          let kinds = c.new-tree.ensures.names.1 ∙ c.root_kind.ensures.kind ∙ ap (kind_of root.kind root.page) (there (bytes_at c.load.new.self 0) c.root_kind.ensures.there) in
+          let there : HasPageAt c.load.new.self.levels 0 (page_bytes file root.page) =
+          read_there c.args.bench.now c.load.new.self 0 low read.bytes read.only (page_bytes file root.page) same in
+          let kinds = c.new-tree.ensures.names.1 ∙ c.root_kind.ensures.kind
+          ∙ ap (kind_of root.kind root.page) (there (bytes_at c.load.new.self 0) c.root_kind.ensures.there) in
           let starts = c.new-tree.ensures.names.0 in
-          let n = subst (λ b. Enters g.K.Sink.takes g.K.Sink.drops file W d (Ok b) c.enter.new.marks c.args.sink.now c.enter.new.sink) c.if-not-branch.false (c.in_ok-enter.ensures.entered file W d is next at.marked (tree_refusal file W d at.candidate)) in
-          subst (λ s. IsTreeDone g.K.Sink.takes g.K.Sink.drops g.T.Taker.takes g.T.Taker.refuses file W d c.walk_pages.result c.walk_pages.new.self.marks.now (s, c.args.taker.now) (c.walk_pages.new.self.sink.now, c.walk_pages.new.self.taker.now)) (sym n.2)
-          (tree_done g.K.Sink.takes g.K.Sink.drops g.T.Taker.takes g.T.Taker.refuses file root.start W d one at.early c.walk_pages.result c.walk_pages.new.self.marks.now c.walk_pages.new.self.tree (c.enter.new.sink, c.args.taker.now) (c.walk_pages.new.self.sink.now, c.walk_pages.new.self.taker.now)
-          (done (shape ∙ e) coded W d (candidate_as (kind_in file root) t.kind root.start t.start [] [] root.page root.page 0 root.start t.start d kinds starts refl refl starts at.candidate)
+          let n = subst (λ b. Enters g.K.Sink.takes g.K.Sink.drops file W d (Ok b) c.enter.new.marks c.args.sink.now c.enter.new.sink) c.if-not-branch.false
+          (c.in_ok-enter.ensures.entered file W d is next at.marked (tree_refusal file W d at.candidate)) in
+          subst (λ s. IsTreeDone g.K.Sink.takes g.K.Sink.drops g.T.Taker.takes g.T.Taker.refuses file W d c.walk_pages.result c.walk_pages.new.self.marks.now
+          (s, c.args.taker.now) (c.walk_pages.new.self.sink.now, c.walk_pages.new.self.taker.now)) (sym n.2)
+          (tree_done g.K.Sink.takes g.K.Sink.drops g.T.Taker.takes g.T.Taker.refuses file root.start W d one at.early c.walk_pages.result
+          c.walk_pages.new.self.marks.now c.walk_pages.new.self.tree (c.enter.new.sink, c.args.taker.now)
+          (c.walk_pages.new.self.sink.now, c.walk_pages.new.self.taker.now)
+          (done (shape ∙ e) coded W d (candidate_as (kind_in file root) t.kind root.start t.start [] [] root.page root.page 0 root.start t.start d kinds starts
+          refl refl starts at.candidate)
           there n.0 next n.1)));
       count = c.walk_pages.ensures.walked.reads ∙ ap (failures_after is_read_failed c.walk_pages.result) c.in_ok-load.ensures.count;
     }))))

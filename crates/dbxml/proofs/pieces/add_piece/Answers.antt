@@ -14,4 +14,5 @@ pub returns-in_ok-put_waiting-in-None : goal.returns-in_ok-put_waiting-in-None
 returns-in_ok-put_waiting-in-None g c =
     let text = shown_text c.in-Shown.shown.now c.in-Shown.width in
     rw (c.in-Shown.is, c.in_ok-put_waiting-in-None.ensures.empty)
-    (takes_put c.put_shown.result (puts_then c.put_shown.result c.args.waiting.now.items text c.in_ok-put_waiting-in-None.was c.put_waiting.ensures.puts c.put_shown.ensures))
+    (takes_put c.put_shown.result (puts_then c.put_shown.result c.args.waiting.now.items text c.in_ok-put_waiting-in-None.was c.put_waiting.ensures.puts
+    c.put_shown.ensures))

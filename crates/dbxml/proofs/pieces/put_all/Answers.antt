@@ -8,7 +8,8 @@ pub returns-in_err-add_piece : goal.returns-in_err-add_piece
 returns-in_err-add_piece g c =
     let p = err_from_is_err_and c.from_residual.result c.from_residual.ensures.1 in
     let i = c.loop-piece.piece-index in
-    taken_stop (piece_text c.piece-item.result) (pieces_text (drop (i + 1) c.args.pieces.now)) c.loop-piece.invariant c.in_err-add_piece.was p.1 c.add_piece.ensures
+    taken_stop (piece_text c.piece-item.result) (pieces_text (drop (i + 1) c.args.pieces.now)) c.loop-piece.invariant c.in_err-add_piece.was p.1
+    c.add_piece.ensures
     (next_piece c.args.pieces.now i _ c.loop-piece-test.true c.piece-item.is)
 
 pub loop-piece-preserved : goal.loop-piece-preserved
@@ -19,4 +20,5 @@ loop-piece-preserved g c =
 
 pub returns : goal.returns
 returns g c =
-    taken_all c.put_waiting.result c.loop-piece.invariant (no_piece c.args.pieces.now c.loop-piece.piece-index c.loop-piece-test.false) c.put_waiting.ensures.puts
+    taken_all c.put_waiting.result c.loop-piece.invariant (no_piece c.args.pieces.now c.loop-piece.piece-index c.loop-piece-test.false)
+    c.put_waiting.ensures.puts

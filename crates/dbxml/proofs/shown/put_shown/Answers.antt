@@ -11,4 +11,5 @@ returns g c =
     let cut = cut_text c.as_slice-text.result.now c.args.width n c.fitting-fitting.ensures.fit (search rules) in
     let same : c.as_slice-text.result.now ≡ c.args.shown.now = search rules in
     let dots = rw c.as_bytes.ensures.value at c.put_escaped-3.ensures in
-    rw (sym same) (rw cut (puts_then c.put_escaped-3.result (escaped (take n c.as_slice-text.result.now)) (escaped ellipsis) c.in_ok-put_escaped.was c.put_escaped-2.ensures dots))
+    rw (sym same) (rw cut (puts_then c.put_escaped-3.result (escaped (take n c.as_slice-text.result.now)) (escaped ellipsis) c.in_ok-put_escaped.was
+    c.put_escaped-2.ensures dots))

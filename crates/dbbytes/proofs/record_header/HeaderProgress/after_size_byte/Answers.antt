@@ -1,13 +1,18 @@
 use Rattle.std.proofs.Common.{◌<◌, ◌⊎◌, inl, inr, arith}
 use Rattle.dbbytes.proofs.RecordLemmas.{size_more, size_bad, size_good}
 use Rattle.dbbytes.proofs.record_header.HeaderProgress.after_size_byte.Goals as goal
-use Rattle.dbbytes.proofs.record_header.HeaderProgress.after_size_byte.Goals.{then-value-from-via-then-value-from, then-value-from-via-else-value-from+then-value-from-2}
+use Rattle.dbbytes.proofs.record_header.HeaderProgress.after_size_byte.Goals.{then-value-from-via-then-value-from}
+use Rattle.dbbytes.proofs.record_header.HeaderProgress.after_size_byte.Goals.{then-value-from-via-else-value-from+then-value-from-2}
 
 pub returns-then-value-from : goal.returns-then-value-from
 returns-then-value-from c = λ e more.
     let n = c.args.number in
     let bad : (c.in-Whole.value < c.in-Whole.length) ⊎ (c.args.size < c.in-Whole.value)
-    = elim c.then-value-from.branch [ then-value-from-via-then-value-from w ↦ inl (omega arith) | then-value-from-via-else-value-from+then-value-from-2 w ↦ inr (omega arith) ] in
+    = elim c.then-value-from.branch [
+      | then-value-from-via-then-value-from w ↦ inl (omega arith)
+      | then-value-from-via-else-value-from+then-value-from-2 w ↦ inr
+          (omega arith)
+    ] in
     size_bad e _ c.args.size n.length n.value c.in-Whole.value c.in-Whole.length c.args.byte more c.in-Whole.ensures.number bad
 
 pub returns-in-More : goal.returns-in-More

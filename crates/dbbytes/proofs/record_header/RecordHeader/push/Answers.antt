@@ -16,5 +16,6 @@ returns-in-More c = λ e more.
 pub returns-in-Whole : goal.returns-in-Whole
 returns-in-Whole c = λ e more.
     let s = c.args.self in
-    c.with_type.ensures e more ∙ push_whole e s.left s.bodies (take s.count s.types) (4 - s.count) s.number.length s.number.value c.in-Whole.value c.in-Whole.length
+    c.with_type.ensures e more ∙ push_whole e s.left s.bodies (take s.count s.types) (4 - s.count) s.number.length s.number.value c.in-Whole.value
+    c.in-Whole.length
     c.args.byte more (omega arith) c.in-Whole.ensures.number

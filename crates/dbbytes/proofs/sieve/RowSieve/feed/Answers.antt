@@ -7,7 +7,8 @@ use Rattle.dbbytes.proofs.sieve.RowSieve.feed.Goals.{in-HeaderSize, in-SerialTyp
 pub returns-in-Malformed : goal.returns-in-Malformed
 returns-in-Malformed c = λ size e bytes h.
     let s = c.loop-i.self in
-    taken_more c.args.piece.now h (λ more. row_after-malformed s more c.in-Malformed.is ∙ sym (row_after-malformed s (drop c.loop-i.i c.args.piece.now ++ more) c.in-Malformed.is) ∙ c.loop-i.invariant more)
+    taken_more c.args.piece.now h (λ more. row_after-malformed s more c.in-Malformed.is
+    ∙ sym (row_after-malformed s (drop c.loop-i.i c.args.piece.now ++ more) c.in-Malformed.is) ∙ c.loop-i.invariant more)
 
 pub loop-i-preserved : goal.loop-i-preserved
 loop-i-preserved c =

@@ -3,7 +3,8 @@ use Rattle.dbbytes.proofs.SieveLemmas.{row_checked, row_done, row_bodies_short, 
 use Rattle.dbbytes.proofs.sieve.RowSieve.finish.Goals as goal
 
 pub returns-then-left-gt0 : goal.returns-then-left-gt0
-returns-then-left-gt0 c = λ size e bytes h. sym (row_bodies_short c.args.self.now c.in-Bodies.types c.in-Bodies.left c.in-Bodies.is (λ none. omega arith)) ∙ taken_row h
+returns-then-left-gt0 c = λ size e bytes h. sym (row_bodies_short c.args.self.now c.in-Bodies.types c.in-Bodies.left c.in-Bodies.is (λ none. omega arith))
+    ∙ taken_row h
 
 pub returns-else-left-gt0 : goal.returns-else-left-gt0
 returns-else-left-gt0 c = λ size e bytes h.

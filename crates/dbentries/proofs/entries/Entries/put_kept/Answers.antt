@@ -18,7 +18,8 @@ returns-then-slot-self g c =
     let within : c.args.slot < length (take inside.shown items) = omega (arith, l, c.self.invariant.0, c.if-slot-self.true) in
     let same : take inside.shown (set items c.args.slot c.add.new.self) ≡ changed_at (λ e. entry_added e told) c.args.slot (take inside.shown items) =
     take-set-lt inside.shown items c.args.slot c.add.new.self c.if-slot-self.true
-    ∙ ap (set (take inside.shown items) c.args.slot) (c.add.ensures ∙ ap (λ e. entry_added e told) (c.index_mut.ensures.value ∙ sym (get_or-take inside.shown items c.args.slot d c.if-slot-self.true)))
+    ∙ ap (set (take inside.shown items) c.args.slot) (c.add.ensures
+    ∙ ap (λ e. entry_added e told) (c.index_mut.ensures.value ∙ sym (get_or-take inside.shown items c.args.slot d c.if-slot-self.true)))
     ∙ sym (changed-set (λ e. entry_added e told) c.args.slot (take inside.shown items) d within) in
     ap (λ l. record (stored inside) { listed = l }) same ∙ ap (put_kept c.args.slot told) c.self.view_is
 

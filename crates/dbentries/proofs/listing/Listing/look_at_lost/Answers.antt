@@ -4,7 +4,7 @@ use Rattle.std.specs.List.{range_with_len}
 use Rattle.dbformat.specs.File.{geometry}
 use Rattle.dbformat.specs.declared.Geometry.{Geometry}
 use Rattle.dbsource.proofs.Logs.{asks_then, asks_weaker, has_none}
-use Rattle.dbscan.specs.Desks.{Things, shape_of}
+use Rattle.dbscan.specs.Desks.{DeskView, shape_of}
 use Rattle.dbscan.specs.Looks.{IsUnmarked, ReadsOrNot, ReadsRisingBefore}
 use Rattle.dbscan.proofs.MapLogs.{reads_more, reads_none}
 use Rattle.dbscan.specs.Placed.{told_faults}
@@ -21,13 +21,15 @@ loop-index-init g c = record {
   room = refl;
   desk = refl;
   asks = record {
-    log = has_none _ _ refl refl (reads_none (shape_of c.args.desk.now).page_size (IsUnmarked c.args.desk.now.marks) 1) (λ file V d limit xs a. subst (λ l. HoldsFaults limit l c.args.self.now) (sym (append-nil xs)) a);
+    log = has_none _ _ refl refl (reads_none (shape_of c.args.desk.now).page_size (IsUnmarked c.args.desk.now.marks) 1)
+        (λ file V d limit xs a. subst (λ l. HoldsFaults limit l c.args.self.now) (sym (append-nil xs)) a);
     count = refl;
   };
 }
 
 pub returns-in_err-look_at_page-clause-desk : goal.returns-in_err-look_at_page-clause-desk
-returns-in_err-look_at_page-clause-desk g c = c.look_at_page.ensures.desk ∙ ap (λ (d : Things). record d { pages = c.look_at_page.new.desk.pages }) c.loop-index.invariant.desk
+returns-in_err-look_at_page-clause-desk g c = c.look_at_page.ensures.desk
+    ∙ ap (λ (d : DeskView). record d { pages = c.look_at_page.new.desk.pages }) c.loop-index.invariant.desk
 
 pub returns-in_err-look_at_page-clause-asks : goal.returns-in_err-look_at_page-clause-asks
 returns-in_err-look_at_page-clause-asks g c =
@@ -40,7 +42,7 @@ returns-in_err-look_at_page-clause-asks g c =
     (ReadsOrNot (shape_of here).page_size (IsUnmarked here.marks) (i + 1)) _ _ (Err _) (λ n. refl) (λ n. refl)
     c.loop-index.invariant.asks c.in_err-look_at_page.ensures.asks
     (λ a b h k. (reads_more (shape_of old).page_size (IsUnmarked old.marks) (i + 1) (i + 1) a b (omega arith) h
-    (subst (λ (d : Things). ReadsOrNot (shape_of d).page_size (IsUnmarked d.marks) (i + 1) b) same k)).reads)
+    (subst (λ (d : DeskView). ReadsOrNot (shape_of d).page_size (IsUnmarked d.marks) (i + 1) b) same k)).reads)
     (λ file way turn limit V d heard.
     let high : i + 1 ≤ (geometry file).pages = fits d.header.shape (ap (λ (g : Geometry). g.pages) c.geometry-pages.ensures.shape) c.loop-index-test.true in
     let t = turn V (desk_kept old here file V same d) (omega arith) high in
@@ -56,14 +58,15 @@ loop-index-preserved g c =
     let i = c.loop-index.index in
     let same = c.loop-index.invariant.desk in record {
       room = c.look_at_page.ensures.room ∙ c.loop-index.invariant.room;
-      desk = c.look_at_page.ensures.desk ∙ ap (λ (d : Things). record d { pages = c.look_at_page.new.desk.pages }) same;
+      desk = c.look_at_page.ensures.desk ∙ ap (λ (d : DeskView). record d { pages = c.look_at_page.new.desk.pages }) same;
       asks = asks_then (ReadsRisingBefore (shape_of old).page_size (IsUnmarked old.marks) (i + 1))
           (ReadsOrNot (shape_of here).page_size (IsUnmarked here.marks) (i + 1)) _ _ (Ok tt) (λ n. refl) (λ n. refl)
           c.loop-index.invariant.asks c.in_ok-look_at_page.ensures.asks
           (λ a b h k. reads_more (shape_of old).page_size (IsUnmarked old.marks) (i + 1) (i + 1) a b (omega arith) h
-          (subst (λ (d : Things). ReadsOrNot (shape_of d).page_size (IsUnmarked d.marks) (i + 1) b) same k))
+          (subst (λ (d : DeskView). ReadsOrNot (shape_of d).page_size (IsUnmarked d.marks) (i + 1) b) same k))
           (λ file way turn V d limit xs a.
-          let high : i + 1 ≤ (geometry file).pages = fits d.header.shape (ap (λ (g : Geometry). g.pages) c.geometry-pages.ensures.shape) c.loop-index-test.true in
+          let high : i + 1 ≤ (geometry file).pages = fits d.header.shape (ap (λ (g : Geometry). g.pages) c.geometry-pages.ensures.shape) c.loop-index-test.true
+          in
           let ys = flat_map (lost_at file V) (range_with_len 1 i) in
           subst (λ l. HoldsFaults limit l c.look_at_page.new.self) (append_assoc xs ys (lost_at file V (i + 1)) ∙ ap (λ l. xs ++ l) (sym (lost_more file V i)))
           (turn V (desk_kept old here file V same d) (omega arith) high limit (xs ++ ys) (way V d limit xs a)));
@@ -75,7 +78,8 @@ returns-clause-asks g c =
     let i = c.loop-index.index in
     asks_weaker (ReadsRisingBefore (shape_of old).page_size (IsUnmarked old.marks) (i + 1)) _ (Ok tt) (λ n. refl)
     c.loop-index.invariant.asks (λ log h. h.reads) (λ file way limit V d heard.
-    let all : i ≡ (geometry file).pages = ends d.header.shape (ap (λ (g : Geometry). g.pages) c.geometry-pages.ensures.shape) c.loop-index.auto.index-end c.loop-index-test.false in
+    let all : i ≡ (geometry file).pages = ends d.header.shape (ap (λ (g : Geometry). g.pages) c.geometry-pages.ensures.shape) c.loop-index.auto.index-end
+    c.loop-index-test.false in
     let xs = others_of (told_faults file V) in
     subst (λ l. HoldsFaults limit (xs ++ l) c.loop-index.self) (ap (λ n. flat_map (lost_at file V) (range_with_len 1 n)) all ∙ sym (lost_are file V))
     (way V d limit xs heard))

@@ -16,7 +16,8 @@ abbrev pub invariant-loop-index : goal.invariant-loop-index
 invariant-loop-index g l = record {
   room : length l.self.zeros ≡ length l.initial.self.zeros;
   desk : l.desk ≡ record l.initial.desk { pages = l.desk.pages };
-  asks : Asks {A = Unit {0}} {E = ReadFailed} g.S.Source.step (ReadsRisingBefore (shape_of l.initial.desk).page_size (IsUnmarked l.initial.desk.marks) (l.index + 1))
+  asks : Asks {A = Unit {0}} {E = ReadFailed} g.S.Source.step
+      (ReadsRisingBefore (shape_of l.initial.desk).page_size (IsUnmarked l.initial.desk.marks) (l.index + 1))
       (λ file. (V : List Reference) → IsDeskOf l.initial.desk file V → (limit : ℕ) (xs : List Reported) → HoldsFaults limit xs l.initial.self
       → HoldsFaults limit (xs ++ flat_map (lost_at file V) (range_with_len 1 l.index)) l.self)
       is_any (Ok tt) (g.S.Source.held l.initial.source) (g.S.Source.held l.source);

@@ -19,7 +19,8 @@ pub returns-then-not-is_lost-clause-asks : goal.returns-then-not-is_lost-clause-
 returns-then-not-is_lost-clause-asks g c = record {
   log = has_none _ _ refl refl (inl refl) (λ file V d low high.
       let p = c.args.page in
-      let none = not_lost file V p (sym (unmarked_nowhere file V c.args.desk.now.marks p d.marks low high) ∙ sym c.is_lost.ensures.mark ∙ c.if-not-is_lost.true) in
+      let none = not_lost file V p (sym (unmarked_nowhere file V c.args.desk.now.marks p d.marks low high) ∙ sym c.is_lost.ensures.mark ∙ c.if-not-is_lost.true)
+      in
       λ limit xs a. subst (λ l. HoldsFaults limit l c.args.self.now) (sym (ap (λ l. xs ++ l) none ∙ append-nil xs)) a);
   count = refl;
 }
@@ -37,8 +38,10 @@ returns-clause-asks g c =
     asks_weaker _ _ (Ok _) (λ n. refl) c.in_ok-cause.ensures.asks (λ log l. inr (l, yes)) (λ file w V d low high.
     let some = lost_here file V p (sym (unmarked_nowhere file V c.args.desk.now.marks p d.marks low high) ∙ yes) in
     let told : Fault → Cause → List Reported = λ f why. record { part = part.End; fault = f; cause = why } ∷ [] in
-    let why : c.in_ok-cause.cause ≡ lost_cause_at (is_lost_page file V) file p = w d.header ∙ ap (λ lost. lost_cause_at lost file p) (unmarked_lost file V c.args.desk.now.marks d.marks) in
-    let same : told c.lost_fault.result c.in_ok-cause.cause ≡ lost_at file V p = ap (λ f. told f c.in_ok-cause.cause) c.lost_fault.ensures ∙ ap (told (fault N01 p 0 (pos 0))) why ∙ sym some in
+    let why : c.in_ok-cause.cause ≡ lost_cause_at (is_lost_page file V) file p = w d.header
+    ∙ ap (λ lost. lost_cause_at lost file p) (unmarked_lost file V c.args.desk.now.marks d.marks) in
+    let same : told c.lost_fault.result c.in_ok-cause.cause ≡ lost_at file V p = ap (λ f. told f c.in_ok-cause.cause) c.lost_fault.ensures
+    ∙ ap (told (fault N01 p 0 (pos 0))) why ∙ sym some in
     λ limit xs a. record {
       entries = subst (λ l. IsListOf (xs ++ l) c.add.new.self) same (c.add.ensures.entries xs a.entries c.add.ensures.last);
       room = c.add.ensures.limit ∙ a.room;

@@ -16,7 +16,8 @@ module _ (words : List ℕ) (i : ℕ) where
   pages_to n = filter (has_bit words) (range_with_len 1 n)
 
   -- with one page more, where it has its bit
-  next : (r : Runs) (b : Bool) → has_bit words (i + 1) ≡ b → r ≡ fold run_added no_runs (pages_to i) → cond b (run_added r (i + 1)) r ≡ fold run_added no_runs (pages_to (i + 1))
+  next : (r : Runs) (b : Bool) → has_bit words (i + 1) ≡ b → r ≡ fold run_added no_runs (pages_to i) → cond b (run_added r (i + 1)) r
+      ≡ fold run_added no_runs (pages_to (i + 1))
   next r b e is =
       let last : 1 + i ≡ i + 1 = omega arith in
       let more : pages_to (i + 1) ≡ pages_to i ++ cond b ((i + 1) ∷ []) [] =

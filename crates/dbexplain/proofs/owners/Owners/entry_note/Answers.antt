@@ -10,9 +10,11 @@ use Rattle.dbexplain.proofs.owners.Owners.entry_note.Goals as goal
 pub returns-in-Some : goal.returns-in-Some
 returns-in-Some g c = λ file V h.
     (ap (λ o. option_map_or line_of_entry (option_map entry_value o) []) (sym c.in-Some.is)
-    ∙ entry_said file V c.args.self.now.marks.now c.args.page c.wanted_entry.result h.survey h.marks (c.wanted_entry.ensures ∙ ap wanted_entry c.mark_of.ensures))
+    ∙ entry_said file V c.args.self.now.marks.now c.args.page c.wanted_entry.result h.survey h.marks
+    (c.wanted_entry.ensures ∙ ap wanted_entry c.mark_of.ensures))
 
 pub returns-in-None : goal.returns-in-None
 returns-in-None g c = λ file V h.
     (ap (λ o. option_map_or line_of_entry (option_map entry_value o) []) (sym c.in-None.is)
-    ∙ entry_said file V c.args.self.now.marks.now c.args.page c.wanted_entry.result h.survey h.marks (c.wanted_entry.ensures ∙ ap wanted_entry c.mark_of.ensures))
+    ∙ entry_said file V c.args.self.now.marks.now c.args.page c.wanted_entry.result h.survey h.marks
+    (c.wanted_entry.ensures ∙ ap wanted_entry c.mark_of.ensures))

@@ -24,9 +24,11 @@ returns-in_err-put_ok g c =
     let q = err_from_is_err_and c.from_residual.result c.from_residual.ensures.1 in
     let held = g.O.Out.held in
     let none = sym c.all-faults.ensures ∙ c.if-faults-eq0.true in
-    rw q.1 (rw q.2 (finished g.S.Source Hears (explain_held held) (LeavesExplained held) (Err error.WriteFailed) c.args.desk.now c.args.source.now c.args.self.now _ refl
+    rw q.1 (rw q.2 (finished g.S.Source Hears (explain_held held) (LeavesExplained held) (Err error.WriteFailed) c.args.desk.now c.args.source.now
+    c.args.self.now _ refl
     (record { lent = refl; failures = inl (c.in_err-put_ok.ensures.count, refl) })
-    (λ file V first heard limit empty. clean_put held (file_heard heard empty) none (cut c.in_err-put_ok.field-0.0) c.put_ok.new.out c.in_err-put_ok.ensures.held)))
+    (λ file V first heard limit empty. clean_put held (file_heard heard empty) none (cut c.in_err-put_ok.field-0.0) c.put_ok.new.out
+    c.in_err-put_ok.ensures.held)))
 
 pub returns-then-faults-eq0 : goal.returns-then-faults-eq0
 returns-then-faults-eq0 g c =

@@ -23,11 +23,17 @@ returns g c =
           is_explained old.limit file r (held old.out.now) (held c.end.new.self.out.now) ran.keeps.desk.only is.is_read (λ V s.
           let empty = subst (λ (g : Geometry). IsEmpty old.limit g c.args.kept.now) is.shape c.requires in
           let here = subst (λ (k : Kept _). IsEmpty old.limit (geometry file) k) (sym new.kept) empty in
-          explained held old.limit file V is.is_read c.new-reporter.result c.run_over-answer.new.reporter c.end.new.self r old.out.now s here new.out (told V s) c.end.ensures.lines));
+          explained held old.limit file V is.is_read c.new-reporter.result c.run_over-answer.new.reporter c.end.new.self r old.out.now s here new.out (told V s)
+          c.end.ensures.lines));
       reads = ran.reads;
-      ended = record { same_out = refl; writes = out_failures held c.run_over-answer.new.reporter c.end.new.self r (held old.out.now).failures failed c.end.ensures.lines };
+      ended = record {
+        same_out = refl;
+        writes = out_failures held c.run_over-answer.new.reporter c.end.new.self r (held old.out.now).failures failed
+            c.end.ensures.lines;
+      };
       only = ran.keeps.desk.only;
     }
 
 pub shape_of-self : goal.shape_of-self
-shape_of-self g c = sym (c.end.ensures.same_out ∙ ap first (lent_same c.run_over-answer.result _ _ c.run_over-answer.ensures.keeps.writes) ∙ c.new-reporter.ensures.same_out)
+shape_of-self g c = sym (c.end.ensures.same_out ∙ ap first (lent_same c.run_over-answer.result _ _ c.run_over-answer.ensures.keeps.writes)
+    ∙ c.new-reporter.ensures.same_out)

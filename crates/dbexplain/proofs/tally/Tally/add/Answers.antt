@@ -15,7 +15,8 @@ returns-clause-faults g c = λ ts is.
     let first = ap₂ (λ n cs. record (tallied c.self.inside) { all = n; codes = cs }) n c.count_code.ensures
     ∙ ap (λ (u : Tallied). record u { all = counted (u.all + 1); codes = counted_in t.fault.code u.codes }) c.self.view_is in
     let added : c.note_page.new.self ≡ told_in t.part t.fault c.args.self.now = c.note_page.ensures
-    ∙ ap (λ (u : Tallied). record u { pages = if is_whole t.part then u.pages else bit_set t.fault.page u.pages }) (c.count_part.ensures ∙ ap (start_fault_counted t.part) first) in
+    ∙ ap (λ (u : Tallied). record u { pages = if is_whole t.part then u.pages else bit_set t.fault.page u.pages })
+    (c.count_part.ensures ∙ ap (start_fault_counted t.part) first) in
     subst (IsTallyOf (ts ++ t ∷ [])) (sym added) (told_more ts t.fault t.cause c.args.self.now is t.part)
 
 pub returns-clause-room : goal.returns-clause-room
@@ -25,5 +26,6 @@ returns-clause-room g c =
     let first = ap₂ (λ n cs. record (tallied c.self.inside) { all = n; codes = cs }) n c.count_code.ensures
     ∙ ap (λ (u : Tallied). record u { all = counted (u.all + 1); codes = counted_in t.fault.code u.codes }) c.self.view_is in
     let added : c.note_page.new.self ≡ told_in t.part t.fault c.args.self.now = c.note_page.ensures
-    ∙ ap (λ (u : Tallied). record u { pages = if is_whole t.part then u.pages else bit_set t.fault.page u.pages }) (c.count_part.ensures ∙ ap (start_fault_counted t.part) first) in
+    ∙ ap (λ (u : Tallied). record u { pages = if is_whole t.part then u.pages else bit_set t.fault.page u.pages })
+    (c.count_part.ensures ∙ ap (start_fault_counted t.part) first) in
     ap (λ (u : Tallied). length u.pages) added ∙ same_room t.part t.fault c.args.self.now

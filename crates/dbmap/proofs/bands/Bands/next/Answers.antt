@@ -5,7 +5,12 @@ use Rattle.dbmap.proofs.bands.Bands.next.Goals as goal
 use Rattle.dbmap.proofs.bands.Bands.next.Goals.{then-claim-most, else-claim-most}
 
 pub loop-number-init : goal.loop-number-init
-loop-number-init c = record { next = sym (none_first (claims c.args.shares.now c.args.all c.args.self.now.heights)); most = c.claim-most.ensures; few = omega arith }
+loop-number-init c = record {
+  next = sym (none_first (claims c.args.shares.now c.args.all c.args.self.now.heights));
+  most = c.claim-most.ensures;
+  few =
+      omega arith;
+}
 
 pub loop-number-preserved : goal.loop-number-preserved
 loop-number-preserved c =

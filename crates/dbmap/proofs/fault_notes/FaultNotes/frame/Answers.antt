@@ -8,7 +8,8 @@ use Rattle.dbmap.proofs.fault_notes.FaultNotes.frame.Goals.{then-page-eq0-via-th
 pub returns-then-page-eq0 : goal.returns-then-page-eq0
 returns-then-page-eq0 g c = λ count fs framed h. elim c.then-page-eq0.branch [
   | then-page-eq0-via-then-page-eq0 w ↦ not_framed count c.args.self.now c.args.page fs framed h (λ l k. omega (arith, l, w.if-page-eq0.true))
-  | then-page-eq0-via-else-page-eq0+then-page-self w ↦ not_framed count c.args.self.now c.args.page fs framed h (λ l k. (let e = h.pages in omega (arith, k, e, w.if-page-self.true)))
+  | then-page-eq0-via-else-page-eq0+then-page-self w ↦ not_framed count c.args.self.now c.args.page fs framed h
+      (λ l k. (let e = h.pages in omega (arith, k, e, w.if-page-self.true)))
 ]
 
 pub returns : goal.returns

@@ -8,7 +8,8 @@ use Rattle.dbmap.proofs.fault_notes.FaultNotes.note.Goals.{then-page-eq0-via-the
 pub returns-then-page-eq0 : goal.returns-then-page-eq0
 returns-then-page-eq0 g c = λ count fs framed h. elim c.then-page-eq0.branch [
   | then-page-eq0-via-then-page-eq0 w ↦ not_noted count c.args.self.now c.args.page fs framed h (λ l k. omega (arith, l, w.if-page-eq0.true)) c.args.code
-  | then-page-eq0-via-else-page-eq0+then-page-self w ↦ not_noted count c.args.self.now c.args.page fs framed h (λ l k. (let e = h.pages in omega (arith, k, e, w.if-page-self.true))) c.args.code
+  | then-page-eq0-via-else-page-eq0+then-page-self w ↦ not_noted count c.args.self.now c.args.page fs framed h
+      (λ l k. (let e = h.pages in omega (arith, k, e, w.if-page-self.true))) c.args.code
 ]
 
 pub returns : goal.returns
@@ -18,4 +19,5 @@ returns g c = λ count fs framed h.
     let pages = h.pages in
     let first = c.first_bit-first.ensures ∙ ap (λ r. square_of r c.args.page * 64) h.run in
     noted count n c.args.page fs framed h (omega (arith, some)) (omega (arith, pages, c.if-page-self.false)) c.set-2.new.self c.set-3.new.self c.args.code
-    (c.set-2.ensures ∙ ap₂ bit_set (ap (λ b. b + 62) first) (c.set.ensures ∙ ap₂ (λ b i. bit_set (b + i) n.squares.words.items) first c.index.ensures.index)) c.set-3.ensures
+    (c.set-2.ensures ∙ ap₂ bit_set (ap (λ b. b + 62) first) (c.set.ensures ∙ ap₂ (λ b i. bit_set (b + i) n.squares.words.items) first c.index.ensures.index))
+    c.set-3.ensures

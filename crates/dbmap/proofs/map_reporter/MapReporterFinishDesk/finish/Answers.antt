@@ -36,9 +36,11 @@ returns-in_err-put_map g c =
             tt,
             subst (λ (o : g.row.O.Denot). Begins (held o).bytes (held c.put_map.new.out).bytes (map_picture file V first.name.now))
                 (map_untouched file V s first c.args.self.now none empty heard.heard)
-                (named (λ name. Begins (held c.args.self.now.out.now).bytes (held c.put_map.new.out).bytes (map_picture file V name)) (run_notices file V) first c.args.self.now heard.heard
+                (named (λ name. Begins (held c.args.self.now.out.now).bytes (held c.put_map.new.out).bytes (map_picture file V name)) (run_notices file V) first
+                c.args.self.now heard.heard
                 (subst (Begins (held c.args.self.now.out.now).bytes (held c.put_map.new.out).bytes)
-                (put.is file V here (map_keeps file V s first c.args.self.now none empty heard.heard c.look_at_lost.new.self listed) (map_counts file V s first c.args.self.now none empty heard.heard))
+                (put.is file V here (map_keeps file V s first c.args.self.now none empty heard.heard c.look_at_lost.new.self listed)
+                (map_counts file V s first c.args.self.now none empty heard.heard))
                 put.puts.held)),
           ));
       keeps = looked_keeps look.desk (record { lent = refl; failures = inl (put.puts.count, refl) }) (inr refl);
@@ -56,9 +58,11 @@ returns g c =
             c.verdict.ensures ∙ map_finds file V s first c.args.self.now none empty heard.heard,
             subst (λ (o : g.row.O.Denot). Appends (held o).bytes (held c.put_map.new.out).bytes (map_picture file V first.name.now))
                 (map_untouched file V s first c.args.self.now none empty heard.heard)
-                (named (λ name. Appends (held c.args.self.now.out.now).bytes (held c.put_map.new.out).bytes (map_picture file V name)) (run_notices file V) first c.args.self.now heard.heard
+                (named (λ name. Appends (held c.args.self.now.out.now).bytes (held c.put_map.new.out).bytes (map_picture file V name)) (run_notices file V)
+                first c.args.self.now heard.heard
                 (subst (Appends (held c.args.self.now.out.now).bytes (held c.put_map.new.out).bytes)
-                (put.is file V here (map_keeps file V s first c.args.self.now none empty heard.heard c.look_at_lost.new.self listed) (map_counts file V s first c.args.self.now none empty heard.heard))
+                (put.is file V here (map_keeps file V s first c.args.self.now none empty heard.heard c.look_at_lost.new.self listed)
+                (map_counts file V s first c.args.self.now none empty heard.heard))
                 put.puts.held)),
           ));
       keeps = looked_keeps look.desk (ap (one_out c.args.self.now.out.ghost_name) put.puts.count) tt;

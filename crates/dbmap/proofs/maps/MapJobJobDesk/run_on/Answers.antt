@@ -23,7 +23,8 @@ returns g c =
     let here = held c.run_over.new.reporter.out.now in record {
       read = after_weaker _ _ ran.read (λ file is left. map_of old.name.now file r ran.keeps.desk.only is.is_read (held old.out.now).bytes here.bytes (λ V s.
           let empty = subst (λ (g : Geometry). HearsNone g.pages c.args.kept.now) is.shape c.requires in
-          let h = map_left file V s c.new-reporter.result c.run_over.new.reporter new.faults (subst (HearsNone (geometry file).pages) (sym new.kept) empty) held r (left V s) in (
+          let h = map_left file V s c.new-reporter.result c.run_over.new.reporter new.faults (subst (HearsNone (geometry file).pages) (sym new.kept) empty) held
+          r (left V s) in (
             h.0,
             subst (λ (o : g.row.O.Denot). PutsMap r (held o).bytes here.bytes (map_picture file V old.name.now)) new.out
                 (subst (λ (n : List ℕ). PutsMap r (held c.new-reporter.result.out.now).bytes here.bytes (map_picture file V n)) new.name h.1),

@@ -16,7 +16,8 @@ loop-number-preserved g c =
     let height : c.height-height.result ≡ get_or b.heights number 0 = c.height-height.ensures in
     let next : c.saturating_add-top.result ≡ min (top + get_or b.heights number 0) 4294967295 = omega arith in
     let drawn = rw height at c.draw_band.ensures in
-    rw next (drawn_more (band_text r number top (get_or b.heights number 0)) (bands_from r b (number + 1) (16 - (number + 1)) (min (top + get_or b.heights number 0) 4294967295)) c.loop-number.invariant drawn
+    rw next (drawn_more (band_text r number top (get_or b.heights number 0))
+    (bands_from r b (number + 1) (16 - (number + 1)) (min (top + get_or b.heights number 0) 4294967295)) c.loop-number.invariant drawn
     (next_band r b number top c.loop-number-test.true))
 
 pub returns : goal.returns

@@ -4,4 +4,5 @@ use Rattle.dbmap.proofs.Drawing.{HasDrawn}
 use Rattle.dbmap.proofs.run.RunSquare.draw_bands.Given as goal
 
 abbrev pub invariant-loop-number : goal.invariant-loop-number
-invariant-loop-number g l = HasDrawn g.O.Out.held l.initial.canvas l.canvas (bands_from l.self l.bands l.number (16 - l.number) l.top) (bands_from l.self l.bands 0 16 0)
+invariant-loop-number g l = HasDrawn g.O.Out.held l.initial.canvas l.canvas (bands_from l.self l.bands l.number (16 - l.number) l.top)
+    (bands_from l.self l.bands 0 16 0)

@@ -15,8 +15,10 @@ loop-number-preserved g c =
     let number = c.loop-number.number in
     let f = c.loop-number.is_first in
     rw (c.is_still_first-is_first.ensures, c.has.ensures)
-    (drawn_more (owner_text shares names f number) (owners_from shares names (f && not (has_pages shares number)) (number + 1) (16 - (number + 1))) c.loop-number.invariant c.draw_owner.ensures
+    (drawn_more (owner_text shares names f number) (owners_from shares names (f && not (has_pages shares number)) (number + 1) (16 - (number + 1)))
+    c.loop-number.invariant c.draw_owner.ensures
     (next_owner shares names f number c.loop-number-test.true))
 
 pub returns : goal.returns
-returns g c = drawn_all c.loop-number.invariant (no_owner c.args.self.now.shares c.args.labels.now.names.items c.loop-number.is_first c.loop-number.number c.loop-number-test.false)
+returns g c = drawn_all c.loop-number.invariant (no_owner c.args.self.now.shares c.args.labels.now.names.items c.loop-number.is_first c.loop-number.number
+    c.loop-number-test.false)

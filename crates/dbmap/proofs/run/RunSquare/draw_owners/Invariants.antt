@@ -4,4 +4,5 @@ use Rattle.dbmap.proofs.Drawing.{HasDrawn}
 use Rattle.dbmap.proofs.run.RunSquare.draw_owners.Given as goal
 
 abbrev pub invariant-loop-number : goal.invariant-loop-number
-invariant-loop-number g l = HasDrawn g.O.Out.held l.initial.canvas l.canvas (owners_from l.self.shares l.labels.names.items l.is_first l.number (16 - l.number)) (owners_from l.self.shares l.labels.names.items true 0 16)
+invariant-loop-number g l = HasDrawn g.O.Out.held l.initial.canvas l.canvas (owners_from l.self.shares l.labels.names.items l.is_first l.number (16 - l.number))
+    (owners_from l.self.shares l.labels.names.items true 0 16)

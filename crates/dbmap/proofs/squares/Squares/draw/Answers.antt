@@ -19,7 +19,8 @@ loop-row-preserved g c =
     let at : row ≡ 0 + row = omega arith in
     record {
       rows = as_is {g = d} {a = λ d. flat_map (row_text d) (range_with_len 0 row) ++ row_text d row} (λ d. flat_map (row_text d) (range_with_len 0 (row + 1)))
-          (λ V. ap (λ r. flat_map (row_text (surveyed d V)) (range_with_len 0 row) ++ row_text (surveyed d V) r) at ∙ sym (flat_push (row_text (surveyed d V)) 0 row))
+          (λ V. ap (λ r. flat_map (row_text (surveyed d V)) (range_with_len 0 row) ++ row_text (surveyed d V) r) at
+          ∙ sym (flat_push (row_text (surveyed d V)) 0 row))
           (as_then {g = d} c.loop-row.invariant.trees c.loop-row.invariant.rows c.draw_row.ensures.draws);
       named = c.draw_row.ensures.named;
       trees = λ file V of. c.draw_row.ensures.trees file V (c.loop-row.invariant.trees file V of);

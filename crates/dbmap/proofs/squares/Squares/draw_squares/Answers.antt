@@ -10,7 +10,8 @@ loop-index-init g c =
     let d = drawn_from c.args.self.now c.args.layout.now in
     let none : 0 ≡ first - first = omega arith in
     record {
-      draws = as_nothing c.args.canvas.now (λ d. squares_text d first (first - first)) (λ V. no_squares (surveyed d V) first ∙ ap (squares_text (surveyed d V) first) none);
+      draws = as_nothing c.args.canvas.now (λ d. squares_text d first (first - first))
+          (λ V. no_squares (surveyed d V) first ∙ ap (squares_text (surveyed d V) first) none);
       named = c.requires.named;
       trees = λ file V of. of;
     }

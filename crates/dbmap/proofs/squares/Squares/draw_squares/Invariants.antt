@@ -7,7 +7,8 @@ use Rattle.dbmap.proofs.squares.Squares.draw_squares.Given as goal
 
 abbrev pub invariant-loop-index : goal.invariant-loop-index
 invariant-loop-index g l = record {
-  draws : DrawsAs g.O.Out.held l.self.marks.now l.initial.state.trees.known (drawn_from l.self l.layout) (λ d. squares_text d l.fn.first (l.index - l.fn.first)) l.initial.canvas l.canvas;
+  draws : DrawsAs g.O.Out.held l.self.marks.now l.initial.state.trees.known (drawn_from l.self l.layout) (λ d. squares_text d l.fn.first (l.index - l.fn.first))
+      l.initial.canvas l.canvas;
   named : HoldsTreeName l.self.names l.state;
   trees : StaysOf l.self.marks.now l.initial.state.trees.known l.state.trees.known;
 }

@@ -9,7 +9,8 @@ use Rattle.dbmap.proofs.squares.Squares.shares.Goals as goal
 pub loop-page-init : goal.loop-page-init
 loop-page-init g c = record {
   shares = λ file V of. (let none : c.args.first - c.args.first ≡ 0 = omega arith in
-      subst (λ n. AreShares (tree_starts c.args.self.now.largest.items) (marked_place c.args.self.now.marks.now) (start_at V) (range_with_len c.args.first n) c.new-shares.result)
+      subst (λ n. AreShares (tree_starts c.args.self.now.largest.items) (marked_place c.args.self.now.marks.now) (start_at V) (range_with_len c.args.first n)
+      c.new-shares.result)
       (sym none) c.new-shares.ensures.none);
   many = c.new-shares.ensures.many;
   at = inl refl;
@@ -23,7 +24,8 @@ loop-page-preserved g c = record {
       let was = c.loop-page.invariant.trees file V of in
       let largest = tree_starts c.args.self.now.largest.items in
       let at = c.place_of-place.ensures.mark in
-      shares_next largest (marked_place c.args.self.now.marks.now) (start_at V) c.args.first c.loop-page.page c.owner.result c.is_overflow.result c.loop-page.shares c.add.new.self
+      shares_next largest (marked_place c.args.self.now.marks.now) (start_at V) c.args.first c.loop-page.page c.owner.result c.is_overflow.result
+      c.loop-page.shares c.add.new.self
       (omega (arith, c.loop-page.auto.page))
       (c.owner.ensures ∙ ap₂ (owner_by largest) at (c.start_of-start.ensures.visit file V was.survey was.marks was.trees))
       (c.is_overflow.ensures ∙ ap is_overflow at) c.add.ensures.counted (c.loop-page.invariant.shares file V of));
@@ -40,7 +42,8 @@ loop-page-preserved g c = record {
 pub returns-clause-shares : goal.returns-clause-shares
 returns-clause-shares g c = λ file V of.
     let n : c.loop-page.page - c.args.first ≡ c.args.last + 1 - c.args.first = elim c.loop-page.invariant.at [ inl e ↦ omega arith | inr l ↦ omega arith ] in
-    shares_all (tree_starts c.args.self.now.largest.items) (marked_place c.args.self.now.marks.now) (start_at V) c.args.first c.args.last (c.loop-page.page - c.args.first)
+    shares_all (tree_starts c.args.self.now.largest.items) (marked_place c.args.self.now.marks.now) (start_at V) c.args.first c.args.last
+    (c.loop-page.page - c.args.first)
     c.loop-page.shares n c.loop-page.invariant.many (c.loop-page.invariant.shares file V of)
 
 pub returns-2-clause-shares : goal.returns-2-clause-shares
@@ -51,7 +54,8 @@ returns-2-clause-shares g c = λ file V of.
     let n : c.loop-page.page + 1 - c.args.first ≡ c.args.last + 1 - c.args.first = omega arith in
     shares_all largest (marked_place c.args.self.now.marks.now) (start_at V) c.args.first c.args.last (c.loop-page.page + 1 - c.args.first) c.add.new.self n
     (c.add.ensures.many c.loop-page.invariant.many)
-    (shares_next largest (marked_place c.args.self.now.marks.now) (start_at V) c.args.first c.loop-page.page c.owner.result c.is_overflow.result c.loop-page.shares c.add.new.self
+    (shares_next largest (marked_place c.args.self.now.marks.now) (start_at V) c.args.first c.loop-page.page c.owner.result c.is_overflow.result
+    c.loop-page.shares c.add.new.self
     (omega (arith, c.loop-page.auto.page))
     (c.owner.ensures ∙ ap₂ (owner_by largest) at (c.start_of-start.ensures.visit file V was.survey was.marks was.trees))
     (c.is_overflow.ensures ∙ ap is_overflow at) c.add.ensures.counted (c.loop-page.invariant.shares file V of))

@@ -30,7 +30,8 @@ loop-index-preserved g c = record {
 pub returns-clause-tally : goal.returns-clause-tally
 returns-clause-tally g c = λ file V of. (
     let all : length c.args.marks.now ≡ (geometry file).pages = ap length of.marks ∙ marks_of-length (geometry file) V in
-    let end : c.loop-index.index ≡ (geometry file).pages = omega (arith, c.loop-index-test.false, c.pages-index-end.ensures.count, all, c.loop-index.auto.index-end) in
+    let end : c.loop-index.index ≡ (geometry file).pages =
+    omega (arith, c.loop-index-test.false, c.pages-index-end.ensures.count, all, c.loop-index.auto.index-end) in
     record {
       all = subst (λ n. IsPageTallyTo file V n c.loop-index.self) end (c.loop-index.invariant.tally file V of);
       most = omega (arith, all, c.pages-index-end.ensures.count, c.pages-index-end.ensures.most);

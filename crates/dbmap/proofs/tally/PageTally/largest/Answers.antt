@@ -27,7 +27,8 @@ loop-preserved g c =
           let t = w.in-Some.tree in
           let found = found_one s.starts (tree_starts ts) s.trees t (sym next ∙ w.in-Some.is) in
           let pushed : c.match-next.largest.items ≡ ts ++ t ∷ [] =
-          ap (λ l. l.items) w.largest-is ∙ on_ok w.try_push.result (w.try_push.ensures.variant.1 (omega (arith, at.few, c.loop-test.true))) w.try_push.ensures.ok in
+          ap (λ l. l.items) w.largest-is ∙ on_ok w.try_push.result (w.try_push.ensures.variant.1 (omega (arith, at.few, c.loop-test.true)))
+          w.try_push.ensures.ok in
           let many : length c.match-next.largest.items ≡ length ts + 1 = ap length pushed ∙ length-append ts (t ∷ []) in
           record {
             starts = ap tree_starts pushed ∙ starts_push ts t ∙ sym found.0 ∙ more;

@@ -7,7 +7,11 @@ use Rattle.dbmap.proofs.tally.PageTally.next.Goals as goal
 use Rattle.dbmap.proofs.tally.PageTally.next.Goals.{then-pages-most, else-pages-most}
 
 pub loop-start-init : goal.loop-start-init
-loop-start-init g c = record { next = sym (none_first (left_pages (pages_at c.args.self.now.starts) (tree_starts c.args.taken.now))); most = c.left-most.ensures }
+loop-start-init g c = record {
+  next = sym (none_first (left_pages (pages_at c.args.self.now.starts) (tree_starts c.args.taken.now)));
+  most =
+      c.left-most.ensures;
+}
 
 pub loop-start-preserved : goal.loop-start-preserved
 loop-start-preserved g c =

@@ -4,7 +4,8 @@ use Rattle.dbmap.specs.Shares.{capped_pages, share_sum}
 use Rattle.dbmap.specs.Tallies.{share_at}
 use Rattle.dbmap.proofs.LegendLines.{other_empty, other_more, other_ranked, other_same, other_yes}
 use Rattle.dbmap.proofs.tally.PageTally.others.Goals as goal
-use Rattle.dbmap.proofs.tally.PageTally.others.Goals.{then-share-ne0+then-rank_of-eq-COLOURED, else-share-ne0, else-share-ne0-via-then-share-ne0+else-rank_of-eq-COLOURED, else-share-ne0-via-else-share-ne0}
+use Rattle.dbmap.proofs.tally.PageTally.others.Goals.{then-share-ne0+then-rank_of-eq-COLOURED, else-share-ne0}
+use Rattle.dbmap.proofs.tally.PageTally.others.Goals.{else-share-ne0-via-then-share-ne0+else-rank_of-eq-COLOURED, else-share-ne0-via-else-share-ne0}
 
 pub loop-start-preserved : goal.loop-start-preserved
 loop-start-preserved g c =

@@ -10,7 +10,8 @@ loop-index-preserved g c =
     let k : vec_len c.loop-index.words ≡ length c.loop-index.words.items = c.loop-index.words.ok.0 in
     let lt : c.loop-index.index < length c.loop-index.words.items = omega (arith, c.loop-index.invariant.size) in record {
       size = c.loop-index.invariant.size;
-      made = made_step (mark_of c.args.geometry.now []) c.loop-index.words.items c.loop-index.index c.first_word.result lt c.loop-index.invariant.made c.first_word.ensures;
+      made = made_step (mark_of c.args.geometry.now []) c.loop-index.words.items c.loop-index.index c.first_word.result lt c.loop-index.invariant.made
+          c.first_word.ensures;
     }
 
 pub returns : goal.returns

@@ -34,4 +34,5 @@ returns-clause-right g c = λ file V s m a l.
     let past : length rows ≤ c.loop-index.index = omega (arith, c.loop-index-test.false, c.len-index-end.ensures.count) in
     let long = c.loop-index.invariant.pages in
     roots_right file V s rows a marks known m (omega (arith, l, long))
-    (λ p. all_entered marks known rows c.loop-index.index (length known) p (root_known marks (length known) (listed_start rows p) p) past (c.loop-index.invariant.entered p)))
+    (λ p. all_entered marks known rows c.loop-index.index (length known) p (root_known marks (length known) (listed_start rows p) p) past
+    (c.loop-index.invariant.entered p)))

@@ -7,5 +7,6 @@ use Rattle.dbowner.proofs.page_trees.PageTrees.forget.Goals as goal
 pub returns-clause-known : goal.returns-clause-known
 returns-clause-known g c =
     let words = c.self.inside.words in
-    let len : vec_len words ≡ length c.args.self.now.known = words.ok.0 ∙ sym (length-map words.items unpacked_start) ∙ ap (λ t. length t.known) c.self.view_is in
+    let len : vec_len words ≡ length c.args.self.now.known = words.ok.0 ∙ sym (length-map words.items unpacked_start)
+    ∙ ap (λ t. length t.known) c.self.view_is in
     ap (map unpacked_start) c.zero.ensures.words ∙ nothing_stored (vec_len words) ∙ ap (λ n. replicate n None) len

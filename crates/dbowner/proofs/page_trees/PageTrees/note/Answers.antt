@@ -6,7 +6,8 @@ pub invariant_of-self : goal.invariant_of-self
 invariant_of-self g c =
     let words = c.self.inside.words.items in
     let known = ap (λ t. t.known) c.self.view_is in
-    let more = stored_more words c.args.page c.pack.result c.args.start c.pack.ensures c.requires.page.0 (subst (λ known. c.args.page ≤ length known) (sym known) c.requires.page.1) in
+    let more = stored_more words c.args.page c.pack.result c.args.start c.pack.ensures c.requires.page.0
+    (subst (λ known. c.args.page ≤ length known) (sym known) c.requires.page.1) in
     (c.self.invariant.0, omega (arith, c.self.invariant.1, more))
 
 pub returns-clause-known : goal.returns-clause-known

@@ -17,11 +17,13 @@ invariant_of-self g c =
 
 pub returns-clause-visit : goal.returns-clause-visit
 returns-clause-visit g c = λ file V s m t.
-    ((climbed file V c.args.marks.now c.args.page c.climb-top.result.1 c.climb-top.result.0 c.args.self.now.known c.climb-top.new.self.known c.settle.new.self.known c.start_above-start.result
+    ((climbed file V c.args.marks.now c.args.page c.climb-top.result.1 c.climb-top.result.0 c.args.self.now.known c.climb-top.new.self.known
+    c.settle.new.self.known c.start_above-start.result
     s m t c.climb-top.ensures.way c.climb-top.ensures.end c.start_above-start.ensures.start c.settle.ensures.settled).0)
 
 pub returns-clause-right : goal.returns-clause-right
 returns-clause-right g c = λ file V s m t.
     (subst (AreTrees file V) (sym (ap (λ t. t.known) c.self.view_is))
-    (climbed file V c.args.marks.now c.args.page c.climb-top.result.1 c.climb-top.result.0 c.args.self.now.known c.climb-top.new.self.known c.settle.new.self.known c.start_above-start.result
+    (climbed file V c.args.marks.now c.args.page c.climb-top.result.1 c.climb-top.result.0 c.args.self.now.known c.climb-top.new.self.known
+    c.settle.new.self.known c.start_above-start.result
     s m t c.climb-top.ensures.way c.climb-top.ensures.end c.start_above-start.ensures.start c.settle.ensures.settled).1)

@@ -18,7 +18,8 @@ returns-then-not-is_rising c =
     let i = c.args.i in
     let d = c.in-Ok.cell in
     let readable = sym c.read_cell.ensures ∙ c.in-Ok.is in
-    unpacked_at_key v i c.args.sums.now d c.requires.before c.requires.within readable (λ rises. c.if-not-is_rising.ensures (λ a b p q. rises a b p (sym (ap (λ (e : Cell). e.key) c.cell.view_is) ∙ q)))
+    unpacked_at_key v i c.args.sums.now d c.requires.before c.requires.within readable
+    (λ rises. c.if-not-is_rising.ensures (λ a b p q. rises a b p (sym (ap (λ (e : Cell). e.key) c.cell.view_is) ∙ q)))
 
 pub overflow_cast-sums : goal.overflow_cast-sums
 overflow_cast-sums c =
@@ -46,7 +47,8 @@ returns c =
     let d = c.in-Ok.cell in
     let readable = sym c.read_cell.ensures ∙ c.in-Ok.is in
     let same = c.cell.view_is in
-    let has = Holds-from_read v i d c.cell.inside.offset c.max.result readable (sym (ap (λ (e : Cell). e.offset) same)) (sym (c.max.ensures ∙ ap (λ (e : Cell). max e.len 4) same)) in
+    let has = Holds-from_read v i d c.cell.inside.offset c.max.result readable (sym (ap (λ (e : Cell). e.offset) same))
+    (sym (c.max.ensures ∙ ap (λ (e : Cell). max e.len 4) same)) in
     let fits = cell_local v i d readable in
     let key = ap (λ (e : Cell). e.key) same in
     let sums = c.args.sums.now in
@@ -58,10 +60,12 @@ returns c =
       has,
       elim c.if-i-eq0.branch [
         | then-i-eq0 w ↦
-            read _ (ap (λ (s : CellSums). s.payload) w.sums-is ∙ payload) (ap (λ (s : CellSums). s.greatest) w.sums-is ∙ greatest) (λ h. ap (λ (s : CellSums). s.first) w.sums-is ∙ key)
+            read _ (ap (λ (s : CellSums). s.payload) w.sums-is ∙ payload) (ap (λ (s : CellSums). s.greatest) w.sums-is ∙ greatest)
+            (λ h. ap (λ (s : CellSums). s.first) w.sums-is ∙ key)
             (λ h. absurd (omega (arith, h, w.if-i-eq0.true))) key (ap (λ (s : CellSums). s.has_overflow || c.is_some.result) w.sums-is ∙ overflow)
         | else-i-eq0 w ↦
-            read _ (ap (λ (s : CellSums). s.payload) w.sums-is ∙ payload) (ap (λ (s : CellSums). s.greatest) w.sums-is ∙ greatest) (λ h. absurd (omega (arith, h, w.if-i-eq0.false)))
+            read _ (ap (λ (s : CellSums). s.payload) w.sums-is ∙ payload) (ap (λ (s : CellSums). s.greatest) w.sums-is ∙ greatest)
+            (λ h. absurd (omega (arith, h, w.if-i-eq0.false)))
             (λ h. ap (λ (s : CellSums). s.first) w.sums-is) key (ap (λ (s : CellSums). s.has_overflow || c.is_some.result) w.sums-is ∙ overflow)
       ],
     )

@@ -22,4 +22,5 @@ loop-i-preserved c =
     let begins = begins_in c.args.self.now c.args.run in
     let i = c.loop-i.i in
     let here = sym c.begins_in.ensures ∙ c.if-begins_in.false in
-    ap (list_any begins) (range-one-more i) ∙ list_any-append begins (range_with_len 0 i) (i ∷ []) ∙ ap (λ b. b || (begins i || false)) c.loop-i.invariant ∙ ap (λ b. b || false) here
+    ap (list_any begins) (range-one-more i) ∙ list_any-append begins (range_with_len 0 i) (i ∷ []) ∙ ap (λ b. b || (begins i || false)) c.loop-i.invariant
+    ∙ ap (λ b. b || false) here

@@ -21,7 +21,8 @@ returns-then-left-eq0 c =
     let number : c.args.item - c.self.inside.cells ≡ c.args.item - count v = omega (arith, cells, c.self.invariant.cells_is) in
     let at = ap (λ (n : ℕ). get_or c.loop-freeblock.freeblock-iterator.left n no_span) c.if-left-eq0.true in
     let first = ap (λ (fs : List Span). get_or fs 0 no_span) c.in-Some.ensures.steps.0 in
-    let found = offset_of_freeblock v c.args.item behind ∙ ap (λ (n : ℕ). get_or (freeblocks v) n no_span) (sym number) ∙ c.loop-freeblock.invariant ∙ at ∙ first in
+    let found = offset_of_freeblock v c.args.item behind ∙ ap (λ (n : ℕ). get_or (freeblocks v) n no_span) (sym number) ∙ c.loop-freeblock.invariant ∙ at
+    ∙ first in
     ap (λ (s : Span). s.offset) (c.freeblock.view_is ∙ sym found)
 
 pub returns : goal.returns
@@ -31,4 +32,5 @@ returns c =
     let behind : count v ≤ c.args.item = omega (arith, cells, c.self.invariant.cells_is, c.if-item-self.false) in
     let number : c.args.item - c.self.inside.cells ≡ c.args.item - count v = omega (arith, cells, c.self.invariant.cells_is) in
     let none = ap (λ (fs : List Span). get_or fs c.loop-freeblock.left no_span) c.in-None.ensures.steps.0.0 in
-    ap (λ (s : Span). s.offset) (sym (offset_of_freeblock v c.args.item behind ∙ ap (λ (n : ℕ). get_or (freeblocks v) n no_span) (sym number) ∙ c.loop-freeblock.invariant ∙ none))
+    ap (λ (s : Span). s.offset) (sym (offset_of_freeblock v c.args.item behind ∙ ap (λ (n : ℕ). get_or (freeblocks v) n no_span) (sym number)
+    ∙ c.loop-freeblock.invariant ∙ none))

@@ -11,7 +11,8 @@ returns c =
     let v = c.args.self.now in
     let start = ap (λ (w : View). content_start w.number w.bytes) c.self.view_is in
     let usable = ap (λ (w : View). w.usable) c.self.view_is in
-    let left : c.self.inside.usable - c.self.inside.start - c.args.held ≡ v.usable - content_start v.number v.bytes - c.args.held = omega (arith, start, usable, c.self.invariant.start_is) in
+    let left : c.self.inside.usable - c.self.inside.start - c.args.held ≡ v.usable - content_start v.number v.bytes - c.args.held =
+    omega (arith, start, usable, c.self.invariant.start_is) in
     record {
       read = c.requires.read;
       payload_is = c.requires.read.payload_is;

@@ -15,10 +15,12 @@ loop-i-init c =
     let v = c.args.self.now in
     let sums = c.new-sums.ensures in
     let usable = ap (λ (w : View). w.usable) c.self.view_is in
-    let start : content_start v.number v.bytes ≤ v.usable = omega (arith, usable, ap (λ (w : View). content_start w.number w.bytes) c.self.view_is, c.self.invariant.start_is, c.self.invariant.inside) in
+    let start : content_start v.number v.bytes ≤ v.usable =
+    omega (arith, usable, ap (λ (w : View). content_start w.number w.bytes) c.self.view_is, c.self.invariant.start_is, c.self.invariant.inside) in
     record {
       read = subst (AddUpTo v 0) (sym sums) (none_read v);
-      run = run_as v 0 (no_cells v v.usable start (omega arith)) (omega (arith, ap (λ (r : CellRun). r.from) c.new-run.ensures, usable)) (omega (arith, ap (λ (r : CellRun). r.to) c.new-run.ensures, usable));
+      run = run_as v 0 (no_cells v v.usable start (omega arith)) (omega (arith, ap (λ (r : CellRun). r.from) c.new-run.ensures, usable))
+          (omega (arith, ap (λ (r : CellRun). r.to) c.new-run.ensures, usable));
     }
 
 pub loop-i-preserved : goal.loop-i-preserved
@@ -28,15 +30,23 @@ loop-i-preserved c =
     let cell = c.in_ok-offset in
     record {
       read = cell.ensures.1;
-      run = cell_joins c.args.self.now c.loop-i.i was.from was.to c.loop-i.invariant.run cell.offset cell.len run.from run.to cell.ensures.0 (c.if-not-add.ensures.beside refl);
+      run = cell_joins c.args.self.now c.loop-i.i was.from was.to c.loop-i.invariant.run cell.offset cell.len run.from run.to cell.ensures.0
+          (c.if-not-add.ensures.beside refl);
     }
 
 pub packed_from-requires-clause-apart : goal.packed_from-requires-clause-apart
 packed_from-requires-clause-apart c =
     let v = c.args.self.now in
     let run = c.loop-i.run in
-    let all : c.loop-i.i ≡ count v = omega (arith, c.loop-i-test.false, c.loop-i.auto.i-end, c.self.invariant.cells_is, ap (λ (w : View). cell_count w.number w.bytes) c.self.view_is) in
-    subst (λ (n : ℕ). ShareNoByte (items v) (content_start v.number v.bytes) v.usable n) (sym c.len.ensures) (run_of_items v c.loop-i.i run.from run.to c.loop-i.invariant.run all
+    let all : c.loop-i.i ≡ count v = omega (
+      arith,
+      c.loop-i-test.false,
+      c.loop-i.auto.i-end,
+      c.self.invariant.cells_is,
+      ap (λ (w : View). cell_count w.number w.bytes) c.self.view_is,
+    ) in
+    subst (λ (n : ℕ). ShareNoByte (items v) (content_start v.number v.bytes) v.usable n) (sym c.len.ensures)
+    (run_of_items v c.loop-i.i run.from run.to c.loop-i.invariant.run all
     (sym c.freeblocks.ensures.all ∙ c.in-None.ensures.steps.0.0))
 
 pub packed_by_marks-requires-in-Some-clause-begun : goal.packed_by_marks-requires-in-Some-clause-begun

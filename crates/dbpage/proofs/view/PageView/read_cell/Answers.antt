@@ -21,7 +21,8 @@ pub returns : goal.returns
 returns c =
     let start = ap (λ (v : View). content_start v.number v.bytes) c.self.view_is in
     let usable = ap (λ (v : View). v.usable) c.self.view_is in
-    let inside = cell_inside c.args.self.now c.args.i (omega (arith, start, c.self.invariant.start_is, c.pointer-offset.ensures)) (omega (arith, usable, c.pointer-offset.ensures)) in
+    let inside = cell_inside c.args.self.now c.args.i (omega (arith, start, c.self.invariant.start_is, c.pointer-offset.ensures))
+    (omega (arith, usable, c.pointer-offset.ensures)) in
     let found = ap (λ (at : ℕ). ok_or (cell_at c.args.self.now.kind c.args.self.now at) Unreadable) c.pointer-offset.ensures in
     let kind = ap (λ (k : PageKind). ok_or (cell_at k c.args.self.now c.pointer-offset.result) Unreadable) c.requires.kind in
     c.ok_or.ensures.value ∙ ap (λ (o : Option Cell). ok_or o Unreadable) c.cell_at.ensures ∙ kind ∙ found ∙ sym inside

@@ -13,7 +13,8 @@ returns-in_err-end g c =
     let q = err_from_is_err_and c.from_residual.result c.from_residual.ensures.1 in
     let put = c.in_err-end.ensures in
     let held = g.O.Out.held in
-    rw q.1 (rw q.2 (finished g.S.Source (HearsFaults (ShowsFault held)) (check_held held) (LeavesCheck held) (Err WriteFailed) c.args._desk.now c.args._source.now c.args.self.now c.end.new.self refl
+    rw q.1 (rw q.2 (finished g.S.Source (HearsFaults (ShowsFault held)) (check_held held) (LeavesCheck held) (Err WriteFailed) c.args._desk.now
+    c.args._source.now c.args.self.now c.end.new.self refl
     (record { lent = ap (λ n. n ∷ []) put.same_out; failures = inl (put.text.count, refl) })
     (λ file V first heard. check_cut held file V heard.desk.survey first c.args.self.now c.end.new.self heard.heard c.in_err-end.field-0.0 put.text)))
 
@@ -21,6 +22,7 @@ pub returns : goal.returns
 returns g c =
     let put = c.in_ok-end.ensures in
     let held = g.O.Out.held in
-    finished g.S.Source (HearsFaults (ShowsFault held)) (check_held held) (LeavesCheck held) (Ok c.in_ok-end.field-0) c.args._desk.now c.args._source.now c.args.self.now c.end.new.self tt
+    finished g.S.Source (HearsFaults (ShowsFault held)) (check_held held) (LeavesCheck held) (Ok c.in_ok-end.field-0) c.args._desk.now c.args._source.now
+    c.args.self.now c.end.new.self tt
     (ap₂ one_out put.same_out put.text.count)
     (λ file V first heard. check_ended held file V heard.desk.survey first c.args.self.now c.end.new.self heard.heard c.in_ok-end.field-0 put.text put.verdict)

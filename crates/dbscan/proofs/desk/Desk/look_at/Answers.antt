@@ -8,13 +8,13 @@ use Rattle.dbsource.specs.Headers.{IsHeaderOf}
 use Rattle.dbsource.specs.Sources.{Asks}
 use Rattle.dbsource.proofs.Logs.{asks_weaker}
 use Rattle.dbmarks.specs.Marking.{is_unmarked}
-use Rattle.dbscan.specs.Desks.{Things, shape_of}
+use Rattle.dbscan.specs.Desks.{DeskView, shape_of}
 use Rattle.dbscan.proofs.desk.Desk.look_at.Goals as goal
 
 pub returns-clause-asks : goal.returns-clause-asks
 returns-clause-asks g c =
     let shape = c.self.invariant.shape in
-    subst (λ (d : Things). Asks g.S.Source.step (λ log. log ≡ page_range (shape_of d).page_size c.args.page ∷ [])
+    subst (λ (d : DeskView). Asks g.S.Source.step (λ log. log ≡ page_range (shape_of d).page_size c.args.page ∷ [])
     (λ file. IsHeaderOf d.header file → IfOk c.look_at.result (λ why. why ≡ lost_cause_at (is_unmarked d.marks) file c.args.page))
     is_any c.look_at.result (g.S.Source.held c.args.source.now) (g.S.Source.held c.look_at.new.source)) c.self.view_is
     (asks_weaker _ _ c.look_at.result (λ n. refl) c.look_at.ensures.asks

@@ -16,7 +16,8 @@ returns-in_err-read_at-clause-trail g c =
       after = (g.S.Source.held c.read_at.new.self).trail;
       raw = answer {A = Unit {0}} (Err c.in_err-read_at.field-0.0) c.args.offset c.read_at.new.buf;
       was = refl;
-      is = ap (λ o. headed_trail c.args.self.now.source.ghost_name c.args.self.now.header.now.bytes o (g.S.Source.held c.read_at.new.self).trail) c.in_err-read_at.ensures.told;
+      is = ap (λ o. headed_trail c.args.self.now.source.ghost_name c.args.self.now.header.now.bytes o (g.S.Source.held c.read_at.new.self).trail)
+          c.in_err-read_at.ensures.told;
       given_as = refl;
       moved = c.in_err-read_at.ensures.trail;
     })
@@ -30,11 +31,13 @@ returns-clause-trail g c = record {
   after = (g.S.Source.held c.read_at.new.self).trail;
   raw = given c.args.offset c.read_at.new.buf;
   was = refl;
-  is = ap (λ o. headed_trail c.args.self.now.source.ghost_name c.args.self.now.header.now.bytes o (g.S.Source.held c.read_at.new.self).trail) c.in_ok-read_at.ensures.told;
+  is = ap (λ o. headed_trail c.args.self.now.source.ghost_name c.args.self.now.header.now.bytes o (g.S.Source.held c.read_at.new.self).trail)
+      c.in_ok-read_at.ensures.told;
   given_as = ap (given c.args.offset) (c.put_over.ensures ∙ ap (λ h. over h c.args.offset c.read_at.new.buf) c.bytes-header.ensures.bytes);
   moved = c.in_ok-read_at.ensures.trail;
 }
 
 pub returns-clause-bytes : goal.returns-clause-bytes
-returns-clause-bytes g c = over_told c.args.self.now.header.now.bytes (g.S.Source.held c.args.self.now.source.now).bytes c.args.offset c.read_at.new.buf c.put_over.new.buf
+returns-clause-bytes g c = over_told c.args.self.now.header.now.bytes (g.S.Source.held c.args.self.now.source.now).bytes c.args.offset c.read_at.new.buf
+    c.put_over.new.buf
     (c.put_over.ensures ∙ ap (λ h. over h c.args.offset c.read_at.new.buf) c.bytes-header.ensures.bytes) c.in_ok-read_at.ensures.bytes

@@ -15,7 +15,11 @@ returns-in_err-file_len-clause-opens g c =
     rw p.1 (rw p.2 (record {
       len = told_len (g.S.Source.held c.args.source.now).bytes;
       same = told_len_is (g.S.Source.held c.args.source.now).bytes;
-      asks = record { log = has_none _ _ c.in_err-file_len.ensures.told c.in_err-file_len.ensures.trail (inl refl) (λ file e. tt); count = c.in_err-file_len.ensures.count };
+      asks = record {
+        log = has_none _ _ c.in_err-file_len.ensures.told c.in_err-file_len.ensures.trail (inl refl) (λ file e. tt);
+        count =
+            c.in_err-file_len.ensures.count;
+      };
       there_is = let f = beginning [] (told_len (g.S.Source.held c.args.source.now).bytes) (omega arith) in (f.0, f.1, tt);
       short = λ l. refl;
       answered = inr (refl, refl);
@@ -26,7 +30,8 @@ returns-then-file_len-clause-opens g c = record {
   len = c.in_ok-file_len.file_len;
   same = if_told ((g.S.Source.held c.args.source.now).bytes) (λ file e. sym e) c.in_ok-file_len.ensures.number;
   asks = record {
-    log = has_none _ _ c.in_ok-file_len.ensures.told c.in_ok-file_len.ensures.trail refl (λ file e. too_short file c.in_ok-file_len.file_len (sym e) c.if-file_len.true);
+    log = has_none _ _ c.in_ok-file_len.ensures.told c.in_ok-file_len.ensures.trail refl
+        (λ file e. too_short file c.in_ok-file_len.file_len (sym e) c.if-file_len.true);
     count = c.in_ok-file_len.ensures.count;
   };
   there_is = let f = beginning [] c.in_ok-file_len.file_len (omega arith) in (f.0, f.1, tt);
@@ -40,8 +45,10 @@ returns-in_err-read_at-clause-opens g c =
     rw p.1 (rw p.2 (record {
       len = c.in_ok-file_len.file_len;
       same = if_told ((g.S.Source.held c.args.source.now).bytes) (λ file e. sym e) c.in_ok-file_len.ensures.number;
-      asks = asks_one {A = Unit {0}} (Err c.in_err-read_at.field-0) _ _ _ _ 0 c.read_at.new.buf c.in_ok-file_len.ensures.told c.in_ok-file_len.ensures.trail c.in_ok-file_len.ensures.count
-          c.in_err-read_at.ensures.told c.in_err-read_at.ensures.trail c.in_err-read_at.ensures.count tt (λ n. refl) (inr (ap (λ n. range 0 n ∷ []) c.read_at.auto.buf)) (λ file h e. tt);
+      asks = asks_one {A = Unit {0}} (Err c.in_err-read_at.field-0) _ _ _ _ 0 c.read_at.new.buf c.in_ok-file_len.ensures.told c.in_ok-file_len.ensures.trail
+          c.in_ok-file_len.ensures.count
+          c.in_err-read_at.ensures.told c.in_err-read_at.ensures.trail c.in_err-read_at.ensures.count tt (λ n. refl)
+          (inr (ap (λ n. range 0 n ∷ []) c.read_at.auto.buf)) (λ file h e. tt);
       there_is = let f = beginning [] c.in_ok-file_len.file_len (omega arith) in (f.0, f.1, (tt, tt));
       short = λ l. absurd (omega (arith, l, c.if-file_len.false));
       answered = inl c.in_ok-file_len.ensures.length;
@@ -51,11 +58,13 @@ pub returns-in-Some-clause-opens : goal.returns-in-Some-clause-opens
 returns-in-Some-clause-opens g c = record {
   len = c.in_ok-file_len.file_len;
   same = if_told ((g.S.Source.held c.args.source.now).bytes) (λ file e. sym e) c.in_ok-file_len.ensures.number;
-  asks = asks_one {A = Unit {0}} {E = ReadFailed} (Ok tt) _ _ _ _ 0 c.read_at.new.buf c.in_ok-file_len.ensures.told c.in_ok-file_len.ensures.trail c.in_ok-file_len.ensures.count
+  asks = asks_one {A = Unit {0}} {E = ReadFailed} (Ok tt) _ _ _ _ 0 c.read_at.new.buf c.in_ok-file_len.ensures.told c.in_ok-file_len.ensures.trail
+      c.in_ok-file_len.ensures.count
       c.in_ok-read_at.ensures.told c.in_ok-read_at.ensures.trail c.in_ok-read_at.ensures.count c.in_ok-read_at.ensures.bytes (λ n. refl)
       (subst (λ n. IsOpenLog (Err (Refused c.in-Some.refusal)) (range 0 n ∷ [])) (sym c.read_at.auto.buf)
       (read_once c.read_at.new.buf c.in_ok-file_len.file_len c.in-Some.refusal (omega (arith, c.if-file_len.false)) (sym c.refusal_of.ensures ∙ c.in-Some.is)))
-      (λ file read e. refused_by file c.read_at.new.buf c.in_ok-file_len.file_len c.in-Some.refusal (sym e) c.read_at.auto.buf read (sym c.refusal_of.ensures ∙ c.in-Some.is));
+      (λ file read e. refused_by file c.read_at.new.buf c.in_ok-file_len.file_len c.in-Some.refusal (sym e) c.read_at.auto.buf read
+      (sym c.refusal_of.ensures ∙ c.in-Some.is));
   there_is = let f = beginning c.read_at.new.buf c.in_ok-file_len.file_len (omega (arith, c.read_at.auto.buf, c.if-file_len.false)) in (f.0, f.1, (f.2, tt));
   short = λ l. absurd (omega (arith, l, c.if-file_len.false));
   answered = inl c.in_ok-file_len.ensures.length;
@@ -65,10 +74,12 @@ pub returns-in-None-clause-opens : goal.returns-in-None-clause-opens
 returns-in-None-clause-opens g c = record {
   len = c.in_ok-file_len.file_len;
   same = if_told ((g.S.Source.held c.args.source.now).bytes) (λ file e. sym e) c.in_ok-file_len.ensures.number;
-  asks = asks_one {A = Unit {0}} {E = ReadFailed} (Ok tt) _ _ _ _ 0 c.read_at.new.buf c.in_ok-file_len.ensures.told c.in_ok-file_len.ensures.trail c.in_ok-file_len.ensures.count
+  asks = asks_one {A = Unit {0}} {E = ReadFailed} (Ok tt) _ _ _ _ 0 c.read_at.new.buf c.in_ok-file_len.ensures.told c.in_ok-file_len.ensures.trail
+      c.in_ok-file_len.ensures.count
       c.in_ok-read_at.ensures.told c.in_ok-read_at.ensures.trail c.in_ok-read_at.ensures.count c.in_ok-read_at.ensures.bytes (λ n. refl)
       (ap (λ n. range 0 n ∷ []) c.read_at.auto.buf)
-      (λ file read e. header_of file c.read_at.new.buf c.in_ok-file_len.file_len c.accepted.result (sym e) c.read_at.auto.buf read (sym c.refusal_of.ensures ∙ c.in-None.is) c.accepted.ensures.bytes c.accepted.ensures.file_len);
+      (λ file read e. header_of file c.read_at.new.buf c.in_ok-file_len.file_len c.accepted.result (sym e) c.read_at.auto.buf read
+      (sym c.refusal_of.ensures ∙ c.in-None.is) c.accepted.ensures.bytes c.accepted.ensures.file_len);
   there_is = let f = beginning c.read_at.new.buf c.in_ok-file_len.file_len (omega (arith, c.read_at.auto.buf, c.if-file_len.false)) in (f.0, f.1, (f.2, tt));
   short = λ l. absurd (omega (arith, l, c.if-file_len.false));
   answered = inl c.in_ok-file_len.ensures.length;

@@ -25,25 +25,38 @@ use Rattle.dbwalk.proofs.Underway.Walks.{walked_behind, walked_by}
 use Rattle.dbwalk.proofs.tree_walk.TreeWalk.enter_page.Goals as goal
 
 pub returns-in_err-enter-clause-log : goal.returns-in_err-enter-clause-log
-returns-in_err-enter-clause-log g c = log_none c.args.bench.now.geometry.page_size c.args.self.now.marks.now c.enter.new.marks (g.S.Source.held c.args.self.now.source.now) c.in_err-enter.ensures.after_error.1 (λ file e coded from d candidate next at.
+returns-in_err-enter-clause-log g c = log_none c.args.bench.now.geometry.page_size c.args.self.now.marks.now c.enter.new.marks
+    (g.S.Source.held c.args.self.now.source.now) c.in_err-enter.ensures.after_error.1 (λ file e coded from d candidate next at.
     let t = c.args.self.now.tree in
     let q = err_from_is_err_and c.from_residual.result c.from_residual.ensures.1 in
     let is = c.tree_step-step.ensures.step t.kind t.start t.path.items d (sym c.len-level.ensures.value) candidate in
     let f = c.in_err-enter.ensures.after_error.0 in
     let r : Result (Unit {0}) RunError = Err c.in_err-enter.field-0.0 in
     let n = c.in_err-enter.ensures.entered file from.visits d is next at.0 (tree_refusal file from.visits d candidate) in
-    entered_err (watches g.K.Sink.takes g.T.Taker.takes) (fails g.K.Sink.takes g.K.Sink.drops g.T.Taker.takes g.T.Taker.refuses) file from d c.args.bench.now.levels _ c.in_err-enter.field-0.0 (c.enter.new.marks, c.args.self.now.tree) (c.args.self.now.sink.now, c.args.self.now.taker.now) (c.enter.new.sink, c.args.self.now.taker.now) (q.1 ∙ ap Err q.2)
-    (done_refused (watches g.K.Sink.takes g.T.Taker.takes) (fails g.K.Sink.takes g.K.Sink.drops g.T.Taker.takes g.T.Taker.refuses) file from d r (c.enter.new.marks, c.args.self.now.tree) (c.args.self.now.sink.now, c.args.self.now.taker.now) (c.enter.new.sink, c.args.self.now.taker.now) n.0 (n.1, at.1, at.2)
-    (refused_handed g.K.Sink.takes g.K.Sink.drops g.T.Taker.takes g.T.Taker.refuses file from d r c.args.self.now.sink.now c.enter.new.sink c.args.self.now.taker.now (λ o. cc) n.2)))
+    entered_err (watches g.K.Sink.takes g.T.Taker.takes) (fails g.K.Sink.takes g.K.Sink.drops g.T.Taker.takes g.T.Taker.refuses) file from d
+    c.args.bench.now.levels _ c.in_err-enter.field-0.0 (c.enter.new.marks, c.args.self.now.tree) (c.args.self.now.sink.now, c.args.self.now.taker.now)
+    (c.enter.new.sink, c.args.self.now.taker.now) (q.1 ∙ ap Err q.2)
+    (done_refused (watches g.K.Sink.takes g.T.Taker.takes) (fails g.K.Sink.takes g.K.Sink.drops g.T.Taker.takes g.T.Taker.refuses) file from d r
+    (c.enter.new.marks, c.args.self.now.tree) (c.args.self.now.sink.now, c.args.self.now.taker.now) (c.enter.new.sink, c.args.self.now.taker.now) n.0
+    (n.1, at.1, at.2)
+    (refused_handed g.K.Sink.takes g.K.Sink.drops g.T.Taker.takes g.T.Taker.refuses file from d r c.args.self.now.sink.now c.enter.new.sink
+    c.args.self.now.taker.now (λ o. cc) n.2)))
 
 pub returns-then-not-branch-clause-log : goal.returns-then-not-branch-clause-log
-returns-then-not-branch-clause-log g c = log_none c.args.bench.now.geometry.page_size c.args.self.now.marks.now c.enter.new.marks (g.S.Source.held c.args.self.now.source.now) (c.in_ok-enter.ensures.unmarked c.if-not-branch.true) (λ file e coded from d candidate next at.
+returns-then-not-branch-clause-log g c = log_none c.args.bench.now.geometry.page_size c.args.self.now.marks.now c.enter.new.marks
+    (g.S.Source.held c.args.self.now.source.now) (c.in_ok-enter.ensures.unmarked c.if-not-branch.true) (λ file e coded from d candidate next at.
     let t = c.args.self.now.tree in
     let is = c.tree_step-step.ensures.step t.kind t.start t.path.items d (sym c.len-level.ensures.value) candidate in
-    let n = subst (λ b. Enters g.K.Sink.takes g.K.Sink.drops file from.visits d (Ok b) c.enter.new.marks c.args.self.now.sink.now c.enter.new.sink) c.if-not-branch.true (c.in_ok-enter.ensures.entered file from.visits d is next at.0 (tree_refusal file from.visits d candidate)) in
-    entered_past (watches g.K.Sink.takes g.T.Taker.takes) (fails g.K.Sink.takes g.K.Sink.drops g.T.Taker.takes g.T.Taker.refuses) file from d c.args.bench.now.levels false (c.enter.new.marks, c.args.self.now.tree) (c.args.self.now.sink.now, c.args.self.now.taker.now) (c.enter.new.sink, c.args.self.now.taker.now)
-    (done_refused (watches g.K.Sink.takes g.T.Taker.takes) (fails g.K.Sink.takes g.K.Sink.drops g.T.Taker.takes g.T.Taker.refuses) file from d (Ok false) (c.enter.new.marks, c.args.self.now.tree) (c.args.self.now.sink.now, c.args.self.now.taker.now) (c.enter.new.sink, c.args.self.now.taker.now) n.0 (n.1, at.1, at.2)
-    (refused_handed g.K.Sink.takes g.K.Sink.drops g.T.Taker.takes g.T.Taker.refuses file from d (Ok false) c.args.self.now.sink.now c.enter.new.sink c.args.self.now.taker.now (λ o. cc) n.2)))
+    let n = subst (λ b. Enters g.K.Sink.takes g.K.Sink.drops file from.visits d (Ok b) c.enter.new.marks c.args.self.now.sink.now c.enter.new.sink)
+    c.if-not-branch.true (c.in_ok-enter.ensures.entered file from.visits d is next at.0 (tree_refusal file from.visits d candidate)) in
+    entered_past (watches g.K.Sink.takes g.T.Taker.takes) (fails g.K.Sink.takes g.K.Sink.drops g.T.Taker.takes g.T.Taker.refuses) file from d
+    c.args.bench.now.levels false (c.enter.new.marks, c.args.self.now.tree) (c.args.self.now.sink.now, c.args.self.now.taker.now)
+    (c.enter.new.sink, c.args.self.now.taker.now)
+    (done_refused (watches g.K.Sink.takes g.T.Taker.takes) (fails g.K.Sink.takes g.K.Sink.drops g.T.Taker.takes g.T.Taker.refuses) file from d (Ok false)
+    (c.enter.new.marks, c.args.self.now.tree) (c.args.self.now.sink.now, c.args.self.now.taker.now) (c.enter.new.sink, c.args.self.now.taker.now) n.0
+    (n.1, at.1, at.2)
+    (refused_handed g.K.Sink.takes g.K.Sink.drops g.T.Taker.takes g.T.Taker.refuses file from d (Ok false) c.args.self.now.sink.now c.enter.new.sink
+    c.args.self.now.taker.now (λ o. cc) n.2)))
 
 pub returns-in_err-load-clause-levels : goal.returns-in_err-load-clause-levels
 returns-in_err-load-clause-levels g c =
@@ -66,23 +79,32 @@ returns-in_err-load-clause-log g c =
     let t = c.args.self.now.tree in
     let q = err_from_is_err_and c.from_residual-in_err-load.result c.from_residual-in_err-load.ensures.1 in
     let is = c.tree_step-step.ensures.step t.kind t.start t.path.items d (sym c.len-level.ensures.value) candidate in
-    let n = subst (λ b. Enters g.K.Sink.takes g.K.Sink.drops file from.visits d (Ok b) c.enter.new.marks c.args.self.now.sink.now c.enter.new.sink) c.if-not-branch.false (c.in_ok-enter.ensures.entered file from.visits d is next at.0 (tree_refusal file from.visits d candidate)) in
-    subst (λ s. HasDone (watches g.K.Sink.takes g.T.Taker.takes) (fails g.K.Sink.takes g.K.Sink.drops g.T.Taker.takes g.T.Taker.refuses) file (entered file from d c.from_residual-in_err-load.result) c.from_residual-in_err-load.result (c.enter.new.marks, c.args.self.now.tree) (c.args.self.now.sink.now, c.args.self.now.taker.now) (s, c.args.self.now.taker.now) × IsEntered file from d c.from_residual-in_err-load.result c.load.new.self.levels) n.2
-    (entered_err (watches g.K.Sink.takes g.T.Taker.takes) (fails g.K.Sink.takes g.K.Sink.drops g.T.Taker.takes g.T.Taker.refuses) file from d c.load.new.self.levels _ ReadFailed (c.enter.new.marks, c.args.self.now.tree) (c.args.self.now.sink.now, c.args.self.now.taker.now) (c.args.self.now.sink.now, c.args.self.now.taker.now) (q.1 ∙ ap Err q.2)
-    (unread {A = Unit {0}} (watches g.K.Sink.takes g.T.Taker.takes) (fails g.K.Sink.takes g.K.Sink.drops g.T.Taker.takes g.T.Taker.refuses) file (done_below file from (Go d ∷ [])) (c.enter.new.marks, c.args.self.now.tree) (c.args.self.now.sink.now, c.args.self.now.taker.now))))
+    let n = subst (λ b. Enters g.K.Sink.takes g.K.Sink.drops file from.visits d (Ok b) c.enter.new.marks c.args.self.now.sink.now c.enter.new.sink)
+    c.if-not-branch.false (c.in_ok-enter.ensures.entered file from.visits d is next at.0 (tree_refusal file from.visits d candidate)) in
+    subst (λ s. HasDone (watches g.K.Sink.takes g.T.Taker.takes) (fails g.K.Sink.takes g.K.Sink.drops g.T.Taker.takes g.T.Taker.refuses) file
+    (entered file from d c.from_residual-in_err-load.result) c.from_residual-in_err-load.result (c.enter.new.marks, c.args.self.now.tree)
+    (c.args.self.now.sink.now, c.args.self.now.taker.now) (s, c.args.self.now.taker.now)
+    × IsEntered file from d c.from_residual-in_err-load.result c.load.new.self.levels) n.2
+    (entered_err (watches g.K.Sink.takes g.T.Taker.takes) (fails g.K.Sink.takes g.K.Sink.drops g.T.Taker.takes g.T.Taker.refuses) file from d
+    c.load.new.self.levels _ ReadFailed (c.enter.new.marks, c.args.self.now.tree) (c.args.self.now.sink.now, c.args.self.now.taker.now)
+    (c.args.self.now.sink.now, c.args.self.now.taker.now) (q.1 ∙ ap Err q.2)
+    (unread {A = Unit {0}} (watches g.K.Sink.takes g.T.Taker.takes) (fails g.K.Sink.takes g.K.Sink.drops g.T.Taker.takes g.T.Taker.refuses) file
+    (done_below file from (Go d ∷ [])) (c.enter.new.marks, c.args.self.now.tree) (c.args.self.now.sink.now, c.args.self.now.taker.now))))
 
 pub returns-clause-levels : goal.returns-clause-levels
 returns-clause-levels g c =
     let low = c.tree_step-step.ensures.shallow (c.in_ok-enter.ensures.shallow (search rules)) in
     let level = c.len-level.ensures.value in
     let change = c.in_ok-load.ensures.level in
-    λ n l. ap (λ ls. slice_get ls n) c.visit_page.ensures.levels ∙ below_kept c.args.bench.now c.load.new.self c.len-level.result low change.bytes change.only n (omega arith)
+    λ n l. ap (λ ls. slice_get ls n) c.visit_page.ensures.levels
+    ∙ below_kept c.args.bench.now c.load.new.self c.len-level.result low change.bytes change.only n (omega arith)
 
 pub returns-clause-fewer : goal.returns-clause-fewer
 returns-clause-fewer g c =
     let k = c.in_ok-enter.ensures.marked (search rules) in
     let step = c.tree_step-step.result in
-    let m : unmarked_pages (set c.args.self.now.marks.now (step.page - 1) step.mark) + 1 ≡ unmarked_pages c.args.self.now.marks.now = put_count c.args.self.now.marks.now step.page step.mark k.0 c.tree_step-step.ensures.used.some in
+    let m : unmarked_pages (set c.args.self.now.marks.now (step.page - 1) step.mark) + 1 ≡ unmarked_pages c.args.self.now.marks.now =
+    put_count c.args.self.now.marks.now step.page step.mark k.0 c.tree_step-step.ensures.used.some in
     let n : unmarked_pages c.enter.new.marks ≡ unmarked_pages (set c.args.self.now.marks.now (step.page - 1) step.mark) = ap unmarked_pages k.1 in
     let l = keeps_fewer c.enter.new.marks c.visit_page.new.self.marks.now c.visit_page.ensures.log.holds.kept in
     let less : unmarked_pages c.visit_page.new.self.marks.now < unmarked_pages c.args.self.now.marks.now = omega arith in
@@ -98,7 +120,8 @@ returns-clause-log g c =
     let size = c.args.bench.now.geometry.page_size in
     let offset = (c.args.page - 1) * size in
     log_then (λ file. IsRangeOf file offset change.bytes) _ (ap (λ s. s.page_size) same)
-    (log_page (λ file. IsRangeOf file offset change.bytes) size c.args.self.now.marks.now c.enter.new.marks step.result.page step.result.mark k.0 k.1 step.ensures.used
+    (log_page (λ file. IsRangeOf file offset change.bytes) size c.args.self.now.marks.now c.enter.new.marks step.result.page step.result.mark k.0 k.1
+    step.ensures.used
     (has_one {A = Unit {0}} {E = source_error.ReadFailed} (Ok tt) offset change.bytes c.load.ensures.told change.holds.0 change.holds.1
     (ap (λ n. range offset n ∷ []) change.size ∙ ap (λ p. page_range size p ∷ []) (sym step.ensures.page)) (λ file h. h))
     (λ file h. h))
@@ -106,24 +129,33 @@ returns-clause-log g c =
     (λ file h done e coded from d candidate next at.
     let t = c.args.self.now.tree in
     let is = c.tree_step-step.ensures.step t.kind t.start t.path.items d (sym c.len-level.ensures.value) candidate in
-    let n = subst (λ b. Enters g.K.Sink.takes g.K.Sink.drops file from.visits d (Ok b) c.enter.new.marks c.args.self.now.sink.now c.enter.new.sink) c.if-not-branch.false (c.in_ok-enter.ensures.entered file from.visits d is next at.0 (tree_refusal file from.visits d candidate)) in
+    let n = subst (λ b. Enters g.K.Sink.takes g.K.Sink.drops file from.visits d (Ok b) c.enter.new.marks c.args.self.now.sink.now c.enter.new.sink)
+    c.if-not-branch.false (c.in_ok-enter.ensures.entered file from.visits d is next at.0 (tree_refusal file from.visits d candidate)) in
     let read = page_read file change.bytes c.args.bench.now.geometry.page_size c.args.page change.size h (sym (ap (λ s. s.page_size) e)) in
     let there = subst (λ l. HasPageAt c.load.new.self.levels l (page_bytes file c.args.page)) c.len-level.ensures.value
     (read_there c.args.bench.now c.load.new.self c.len-level.result low change.bytes change.only (page_bytes file c.args.page) read) in
-    subst (λ s. HasDone (watches g.K.Sink.takes g.T.Taker.takes) (fails g.K.Sink.takes g.K.Sink.drops g.T.Taker.takes g.T.Taker.refuses) file (entered file from d c.visit_page.result) c.visit_page.result (c.visit_page.new.self.marks.now, c.visit_page.new.self.tree) (s, c.args.self.now.taker.now) (c.visit_page.new.self.sink.now, c.visit_page.new.self.taker.now) × IsEntered file from d c.visit_page.result c.visit_page.new.bench.levels) (sym n.2)
+    subst (λ s. HasDone (watches g.K.Sink.takes g.T.Taker.takes) (fails g.K.Sink.takes g.K.Sink.drops g.T.Taker.takes g.T.Taker.refuses) file
+    (entered file from d c.visit_page.result) c.visit_page.result (c.visit_page.new.self.marks.now, c.visit_page.new.self.tree)
+    (s, c.args.self.now.taker.now) (c.visit_page.new.self.sink.now, c.visit_page.new.self.taker.now)
+    × IsEntered file from d c.visit_page.result c.visit_page.new.bench.levels) (sym n.2)
     (done (same ∙ e) coded from d c.args.from c.args.item candidate there next n.0 n.1 at.1 at.2))
 
 pub returns-in_err-load-clause-walked : goal.returns-in_err-load-clause-walked
 returns-in_err-load-clause-walked g c =
     let low = c.tree_step-step.ensures.shallow (c.in_ok-enter.ensures.shallow (search rules)) in
     let change = c.load.ensures.level in
-    walked_by g.S.Source.held g.K.Sink.held g.T.Taker.refusals (refl, refl, refl, refl, refl, refl, refl) (geometry_kept c.args.bench.now c.load.new.self c.len-level.result low change.bytes change.only) (grind (arith, common_steps)) (grind (arith, common_steps)) (grind (arith, common_steps)) (grind (arith, common_steps)) (λ l. refl)
+    walked_by g.S.Source.held g.K.Sink.held g.T.Taker.refusals (refl, refl, refl, refl, refl, refl, refl)
+    (geometry_kept c.args.bench.now c.load.new.self c.len-level.result low change.bytes change.only) (grind (arith, common_steps))
+    (grind (arith, common_steps)) (grind (arith, common_steps)) (grind (arith, common_steps)) (λ l. refl)
 
 pub returns-clause-walked : goal.returns-clause-walked
 returns-clause-walked g c =
     let low = c.tree_step-step.ensures.shallow (c.in_ok-enter.ensures.shallow (search rules)) in
     let change = c.in_ok-load.ensures.level in
-    walked_behind g.S.Source.held g.K.Sink.held g.T.Taker.refusals {R = Unit {0}} {a = tt} c.visit_page.ensures.walked (walked_by g.S.Source.held g.K.Sink.held g.T.Taker.refusals (refl, refl, refl, refl, refl, refl, refl) (geometry_kept c.args.bench.now c.load.new.self c.len-level.result low change.bytes change.only) c.in_ok-load.ensures.count c.in_ok-enter.ensures.writes refl tt (λ l. refl))
+    walked_behind g.S.Source.held g.K.Sink.held g.T.Taker.refusals {R = Unit {0}} {a = tt} c.visit_page.ensures.walked
+    (walked_by g.S.Source.held g.K.Sink.held g.T.Taker.refusals (refl, refl, refl, refl, refl, refl, refl)
+    (geometry_kept c.args.bench.now c.load.new.self c.len-level.result low change.bytes change.only) c.in_ok-load.ensures.count c.in_ok-enter.ensures.writes
+    refl tt (λ l. refl))
 
 pub returns-clause-open : goal.returns-clause-open
 returns-clause-open g c =

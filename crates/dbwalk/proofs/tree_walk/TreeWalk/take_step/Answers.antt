@@ -17,7 +17,8 @@ use Rattle.dbwalk.specs.Underway.{tree_walk}
 use Rattle.dbwalk.specs.Watching.{StopsAt, fails}
 use Rattle.dbwalk.proofs.Underway.TreeSteps.{aside_done, by_other}
 use Rattle.dbwalk.proofs.Underway.Handing.{found_moves, found_stops}
-use Rattle.dbwalk.proofs.Underway.TreeTurns.{next_here, turned_behind, turned_empty, turned_key, stopped_key, chained, chain_is, chain_next, turned_chain, turn_failed}
+use Rattle.dbwalk.proofs.Underway.TreeTurns.{next_here, turned_behind, turned_empty, turned_key, stopped_key, chained, chain_is, chain_next, turned_chain}
+use Rattle.dbwalk.proofs.Underway.TreeTurns.{turn_failed}
 use Rattle.std.proofs.lemmas.Grind.{common_steps}
 use Rattle.dbwalk.proofs.Underway.Walks.{none_refused, read_or_write, walked_by}
 use Rattle.dbwalk.proofs.tree_walk.TreeWalk.take_step.Goals as goal
@@ -50,48 +51,78 @@ pub returns-in-End-clause-open : goal.returns-in-End-clause-open
 returns-in-End-clause-open g c = (at_step c.args.frames.now.items c.args.frame c.requires.«open» (next_at refl c.in-End.is c.requires.step)).front
 
 pub returns-in-End-clause-ends : goal.returns-in-End-clause-ends
-returns-in-End-clause-ends g c = ends_behind c.args.self.now.marks.now c.args.frames.now.items c.args.frame (at_step c.args.frames.now.items c.args.frame c.requires.«open» (next_at refl c.in-End.is c.requires.step)).most
+returns-in-End-clause-ends g c = ends_behind c.args.self.now.marks.now c.args.frames.now.items c.args.frame
+    (at_step c.args.frames.now.items c.args.frame c.requires.«open» (next_at refl c.in-End.is c.requires.step)).most
 
 pub returns-in-End-clause-log : goal.returns-in-End-clause-log
-returns-in-End-clause-log g c = log_none c.args.bench.now.geometry.page_size c.args.self.now.marks.now c.args.self.now.marks.now (g.S.Source.held c.args.self.now.source.now) refl (λ file e coded W d before candidate walk.
+returns-in-End-clause-log g c = log_none c.args.bench.now.geometry.page_size c.args.self.now.marks.now c.args.self.now.marks.now
+    (g.S.Source.held c.args.self.now.source.now) refl (λ file e coded W d before candidate walk.
     let here = next_here c.args.frames.now.items c.args.frame walk candidate (ap (λ s. s.usable) e) (next_at refl c.in-End.is c.requires.step) in
     (by_other (turned_behind c.args.frames.now.items c.args.frame walk candidate here) refl refl refl refl (λ n l. refl), tt))
 
 pub returns-in-Nothing-clause-open : goal.returns-in-Nothing-clause-open
-returns-in-Nothing-clause-open g c = step_on c.args.frames.now.items c.args.frame (at_step c.args.frames.now.items c.args.frame c.requires.«open» (next_at refl c.in-Nothing.is c.requires.step)) c.stepped.result c.stepped.ensures.page c.stepped.ensures.next (λ x. cc) c.push.ensures.items c.args.bench.now.geometry.usable c.args.self.now.tree.kind c.args.bench.now.levels refl refl (λ n l. refl)
+returns-in-Nothing-clause-open g c = step_on c.args.frames.now.items c.args.frame
+    (at_step c.args.frames.now.items c.args.frame c.requires.«open» (next_at refl c.in-Nothing.is c.requires.step)) c.stepped.result c.stepped.ensures.page
+    c.stepped.ensures.next (λ x. cc) c.push.ensures.items c.args.bench.now.geometry.usable c.args.self.now.tree.kind c.args.bench.now.levels refl refl
+    (λ n l. refl)
 
 pub returns-in-Nothing-clause-ends : goal.returns-in-Nothing-clause-ends
-returns-in-Nothing-clause-ends g c = ends_on c.args.self.now.marks.now c.args.self.now.marks.now c.args.frames.now.items c.args.frame c.stepped.result c.push.ensures.items (omega arith) c.stepped.ensures.next (at_step c.args.frames.now.items c.args.frame c.requires.«open» (next_at refl c.in-Nothing.is c.requires.step)).most
+returns-in-Nothing-clause-ends g c = ends_on c.args.self.now.marks.now c.args.self.now.marks.now c.args.frames.now.items c.args.frame c.stepped.result
+    c.push.ensures.items (omega arith) c.stepped.ensures.next
+    (at_step c.args.frames.now.items c.args.frame c.requires.«open» (next_at refl c.in-Nothing.is c.requires.step)).most
 
 pub returns-in-Nothing-clause-log : goal.returns-in-Nothing-clause-log
-returns-in-Nothing-clause-log g c = log_none c.args.bench.now.geometry.page_size c.args.self.now.marks.now c.args.self.now.marks.now (g.S.Source.held c.args.self.now.source.now) refl (λ file e coded W d before candidate walk.
-    let here = next_here c.args.frames.now.items c.args.frame walk candidate (ap (λ s. s.usable) e) (next_at refl c.in-Nothing.is c.requires.step) in
-    (by_other (turned_empty c.args.frames.now.items c.args.frame walk candidate c.stepped.result c.stepped.ensures.page c.stepped.ensures.next here) c.push.ensures.items refl refl refl (λ n l. refl), tt))
+returns-in-Nothing-clause-log g c = log_none c.args.bench.now.geometry.page_size c.args.self.now.marks.now c.args.self.now.marks.now
+    (g.S.Source.held c.args.self.now.source.now) refl (λ file e coded W d before candidate walk.
+    let here = next_here c.args.frames.now.items c.args.frame walk candidate (ap (λ s. s.usable) e) (next_at refl c.in-Nothing.is c.requires.step) in (
+      by_other (turned_empty c.args.frames.now.items c.args.frame walk candidate c.stepped.result c.stepped.ensures.page c.stepped.ensures.next here)
+          c.push.ensures.items refl refl refl (λ n l. refl),
+      tt,
+    ))
 
 pub returns-in_err-tell_key-in-Key-clause-log : goal.returns-in_err-tell_key-in-Key-clause-log
-returns-in_err-tell_key-in-Key-clause-log g c = log_none c.args.bench.now.geometry.page_size c.args.self.now.marks.now c.args.self.now.marks.now (g.S.Source.held c.args.self.now.source.now) refl (λ file e coded W d before candidate walk.
+returns-in_err-tell_key-in-Key-clause-log g c = log_none c.args.bench.now.geometry.page_size c.args.self.now.marks.now c.args.self.now.marks.now
+    (g.S.Source.held c.args.self.now.source.now) refl (λ file e coded W d before candidate walk.
     let here = next_here c.args.frames.now.items c.args.frame walk candidate (ap (λ s. s.usable) e) (next_at refl c.in-Key.is c.requires.step) in
     let n = c.tell_key.new in
     let q = err_from_is_err_and c.from_residual.result c.from_residual.ensures.1 in
-    let told = subst (λ z. Stops g.K.Sink.takes g.K.Sink.drops c.args.self.now.sink.now (order_told false c.args.self.now.tree.greatest c.args.frame.page (c.args.frame.next / 3) z) n.sink) (to_z-of_z w64 c.in-Key.key (search rules)) c.in_err-tell_key-in-Key.ensures.told.items in
-    turn_failed _ (λ e. StopsAt _ (fails g.K.Sink.takes g.K.Sink.drops g.T.Taker.takes g.T.Taker.refuses) e before (tree_walk file W d).items (n.sink, c.args.self.now.taker.now)) c.from_residual.result WriteFailed (q.1 ∙ ap Err q.2)
-    (stopped_key c.args.frames.now.items c.args.frame walk candidate c.stepped-in-Key.result c.stepped-in-Key.ensures.page c.stepped-in-Key.ensures.next c.in-Key.key here (n.sink, c.args.self.now.taker.now) (fails g.K.Sink.takes g.K.Sink.drops g.T.Taker.takes g.T.Taker.refuses) WriteFailed
-    (found_stops g.K.Sink.takes g.K.Sink.drops g.T.Taker.takes g.T.Taker.refuses (order_told false c.args.self.now.tree.greatest c.args.frame.page (c.args.frame.next / 3) c.in-Key.key) c.args.self.now.sink.now n.sink c.args.self.now.taker.now told)))
+    let told = subst (λ z. Stops g.K.Sink.takes g.K.Sink.drops c.args.self.now.sink.now
+    (order_told false c.args.self.now.tree.greatest c.args.frame.page (c.args.frame.next / 3) z) n.sink) (to_z-of_z w64 c.in-Key.key (search rules))
+    c.in_err-tell_key-in-Key.ensures.told.items in
+    turn_failed _ (λ e. StopsAt _ (fails g.K.Sink.takes g.K.Sink.drops g.T.Taker.takes g.T.Taker.refuses) e before (tree_walk file W d).items
+    (n.sink, c.args.self.now.taker.now)) c.from_residual.result WriteFailed (q.1 ∙ ap Err q.2)
+    (stopped_key c.args.frames.now.items c.args.frame walk candidate c.stepped-in-Key.result c.stepped-in-Key.ensures.page c.stepped-in-Key.ensures.next
+    c.in-Key.key here (n.sink, c.args.self.now.taker.now) (fails g.K.Sink.takes g.K.Sink.drops g.T.Taker.takes g.T.Taker.refuses) WriteFailed
+    (found_stops g.K.Sink.takes g.K.Sink.drops g.T.Taker.takes g.T.Taker.refuses
+    (order_told false c.args.self.now.tree.greatest c.args.frame.page (c.args.frame.next / 3) c.in-Key.key) c.args.self.now.sink.now n.sink
+    c.args.self.now.taker.now told)))
 
 pub returns-in_ok-tell_key-in-Key-clause-open : goal.returns-in_ok-tell_key-in-Key-clause-open
-returns-in_ok-tell_key-in-Key-clause-open g c = step_on c.args.frames.now.items c.args.frame (at_step c.args.frames.now.items c.args.frame c.requires.«open» (next_at refl c.in-Key.is c.requires.step)) c.stepped-in-Key.result c.stepped-in-Key.ensures.page c.stepped-in-Key.ensures.next (λ x. cc) c.push-in-Key.ensures.items c.args.bench.now.geometry.usable c.tell_key.new.self.kind c.args.bench.now.levels refl c.tell_key.ensures.others.1 (λ n l. refl)
+returns-in_ok-tell_key-in-Key-clause-open g c = step_on c.args.frames.now.items c.args.frame
+    (at_step c.args.frames.now.items c.args.frame c.requires.«open» (next_at refl c.in-Key.is c.requires.step)) c.stepped-in-Key.result
+    c.stepped-in-Key.ensures.page c.stepped-in-Key.ensures.next (λ x. cc) c.push-in-Key.ensures.items c.args.bench.now.geometry.usable c.tell_key.new.self.kind
+    c.args.bench.now.levels refl c.tell_key.ensures.others.1 (λ n l. refl)
 
 pub returns-in_ok-tell_key-in-Key-clause-ends : goal.returns-in_ok-tell_key-in-Key-clause-ends
-returns-in_ok-tell_key-in-Key-clause-ends g c = ends_on c.args.self.now.marks.now c.args.self.now.marks.now c.args.frames.now.items c.args.frame c.stepped-in-Key.result c.push-in-Key.ensures.items (omega arith) c.stepped-in-Key.ensures.next (at_step c.args.frames.now.items c.args.frame c.requires.«open» (next_at refl c.in-Key.is c.requires.step)).most
+returns-in_ok-tell_key-in-Key-clause-ends g c = ends_on c.args.self.now.marks.now c.args.self.now.marks.now c.args.frames.now.items c.args.frame
+    c.stepped-in-Key.result c.push-in-Key.ensures.items (omega arith) c.stepped-in-Key.ensures.next
+    (at_step c.args.frames.now.items c.args.frame c.requires.«open» (next_at refl c.in-Key.is c.requires.step)).most
 
 pub returns-in_ok-tell_key-in-Key-clause-log : goal.returns-in_ok-tell_key-in-Key-clause-log
-returns-in_ok-tell_key-in-Key-clause-log g c = log_none c.args.bench.now.geometry.page_size c.args.self.now.marks.now c.args.self.now.marks.now (g.S.Source.held c.args.self.now.source.now) refl (λ file e coded W d before candidate walk.
+returns-in_ok-tell_key-in-Key-clause-log g c = log_none c.args.bench.now.geometry.page_size c.args.self.now.marks.now c.args.self.now.marks.now
+    (g.S.Source.held c.args.self.now.source.now) refl (λ file e coded W d before candidate walk.
     let here = next_here c.args.frames.now.items c.args.frame walk candidate (ap (λ s. s.usable) e) (next_at refl c.in-Key.is c.requires.step) in
     let n = c.tell_key.new in
     let same = to_z-of_z w64 c.in-Key.key (search rules) in
-    let told = subst (λ z. Moves g.K.Sink.takes c.args.self.now.sink.now (order_told false c.args.self.now.tree.greatest c.args.frame.page (c.args.frame.next / 3) z) n.sink) same c.in_ok-tell_key-in-Key.ensures.told.items in
-    let moved = found_moves g.K.Sink.takes g.K.Sink.drops g.T.Taker.takes g.T.Taker.refuses (order_told false c.args.self.now.tree.greatest c.args.frame.page (c.args.frame.next / 3) c.in-Key.key) c.args.self.now.sink.now n.sink c.args.self.now.taker.now told in (
-      by_other (turned_key c.args.frames.now.items c.args.frame walk candidate c.stepped-in-Key.result c.stepped-in-Key.ensures.page c.stepped-in-Key.ensures.next c.in-Key.key here (n.sink, c.args.self.now.taker.now) n.self c.tell_key.ensures.others.1 (c.tell_key.ensures.greatest ∙ ap (λ z. top_after c.args.self.now.tree.greatest c.args.frame.page (c.args.frame.next / 3) (Some z)) same) c.tell_key.ensures.others.2 moved)
+    let told = subst (λ z. Moves g.K.Sink.takes c.args.self.now.sink.now
+    (order_told false c.args.self.now.tree.greatest c.args.frame.page (c.args.frame.next / 3) z) n.sink) same c.in_ok-tell_key-in-Key.ensures.told.items in
+    let moved = found_moves g.K.Sink.takes g.K.Sink.drops g.T.Taker.takes g.T.Taker.refuses
+    (order_told false c.args.self.now.tree.greatest c.args.frame.page (c.args.frame.next / 3) c.in-Key.key) c.args.self.now.sink.now n.sink
+    c.args.self.now.taker.now told in (
+      by_other (turned_key c.args.frames.now.items c.args.frame walk candidate c.stepped-in-Key.result c.stepped-in-Key.ensures.page
+          c.stepped-in-Key.ensures.next c.in-Key.key here (n.sink, c.args.self.now.taker.now) n.self c.tell_key.ensures.others.1
+          (c.tell_key.ensures.greatest ∙ ap (λ z. top_after c.args.self.now.tree.greatest c.args.frame.page (c.args.frame.next / 3) (Some z)) same)
+          c.tell_key.ensures.others.2 moved)
           c.push-in-Key.ensures.items refl refl refl (λ n l. refl),
       tt,
     ))
@@ -100,29 +131,45 @@ pub returns-in-Chain-clause-open : goal.returns-in-Chain-clause-open
 returns-in-Chain-clause-open g c =
     let n = c.walk_unfed.new.bench in
     let same = c.walk_unfed.ensures.bench in
-    on_ok_all c.walk_unfed.result (step_on c.args.frames.now.items c.args.frame (at_step c.args.frames.now.items c.args.frame c.requires.«open» (next_at refl c.in-Chain.is c.requires.step)) c.stepped-in-Chain.result c.stepped-in-Chain.ensures.page c.stepped-in-Chain.ensures.next (λ x. cc) c.push-in-Chain.ensures.items n.geometry.usable c.args.self.now.tree.kind n.levels (ap (λ (p : Pages). p.geometry.usable) same) refl (λ m l. ap (λ (p : Pages). slice_get p.levels m) same))
+    on_ok_all c.walk_unfed.result (step_on c.args.frames.now.items c.args.frame
+    (at_step c.args.frames.now.items c.args.frame c.requires.«open» (next_at refl c.in-Chain.is c.requires.step)) c.stepped-in-Chain.result
+    c.stepped-in-Chain.ensures.page c.stepped-in-Chain.ensures.next (λ x. cc) c.push-in-Chain.ensures.items n.geometry.usable c.args.self.now.tree.kind
+    n.levels (ap (λ (p : Pages). p.geometry.usable) same) refl (λ m l. ap (λ (p : Pages). slice_get p.levels m) same))
 
 pub returns-in-Chain-clause-ends : goal.returns-in-Chain-clause-ends
 returns-in-Chain-clause-ends g c =
     let fewer = keeps_fewer c.args.self.now.marks.now c.walk_unfed.new.marks c.walk_unfed.ensures.log.holds.kept in
-    on_ok_all c.walk_unfed.result (ends_on c.args.self.now.marks.now c.walk_unfed.new.marks c.args.frames.now.items c.args.frame c.stepped-in-Chain.result c.push-in-Chain.ensures.items fewer c.stepped-in-Chain.ensures.next (at_step c.args.frames.now.items c.args.frame c.requires.«open» (next_at refl c.in-Chain.is c.requires.step)).most)
+    on_ok_all c.walk_unfed.result (ends_on c.args.self.now.marks.now c.walk_unfed.new.marks c.args.frames.now.items c.args.frame c.stepped-in-Chain.result
+    c.push-in-Chain.ensures.items fewer c.stepped-in-Chain.ensures.next
+    (at_step c.args.frames.now.items c.args.frame c.requires.«open» (next_at refl c.in-Chain.is c.requires.step)).most)
 
 pub returns-in-Chain-clause-log : goal.returns-in-Chain-clause-log
 returns-in-Chain-clause-log g c = has_weaker _ _ c.walk_unfed.ensures.log (λ log r. r) (λ file h e coded W d before candidate walk.
     let here = next_here c.args.frames.now.items c.args.frame walk candidate (ap (λ s. s.usable) e) (next_at refl c.in-Chain.is c.requires.step) in
     let n = c.walk_unfed.new in
     let r = c.walk_unfed.result in
-    let is = chain_is c.args.frames.now.items c.args.frame walk candidate c.stepped-in-Chain.result c.stepped-in-Chain.ensures.page c.stepped-in-Chain.ensures.next c.in-Chain.first c.in-Chain.left c.in-Chain.rowid here _ refl (c.as_slice.ensures.value ∙ c.requires.path) refl refl refl refl refl in
-    let next = chain_next c.args.frames.now.items c.args.frame walk candidate c.stepped-in-Chain.result c.stepped-in-Chain.ensures.page c.stepped-in-Chain.ensures.next c.in-Chain.first c.in-Chain.left c.in-Chain.rowid here in
-    let done = aside_done g.K.Sink.takes g.K.Sink.drops g.T.Taker.takes g.T.Taker.refuses file walk.now (chained c.args.frames.now.items c.args.frame walk candidate c.stepped-in-Chain.result c.stepped-in-Chain.ensures.page c.stepped-in-Chain.ensures.next c.in-Chain.first c.in-Chain.left c.in-Chain.rowid here) refl r c.args.self.now.marks.now n.marks c.args.self.now.tree c.args.self.now.sink.now n.sink c.args.self.now.taker.now c.walk_unfed.ensures.only walk.under.at
+    let is = chain_is c.args.frames.now.items c.args.frame walk candidate c.stepped-in-Chain.result c.stepped-in-Chain.ensures.page
+    c.stepped-in-Chain.ensures.next c.in-Chain.first c.in-Chain.left c.in-Chain.rowid here _ refl (c.as_slice.ensures.value ∙ c.requires.path) refl refl
+    refl refl refl in
+    let next = chain_next c.args.frames.now.items c.args.frame walk candidate c.stepped-in-Chain.result c.stepped-in-Chain.ensures.page
+    c.stepped-in-Chain.ensures.next c.in-Chain.first c.in-Chain.left c.in-Chain.rowid here in
+    let done = aside_done g.K.Sink.takes g.K.Sink.drops g.T.Taker.takes g.T.Taker.refuses file walk.now
+    (chained c.args.frames.now.items c.args.frame walk candidate c.stepped-in-Chain.result c.stepped-in-Chain.ensures.page c.stepped-in-Chain.ensures.next
+    c.in-Chain.first c.in-Chain.left c.in-Chain.rowid here) refl r c.args.self.now.marks.now n.marks c.args.self.now.tree c.args.self.now.sink.now n.sink
+    c.args.self.now.taker.now c.walk_unfed.ensures.only walk.under.at
     (h e walk.now.visits _ is next walk.under.at.0) in
-    turned_chain c.args.frames.now.items c.args.frame walk candidate c.stepped-in-Chain.result c.stepped-in-Chain.ensures.page c.stepped-in-Chain.ensures.next c.in-Chain.first c.in-Chain.left c.in-Chain.rowid here (fails g.K.Sink.takes g.K.Sink.drops g.T.Taker.takes g.T.Taker.refuses) n.marks (n.sink, c.args.self.now.taker.now) c.push-in-Chain.ensures.items (ap (λ (p : Pages). p.levels) c.walk_unfed.ensures.bench) r done)
+    turned_chain c.args.frames.now.items c.args.frame walk candidate c.stepped-in-Chain.result c.stepped-in-Chain.ensures.page c.stepped-in-Chain.ensures.next
+    c.in-Chain.first c.in-Chain.left c.in-Chain.rowid here (fails g.K.Sink.takes g.K.Sink.drops g.T.Taker.takes g.T.Taker.refuses) n.marks
+    (n.sink, c.args.self.now.taker.now) c.push-in-Chain.ensures.items (ap (λ (p : Pages). p.levels) c.walk_unfed.ensures.bench) r done)
 
 pub returns-in_err-tell_key-in-Key-clause-walked : goal.returns-in_err-tell_key-in-Key-clause-walked
-returns-in_err-tell_key-in-Key-clause-walked g c = walked_by g.S.Source.held g.K.Sink.held g.T.Taker.refusals (refl, refl, refl, refl, refl, c.tell_key.ensures.others.0, c.tell_key.ensures.others.1) refl (grind (arith, common_steps)) (grind (arith, common_steps)) (grind (arith, common_steps)) (grind (arith, common_steps)) (λ l. refl)
+returns-in_err-tell_key-in-Key-clause-walked g c =
+    walked_by g.S.Source.held g.K.Sink.held g.T.Taker.refusals (refl, refl, refl, refl, refl, c.tell_key.ensures.others.0, c.tell_key.ensures.others.1) refl
+    (grind (arith, common_steps)) (grind (arith, common_steps)) (grind (arith, common_steps)) (grind (arith, common_steps)) (λ l. refl)
 
 pub returns-in-Chain-clause-walked : goal.returns-in-Chain-clause-walked
 returns-in-Chain-clause-walked g c =
     let done = c.walk_unfed.ensures in
-    walked_by g.S.Source.held g.K.Sink.held g.T.Taker.refusals (refl, refl, refl, refl, refl, refl, refl) (ap (λ (p : Pages). p.geometry) done.bench) done.reads done.writes (none_refused c.walk_unfed.result (g.T.Taker.refusals c.args.self.now.taker.now) done.only)
+    walked_by g.S.Source.held g.K.Sink.held g.T.Taker.refusals (refl, refl, refl, refl, refl, refl, refl) (ap (λ (p : Pages). p.geometry) done.bench) done.reads
+    done.writes (none_refused c.walk_unfed.result (g.T.Taker.refusals c.args.self.now.taker.now) done.only)
     (read_or_write c.args.self.now.tree.start c.walk_unfed.result done.only) (λ l. refl)

@@ -17,7 +17,8 @@ use Rattle.dbwalk.proofs.tree_walk.TreeWalk.walk_leaf.Goals as goal
 
 pub loop-i-init : goal.loop-i-init
 loop-i-init g c = record {
-  walked = walked_by g.S.Source.held g.K.Sink.held g.T.Taker.refusals (refl, refl, refl, refl, refl, c.pass_cells-i.ensures.others.0, c.pass_cells-i.ensures.others.1) refl refl refl refl tt (λ l. refl);
+  walked = walked_by g.S.Source.held g.K.Sink.held g.T.Taker.refusals
+      (refl, refl, refl, refl, refl, c.pass_cells-i.ensures.others.0, c.pass_cells-i.ensures.others.1) refl refl refl refl tt (λ l. refl);
   levels = refl;
   tree = c.pass_cells-i.ensures.others;
   empty = λ later. refl;
@@ -26,9 +27,14 @@ loop-i-init g c = record {
       let t = c.args.self.now.tree in
       let p = c.pass_cells-i.ensures in
       let seen = seen_here file at viewed (ap (λ s. s.usable) e) in
-      let rise = subst (λ q. (c.pass_cells-i.result ≤ count v) × AreRisingFrom q v 0 (c.pass_cells-i.result - 0) t.greatest c.pass_cells-i.new.tree.greatest) (sym at.page) (p.passed.rising (page_bytes file c.args.page) v at.bytes seen (omega arith)) in
-      on_pass file from d t.kind v leaf g.K.Sink.takes g.T.Taker.takes (fails g.K.Sink.takes g.K.Sink.drops g.T.Taker.takes g.T.Taker.refuses) (c.args.self.now.sink.now, c.args.self.now.taker.now) 0 c.pass_cells-i.result c.args.self.now.marks.now t c.pass_cells-i.new.tree (c.args.self.now.sink.now, c.args.self.now.taker.now) p.passed.ahead rise.0 (λ l. other_start d.address t.start at.start (p.other l)) rise.1 p.others.2
-      (on_start file from d t.kind v leaf g.K.Sink.takes g.T.Taker.takes (fails g.K.Sink.takes g.K.Sink.drops g.T.Taker.takes g.T.Taker.refuses) (c.args.self.now.sink.now, c.args.self.now.taker.now) (c.args.self.now.marks.now, t) isat before));
+      let rise = subst (λ q. (c.pass_cells-i.result ≤ count v) × AreRisingFrom q v 0 (c.pass_cells-i.result - 0) t.greatest c.pass_cells-i.new.tree.greatest)
+      (sym at.page) (p.passed.rising (page_bytes file c.args.page) v at.bytes seen (omega arith)) in
+      on_pass file from d t.kind v leaf g.K.Sink.takes g.T.Taker.takes (fails g.K.Sink.takes g.K.Sink.drops g.T.Taker.takes g.T.Taker.refuses)
+      (c.args.self.now.sink.now, c.args.self.now.taker.now) 0 c.pass_cells-i.result c.args.self.now.marks.now t c.pass_cells-i.new.tree
+      (c.args.self.now.sink.now, c.args.self.now.taker.now) p.passed.ahead rise.0 (λ l. other_start d.address t.start at.start (p.other l)) rise.1
+      p.others.2
+      (on_start file from d t.kind v leaf g.K.Sink.takes g.T.Taker.takes (fails g.K.Sink.takes g.K.Sink.drops g.T.Taker.takes g.T.Taker.refuses)
+      (c.args.self.now.sink.now, c.args.self.now.taker.now) (c.args.self.now.marks.now, t) isat before));
 }
 
 pub loop-i-preserved : goal.loop-i-preserved
@@ -37,7 +43,8 @@ loop-i-preserved g c =
     let n = c.in_ok-walk_leaf_cell.ensures in
     let p = c.pass_cells-i-in-loop-i.ensures in
     record {
-      walked = walked_tree g.S.Source.held g.K.Sink.held g.T.Taker.refusals p.others.0 p.others.1 (walked_behind g.S.Source.held g.K.Sink.held g.T.Taker.refusals n.walked w.walked);
+      walked = walked_tree g.S.Source.held g.K.Sink.held g.T.Taker.refusals p.others.0 p.others.1
+          (walked_behind g.S.Source.held g.K.Sink.held g.T.Taker.refusals n.walked w.walked);
       levels = n.levels ∙ w.levels;
       tree = (p.others.0 ∙ n.tree.0 ∙ w.tree.0, p.others.1 ∙ n.tree.1 ∙ w.tree.1, p.others.2 ∙ n.tree.2 ∙ w.tree.2, p.others.3 ∙ n.tree.3 ∙ w.tree.3);
       empty = λ later. n.empty (subst (λ k. 1 ≤ k) (sym w.tree.0) later);
@@ -50,13 +57,25 @@ loop-i-preserved g c =
           let new = c.walk_leaf_cell.new in
           let after = c.pass_cells-i-in-loop-i.new.tree in
           let end = c.pass_cells-i-in-loop-i.result in
-          let passed = passed_same new.bench.geometry.usable c.args.bench.now.geometry.usable new.self.tree.kind t.kind new.bench.levels c.args.bench.now.levels (length new.self.tree.path.items) (length t.path.items) c.args.page (c.loop-i.i + 1) end new.self.tree.greatest after.greatest
-          (ap (λ s. s.usable) (n.walked.shape ∙ w.walked.shape)) (n.tree.1 ∙ w.tree.1) (n.levels ∙ w.levels) (ap (λ p. length p.items) (n.tree.3 ∙ w.tree.3)) p.passed in
-          let rise = subst (λ q. (end ≤ count v) × AreRisingFrom q v (c.loop-i.i + 1) (end - (c.loop-i.i + 1)) new.self.tree.greatest after.greatest) (sym at.page) (passed.rising (page_bytes file c.args.page) v at.bytes seen (omega arith)) in
-          let cell = done (w.walked.shape ∙ e) (w.walked.coded ∙ coded) (cells_done file from d t.kind v c.loop-i.i) d v (leaf_as file t.kind c.loop-i.self.tree.kind t.start c.loop-i.self.tree.start t.path.items c.loop-i.self.tree.path.items c.args.bench.now.levels c.loop-i.bench.levels c.args.page d w.tree.1 w.tree.0 (ap (λ p. p.items) w.tree.3) w.levels at) viewed leaf low s.1 s.0.at in
-          on_pass file from d t.kind v leaf g.K.Sink.takes g.T.Taker.takes (fails g.K.Sink.takes g.K.Sink.drops g.T.Taker.takes g.T.Taker.refuses) (c.args.self.now.sink.now, c.args.self.now.taker.now) (c.loop-i.i + 1) end new.self.marks.now new.self.tree after (new.self.sink.now, new.self.taker.now) passed.ahead rise.0 (λ l. other_start d.address t.start at.start (subst (λ k. 1 ≤ k) (n.tree.0 ∙ w.tree.0) (p.other l))) rise.1 p.others.2
-          (on_more file from d t.kind v leaf g.K.Sink.takes g.T.Taker.takes (fails g.K.Sink.takes g.K.Sink.drops g.T.Taker.takes g.T.Taker.refuses) (c.args.self.now.sink.now, c.args.self.now.taker.now) c.loop-i.i (c.loop-i.self.marks.now, c.loop-i.self.tree) (new.self.marks.now, new.self.tree) (c.loop-i.self.sink.now, c.loop-i.self.taker.now) (new.self.sink.now, new.self.taker.now) low s
-          (subst (λ k. HasDone (watches g.K.Sink.takes g.T.Taker.takes) (fails g.K.Sink.takes g.K.Sink.drops g.T.Taker.takes g.T.Taker.refuses) file (done_below file (cells_done file from d t.kind v c.loop-i.i) (cell_errands d k v c.loop-i.i)) (Ok tt) (new.self.marks.now, new.self.tree) (c.loop-i.self.sink.now, c.loop-i.self.taker.now) (new.self.sink.now, new.self.taker.now)) w.tree.1 cell)));
+          let passed = passed_same new.bench.geometry.usable c.args.bench.now.geometry.usable new.self.tree.kind t.kind new.bench.levels c.args.bench.now.levels
+          (length new.self.tree.path.items) (length t.path.items) c.args.page (c.loop-i.i + 1) end new.self.tree.greatest after.greatest
+          (ap (λ s. s.usable) (n.walked.shape ∙ w.walked.shape)) (n.tree.1 ∙ w.tree.1) (n.levels ∙ w.levels) (ap (λ p. length p.items) (n.tree.3 ∙ w.tree.3))
+          p.passed in
+          let rise = subst (λ q. (end ≤ count v) × AreRisingFrom q v (c.loop-i.i + 1) (end - (c.loop-i.i + 1)) new.self.tree.greatest after.greatest)
+          (sym at.page) (passed.rising (page_bytes file c.args.page) v at.bytes seen (omega arith)) in
+          let cell = done (w.walked.shape ∙ e) (w.walked.coded ∙ coded) (cells_done file from d t.kind v c.loop-i.i) d v
+          (leaf_as file t.kind c.loop-i.self.tree.kind t.start c.loop-i.self.tree.start t.path.items c.loop-i.self.tree.path.items c.args.bench.now.levels
+          c.loop-i.bench.levels c.args.page d w.tree.1 w.tree.0 (ap (λ p. p.items) w.tree.3) w.levels at) viewed leaf low s.1 s.0.at in
+          on_pass file from d t.kind v leaf g.K.Sink.takes g.T.Taker.takes (fails g.K.Sink.takes g.K.Sink.drops g.T.Taker.takes g.T.Taker.refuses)
+          (c.args.self.now.sink.now, c.args.self.now.taker.now) (c.loop-i.i + 1) end new.self.marks.now new.self.tree after
+          (new.self.sink.now, new.self.taker.now) passed.ahead rise.0
+          (λ l. other_start d.address t.start at.start (subst (λ k. 1 ≤ k) (n.tree.0 ∙ w.tree.0) (p.other l))) rise.1 p.others.2
+          (on_more file from d t.kind v leaf g.K.Sink.takes g.T.Taker.takes (fails g.K.Sink.takes g.K.Sink.drops g.T.Taker.takes g.T.Taker.refuses)
+          (c.args.self.now.sink.now, c.args.self.now.taker.now) c.loop-i.i (c.loop-i.self.marks.now, c.loop-i.self.tree) (new.self.marks.now, new.self.tree)
+          (c.loop-i.self.sink.now, c.loop-i.self.taker.now) (new.self.sink.now, new.self.taker.now) low s
+          (subst (λ k. HasDone (watches g.K.Sink.takes g.T.Taker.takes) (fails g.K.Sink.takes g.K.Sink.drops g.T.Taker.takes g.T.Taker.refuses) file
+          (done_below file (cells_done file from d t.kind v c.loop-i.i) (cell_errands d k v c.loop-i.i)) (Ok tt) (new.self.marks.now, new.self.tree)
+          (c.loop-i.self.sink.now, c.loop-i.self.taker.now) (new.self.sink.now, new.self.taker.now)) w.tree.1 cell)));
     }
 
 pub returns-in_err-walk_leaf_cell-clause-log : goal.returns-in_err-walk_leaf_cell-clause-log
@@ -69,11 +88,20 @@ returns-in_err-walk_leaf_cell-clause-log g c =
     let low : c.loop-i.i < count v = omega arith in
     let s = on e coded from d v at viewed leaf before isat in
     let new = c.walk_leaf_cell.new in
-    let cell = done (w.walked.shape ∙ e) (w.walked.coded ∙ coded) (cells_done file from d t.kind v c.loop-i.i) d v (leaf_as file t.kind c.loop-i.self.tree.kind t.start c.loop-i.self.tree.start t.path.items c.loop-i.self.tree.path.items c.args.bench.now.levels c.loop-i.bench.levels c.args.page d w.tree.1 w.tree.0 (ap (λ p. p.items) w.tree.3) w.levels at) viewed leaf low s.1 s.0.at in
+    let cell = done (w.walked.shape ∙ e) (w.walked.coded ∙ coded) (cells_done file from d t.kind v c.loop-i.i) d v
+    (leaf_as file t.kind c.loop-i.self.tree.kind t.start c.loop-i.self.tree.start t.path.items c.loop-i.self.tree.path.items c.args.bench.now.levels
+    c.loop-i.bench.levels c.args.page d w.tree.1 w.tree.0 (ap (λ p. p.items) w.tree.3) w.levels at) viewed leaf low s.1 s.0.at in
     stopped_as (q.1 ∙ ap Err q.2)
-    (subst (λ es. HasDone {A = Unit {0}} (watches g.K.Sink.takes g.T.Taker.takes) (fails g.K.Sink.takes g.K.Sink.drops g.T.Taker.takes g.T.Taker.refuses) file (done_below file from es) (Err c.in_err-walk_leaf_cell.field-0.0) (new.self.marks.now, new.self.tree) (c.args.self.now.sink.now, c.args.self.now.taker.now) (new.self.sink.now, new.self.taker.now)) (sym (leaf_errands_are file d t.kind v at.kind_is viewed leaf))
-    (on_stop file from d t.kind v leaf g.K.Sink.takes g.T.Taker.takes (fails g.K.Sink.takes g.K.Sink.drops g.T.Taker.takes g.T.Taker.refuses) (c.args.self.now.sink.now, c.args.self.now.taker.now) c.in_err-walk_leaf_cell.field-0.0 c.loop-i.i (c.loop-i.self.marks.now, c.loop-i.self.tree) (new.self.marks.now, new.self.tree) (c.loop-i.self.sink.now, c.loop-i.self.taker.now) (new.self.sink.now, new.self.taker.now) low s
-    (subst (λ k. HasDone {A = Unit {0}} (watches g.K.Sink.takes g.T.Taker.takes) (fails g.K.Sink.takes g.K.Sink.drops g.T.Taker.takes g.T.Taker.refuses) file (done_below file (cells_done file from d t.kind v c.loop-i.i) (cell_errands d k v c.loop-i.i)) (Err c.in_err-walk_leaf_cell.field-0.0) (new.self.marks.now, new.self.tree) (c.loop-i.self.sink.now, c.loop-i.self.taker.now) (new.self.sink.now, new.self.taker.now)) w.tree.1 cell))).handed)
+    (subst (λ es. HasDone {A = Unit {0}} (watches g.K.Sink.takes g.T.Taker.takes) (fails g.K.Sink.takes g.K.Sink.drops g.T.Taker.takes g.T.Taker.refuses) file
+    (done_below file from es) (Err c.in_err-walk_leaf_cell.field-0.0) (new.self.marks.now, new.self.tree)
+    (c.args.self.now.sink.now, c.args.self.now.taker.now) (new.self.sink.now, new.self.taker.now))
+    (sym (leaf_errands_are file d t.kind v at.kind_is viewed leaf))
+    (on_stop file from d t.kind v leaf g.K.Sink.takes g.T.Taker.takes (fails g.K.Sink.takes g.K.Sink.drops g.T.Taker.takes g.T.Taker.refuses)
+    (c.args.self.now.sink.now, c.args.self.now.taker.now) c.in_err-walk_leaf_cell.field-0.0 c.loop-i.i (c.loop-i.self.marks.now, c.loop-i.self.tree)
+    (new.self.marks.now, new.self.tree) (c.loop-i.self.sink.now, c.loop-i.self.taker.now) (new.self.sink.now, new.self.taker.now) low s
+    (subst (λ k. HasDone {A = Unit {0}} (watches g.K.Sink.takes g.T.Taker.takes) (fails g.K.Sink.takes g.K.Sink.drops g.T.Taker.takes g.T.Taker.refuses) file
+    (done_below file (cells_done file from d t.kind v c.loop-i.i) (cell_errands d k v c.loop-i.i)) (Err c.in_err-walk_leaf_cell.field-0.0)
+    (new.self.marks.now, new.self.tree) (c.loop-i.self.sink.now, c.loop-i.self.taker.now) (new.self.sink.now, new.self.taker.now)) w.tree.1 cell))).handed)
 
 pub returns-clause-log : goal.returns-clause-log
 returns-clause-log g c =
@@ -84,8 +112,12 @@ returns-clause-log g c =
     let s = on e coded from d v at viewed leaf before isat in
     let within = s.2 in
     let end : c.loop-i.i ≡ count v = omega arith in
-    subst (λ es. HasDone (watches g.K.Sink.takes g.T.Taker.takes) (fails g.K.Sink.takes g.K.Sink.drops g.T.Taker.takes g.T.Taker.refuses) file (done_below file from es) (Ok tt) (c.loop-i.self.marks.now, c.loop-i.self.tree) (c.args.self.now.sink.now, c.args.self.now.taker.now) (c.loop-i.self.sink.now, c.loop-i.self.taker.now)) (sym (leaf_errands_are file d t.kind v at.kind_is viewed leaf))
-    (on_end file from d t.kind v leaf g.K.Sink.takes g.T.Taker.takes (fails g.K.Sink.takes g.K.Sink.drops g.T.Taker.takes g.T.Taker.refuses) (c.args.self.now.sink.now, c.args.self.now.taker.now) (c.loop-i.self.marks.now, c.loop-i.self.tree) (c.loop-i.self.sink.now, c.loop-i.self.taker.now) c.loop-i.i end s))
+    subst (λ es. HasDone (watches g.K.Sink.takes g.T.Taker.takes) (fails g.K.Sink.takes g.K.Sink.drops g.T.Taker.takes g.T.Taker.refuses) file
+    (done_below file from es) (Ok tt) (c.loop-i.self.marks.now, c.loop-i.self.tree) (c.args.self.now.sink.now, c.args.self.now.taker.now)
+    (c.loop-i.self.sink.now, c.loop-i.self.taker.now)) (sym (leaf_errands_are file d t.kind v at.kind_is viewed leaf))
+    (on_end file from d t.kind v leaf g.K.Sink.takes g.T.Taker.takes (fails g.K.Sink.takes g.K.Sink.drops g.T.Taker.takes g.T.Taker.refuses)
+    (c.args.self.now.sink.now, c.args.self.now.taker.now) (c.loop-i.self.marks.now, c.loop-i.self.tree) (c.loop-i.self.sink.now, c.loop-i.self.taker.now)
+    c.loop-i.i end s))
 
 pub walk_leaf_cell-requires : goal.walk_leaf_cell-requires
 walk_leaf_cell-requires g c =
@@ -97,7 +129,8 @@ walk_leaf_cell-requires g c =
 pub returns-in_err-walk_leaf_cell-clause-walked : goal.returns-in_err-walk_leaf_cell-clause-walked
 returns-in_err-walk_leaf_cell-clause-walked g c =
     let q = err_from_is_err_and c.from_residual.result c.from_residual.ensures.1 in
-    walked_as g.S.Source.held g.K.Sink.held g.T.Taker.refusals {R = Unit {0}} (q.1 ∙ ap Err q.2) (walked_behind g.S.Source.held g.K.Sink.held g.T.Taker.refusals c.in_err-walk_leaf_cell.ensures.walked c.loop-i.invariant.walked)
+    walked_as g.S.Source.held g.K.Sink.held g.T.Taker.refusals {R = Unit {0}} (q.1 ∙ ap Err q.2)
+    (walked_behind g.S.Source.held g.K.Sink.held g.T.Taker.refusals c.in_err-walk_leaf_cell.ensures.walked c.loop-i.invariant.walked)
 
 pub returns-in_err-walk_leaf_cell-clause-tree : goal.returns-in_err-walk_leaf_cell-clause-tree
 returns-in_err-walk_leaf_cell-clause-tree g c =

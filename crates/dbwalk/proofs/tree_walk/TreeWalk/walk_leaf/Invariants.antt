@@ -19,9 +19,13 @@ invariant-loop-i g l = record {
   levels : l.bench.levels ≡ l.fn.bench.levels;
   tree : IsSameButGreatest l.fn.self.tree l.self.tree;
   empty : 1 ≤ l.fn.self.tree.start → l.sieve ≡ None;
-  log : SaysOfFiles g.S.Source.step g.S.Source.held l.fn.bench.geometry l.fn.self l.self (λ file. (from : Walk) (c : Reference) (v : View) → IsLeafAt file l.fn.self.tree.kind l.fn.self.tree.start l.fn.self.tree.path.items c l.fn.bench.levels l.page
-      → tree_view file c ≡ Some v → is_interior v.kind ≡ false → AreBefore from.visits (then_step c.address 0) → IsAt file from l.fn.self.marks.now l.fn.self.tree
-      → Does {R = Unit {0}} (watches g.K.Sink.takes g.T.Taker.takes) (fails g.K.Sink.takes g.K.Sink.drops g.T.Taker.takes g.T.Taker.refuses) file (cells_done file from c l.fn.self.tree.kind v l.i) (Ok tt) l.fn.self l.self
+  log : SaysOfFiles g.S.Source.step g.S.Source.held l.fn.bench.geometry l.fn.self l.self
+      (λ file. (from : Walk) (c : Reference) (v : View) → IsLeafAt file l.fn.self.tree.kind l.fn.self.tree.start l.fn.self.tree.path.items c l.fn.bench.levels
+      l.page
+      → tree_view file c ≡ Some v → is_interior v.kind ≡ false → AreBefore from.visits (then_step c.address 0)
+      → IsAt file from l.fn.self.marks.now l.fn.self.tree
+      → Does {R = Unit {0}} (watches g.K.Sink.takes g.T.Taker.takes) (fails g.K.Sink.takes g.K.Sink.drops g.T.Taker.takes g.T.Taker.refuses) file
+      (cells_done file from c l.fn.self.tree.kind v l.i) (Ok tt) l.fn.self l.self
       × AreBefore (cells_done file from c l.fn.self.tree.kind v l.i).visits (then_step c.address (overflow_step l.i)) × (l.i ≤ count v));
 }
 

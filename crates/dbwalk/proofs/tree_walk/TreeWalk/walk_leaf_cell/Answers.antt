@@ -20,66 +20,112 @@ gone None e = refl
 gone (Some s) e = cc
 
 pub returns-in_err-walk_overflow-clause-log : goal.returns-in_err-walk_overflow-clause-log
-returns-in_err-walk_overflow-clause-log g c = has_weaker _ _ c.in_err-walk_overflow.ensures.log (λ log r. r) (λ file h e coded from d v at viewed leaf low before isat.
+returns-in_err-walk_overflow-clause-log g c = has_weaker _ _ c.in_err-walk_overflow.ensures.log (λ log r. r)
+    (λ file h e coded from d v at viewed leaf low before isat.
     let q = err_from_is_err_and c.from_residual.result c.from_residual.ensures.1 in
     let cell = cell_here file at viewed (ap (λ s. s.usable) e) c.len.ensures.value c.leaf_cell-cell.ensures low in
     stopped_as (q.1 ∙ ap Err q.2)
-    (chain_stops file from d c.args.self.now.tree.kind v leaf c.args.i c.leaf_cell-cell.result.overflow cell.0 c.leaf_cell-cell.result.key cell.1 g.K.Sink.takes g.K.Sink.drops g.T.Taker.takes g.T.Taker.refuses c.in_err-walk_overflow.field-0.0 c.walk_overflow.new.marks (c.walk_overflow.new.marks, c.args.self.now.tree)
-    c.args.self.now.sink.now c.walk_overflow.new.sink c.args.self.now.taker.now c.in_err-walk_overflow.ensures.only c.args.self.now.tree isat.1 isat.2 (h e from.visits d at (rowid_here file at viewed (ap (λ s. s.usable) e) c.args.i ∙ sym cell.1) (past_cell from.visits d c.args.i c.leaf_cell-cell.result.overflow before) isat.0).0).handed)
+    (chain_stops file from d c.args.self.now.tree.kind v leaf c.args.i c.leaf_cell-cell.result.overflow cell.0 c.leaf_cell-cell.result.key cell.1 g.K.Sink.takes
+    g.K.Sink.drops g.T.Taker.takes g.T.Taker.refuses c.in_err-walk_overflow.field-0.0 c.walk_overflow.new.marks
+    (c.walk_overflow.new.marks, c.args.self.now.tree)
+    c.args.self.now.sink.now c.walk_overflow.new.sink c.args.self.now.taker.now c.in_err-walk_overflow.ensures.only c.args.self.now.tree isat.1 isat.2
+    (h e from.visits d at (rowid_here file at viewed (ap (λ s. s.usable) e) c.args.i ∙ sym cell.1)
+    (past_cell from.visits d c.args.i c.leaf_cell-cell.result.overflow before) isat.0).0).handed)
 
 pub returns-in_err-tell_row-clause-log : goal.returns-in_err-tell_row-clause-log
-returns-in_err-tell_row-clause-log g c = has_weaker _ _ c.in_ok-walk_overflow.ensures.log (λ log r. r) (λ file h e coded from d v at viewed leaf low before isat.
+returns-in_err-tell_row-clause-log g c = has_weaker _ _ c.in_ok-walk_overflow.ensures.log (λ log r. r)
+    (λ file h e coded from d v at viewed leaf low before isat.
     let q = err_from_is_err_and c.from_residual-in_err-tell_row.result c.from_residual-in_err-tell_row.ensures.1 in
     let cell = cell_here file at viewed (ap (λ s. s.usable) e) c.len.ensures.value c.leaf_cell-cell.ensures low in
-    let done = h e from.visits d at (rowid_here file at viewed (ap (λ s. s.usable) e) c.args.i ∙ sym cell.1) (past_cell from.visits d c.args.i c.leaf_cell-cell.result.overflow before) isat.0 in
+    let done = h e from.visits d at (rowid_here file at viewed (ap (λ s. s.usable) e) c.args.i ∙ sym cell.1)
+    (past_cell from.visits d c.args.i c.leaf_cell-cell.result.overflow before) isat.0 in
     stopped_as (q.1 ∙ ap Err q.2)
-    (row_stops file from d c.args.self.now.tree.kind v leaf c.args.i c.leaf_cell-cell.result.overflow cell.0 c.leaf_cell-cell.result.key cell.1 g.K.Sink.takes g.K.Sink.drops g.T.Taker.takes g.T.Taker.refuses c.in_err-tell_row.field-0.0 c.walk_overflow.new.marks c.args.self.now.tree c.args.self.now.tree
+    (row_stops file from d c.args.self.now.tree.kind v leaf c.args.i c.leaf_cell-cell.result.overflow cell.0 c.leaf_cell-cell.result.key cell.1 g.K.Sink.takes
+    g.K.Sink.drops g.T.Taker.takes g.T.Taker.refuses c.in_err-tell_row.field-0.0 c.walk_overflow.new.marks c.args.self.now.tree c.args.self.now.tree
     c.args.self.now.sink.now c.walk_overflow.new.sink c.args.self.now.taker.now (c.tell_row.new.sink, c.tell_row.new.taker) isat.1 isat.2 done.0
-    (row_told file from d c.args.self.now.tree.kind v leaf c.args.i c.leaf_cell-cell.result.overflow cell.0 c.leaf_cell-cell.result.key cell.1 g.K.Sink.takes g.K.Sink.drops g.T.Taker.takes g.T.Taker.refuses c.args.self.now.taker.now c.tell_row.new.taker c.new-place.result c.args.page c.new-place.ensures at.page c.args.self.now.encoding coded (Err c.in_err-tell_row.field-0.0)
-    c.walk_overflow.new.sink c.tell_row.new.sink c.walk_overflow.new.sieve c.in_err-tell_row.ensures.none c.args.self.now.tree.start at.start c.begin_row.new.sieve (λ z. (c.begin_row.ensures.schema z).read (page_bytes file c.args.page) v at.bytes (seen_here file at viewed (ap (λ s. s.usable) e)) low) (λ l. c.begin_row.ensures.other l ∙ c.requires.empty l) before done.1 c.walk_overflow.ensures.kept.2 c.in_err-tell_row.ensures.told)).handed)
+    (row_told file from d c.args.self.now.tree.kind v leaf c.args.i c.leaf_cell-cell.result.overflow cell.0 c.leaf_cell-cell.result.key cell.1 g.K.Sink.takes
+    g.K.Sink.drops g.T.Taker.takes g.T.Taker.refuses c.args.self.now.taker.now c.tell_row.new.taker c.new-place.result c.args.page c.new-place.ensures
+    at.page c.args.self.now.encoding coded (Err c.in_err-tell_row.field-0.0)
+    c.walk_overflow.new.sink c.tell_row.new.sink c.walk_overflow.new.sieve c.in_err-tell_row.ensures.none c.args.self.now.tree.start at.start
+    c.begin_row.new.sieve (λ z. (c.begin_row.ensures.schema z).read (page_bytes file c.args.page) v at.bytes
+    (seen_here file at viewed (ap (λ s. s.usable) e)) low) (λ l. c.begin_row.ensures.other l ∙ c.requires.empty l) before done.1
+    c.walk_overflow.ensures.kept.2 c.in_err-tell_row.ensures.told)).handed)
 
 pub returns-in_err-tell_rowid-clause-log : goal.returns-in_err-tell_rowid-clause-log
-returns-in_err-tell_rowid-clause-log g c = has_weaker _ _ c.in_ok-walk_overflow.ensures.log (λ log r. r) (λ file h e coded from d v at viewed leaf low before isat.
+returns-in_err-tell_rowid-clause-log g c = has_weaker _ _ c.in_ok-walk_overflow.ensures.log (λ log r. r)
+    (λ file h e coded from d v at viewed leaf low before isat.
     let q = err_from_is_err_and c.from_residual-in_err-tell_rowid.result c.from_residual-in_err-tell_rowid.ensures.1 in
     let cell = cell_here file at viewed (ap (λ s. s.usable) e) c.len.ensures.value c.leaf_cell-cell.ensures low in
-    let done = h e from.visits d at (rowid_here file at viewed (ap (λ s. s.usable) e) c.args.i ∙ sym cell.1) (past_cell from.visits d c.args.i c.leaf_cell-cell.result.overflow before) isat.0 in
-    let late = ap (λ top. late_told top c.args.page c.args.i c.leaf_cell-cell.result.key) isat.1 ∙ ap (λ p. late_told from.state.greatest p c.args.i c.leaf_cell-cell.result.key) (sym at.page) in
+    let done = h e from.visits d at (rowid_here file at viewed (ap (λ s. s.usable) e) c.args.i ∙ sym cell.1)
+    (past_cell from.visits d c.args.i c.leaf_cell-cell.result.overflow before) isat.0 in
+    let late = ap (λ top. late_told top c.args.page c.args.i c.leaf_cell-cell.result.key) isat.1
+    ∙ ap (λ p. late_told from.state.greatest p c.args.i c.leaf_cell-cell.result.key) (sym at.page) in
     stopped_as (q.1 ∙ ap Err q.2)
-    (key_done file from d c.args.self.now.tree.kind v leaf c.args.i c.leaf_cell-cell.result.overflow cell.0 c.leaf_cell-cell.result.key cell.1 g.K.Sink.takes g.K.Sink.drops g.T.Taker.takes g.T.Taker.refuses (Err WriteFailed) c.walk_overflow.new.marks c.args.self.now.tree c.tell_rowid.new.tree
-    c.args.self.now.sink.now c.walk_overflow.new.sink c.tell_row.new.sink c.args.self.now.taker.now c.tell_row.new.taker (c.tell_rowid.new.sink, c.tell_row.new.taker) isat.1 isat.2 done.0
-    (row_told file from d c.args.self.now.tree.kind v leaf c.args.i c.leaf_cell-cell.result.overflow cell.0 c.leaf_cell-cell.result.key cell.1 g.K.Sink.takes g.K.Sink.drops g.T.Taker.takes g.T.Taker.refuses c.args.self.now.taker.now c.tell_row.new.taker c.new-place.result c.args.page c.new-place.ensures at.page c.args.self.now.encoding coded (Ok tt)
-    c.walk_overflow.new.sink c.tell_row.new.sink c.walk_overflow.new.sieve c.in_ok-tell_row.ensures.none c.args.self.now.tree.start at.start c.begin_row.new.sieve (λ z. (c.begin_row.ensures.schema z).read (page_bytes file c.args.page) v at.bytes (seen_here file at viewed (ap (λ s. s.usable) e)) low) (λ l. c.begin_row.ensures.other l ∙ c.requires.empty l) before done.1 c.walk_overflow.ensures.kept.2 c.in_ok-tell_row.ensures.told)
-    (found_stops g.K.Sink.takes g.K.Sink.drops g.T.Taker.takes g.T.Taker.refuses _ c.tell_row.new.sink c.tell_rowid.new.sink c.tell_row.new.taker (subst (λ l. Stops g.K.Sink.takes g.K.Sink.drops c.tell_row.new.sink l c.tell_rowid.new.sink) late c.in_err-tell_rowid.ensures.told.items)) tt).handed)
+    (key_done file from d c.args.self.now.tree.kind v leaf c.args.i c.leaf_cell-cell.result.overflow cell.0 c.leaf_cell-cell.result.key cell.1 g.K.Sink.takes
+    g.K.Sink.drops g.T.Taker.takes g.T.Taker.refuses (Err WriteFailed) c.walk_overflow.new.marks c.args.self.now.tree c.tell_rowid.new.tree
+    c.args.self.now.sink.now c.walk_overflow.new.sink c.tell_row.new.sink c.args.self.now.taker.now c.tell_row.new.taker
+    (c.tell_rowid.new.sink, c.tell_row.new.taker) isat.1 isat.2 done.0
+    (row_told file from d c.args.self.now.tree.kind v leaf c.args.i c.leaf_cell-cell.result.overflow cell.0 c.leaf_cell-cell.result.key cell.1 g.K.Sink.takes
+    g.K.Sink.drops g.T.Taker.takes g.T.Taker.refuses c.args.self.now.taker.now c.tell_row.new.taker c.new-place.result c.args.page c.new-place.ensures
+    at.page c.args.self.now.encoding coded (Ok tt)
+    c.walk_overflow.new.sink c.tell_row.new.sink c.walk_overflow.new.sieve c.in_ok-tell_row.ensures.none c.args.self.now.tree.start at.start
+    c.begin_row.new.sieve (λ z. (c.begin_row.ensures.schema z).read (page_bytes file c.args.page) v at.bytes
+    (seen_here file at viewed (ap (λ s. s.usable) e)) low) (λ l. c.begin_row.ensures.other l ∙ c.requires.empty l) before done.1
+    c.walk_overflow.ensures.kept.2 c.in_ok-tell_row.ensures.told)
+    (found_stops g.K.Sink.takes g.K.Sink.drops g.T.Taker.takes g.T.Taker.refuses _ c.tell_row.new.sink c.tell_rowid.new.sink c.tell_row.new.taker
+    (subst (λ l. Stops g.K.Sink.takes g.K.Sink.drops c.tell_row.new.sink l c.tell_rowid.new.sink) late c.in_err-tell_rowid.ensures.told.items)) tt).handed)
 
 pub returns-clause-log : goal.returns-clause-log
 returns-clause-log g c = has_weaker _ _ c.in_ok-walk_overflow.ensures.log (λ log r. r) (λ file h e coded from d v at viewed leaf low before isat.
     let cell = cell_here file at viewed (ap (λ s. s.usable) e) c.len.ensures.value c.leaf_cell-cell.ensures low in
-    let done = h e from.visits d at (rowid_here file at viewed (ap (λ s. s.usable) e) c.args.i ∙ sym cell.1) (past_cell from.visits d c.args.i c.leaf_cell-cell.result.overflow before) isat.0 in
-    let late = ap (λ top. late_told top c.args.page c.args.i c.leaf_cell-cell.result.key) isat.1 ∙ ap (λ p. late_told from.state.greatest p c.args.i c.leaf_cell-cell.result.key) (sym at.page) in
-    key_done file from d c.args.self.now.tree.kind v leaf c.args.i c.leaf_cell-cell.result.overflow cell.0 c.leaf_cell-cell.result.key cell.1 g.K.Sink.takes g.K.Sink.drops g.T.Taker.takes g.T.Taker.refuses (Ok tt) c.walk_overflow.new.marks c.args.self.now.tree c.tell_rowid.new.tree
-    c.args.self.now.sink.now c.walk_overflow.new.sink c.tell_row.new.sink c.args.self.now.taker.now c.tell_row.new.taker (c.tell_rowid.new.sink, c.tell_row.new.taker) isat.1 isat.2 done.0
-    (row_told file from d c.args.self.now.tree.kind v leaf c.args.i c.leaf_cell-cell.result.overflow cell.0 c.leaf_cell-cell.result.key cell.1 g.K.Sink.takes g.K.Sink.drops g.T.Taker.takes g.T.Taker.refuses c.args.self.now.taker.now c.tell_row.new.taker c.new-place.result c.args.page c.new-place.ensures at.page c.args.self.now.encoding coded (Ok tt)
-    c.walk_overflow.new.sink c.tell_row.new.sink c.walk_overflow.new.sieve c.in_ok-tell_row.ensures.none c.args.self.now.tree.start at.start c.begin_row.new.sieve (λ z. (c.begin_row.ensures.schema z).read (page_bytes file c.args.page) v at.bytes (seen_here file at viewed (ap (λ s. s.usable) e)) low) (λ l. c.begin_row.ensures.other l ∙ c.requires.empty l) before done.1 c.walk_overflow.ensures.kept.2 c.in_ok-tell_row.ensures.told)
-    (found_moves g.K.Sink.takes g.K.Sink.drops g.T.Taker.takes g.T.Taker.refuses _ c.tell_row.new.sink c.tell_rowid.new.sink c.tell_row.new.taker (subst (λ l. Moves g.K.Sink.takes c.tell_row.new.sink l c.tell_rowid.new.sink) late c.in_ok-tell_rowid.ensures.told.items))
-    (c.tell_rowid.ensures.greatest ∙ ap (λ p. top_after c.args.self.now.tree.greatest p c.args.i c.leaf_cell-cell.result.key) (sym at.page), c.tell_rowid.ensures.others.2))
+    let done = h e from.visits d at (rowid_here file at viewed (ap (λ s. s.usable) e) c.args.i ∙ sym cell.1)
+    (past_cell from.visits d c.args.i c.leaf_cell-cell.result.overflow before) isat.0 in
+    let late = ap (λ top. late_told top c.args.page c.args.i c.leaf_cell-cell.result.key) isat.1
+    ∙ ap (λ p. late_told from.state.greatest p c.args.i c.leaf_cell-cell.result.key) (sym at.page) in
+    key_done file from d c.args.self.now.tree.kind v leaf c.args.i c.leaf_cell-cell.result.overflow cell.0 c.leaf_cell-cell.result.key cell.1 g.K.Sink.takes
+    g.K.Sink.drops g.T.Taker.takes g.T.Taker.refuses (Ok tt) c.walk_overflow.new.marks c.args.self.now.tree c.tell_rowid.new.tree
+    c.args.self.now.sink.now c.walk_overflow.new.sink c.tell_row.new.sink c.args.self.now.taker.now c.tell_row.new.taker
+    (c.tell_rowid.new.sink, c.tell_row.new.taker) isat.1 isat.2 done.0
+    (row_told file from d c.args.self.now.tree.kind v leaf c.args.i c.leaf_cell-cell.result.overflow cell.0 c.leaf_cell-cell.result.key cell.1 g.K.Sink.takes
+    g.K.Sink.drops g.T.Taker.takes g.T.Taker.refuses c.args.self.now.taker.now c.tell_row.new.taker c.new-place.result c.args.page c.new-place.ensures
+    at.page c.args.self.now.encoding coded (Ok tt)
+    c.walk_overflow.new.sink c.tell_row.new.sink c.walk_overflow.new.sieve c.in_ok-tell_row.ensures.none c.args.self.now.tree.start at.start
+    c.begin_row.new.sieve (λ z. (c.begin_row.ensures.schema z).read (page_bytes file c.args.page) v at.bytes
+    (seen_here file at viewed (ap (λ s. s.usable) e)) low) (λ l. c.begin_row.ensures.other l ∙ c.requires.empty l) before done.1
+    c.walk_overflow.ensures.kept.2 c.in_ok-tell_row.ensures.told)
+    (found_moves g.K.Sink.takes g.K.Sink.drops g.T.Taker.takes g.T.Taker.refuses _ c.tell_row.new.sink c.tell_rowid.new.sink c.tell_row.new.taker
+    (subst (λ l. Moves g.K.Sink.takes c.tell_row.new.sink l c.tell_rowid.new.sink) late c.in_ok-tell_rowid.ensures.told.items)) (
+      c.tell_rowid.ensures.greatest ∙ ap (λ p. top_after c.args.self.now.tree.greatest p c.args.i c.leaf_cell-cell.result.key) (sym at.page),
+      c.tell_rowid.ensures.others.2,
+    ))
 
 pub returns-in_err-walk_overflow-clause-walked : goal.returns-in_err-walk_overflow-clause-walked
-returns-in_err-walk_overflow-clause-walked g c = walked_by g.S.Source.held g.K.Sink.held g.T.Taker.refusals (refl, refl, refl, refl, refl, refl, refl) c.walk_overflow.ensures.kept.0 (grind (arith, common_steps)) (grind (arith, common_steps)) (grind (arith, common_steps)) (grind (arith, common_steps)) (λ l. refl)
+returns-in_err-walk_overflow-clause-walked g c = walked_by g.S.Source.held g.K.Sink.held g.T.Taker.refusals (refl, refl, refl, refl, refl, refl, refl)
+    c.walk_overflow.ensures.kept.0 (grind (arith, common_steps)) (grind (arith, common_steps)) (grind (arith, common_steps)) (grind (arith, common_steps))
+    (λ l. refl)
 
 -- without a sieve nothing can fail there
 pub returns-in_err-tell_row-clause-walked : goal.returns-in_err-tell_row-clause-walked
 returns-in_err-tell_row-clause-walked g c =
     let q = err_from_is_err_and c.from_residual-in_err-tell_row.result c.from_residual-in_err-tell_row.ensures.1 in
     let e = c.in_err-tell_row.ensures in
-    let none : 1 ≤ c.args.self.now.tree.start → ⊥ = λ later. failed (e.none (gone c.walk_overflow.new.sieve (c.walk_overflow.ensures.kept.2 ∙ ap is_some (c.begin_row.ensures.other later ∙ c.requires.empty later)))).0 in
-    walked_as g.S.Source.held g.K.Sink.held g.T.Taker.refusals {R = Unit {0}} (q.1 ∙ ap Err q.2) (walked_by g.S.Source.held g.K.Sink.held g.T.Taker.refusals (refl, refl, refl, refl, refl, refl, refl) c.walk_overflow.ensures.kept.0 (grind (arith, common_steps)) (grind (arith, common_steps)) (grind (arith, common_steps)) (tree_error c.args.self.now.tree.start c.in_err-tell_row.field-0.0 e.only none) (λ l. absurd (none l)))
+    let none : 1 ≤ c.args.self.now.tree.start → ⊥ = λ later. failed
+    (e.none (gone c.walk_overflow.new.sieve (c.walk_overflow.ensures.kept.2 ∙ ap is_some (c.begin_row.ensures.other later ∙ c.requires.empty later)))).0 in
+    walked_as g.S.Source.held g.K.Sink.held g.T.Taker.refusals {R = Unit {0}} (q.1 ∙ ap Err q.2)
+    (walked_by g.S.Source.held g.K.Sink.held g.T.Taker.refusals (refl, refl, refl, refl, refl, refl, refl) c.walk_overflow.ensures.kept.0
+    (grind (arith, common_steps)) (grind (arith, common_steps)) (grind (arith, common_steps))
+    (tree_error c.args.self.now.tree.start c.in_err-tell_row.field-0.0 e.only none) (λ l. absurd (none l)))
   where
     failed : {e : RunError} → ◌≡◌ {A = Result (Unit {0}) RunError} (Err e) (Ok tt) → ⊥
     failed e = cc
 
 pub returns-in_err-tell_rowid-clause-walked : goal.returns-in_err-tell_rowid-clause-walked
-returns-in_err-tell_rowid-clause-walked g c = walked_by g.S.Source.held g.K.Sink.held g.T.Taker.refusals (refl, refl, refl, refl, refl, c.tell_rowid.ensures.others.0, c.tell_rowid.ensures.others.1) c.walk_overflow.ensures.kept.0 (grind (arith, common_steps)) (grind (arith, common_steps)) (grind (arith, common_steps)) (grind (arith, common_steps))
-    (λ later. (c.in_ok-tell_row.ensures.none (gone c.walk_overflow.new.sieve (c.walk_overflow.ensures.kept.2 ∙ ap is_some (c.begin_row.ensures.other later ∙ c.requires.empty later)))).2)
+returns-in_err-tell_rowid-clause-walked g c = walked_by g.S.Source.held g.K.Sink.held g.T.Taker.refusals
+    (refl, refl, refl, refl, refl, c.tell_rowid.ensures.others.0, c.tell_rowid.ensures.others.1) c.walk_overflow.ensures.kept.0 (grind (arith, common_steps))
+    (grind (arith, common_steps)) (grind (arith, common_steps)) (grind (arith, common_steps))
+    (λ later. (c.in_ok-tell_row.ensures.none (gone c.walk_overflow.new.sieve
+    (c.walk_overflow.ensures.kept.2 ∙ ap is_some (c.begin_row.ensures.other later ∙ c.requires.empty later)))).2)
 
 pub returns-clause-empty : goal.returns-clause-empty
-returns-clause-empty g c = λ later. gone c.walk_overflow.new.sieve (c.walk_overflow.ensures.kept.2 ∙ ap is_some (c.begin_row.ensures.other later ∙ c.requires.empty later))
+returns-clause-empty g c = λ later. gone c.walk_overflow.new.sieve
+    (c.walk_overflow.ensures.kept.2 ∙ ap is_some (c.begin_row.ensures.other later ∙ c.requires.empty later))

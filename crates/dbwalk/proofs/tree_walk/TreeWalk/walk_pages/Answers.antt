@@ -25,15 +25,21 @@ visit_page-requires g c =
 
 pub returns-in_err-visit_page-clause-log : goal.returns-in_err-visit_page-clause-log
 returns-in_err-visit_page-clause-log g c = has_weaker _ _ c.in_err-visit_page.ensures.log (λ log r. r) (λ file h e coded W d candidate there followed next m.
-    let entry = h e coded (begin W) d 0 c.args.self.now.tree.start (subst (λ l. IsCandidate c.args.self.now.tree.kind c.args.self.now.tree.start l c.args.page 0 c.args.self.now.tree.start d) (sym c.requires.fresh.2) candidate)
-    (subst (λ l. HasPageAt c.args.bench.now.levels (length l) (page_bytes file c.args.page)) (sym c.requires.fresh.2) there) next followed m c.requires.fresh.0 c.requires.fresh.1 in
+    let entry = h e coded (begin W) d 0 c.args.self.now.tree.start
+    (subst (λ l. IsCandidate c.args.self.now.tree.kind c.args.self.now.tree.start l c.args.page 0 c.args.self.now.tree.start d) (sym c.requires.fresh.2)
+    candidate)
+    (subst (λ l. HasPageAt c.args.bench.now.levels (length l) (page_bytes file c.args.page)) (sym c.requires.fresh.2) there) next followed m c.requires.fresh.0
+    c.requires.fresh.1 in
     let q = err_from_is_err_and c.from_residual.result c.from_residual.ensures.1 in
     stopped_as (q.1 ∙ ap Err q.2) entry.0.handed)
 
 pub returns-then-not-branch-clause-log : goal.returns-then-not-branch-clause-log
 returns-then-not-branch-clause-log g c = has_weaker _ _ c.in_ok-visit_page.ensures.log (λ log r. r) (λ file h e coded W d candidate there followed next m.
-    let entry = h e coded (begin W) d 0 c.args.self.now.tree.start (subst (λ l. IsCandidate c.args.self.now.tree.kind c.args.self.now.tree.start l c.args.page 0 c.args.self.now.tree.start d) (sym c.requires.fresh.2) candidate)
-    (subst (λ l. HasPageAt c.args.bench.now.levels (length l) (page_bytes file c.args.page)) (sym c.requires.fresh.2) there) next followed m c.requires.fresh.0 c.requires.fresh.1 in
+    let entry = h e coded (begin W) d 0 c.args.self.now.tree.start
+    (subst (λ l. IsCandidate c.args.self.now.tree.kind c.args.self.now.tree.start l c.args.page 0 c.args.self.now.tree.start d) (sym c.requires.fresh.2)
+    candidate)
+    (subst (λ l. HasPageAt c.args.bench.now.levels (length l) (page_bytes file c.args.page)) (sym c.requires.fresh.2) there) next followed m c.requires.fresh.0
+    c.requires.fresh.1 in
     entered_done (begin W) d tt c.if-not-branch.true entry.0)
 
 pub loop-frame-init : goal.loop-frame-init
@@ -43,13 +49,21 @@ loop-frame-init g c =
     record {
       walked = walked_as_ok g.S.Source.held g.K.Sink.held g.T.Taker.refusals c.in_ok-visit_page.ensures.walked;
       few = (let l = ap length items in omega arith);
-      opened = subst (λ l. AreOpen n.bench.geometry.usable n.self.tree.kind n.bench.levels 0 l) (sym items)
-          (subst (λ l. IsOpen n.bench.geometry.usable n.self.tree.kind n.bench.levels (length l) (record { page = c.args.page; next = 0 })) c.requires.fresh.2 (c.in_ok-visit_page.ensures.«open» (search rules)), tt);
-      path = path_last c.push.new.self.items [] (record { page = c.args.page; next = 0 }) n.self.tree.path.items items (ap (λ p. p.items) c.visit_page.ensures.path ∙ c.requires.fresh.2);
+      opened = subst (λ l. AreOpen n.bench.geometry.usable n.self.tree.kind n.bench.levels 0 l) (sym items) (
+        subst (λ l. IsOpen n.bench.geometry.usable n.self.tree.kind n.bench.levels (length l) (record { page = c.args.page; next = 0 })) c.requires.fresh.2
+            (c.in_ok-visit_page.ensures.«open» (search rules)),
+        tt,
+      );
+      path = path_last c.push.new.self.items [] (record { page = c.args.page; next = 0 }) n.self.tree.path.items items
+          (ap (λ p. p.items) c.visit_page.ensures.path ∙ c.requires.fresh.2);
       log = has_weaker _ _ c.in_ok-visit_page.ensures.log (λ log r. r) (λ file h e coded W d candidate there followed next m.
-          let entry = h e coded (begin W) d 0 c.args.self.now.tree.start (subst (λ l. IsCandidate c.args.self.now.tree.kind c.args.self.now.tree.start l c.args.page 0 c.args.self.now.tree.start d) (sym c.requires.fresh.2) candidate)
-          (subst (λ l. HasPageAt c.args.bench.now.levels (length l) (page_bytes file c.args.page)) (sym c.requires.fresh.2) there) next followed m c.requires.fresh.0 c.requires.fresh.1 in
-          let role = kind_is file c.args.self.now.tree.kind c.args.self.now.tree.start [] c.args.page 0 c.args.self.now.tree.start d candidate ∙ ap Some (sym c.visit_page.ensures.walked.kind) in
+          let entry = h e coded (begin W) d 0 c.args.self.now.tree.start
+          (subst (λ l. IsCandidate c.args.self.now.tree.kind c.args.self.now.tree.start l c.args.page 0 c.args.self.now.tree.start d)
+          (sym c.requires.fresh.2) candidate)
+          (subst (λ l. HasPageAt c.args.bench.now.levels (length l) (page_bytes file c.args.page)) (sym c.requires.fresh.2) there) next followed m
+          c.requires.fresh.0 c.requires.fresh.1 in
+          let role = kind_is file c.args.self.now.tree.kind c.args.self.now.tree.start [] c.args.page 0 c.args.self.now.tree.start d candidate
+          ∙ ap Some (sym c.visit_page.ensures.walked.kind) in
           tree_started W d (record { page = c.args.page; next = 0 }) items (sym candidate.page) refl next role candidate.depth c.if-not-branch.false entry);
     }
 
@@ -60,10 +74,14 @@ take_step-requires g c =
     let at = c.step_of-next in
     let popped = c.pop.ensures.items ∙ ap (λ o. c.pop.new.self.items ++ option_to_list o) c.in-Some.is in
     let few : length c.pop.new.self.items < 20 = (let l = c.in-Some.ensures.len in let m = inv.few in omega arith) in
-    let opened : AreOpen bench.geometry.usable c.loop-frame.self.tree.kind bench.levels 0 (c.pop.new.self.items ++ (at.result.0 ∷ [])) = open_past c.pop.new.self.items c.in-Some.frame at.result.0 c.len.ensures.value at.ensures.page at.ensures.empty (subst (λ l. AreOpen bench.geometry.usable c.loop-frame.self.tree.kind bench.levels 0 l) popped inv.opened) in
+    let opened : AreOpen bench.geometry.usable c.loop-frame.self.tree.kind bench.levels 0 (c.pop.new.self.items ++ (at.result.0 ∷ [])) =
+    open_past c.pop.new.self.items c.in-Some.frame at.result.0 c.len.ensures.value at.ensures.page at.ensures.empty
+    (subst (λ l. AreOpen bench.geometry.usable c.loop-frame.self.tree.kind bench.levels 0 l) popped inv.opened) in
     let path : c.loop-frame.self.tree.path.items ≡ path_of c.pop.new.self.items = inv.path c.pop.new.self.items c.in-Some.frame popped in
-    let step : HasNext bench.geometry.usable c.loop-frame.self.tree.kind bench.levels (length c.pop.new.self.items) at.result.0.page at.result.0.next at.result.1 =
-    subst (λ p. HasNext bench.geometry.usable c.loop-frame.self.tree.kind bench.levels (length c.pop.new.self.items) p at.result.0.next at.result.1) (sym at.ensures.page) (next_at c.len.ensures.value refl at.ensures.next) in
+    let step : HasNext bench.geometry.usable c.loop-frame.self.tree.kind bench.levels (length c.pop.new.self.items) at.result.0.page at.result.0.next
+    at.result.1 =
+    subst (λ p. HasNext bench.geometry.usable c.loop-frame.self.tree.kind bench.levels (length c.pop.new.self.items) p at.result.0.next at.result.1)
+    (sym at.ensures.page) (next_at c.len.ensures.value refl at.ensures.next) in
     search rules
 
 pub loop-frame-smaller : goal.loop-frame-smaller
@@ -84,9 +102,15 @@ loop-frame-preserved g c =
       few = c.in_ok-take_step.ensures.few;
       opened = c.in_ok-take_step.ensures.«open»;
       path = c.in_ok-take_step.ensures.path;
-      log = log_then _ _ (ap (λ x. x.page_size) inv.walked.shape) inv.log c.in_ok-take_step.ensures.log (λ file walking turned e coded W d candidate there followed next m.
-          (turned (inv.walked.shape ∙ e) (inv.walked.coded ∙ coded) W d _ (candidate_as t.kind s.self.tree.kind t.start s.self.tree.start [] [] c.args.page d.page 0 t.start s.self.tree.start d inv.walked.kind inv.walked.start refl candidate.page inv.walked.start candidate)
-          (walking_past c.pop.new.self.items (ap (λ x. x.usable) (inv.walked.shape ∙ e)) (candidate_as t.kind s.self.tree.kind t.start s.self.tree.start [] [] c.args.page d.page 0 t.start s.self.tree.start d inv.walked.kind inv.walked.start refl candidate.page inv.walked.start candidate) c.in-Some.frame c.step_of-next.result.0 c.len.ensures.value c.step_of-next.ensures.page c.step_of-next.ensures.empty
+      log = log_then _ _ (ap (λ x. x.page_size) inv.walked.shape) inv.log c.in_ok-take_step.ensures.log
+          (λ file walking turned e coded W d candidate there followed next m.
+          (turned (inv.walked.shape ∙ e) (inv.walked.coded ∙ coded) W d _
+          (candidate_as t.kind s.self.tree.kind t.start s.self.tree.start [] [] c.args.page d.page 0 t.start s.self.tree.start d inv.walked.kind
+          inv.walked.start refl candidate.page inv.walked.start candidate)
+          (walking_past c.pop.new.self.items (ap (λ x. x.usable) (inv.walked.shape ∙ e))
+          (candidate_as t.kind s.self.tree.kind t.start s.self.tree.start [] [] c.args.page d.page 0 t.start s.self.tree.start d inv.walked.kind
+          inv.walked.start refl candidate.page inv.walked.start candidate) c.in-Some.frame c.step_of-next.result.0 c.len.ensures.value
+          c.step_of-next.ensures.page c.step_of-next.ensures.empty
           (by_other (walking e coded W d candidate there followed next m) (sym popped) refl refl refl (λ n l. refl)))).0);
     }
 
@@ -96,17 +120,24 @@ returns-in_err-take_step-clause-log g c =
     let t = c.args.self.now.tree in
     let s = c.loop-frame in
     let popped = c.pop.ensures.items ∙ ap (λ o. c.pop.new.self.items ++ option_to_list o) c.in-Some.is in
-    log_then _ _ (ap (λ x. x.page_size) inv.walked.shape) inv.log c.in_err-take_step.ensures.log (λ file walking turned e coded W d candidate there followed next m.
+    log_then _ _ (ap (λ x. x.page_size) inv.walked.shape) inv.log c.in_err-take_step.ensures.log
+    (λ file walking turned e coded W d candidate there followed next m.
     let q = err_from_is_err_and c.from_residual-in_err-take_step.result c.from_residual-in_err-take_step.ensures.1 in
-    let stopped = turned (inv.walked.shape ∙ e) (inv.walked.coded ∙ coded) W d _ (candidate_as t.kind s.self.tree.kind t.start s.self.tree.start [] [] c.args.page d.page 0 t.start s.self.tree.start d inv.walked.kind inv.walked.start refl candidate.page inv.walked.start candidate)
-    (walking_past c.pop.new.self.items (ap (λ x. x.usable) (inv.walked.shape ∙ e)) (candidate_as t.kind s.self.tree.kind t.start s.self.tree.start [] [] c.args.page d.page 0 t.start s.self.tree.start d inv.walked.kind inv.walked.start refl candidate.page inv.walked.start candidate) c.in-Some.frame c.step_of-next.result.0 c.len.ensures.value c.step_of-next.ensures.page c.step_of-next.ensures.empty
+    let stopped = turned (inv.walked.shape ∙ e) (inv.walked.coded ∙ coded) W d _
+    (candidate_as t.kind s.self.tree.kind t.start s.self.tree.start [] [] c.args.page d.page 0 t.start s.self.tree.start d inv.walked.kind inv.walked.start
+    refl candidate.page inv.walked.start candidate)
+    (walking_past c.pop.new.self.items (ap (λ x. x.usable) (inv.walked.shape ∙ e))
+    (candidate_as t.kind s.self.tree.kind t.start s.self.tree.start [] [] c.args.page d.page 0 t.start s.self.tree.start d inv.walked.kind inv.walked.start
+    refl candidate.page inv.walked.start candidate) c.in-Some.frame c.step_of-next.result.0 c.len.ensures.value c.step_of-next.ensures.page
+    c.step_of-next.ensures.empty
     (by_other (walking e coded W d candidate there followed next m) (sym popped) refl refl refl (λ n l. refl))) in
     stopped_as (q.1 ∙ ap Err q.2) stopped.1)
 
 pub returns-clause-log : goal.returns-clause-log
 returns-clause-log g c =
     let empty = none_left c.loop-frame.frames.items c.pop.result c.in_default.is c.pop.ensures.variant in
-    has_weaker _ _ c.loop-frame.invariant.log (λ log r. r) (λ file walking e coded W d candidate there followed next m. tree_ended W d empty (walking e coded W d candidate there followed next m))
+    has_weaker _ _ c.loop-frame.invariant.log (λ log r. r)
+    (λ file walking e coded W d candidate there followed next m. tree_ended W d empty (walking e coded W d candidate there followed next m))
 
 pub returns-in_err-visit_page-clause-walked : goal.returns-in_err-visit_page-clause-walked
 returns-in_err-visit_page-clause-walked g c =
@@ -116,7 +147,8 @@ returns-in_err-visit_page-clause-walked g c =
 pub returns-in_err-take_step-clause-walked : goal.returns-in_err-take_step-clause-walked
 returns-in_err-take_step-clause-walked g c =
     let q = err_from_is_err_and c.from_residual-in_err-take_step.result c.from_residual-in_err-take_step.ensures.1 in
-    walked_as g.S.Source.held g.K.Sink.held g.T.Taker.refusals {R = Unit {0}} (q.1 ∙ ap Err q.2) (walked_behind g.S.Source.held g.K.Sink.held g.T.Taker.refusals c.in_err-take_step.ensures.walked c.loop-frame.invariant.walked)
+    walked_as g.S.Source.held g.K.Sink.held g.T.Taker.refusals {R = Unit {0}} (q.1 ∙ ap Err q.2)
+    (walked_behind g.S.Source.held g.K.Sink.held g.T.Taker.refusals c.in_err-take_step.ensures.walked c.loop-frame.invariant.walked)
 
 pub returns-clause-walked : goal.returns-clause-walked
 returns-clause-walked g c = c.loop-frame.invariant.walked

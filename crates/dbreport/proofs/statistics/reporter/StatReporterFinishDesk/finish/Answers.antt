@@ -9,5 +9,6 @@ pub returns : goal.returns
 returns g c =
     let held = g.O.Out.held in
     let held' = g.E.Out.held in
-    finished g.S.Source (HearsStat held held') (stat_held held held') (LeavesStat held held') (Ok c.verdict.result) c.args._desk.now c.args._source.now c.args.self.now c.args.self.now tt refl
+    finished g.S.Source (HearsStat held held') (stat_held held held') (LeavesStat held held') (Ok c.verdict.result) c.args._desk.now c.args._source.now
+    c.args.self.now c.args.self.now tt refl
     (λ file V first heard. stat_ended held held' file V heard.desk.survey first c.args.self.now heard.heard c.verdict.result c.verdict.ensures)
