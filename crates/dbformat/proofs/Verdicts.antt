@@ -2,7 +2,7 @@
 use Rattle.std.proofs.Common.{◌≡◌, ℕ, zero, suc, false, cond, List, [], ◌∷◌, ◌++◌, length, take, drop, refl, ap, arith}
 use Rattle.std.specs.Prelude.{flat_map, ◌==◌}
 use Rattle.std.proofs.lemmas.Bool.Decides.{nat_tests}
-use Rattle.dbformat.specs.Lines.{code_text, counted, fault_line, more_line, ok_line}
+use Rattle.dbformat.specs.Lines.{counted, fault_line, more_line, ok_line}
 use Rattle.dbformat.specs.Report.{check_text, more_text, verdict, verdict_of}
 use Rattle.dbformat.specs.declared.Fault.{Fault}
 use Rattle.dbformat.specs.declared.FaultCode.{FaultCode}

@@ -1,10 +1,11 @@
 -- The lines of a report, as bytes (own; the columns are those of The DBSTAT Virtual Table).
-use Rattle.std.specs.Prelude.{◌≡◌, ℕ, zero, suc, ◌-◌, ◌*◌, ◌^◌, List, [], ◌∷◌, ◌++◌, length, map, flat_map, fold, max, min, sum_by, Option, Some, None, codes, decimal, slice_get}
+use Rattle.std.specs.Prelude.{◌≡◌, ℕ, zero, suc, ◌-◌, ◌*◌, ◌^◌, List, [], ◌∷◌, ◌++◌, length, map, flat_map, fold, max, min, sum_by, Option, Some, None, codes, decimal, slice_get, if◌then◌else◌}
 use Rattle.std.specs.List.{join_with_byte}
 use Rattle.std.specs.Option.{option_map_or}
 use Rattle.std.specs.Fmt.{signed_decimal}
 use Rattle.dbformat.specs.Counts.{no_counts}
 use Rattle.dbformat.specs.File.{geometry}
+use Rattle.dbformat.specs.Head.{is_interior}
 use Rattle.dbformat.specs.Header.{encoding, page_size}
 use Rattle.dbformat.specs.SchemaRow.{SchemaRow}
 use Rattle.dbformat.specs.Text.{hex_text, shown_name}
@@ -16,7 +17,7 @@ use Rattle.dbformat.specs.declared.Fault.{Fault}
 use Rattle.dbformat.specs.declared.FaultCode.{FaultCode}
 use Rattle.dbformat.specs.declared.FaultCode.TheVariants.{H01, H02, H03, H04, H05, H06, H07, H08, H09, H10, P01, P02, P03, P04, P05, P06, P07, P08, P09, P10, R01, R02, R03, T04, T05, T06, O01, L01, S01, S02, S03, S04, N01, M01, M02}
 use Rattle.dbformat.specs.declared.PageType.{PageType}
-use Rattle.dbformat.specs.declared.PageType.TheVariants.{Internal, Leaf, Damaged, Overflow}
+use Rattle.dbformat.specs.declared.PageType.TheVariants.{Tree, Damaged, Overflow}
 
 -- the byte that ends a line
 abbrev pub line_feed : ℕ
@@ -127,8 +128,7 @@ path_text path chain = codes "/" ++ flat_map (λ child. hex_text 3 child ++ code
 
 -- the text of a page type (The DBSTAT Virtual Table, "pagetype"; a damaged page is (own))
 abbrev pub pagetype_text : PageType → List ℕ
-pagetype_text Internal = codes "internal"
-pagetype_text Leaf = codes "leaf"
+pagetype_text (Tree kind) = if is_interior kind then codes "internal" else codes "leaf"
 pagetype_text Damaged = codes "damaged"
 pagetype_text Overflow = codes "overflow"
 

@@ -9,9 +9,8 @@ use Rattle.dbformat.specs.Head.{View, view, content_start}
 use Rattle.dbformat.specs.Cell.{bytes_from, cell_pointer, count}
 use Rattle.dbformat.specs.declared.HeadFault.{HeadFault}
 use Rattle.dbformat.specs.declared.PageKind.{PageKind}
-use Rattle.dbformat.specs.declared.PageKind.TheVariants.{InteriorIndex, InteriorTable, LeafIndex, LeafTable}
+use Rattle.dbformat.specs.declared.PageKind.TheVariants.{LeafTable}
 use Rattle.dbformat.specs.declared.Rowids.{Rowids}
-use Rattle.dbformat.specs.declared.TreeLook.{TreeLook}
 use Rattle.dbformat.specs.declared.Look.{Look}
 use Rattle.dbformat.specs.declared.Look.TheVariants.{Blank, Tree, Other}
 

@@ -321,11 +321,10 @@ pub enum Look {
     Other([u8; 16]),
 }
 
-/// What a row of the statistics shows.
+/// What a row of the statistics is of: an undamaged page of a tree, by its kind, a damaged one, or an overflow page.
 #[derive(Clone, Copy, Debug, PartialEq, Eq)]
 pub enum PageType {
-    Internal,
-    Leaf,
+    Tree(PageKind),
     Damaged,
     Overflow,
 }

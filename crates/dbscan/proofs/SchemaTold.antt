@@ -30,12 +30,11 @@ use Rattle.dbformat.specs.declared.Fault.{Fault}
 use Rattle.dbformat.specs.declared.FaultCode.{FaultCode}
 use Rattle.dbtrace.specs.Causes.{cause_of}
 use Rattle.dbtrace.specs.declared.Cause.{Cause}
-use Rattle.dbformat.specs.declared.PageType.TheVariants.{Internal, Leaf}
 use Rattle.dbformat.proofs.Rising.{starts_rise}
 use Rattle.dbformat.proofs.Theory.{are_rules, is_story, shows_visits, no_tell}
 use Rattle.dbformat.proofs.Visited.{has_address}
 use Rattle.dbtrace.specs.Finding.{told_row, told_by, told_at, told_below}
-use Rattle.dbscan.specs.Findings.{is_leaf, is_schema_leaf, is_schema_row}
+use Rattle.dbscan.specs.Findings.{is_schema_leaf, is_schema_row}
 
 or_none : (a b : Bool) → b ≡ false → (a || b) ≡ a
 or_none true b e = refl
@@ -88,11 +87,7 @@ by_view at_schema o = (at_schema && option_map_or (λ v. not (is_interior v.kind
 
 view_row : (r : Reference) (o : Option View) → is_schema_leaf (tree_page_row r o) ≡ by_view (start_of r.address == schema_start) o
 view_row r None = refl
-view_row r (Some v) = ap (λ b. ((start_of r.address == schema_start) && b) && not (count v == 0)) (by_kind (is_interior v.kind))
-  where
-    by_kind : (b : Bool) → is_leaf (cond b Internal Leaf) ≡ not b
-    by_kind true = refl
-    by_kind false = refl
+view_row r (Some v) = refl
 
 same_test : (file : List ℕ) (r : Reference) → by_told file r ≡ by_page file r
 same_test file r = by_role (role_of r) refl

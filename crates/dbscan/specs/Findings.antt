@@ -1,9 +1,10 @@
 -- Which findings are rows, and which show that the schema has one.
 use Rattle.std.specs.Prelude.{Bool, true, false, not, ◌&&◌, ◌==◌, List, filter_map, Option, Some, None}
 use Rattle.dbformat.specs.Address.{schema_start}
+use Rattle.dbformat.specs.Head.{is_interior}
 use Rattle.dbformat.specs.Rows.{StatRow}
 use Rattle.dbformat.specs.declared.PageType.{PageType}
-use Rattle.dbformat.specs.declared.PageType.TheVariants.{Leaf}
+use Rattle.dbformat.specs.declared.PageType.TheVariants.{Tree}
 use Rattle.dbtrace.specs.Finding.{Finding, told_row, told_fault}
 
 -- the row of a finding, if it is one
@@ -15,9 +16,9 @@ found_row (told_fault f why) = None
 abbrev pub found_rows : List Finding → List StatRow
 found_rows items = filter_map found_row items
 
--- whether a page is a leaf
+-- whether an undamaged page is a leaf
 abbrev pub is_leaf : PageType → Bool
-is_leaf Leaf = true
+is_leaf (Tree kind) = not (is_interior kind)
 is_leaf _ = false
 
 -- whether a row of the statistics is of a leaf of the schema with a cell

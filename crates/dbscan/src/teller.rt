@@ -84,7 +84,7 @@ fn is_schema_leaf(row: &Row<'_>) -> bool
     ensures { result ≡ is_schema_leaf (row_of row.now) }
 {
     let is_leaf = match row.pagetype {
-        PageType::Leaf => true,
+        PageType::Tree(kind) => !kind.is_interior(),
         _ => false,
     };
     row.start == SCHEMA_START && is_leaf && row.counts.ncell != 0

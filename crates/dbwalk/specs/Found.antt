@@ -17,7 +17,7 @@ use Rattle.dbformat.specs.Reference.{Reference}
 use Rattle.dbformat.specs.Story.{at_page}
 use Rattle.dbformat.specs.Rows.{StatRow}
 use Rattle.dbformat.specs.declared.Fault.{Fault}
-use Rattle.dbformat.specs.declared.PageType.TheVariants.{Internal, Leaf, Damaged}
+use Rattle.dbformat.specs.declared.PageType.TheVariants.{Tree, Damaged}
 use Rattle.dbtrace.specs.Causes.{page_cause, visit_cause}
 use Rattle.dbtrace.specs.Finding.{Finding, told_row, told_by}
 use Rattle.dbtrace.specs.Progress.{depth_faults}
@@ -63,7 +63,7 @@ view_row start path v = record {
   path = path;
   chain = None;
   page = v.number;
-  pagetype = if is_interior v.kind then Internal else Leaf;
+  pagetype = Tree v.kind;
   counts = view_counts v;
 }
 

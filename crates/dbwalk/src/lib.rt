@@ -53,7 +53,7 @@ mod tree_walk;
 
 pub use chain::CHAIN;
 pub use dbbytes::{RowKind, SchemaRow};
-pub use dbformat::{Counts, Encoding, Fault, FaultCode, Geometry, PageType};
+pub use dbformat::{Counts, Encoding, Fault, FaultCode, Geometry, PageKind, PageType};
 pub use dbmarks::{Mark, Marks};
 pub use dbsource::{Bench, RunError, Source, WriteFailed};
 pub use dbtrace::{Cause, CellChain, CellKey, PageFacts, TreeLeaf};

@@ -48,17 +48,12 @@ pub(crate) fn tell_undamaged<K: Sink>(
         },
         None => payload_sums(view),
     };
-    let pagetype = if view.kind().is_interior() {
-        PageType::Internal
-    } else {
-        PageType::Leaf
-    };
     sink.row(&Row {
         start: place.start,
         path: place.path,
         chain: None,
         page: place.page,
-        pagetype,
+        pagetype: PageType::Tree(view.kind()),
         counts: Counts {
             ncell: u64::from(view.cells()),
             payload: sums.all,

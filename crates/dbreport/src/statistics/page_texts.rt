@@ -21,8 +21,8 @@ pub(crate) fn pagetype_text(pagetype: PageType) -> &'static str
     ensures short { length result.now ≤ 8 }
 {
     match pagetype {
-        PageType::Internal => "internal",
-        PageType::Leaf => "leaf",
+        PageType::Tree(kind) if kind.is_interior() => "internal",
+        PageType::Tree(_) => "leaf",
         PageType::Damaged => "damaged",
         PageType::Overflow => "overflow",
     }

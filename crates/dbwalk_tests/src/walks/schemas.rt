@@ -9,7 +9,7 @@ const CASES: [Case; 10] = [
         "",
         "schema",
         "\
-            0 / 1 Leaf 1 14 386 14\n\
+            0 / 1 Tree(LeafTable) 1 14 386 14\n\
             Ok(()) reads 1\n\
             takes Table 2 t\n",
     ],
@@ -20,7 +20,7 @@ const CASES: [Case; 10] = [
         "full 1",
         "schema",
         "\
-            0 / 1 Leaf 2 28 368 14\n\
+            0 / 1 Tree(LeafTable) 2 28 368 14\n\
             S04 1 1 2\n\
             Ok(()) reads 1\n\
             takes Table 2 t\n\
@@ -32,7 +32,7 @@ const CASES: [Case; 10] = [
         "",
         "schema",
         "\
-            0 / 1 Leaf 1 14 386 14\n\
+            0 / 1 Tree(LeafTable) 1 14 386 14\n\
             S03 1 0 -1\n\
             Ok(()) reads 1\n",
     ],
@@ -42,7 +42,7 @@ const CASES: [Case; 10] = [
         "full 0",
         "schema",
         "\
-            0 / 1 Leaf 1 14 386 14\n\
+            0 / 1 Tree(LeafTable) 1 14 386 14\n\
             Ok(()) reads 1\n\
             takes Table 0 t\n",
     ],
@@ -52,7 +52,7 @@ const CASES: [Case; 10] = [
         "",
         "schema",
         "\
-            0 / 1 Leaf 1 14 386 14\n\
+            0 / 1 Tree(LeafTable) 1 14 386 14\n\
             S01 1 0 1\n\
             Ok(()) reads 1\n",
     ],
@@ -62,7 +62,7 @@ const CASES: [Case; 10] = [
         "",
         "schema",
         "\
-            0 / 1 Leaf 2 28 368 14\n\
+            0 / 1 Tree(LeafTable) 2 28 368 14\n\
             S02 1 1 1\n\
             T06 1 1 1\n\
             Ok(()) reads 1\n\
@@ -75,7 +75,7 @@ const CASES: [Case; 10] = [
         "",
         "schema",
         "\
-            0 / 1 Leaf 1 92 303 600\n\
+            0 / 1 Tree(LeafTable) 1 92 303 600\n\
             0 /0+0 3 Overflow 0 508 0 0\n\
             Ok(()) reads 2\n\
             takes Table 2 t\n",
@@ -87,7 +87,7 @@ const CASES: [Case; 10] = [
         "refused 0",
         "schema",
         "\
-            0 / 1 Leaf 2 28 368 14\n\
+            0 / 1 Tree(LeafTable) 2 28 368 14\n\
             Err(OutOfMemory) reads 1\n\
             takes Table 2 t\n",
     ],
@@ -97,7 +97,7 @@ const CASES: [Case; 10] = [
         "refused 1",
         "schema",
         "\
-            0 / 1 Leaf 2 28 368 14\n\
+            0 / 1 Tree(LeafTable) 2 28 368 14\n\
             Err(OutOfMemory) reads 1\n\
             takes Table 2 t\n\
             takes Table 2 t\n",
@@ -108,7 +108,7 @@ const CASES: [Case; 10] = [
         "refused 2",
         "schema",
         "\
-            0 / 1 Leaf 2 28 368 14\n\
+            0 / 1 Tree(LeafTable) 2 28 368 14\n\
             Ok(()) reads 1\n\
             takes Table 2 t\n\
             takes Table 2 t\n",

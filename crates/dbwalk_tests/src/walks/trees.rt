@@ -10,11 +10,11 @@ const CASES: [Case; 8] = [
         "",
         "tree 2",
         "\
-            1 / 2 Internal 1 0 493 0\n\
-            1 /0/ 3 Leaf 1 0 498 0\n\
-            1 /1/ 4 Internal 0 0 500 0\n\
+            1 / 2 Tree(InteriorTable) 1 0 493 0\n\
+            1 /0/ 3 Tree(LeafTable) 1 0 498 0\n\
+            1 /1/ 4 Tree(InteriorTable) 0 0 500 0\n\
             P10 4 0 0\n\
-            1 /1/0/ 5 Leaf 1 0 498 0\n\
+            1 /1/0/ 5 Tree(LeafTable) 1 0 498 0\n\
             T05 5 0 3\n\
             Ok(()) reads 4\n",
     ],
@@ -32,7 +32,7 @@ const CASES: [Case; 8] = [
         "read 1",
         "tree 2",
         "\
-            1 / 2 Leaf 1 92 403 600\n\
+            1 / 2 Tree(LeafTable) 1 92 403 600\n\
             Err(ReadFailed) reads 2\n",
     ],
     [
@@ -41,7 +41,7 @@ const CASES: [Case; 8] = [
         "read 2",
         "tree 2",
         "\
-            1 / 2 Leaf 1 92 403 600\n\
+            1 / 2 Tree(LeafTable) 1 92 403 600\n\
             1 /0+0 3 Overflow 0 508 0 0\n\
             Ok(()) reads 2\n",
     ],
@@ -58,7 +58,7 @@ const CASES: [Case; 8] = [
         "item 1",
         "tree 2",
         "\
-            1 / 2 Leaf 1 92 403 600\n\
+            1 / 2 Tree(LeafTable) 1 92 403 600\n\
             Err(WriteFailed) reads 2\n",
     ],
     [
@@ -67,7 +67,7 @@ const CASES: [Case; 8] = [
         "item 2",
         "tree 2",
         "\
-            1 / 2 Leaf 1 92 403 600\n\
+            1 / 2 Tree(LeafTable) 1 92 403 600\n\
             1 /0+0 3 Overflow 0 508 0 0\n\
             Ok(()) reads 2\n",
     ],
@@ -77,9 +77,9 @@ const CASES: [Case; 8] = [
         "",
         "tree 2, tree 3, marks, clear, marks",
         "\
-            1 / 2 Internal 1 0 493 0\n\
-            1 /0/ 3 Leaf 1 0 498 0\n\
-            1 /1/ 4 Leaf 1 0 498 0\n\
+            1 / 2 Tree(InteriorTable) 1 0 493 0\n\
+            1 /0/ 3 Tree(LeafTable) 1 0 498 0\n\
+            1 /1/ 4 Tree(LeafTable) 1 0 498 0\n\
             Ok(()) reads 3\n\
             R03 0 1 3\n\
             Ok(()) reads 3\n\
