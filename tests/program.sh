@@ -74,6 +74,7 @@ unused=$'N01 page 8 item 0 value 0: page is not in use\n'
 twice=$'R03 page 2 item 2 value 7: page is already in use\n'
 page=$'sqlite_schema\t/\t1\tleaf\t0\t0\t404\t0\t0\t512\n'
 tree=$'sqlite_schema\t-\t1\t-\t0\t0\t404\t0\t-\t512\n'
+picture='<svg xmlns=*<title>Pages of'
 unread=$'dbck: E8 the file cannot be read\n'
 unwritten=$'dbck: E10 the output cannot be written\n'
 
@@ -94,6 +95,33 @@ expect 1 $'sqlite_schema\t*' "$twice$unused" stat "$data/two-owners.db"
 expect 1 $'*\n-\t-\t8\tunowned\t0\t0\t0\t0\t3584\t512\n' "$twice$unused" stat --all "$data/two-owners.db"
 expect 1 $'sqlite_schema\t-\t*' "$twice$unused" stat --aggregate "$data/two-owners.db"
 expect 1 $'*\n-\t-\t8\tunowned\t0\t0\t0\t0\t3584\t512\n' "$twice$unused" stat --aggregate --all "$data/two-owners.db"
+
+# Words may stand in any order, and after `--` each is a file.
+expect 1 "$twice$unused" '' check --limit +7 "$data/two-owners.db"
+expect 1 "$twice$unused" '' check --no-progress "$data/two-owners.db"
+expect 0 "$tree" '' stat "$data/empty.db" --aggregate --no-progress --all
+for command in check explain map stat; do
+    expect 4 '' $'dbck: note: --all: No such file or directory\n'"$unread" "$command" -- --all
+done
+
+# changed NAME OFFSET BYTES: makes NAME.db, the empty database with these bytes at an offset.
+changed() {
+    cp "$data/empty.db" "$work/$1.db"
+    put_at "$work/$1.db" "$2" "$3"
+}
+
+# One byte of a page, and the code of its fault, which `check` writes to its first output and `stat` to its second.
+while IFS='|' read -r name offset bytes fault row; do
+    changed "$name" "$offset" "$bytes"
+    row="sqlite_schema"$'\t/\t1\t'"$row"$'\t0\t512\n'
+    expect 1 "$fault"$'\n' '' check "$work/$name.db"
+    expect 1 "$row" "$fault"$'\n' stat "$work/$name.db"
+    expect 1 "$picture $name.db</title>"$'\n*, 1 fault; *</svg>\n' '' map "$work/$name.db"
+done << 'END'
+version|18|\03|H01 page 1 item 18 value 3: file version is not 1 or 2|leaf	0	0	404	0
+fragments|107|\01|P09 page 1 item 0 value 0: fragmented bytes differ from the count|leaf	0	0	404	0
+content|105|\0\0|P03 page 1 item 0 value 65536: content area out of bounds|damaged	0	0	0	0
+END
 
 # 999 faults, of which the limit says how many are written: pages 2 to 1000 are not in use.
 cp "$data/empty.db" "$work/unused.db"
@@ -143,7 +171,6 @@ for text in tests/explain/*.explain; do
 done
 
 # Pictures, with the name of the file and no line of a fault.
-picture='<svg xmlns=*<title>Pages of'
 expect 0 "$picture"$' whole.db</title>\n*, no fault; *</svg>\n' '' map "$data/whole.db"
 expect 1 "$picture"$' two-owners.db</title>\n*, 2 faults; *<title>page 8: in no tree, *, with N01</title>*</svg>\n' '' map "$data/two-owners.db"
 cp "$data/empty.db" "$work/<b>&.db"
@@ -229,6 +256,29 @@ for command in check explain map stat; do
     expect 3 '' $'dbck: note: tests/program.sh is not checked\ndbck: note: tests/program.sh begins with 23 21 2f 75 73 72 2f 62 69 6e 2f 65 6e 76 20 62  #!/usr/bin/env b\ndbck: E2 file is not a SQLite 3 database\n' "$command" tests/program.sh
 done
 
+# Each reason to refuse a file that has a header, and what it begins with where that is no SQLite file.
+changed magic 0 '\0'
+changed zeros 0 '\0\0\0\0\0\0\0\0\0\0\0\0\0\0\0\0'
+changed page-size 16 '\03'
+changed usable 20 '\041'
+changed no-page 0 S
+truncate -s 511 "$work/no-page.db"
+changed few-bytes 0 S
+truncate -s 99 "$work/few-bytes.db"
+for command in check explain map stat; do
+    while IFS='|' read -r name begins error; do
+        begins=${begins:+dbck: note: $work/$name.db begins with $begins$'\n'}
+        expect 3 '' "dbck: note: $work/$name.db is not checked"$'\n'"${begins}dbck: $error"$'\n' "$command" "$work/$name.db"
+    done << 'END'
+few-bytes||E1 file is shorter than 100 bytes
+magic|00 51 4c 69 74 65 20 66 6f 72 6d 61 74 20 33 00  .QLite format 3.|E2 file is not a SQLite 3 database
+zeros|zeros|E2 file is not a SQLite 3 database
+page-size||E3 page size is not valid
+usable||E4 usable size is below 480
+no-page||E5 file has no whole page
+END
+done
+
 # 4: what cannot be read.
 for command in check explain map stat; do
     for path in /dev/null /dev/zero -; do
@@ -306,26 +356,37 @@ else
     echo "no run without memory: $(cat "$work/why")"
 fi
 
-# What a command takes in all, of a file of 2^20 pages and one, and of 2^24 and one: 7 MiB for the program, its buffers and counts, and
-# for each eight pages no more than is said of them: 32 bytes, for `explain` and `map` 66.
-# The second is run beside all that follows, and looked at in the end.
-cp "$data/empty.db" "$work/million.db"
-cp "$data/empty.db" "$work/millions.db"
-started=()
-if truncate -s $((512 * 1048577)) "$work/million.db" 2> "$work/why" && truncate -s $((512 * 16777217)) "$work/millions.db" 2> "$work/why"; then
-    for words in '66 explain --limit 1' '66 map'; do
-        read -r bytes words <<< "$words"
-        # shellcheck disable=SC2086
-        (ulimit -v $((7 * 1024 + bytes * 16777217 / 8 / 1024)) && exec "$dbck" $words "$work/millions.db" > "$work/millions.${words%% *}" 2>&1) &
-        started+=($!)
+# least_memory WORDS..: the address space in KiB, within 16, in which the program ends with 1 by these words.
+least_memory() {
+    local low=0 high=65536 middle
+    while [ $((high - low)) -gt 16 ]; do
+        middle=$(((low + high) / 2))
+        if (ulimit -v "$middle" && run "$@" && exit "$status"); [ $? = 1 ]; then high=$middle; else low=$middle; fi
     done
+    echo "$high"
+}
+
+# What a command takes more of a file of 2^20 pages and one than of 2^16 and one: for each eight pages no more than is said of them, 32
+# bytes, for `explain` and `map` 66, and 3/4 MiB, which is less than a byte a page. Then of 2^24 pages and one, which is run beside all
+# that follows, and looked at in the end.
+for pages in 65537 1048577 16777217; do
+    cp "$data/empty.db" "$work/pages-$pages.db"
+    truncate -s $((512 * pages)) "$work/pages-$pages.db" 2> "$work/why" || break
+done
+started=()
+if [ ! -s "$work/why" ]; then
     for words in '32 check --limit 1' '32 stat' '66 explain --limit 1' '66 map'; do
         read -r bytes words <<< "$words"
         # shellcheck disable=SC2086
-        (ulimit -v $((7 * 1024 + bytes * 1048577 / 8 / 1024)) && run $words "$work/million.db" && exit "$status")
+        least=$(least_memory $words "$work/pages-65537.db")
+        # shellcheck disable=SC2086
+        (ulimit -v $((least + bytes * 983040 / 8 / 1024 + 768)) && run $words "$work/pages-1048577.db" && exit "$status")
         count "$words of 1048577 pages in $bytes bytes for each eight" [ $? = 1 ]
+        [ "$bytes" = 66 ] || continue
+        # shellcheck disable=SC2086
+        (ulimit -v $((least + bytes * 16711680 / 8 / 1024 + 768)) && exec "$dbck" $words "$work/pages-16777217.db" > "$work/last.${words%% *}" 2>&1) &
+        started+=($!)
     done
-    rm "$work/million.db"
 else
     echo "no run over a million pages: $(cat "$work/why")"
 fi
@@ -352,6 +413,38 @@ for words in 'stat --all' 'stat --all --aggregate'; do
     count "$words of 100000 pages" shows_each_page "$work/sparse.db"
 done
 rm "$work/sparse.db"
+
+# in_one_log FILE WORDS..: whether rows and faults of a run stand in one log in their order, as it is written by `> log 2>&1`: the fault of
+# each page without a type after its row, or, where the rows are of trees, before it, and those of pages that are not in use at the end.
+in_one_log() {
+    "$dbck" "${@:2}" "$1" > "$work/log" 2>&1
+    status=$?
+    "$dbck" "${@:2}" "$1" 2> "$work/err" | awk -F '\t' '
+        { print }
+        $4 == "damaged" { print "P01 page " $3 " item 0 value 0: unknown page type" }
+        $4 == "unowned" { lost[++n] = $3 }
+        END { for (i = 1; i <= n; i++) print "N01 page " lost[i] " item 0 value 0: page is not in use" }' > "$work/out"
+    [ "$status" = 1 ] && cmp -s "$work/out" "$work/log" && [ "$(wc -l < "$work/err")" -gt 3000 ]
+}
+
+# Pages 200 to 1200 of a table's 1500 are zeros, and 2500 are in no tree: more than 65536 bytes of rows with no fault between.
+if command -v sqlite3 > "$work/out"; then
+    sqlite3 "$work/tall.db" "PRAGMA page_size = 512; CREATE TABLE t (id INTEGER PRIMARY KEY, b);
+        WITH RECURSIVE k(n) AS (SELECT 1 UNION ALL SELECT n + 1 FROM k WHERE n < 6000) INSERT INTO t SELECT n, zeroblob(110) FROM k;"
+    dd if=/dev/zero of="$work/tall.db" bs=512 seek=199 count=1001 conv=notrunc status=none
+    put_at "$work/tall.db" 28 '\0\0\0\0'
+    truncate -s $((512 * 4000)) "$work/tall.db"
+    count 'rows and faults in one log' in_one_log "$work/tall.db" stat --all
+else
+    leave_out 1 sqlite3
+fi
+changed trees 100 '\05'
+put_at "$work/trees.db" 108 '\0\0\0\02'
+truncate -s 1024 "$work/trees.db"
+"$dbck" stat --aggregate "$work/trees.db" > "$work/out" 2>&1
+status=$?
+: > "$work/err"
+count 'the row of a tree after its faults' ended 1 $'P01 page 2 item 0 value 0: unknown page type\nsqlite_schema\t-\t2\t-\t0\t0\t400\t0\t-\t1024\n' ''
 
 # Three squares of two pages each after one another, by half in the freelist and in no tree: each has three bands of either.
 cp "$data/empty.db" "$work/mixed.db"
@@ -392,14 +485,36 @@ for words in check explain map stat 'stat --all' 'stat --aggregate'; do
     count "$words to a full disk" ended 6 '' "$unwritten"
 done
 
-# Notes: on a log, before all else, and on bytes after the last page.
+# Notes: on logs, before all else, and on bytes after the last page. An empty log holds nothing, a folder is none, and the logs of a
+# link lie beside what it leads to.
 cp "$data/empty.db" "$work/noted.db"
+wal="dbck: note: $work/noted.db-wal is not read, and may hold changes; let SQLite open a copy of both files to checkpoint it, and check that copy"$'\n'
+journal="dbck: note: $work/noted.db-journal is not read, and may hold changes; let SQLite open a copy of both files to recover it, and check that copy"$'\n'
+: > "$work/noted.db-journal"
+mkdir "$work/noted.db-wal"
+expect 0 $'ok\n' '' check "$work/noted.db"
+rmdir "$work/noted.db-wal"
 echo log > "$work/noted.db-wal"
-expect 0 $'ok\n' "dbck: note: $work/noted.db-wal is not read, and may hold changes; *" check "$work/noted.db"
+expect 0 $'ok\n' "$wal" check "$work/noted.db"
+echo log > "$work/noted.db-journal"
+for words in check explain 'stat --all'; do
+    # shellcheck disable=SC2086
+    run $words "$work/noted.db"
+    count "the notes of $words on two logs" ended 0 '*' "$wal$journal"
+done
+mkdir "$work/links"
+ln -s ../noted.db "$work/links/link.db"
+expect 0 $'ok\n' "$wal$journal" check "$work/links/link.db"
+rm "$work/noted.db-wal"
+expect 0 $'ok\n' "$journal" check "$work/noted.db"
+rm "$work/noted.db-journal"
+cp "$data/empty.db" "$work/"$'two\nlines\u9b\u202e.db'
+echo log > "$work/"$'two\nlines\u9b\u202e.db-wal'
+expect 0 $'ok\n' "${wal/noted/two\\\\x0alines\\\\xc2\\\\x9b\\\\xe2\\\\x80\\\\xae}" check "$work/"$'two\nlines\u9b\u202e.db'
 cp tests/program.sh "$work/text.db"
 echo log > "$work/text.db-wal"
 expect 3 '' "dbck: note: $work/text.db-wal is not read, and may hold changes; *dbck: note: $work/text.db is not checked"$'\n'"dbck: note: $work/text.db begins with *"$'\ndbck: E2 *' check "$work/text.db"
-rm "$work"/*-wal
+rm "$work"/text.db-wal
 printf 'sevenby' >> "$work/noted.db"
 expect 0 $'ok\n' $'dbck: note: 7 bytes after page 1 are not read\n' check "$work/noted.db"
 expect 0 "$page" $'dbck: note: 7 bytes after page 1 are not read\n' stat "$work/noted.db"

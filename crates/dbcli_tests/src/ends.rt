@@ -121,25 +121,47 @@ fn holds_nothing_back(rt: HostRuntime) -> Result<(), Fail> {
     Ok(())
 }
 
-const ERRORS: [RunError; 10] = [
-    RunError::Refused(Refusal::Short),
-    RunError::Refused(Refusal::Magic),
-    RunError::Refused(Refusal::PageSize),
-    RunError::Refused(Refusal::Usable),
-    RunError::Refused(Refusal::NoPage),
-    RunError::Refused(Refusal::TooManyPages),
-    RunError::Refused(Refusal::MapAtLock),
-    RunError::ReadFailed,
-    RunError::OutOfMemory,
-    RunError::WriteFailed,
+// The text of each error, which its line shows after the program's name.
+const ERRORS: [(RunError, &str); 10] = [
+    (
+        RunError::Refused(Refusal::Short),
+        "E1 file is shorter than 100 bytes",
+    ),
+    (
+        RunError::Refused(Refusal::Magic),
+        "E2 file is not a SQLite 3 database",
+    ),
+    (
+        RunError::Refused(Refusal::PageSize),
+        "E3 page size is not valid",
+    ),
+    (
+        RunError::Refused(Refusal::Usable),
+        "E4 usable size is below 480",
+    ),
+    (
+        RunError::Refused(Refusal::NoPage),
+        "E5 file has no whole page",
+    ),
+    (
+        RunError::Refused(Refusal::TooManyPages),
+        "E6 file has more than 67108864 pages",
+    ),
+    (
+        RunError::Refused(Refusal::MapAtLock),
+        "E7 pointer map at the lock-byte page",
+    ),
+    (RunError::ReadFailed, "E8 the file cannot be read"),
+    (RunError::OutOfMemory, "E9 out of memory"),
+    (RunError::WriteFailed, "E10 the output cannot be written"),
 ];
 
-// The line of an error says what its text does.
 #[test]
 fn has_lines_of_errors(rt: HostRuntime) -> Result<(), Fail> {
-    for error in ERRORS {
-        let line = format!(in rt.alloc(); "dbck: {error}\n")?;
-        holds!(rt; error_line(error) == line.as_str(), line.as_str());
+    for (error, text) in ERRORS {
+        let line = format!(in rt.alloc(); "dbck: {text}\n")?;
+        holds!(rt; error_line(error) == line.as_str(), text);
+        holds!(rt; error.to_string(rt.alloc())?.as_str() == text, text);
     }
     Ok(())
 }

@@ -10,8 +10,6 @@ use std::time::Duration;
 /// What is allowed beside a look at a path.
 #[derive(Clone, Copy, PartialEq)]
 pub enum Allowed {
-    /// To open no file.
-    Looking,
     /// To open a file for reading alone.
     Reading,
     /// The same, where a look at a path finds 512 bytes, whatever the file has.

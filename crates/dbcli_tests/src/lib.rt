@@ -13,12 +13,6 @@ mod fake_sources;
 #[cfg(test)]
 mod files;
 #[cfg(test)]
-mod lines;
-#[cfg(test)]
-mod logs;
-#[cfg(test)]
-mod one_log;
+mod full_disks;
 #[cfg(test)]
 mod read_ahead;
-#[cfg(test)]
-mod runs;

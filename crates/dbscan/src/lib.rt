@@ -32,7 +32,7 @@ mod walks;
 
 pub use dbformat::{Fault, Geometry, Look, Verdict};
 pub use dbsource::{Bench, Header, ReadFailed, RunError, Source, WriteFailed};
-pub use dbwalk::{Cause, Marks, Row, SchemaRow, Taken, Taker};
+pub use dbwalk::{Cause, Marks, PageKind, PageType, Row, RowKind, SchemaRow, Taken, Taker};
 pub use desk::Desk;
 pub use end_pass::tell_end;
 pub use finish::{Finish, Viewed, run_over};

@@ -17,6 +17,11 @@ use std::alloc::Allocator;
 /// A reporter of which nothing is claimed, and which takes every notice. It proves with any body that answers `Ok`:
 ///
 /// ```
+/// #[derive(Drop)]
+/// struct Quiet {
+///     heard: u64,
+/// }
+///
 /// impl Reporter for Quiet {
 ///     ghost use Rattle.std.specs.Prelude.{[], ⊤};
 ///

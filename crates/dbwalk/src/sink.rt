@@ -33,6 +33,12 @@ pub struct Row<'a> {
 /// A sink of which nothing is claimed, and which takes every item. It proves with any bodies that answer `Ok`:
 ///
 /// ```
+/// #[derive(Drop)]
+/// struct Quiet {
+///     faults: u64,
+///     rows: u64,
+/// }
+///
 /// impl Sink for Quiet {
 ///     ghost use Rattle.std.specs.Prelude.{[], ⊤};
 ///

@@ -55,6 +55,9 @@ impl<A: Allocator, S: Source, K: Sink, T: Taker> TreeWalk<'_, '_, '_, '_, A, S, 
 /// that may not be followed is reported. The rows of the schema that can be read go to the taker, in their order, each before its
 /// faults are reported: S04 exactly where the taker answered [`Taken::Full`]. No other tree calls it.
 ///
+/// All trees of a file share one [`Marks`] and one [`Bench`]: a page that a walk over one tree has marked is R03 in every other. Marks
+/// made anew for each tree let two trees own one page.
+///
 /// # Errors
 ///
 /// [`RunError::ReadFailed`] exactly where the source failed, [`RunError::WriteFailed`] exactly where the sink failed,

@@ -1,0 +1,68 @@
+//! Prints the number of rows of each table of a database file, `dbrows FILE`: a line for each table of the schema, its number of rows
+//! and its name. An example of a program over `dbscan`.
+//!
+//! A row is a cell: of a leaf page, and in a table WITHOUT ROWID, whose tree is one of an index, of an interior page too. The cells of a
+//! damaged page are not counted. The counts of SQLite's own `sqlite_schema` are not shown.
+#![tactic(auto)]
+
+use anyhow::{Context, Result};
+use dbbytes::{WriteFailed, name_text};
+use dbscan::{Desk, Header, Marks, Notice, PageKind, PageType, Reporter, RowKind, STARTS, scan};
+use dbsource::{FileSource, Geometry, MemOut};
+use std::alloc::Allocator;
+use std::env;
+
+/// How many rows there are at each start.
+#[derive(Drop)]
+struct RowCounts {
+    starts: Vec<u64>,
+}
+
+impl Reporter for RowCounts {
+    ghost use Rattle.std.specs.Prelude.{[], ⊤};
+
+    ghost hears = { λ _ _ _. ⊤ };
+
+    ghost cuts = { λ _ _ _. ⊤ };
+
+    ghost held = { λ _. record { lent = []; failures = [] } };
+
+    fn hear(&mut self, notice: &Notice<'_>) -> Result<(), WriteFailed> {
+        if let Notice::Row(start, page) = notice {
+            let rows = match page.pagetype {
+                PageType::Tree(PageKind::InteriorTable) => 0,
+                PageType::Tree(_) => page.counts.ncell,
+                PageType::Damaged | PageType::Overflow => 0,
+            };
+            if let Some(count) = self.starts.get_mut(start.number() as usize) {
+                *count = count.saturating_add(rows);
+            }
+        }
+        Ok(())
+    }
+
+    fn walked<A: Allocator>(&mut self, _geometry: Geometry, _marks: &Marks<A>) -> Result<(), WriteFailed> {
+        Ok(())
+    }
+}
+
+fn main(rt: HostRuntime) -> Result<()> {
+    let path = env::args(&rt)?.nth(1).context("usage: dbrows FILE")?;
+    let mut source = FileSource::open(&rt, path.as_str()).context(format_args!("opening {path}"))?;
+    let header = Header::read(&mut source)?;
+    let encoding = header.encoding();
+    let mut desk = Desk::new(rt.alloc(), header)?;
+    desk.renew();
+    let mut rows = RowCounts { starts: vec![in rt.alloc(); 0; STARTS]? };
+    scan(&mut desk, &mut source, &mut rows)?;
+    for start in 1..=desk.roots().len() {
+        let Some(row) = desk.roots().get(start) else { continue };
+        if row.kind == RowKind::Table {
+            let mut name = MemOut::new(rt.alloc());
+            name_text(row.name.unwrap_or(b"(a name of more than 1000 bytes)"), encoding, &mut name)?;
+            let name = String::from_utf8_lossy(name.bytes());
+            println!(rt; "{}\t{name}", rows.starts[start as usize])?;
+        }
+    }
+    Ok(())
+}
