@@ -119,7 +119,7 @@ while IFS='|' read -r name offset bytes fault row; do
     expect 1 "$picture $name.db</title>"$'\n*, 1 fault; *</svg>\n' '' map "$work/$name.db"
 done << 'END'
 version|18|\03|H01 page 1 item 18 value 3: file version is not 1 or 2|leaf	0	0	404	0
-fragments|107|\01|P09 page 1 item 0 value 0: fragmented bytes differ from the count|leaf	0	0	404	0
+fragments|107|\01|P09 page 1 item 0 value 0: fragmented bytes differ from the count|leaf	0	0	405	0
 content|105|\0\0|P03 page 1 item 0 value 65536: content area out of bounds|damaged	0	0	0	0
 END
 
