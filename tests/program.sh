@@ -170,6 +170,18 @@ for text in tests/explain/*.explain; do
     count "explain --limit 1 ${text%.explain}.db" has_sums "$text"
 done
 
+# Small databases with one damage each.
+if command -v python3 > "$work/out"; then
+    tests/small.py "$work/small" > "$work/list"
+    while IFS='|' read -r number limit name; do
+        run explain --limit "$limit" "$work/small/$number.db"
+        count "explain --limit $limit $name" cmp -s "$work/small/$number.explain" "$work/out"
+        count "the status of $name" ended $([ "$(< "$work/out")" = ok ]; echo $?) '*' ''
+    done < "$work/list"
+else
+    leave_out $((2 * $(grep -c '^== ' tests/explain/small.txt))) python3
+fi
+
 # Pictures, with the name of the file and no line of a fault.
 expect 0 "$picture"$' whole.db</title>\n*, no fault; *</svg>\n' '' map "$data/whole.db"
 expect 1 "$picture"$' two-owners.db</title>\n*, 2 faults; *<title>page 8: in no tree, *, with N01</title>*</svg>\n' '' map "$data/two-owners.db"

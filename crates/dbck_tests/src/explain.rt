@@ -1,7 +1,2 @@
-// `explain` on whole files: what is listed of their faults, the summary, and what is refused to it.
-mod causes;
-mod explained;
-mod listed;
-mod lost;
-pub(crate) mod made;
+// `explain` where something is refused to it. What it writes of whole files is in tests/explain.
 mod refused;

@@ -41,7 +41,11 @@ impl Reporter for RowCounts {
         Ok(())
     }
 
-    fn walked<A: Allocator>(&mut self, _geometry: Geometry, _marks: &Marks<A>) -> Result<(), WriteFailed> {
+    fn walked<A: Allocator>(
+        &mut self,
+        _geometry: Geometry,
+        _marks: &Marks<A>,
+    ) -> Result<(), WriteFailed> {
         Ok(())
     }
 }
@@ -53,14 +57,22 @@ fn main(rt: HostRuntime) -> Result<()> {
     let encoding = header.encoding();
     let mut desk = Desk::new(rt.alloc(), header)?;
     desk.renew();
-    let mut rows = RowCounts { starts: vec![in rt.alloc(); 0; STARTS]? };
+    let mut rows = RowCounts {
+        starts: vec![in rt.alloc(); 0; STARTS]?,
+    };
     scan(&mut desk, &mut source, &mut rows)?;
     for start in 1..=desk.roots().len() {
-        let Some(row) = desk.roots().get(start) else { continue };
+        let Some(row) = desk.roots().get(start) else {
+            continue
+        };
         if row.kind == RowKind::Table {
             let mut name = MemOut::new(rt.alloc());
-            name_text(row.name.unwrap_or(b"(a name of more than 1000 bytes)"), encoding, &mut name)?;
-            let name = String::from_utf8_lossy(name.bytes());
+            name_text(
+                row.name.unwrap_or(b"(a name of more than 1000 bytes)"),
+                encoding,
+                &mut name,
+            )?;
+            let name = str::from_utf8(name.bytes())?;
             println!(rt; "{}\t{name}", rows.starts[start as usize])?;
         }
     }

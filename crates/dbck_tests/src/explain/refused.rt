@@ -1,15 +1,58 @@
 // Reads, writes and memory that are refused in turn, and the reads of a run.
-use crate::explain::explained::{SHARED, shared};
-use crate::explain::made::made;
 use crate::support::fakes::SmallOut;
 use dbexplain::{explain, explain_in};
-use dbfiles::{StatedSource, holds};
+use dbfiles::{StatedSource, TestFile, holds, schema_row};
 use dbreport::{Command, Verdict, run};
 use dbsource::{ByteRange, LogSource, MemOut, MemSource, RunError};
 use linked_list_allocator::LocalHeap;
 use std::alloc::{AllocError, Global};
 use std::process::Abort;
 use std::test::Fail;
+
+// Two tables of two leaves each, where the last child of `order` is the last one of `customer`, so that its own is lost.
+fn shared(alloc: Global) -> Result<Vec<u8>, AllocError> {
+    let mut file = TestFile::new(alloc, 512, 7)?;
+    file.schema(&[
+        schema_row(b"table", b"customer", 2),
+        schema_row(b"table", b"order", 5),
+    ]);
+    file.interior_table(2, 4).key(3, 5);
+    file.leaf_table(3).cell(4, &[]).cell(5, &[]);
+    file.leaf_table(4).cell(6, &[]).cell(7, &[]);
+    file.interior_table(5, 4).key(6, 200);
+    file.leaf_table(6).cell(100, &[]).cell(200, &[]);
+    file.leaf_table(7).cell(201, &[]);
+    Ok(file.into_bytes())
+}
+
+// What is written of it.
+const SHARED: &str = "R03 page 5 item 1 value 4: page is already in use
+    page 5 at byte 2048: root of table order
+    page 4 at byte 1536: in table customer, child of page 2
+N01 page 7 item 0 value 0: page is not in use
+    page 7 at byte 3072: in no tree, overflow chain or freelist
+    looks like a leaf of a table with 1 cell, rowids 201 to 201
+2 faults
+    1 R03 page is already in use
+    1 N01 page is not in use
+    1 in table order (root page 5), on 1 of its 2 pages
+    1 in the whole file
+    1 of 2 tables and 0 of 0 indexes without a fault
+";
+
+// A header with a wrong version, a pointer map whose entries of pages 4 and 8 are wrong, and pages 5 to 7 in no use: two of zeros, and a leaf
+// between.
+fn lost_between(alloc: Global) -> Result<Vec<u8>, AllocError> {
+    let mut file = TestFile::new(alloc, 512, 8)?;
+    file.schema(&[schema_row(b"table", b"t", 3)]);
+    file.interior_table(3, 8).key(4, 10);
+    file.leaf_table(4).cell(10, &[]);
+    file.leaf_index(6);
+    file.leaf_table(8).cell(11, &[]);
+    file.map(3, &[(1, 0), (5, 9), (0, 0), (0, 0), (0, 0), (5, 9)]);
+    file.hex(1, 18, "03");
+    Ok(file.into_bytes())
+}
 
 // The first `len` bytes of what is written of the file with two owners.
 fn beginning(len: usize) -> &'static [u8] {
@@ -87,7 +130,7 @@ const FOUND: [(u64, u32, &str); 15] = [
 
 #[test]
 fn what_was_found_is_written(rt: HostRuntime) -> Result<(), Fail> {
-    let file = made(rt.alloc(), "lost-between: 1 18 03")?;
+    let file = lost_between(rt.alloc())?;
     for (fails_at, limit, text) in FOUND {
         let mut source = StatedSource::new(file.as_slice(), file.len() as u64, fails_at);
         let mut out = SmallOut::new(2048);
@@ -101,7 +144,7 @@ fn what_was_found_is_written(rt: HostRuntime) -> Result<(), Fail> {
 // A read fails, and then the out: the answer is that the read failed, and the out took as much of the lines as it has room for.
 #[test]
 fn a_failed_read_is_answered(rt: HostRuntime) -> Result<(), Fail> {
-    let file = made(rt.alloc(), "lost-between: 1 18 03")?;
+    let file = lost_between(rt.alloc())?;
     for room in 0..TWO_LOST.len() {
         let mut source = StatedSource::new(file.as_slice(), file.len() as u64, 9);
         let mut out = SmallOut::new(room);

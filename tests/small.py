@@ -1,0 +1,352 @@
+#!/usr/bin/env python3
+"""Makes small databases with one damage each: small.py FOLDER.
+
+tests/explain/small.txt has a block for each: a line `== NAME: CHANGES`, or `== NAME PAGES: CHANGES`, what is known of it in lines that
+begin with `#`, perhaps a line `--limit N`, and then what `explain` is to write. NAME is a function below, and CHANGES are bytes that are
+written over it: `2 508 0000ffff` on page 2 from byte 508 on. Each database is FOLDER/K.db and its text FOLDER/K.explain; of each a line
+`K|limit|NAME: CHANGES` is printed.
+"""
+
+import os
+import sys
+
+TOP = os.path.dirname(os.path.dirname(os.path.abspath(__file__)))
+LEAF_TABLE, LEAF_INDEX, INTERIOR_TABLE, INTERIOR_INDEX = 13, 10, 5, 2
+
+
+def be(number, size=4):
+    return number.to_bytes(size, "big")
+
+
+def varint(value):
+    if value >= 1 << 56:
+        high, last = value >> 8, [value % 256]
+    else:
+        high, last = value >> 7, [value % 128]
+    groups = []
+    while high:
+        groups.insert(0, high % 128 | 128)
+        high >>= 7
+    return bytes(groups + last)
+
+
+def schema_row(kind, name, root):
+    """A record of five columns: texts of type, name and table, the root page, and NULL for the SQL."""
+    texts = (kind.encode(), name.encode(), b"t")
+    serials = b"".join(varint(2 * len(text) + 13) for text in texts) + b"\1\0"
+    return bytes([len(serials) + 1]) + serials + b"".join(texts) + bytes([root])
+
+
+class Database:
+    """Pages of 512 bytes: an empty schema, and zeros."""
+
+    def __init__(self, pages):
+        self.bytes = bytearray(512 * pages)
+        self.put(1, 0, b"SQLite format 3\0" + be(512, 2) + bytes([1, 1, 0, 64, 32, 32]))
+        self.put(1, 100, bytes([LEAF_TABLE, 0, 0, 0, 0]) + be(512, 2))
+
+    def put(self, page, at, piece):
+        start = 512 * (page - 1) + at
+        self.bytes[start:start + len(piece)] = piece
+
+    def tree_page(self, page, kind, cells, right=None):
+        """A page of these cells, which lie from the end of the page on, four bytes long at least."""
+        head = 100 if page == 1 else 0
+        pointers, end = b"", 512
+        for cell in cells:
+            end -= max(4, len(cell))
+            self.put(page, end, cell)
+            pointers += be(end, 2)
+        last = b"" if right is None else be(right)
+        self.put(page, head, bytes([kind, 0, 0]) + be(len(cells), 2) + be(end, 2) + b"\0" + last + pointers)
+
+    def leaf(self, page, *rowids):
+        self.tree_page(page, LEAF_TABLE, [b"\0" + varint(rowid) for rowid in rowids])
+
+    def rows(self, page, *payloads):
+        self.tree_page(page, LEAF_TABLE, [varint(len(row)) + varint(n) + row for n, row in enumerate(payloads, 1)])
+
+    def interior(self, page, right, *children):
+        """Children with their keys, and the right child."""
+        self.tree_page(page, INTERIOR_TABLE, [be(child) + varint(key) for child, key in children], right)
+
+    def leaf_index(self, page, *payloads):
+        self.tree_page(page, LEAF_INDEX, [varint(len(key)) + key for key in payloads])
+
+    def interior_index(self, page, right):
+        self.tree_page(page, INTERIOR_INDEX, [], right)
+
+    def schema(self, *rows):
+        """Rows of the schema (type, name, root page), schema format 4 and UTF-8."""
+        self.put(1, 44, be(4))
+        self.put(1, 56, be(1))
+        self.rows(1, *(schema_row(*row) for row in rows))
+
+    def long_rows(self, page, *rows):
+        """Rows of zeros: their length, how many bytes are on the page, and the first overflow page."""
+        cells = [varint(size) + varint(n) + bytes(local) + be(first) for n, (size, local, first) in enumerate(rows, 1)]
+        self.tree_page(page, LEAF_TABLE, cells)
+
+    def map(self, greatest_root, *entries):
+        """Page 2 is a pointer map with the entries of the pages from 3 on."""
+        self.put(1, 52, be(greatest_root))
+        self.put(2, 0, b"".join(bytes([kind]) + be(number) for kind, number in entries))
+
+    def freelist(self, first, count, *leaves):
+        """A trunk, and how many pages of the freelist the header states."""
+        self.put(1, 32, be(first) + be(count))
+        self.put(first, 4, be(len(leaves)) + b"".join(be(leaf) for leaf in leaves))
+
+
+def table(pages, *more):
+    """A database of a table t, whose root is page 2."""
+    db = Database(pages)
+    db.schema(("table", "t", 2), *more)
+    return db
+
+
+def smallest(pages):
+    return Database(pages)
+
+
+def two_leaves(_):
+    db = table(4)
+    db.interior(2, 4, (3, 5))
+    db.leaf(3, 5)
+    db.leaf(4, 6)
+    return db
+
+
+def shared_root(_):
+    db = table(2, ("table", "t", 2))
+    db.leaf(2)
+    return db
+
+
+def shared_bytes(_):
+    """Two cells share three bytes, beside three that no cell holds."""
+    db = table(2)
+    db.put(2, 0, bytes.fromhex("0d 0000 0002 01e8 00 01eb 01f4"))
+    db.put(2, 491, b"\x0a\1")
+    db.put(2, 500, b"\x0a\2")
+    return db
+
+
+def freelist(_):
+    db = Database(3)
+    db.freelist(2, 2, 3)
+    return db
+
+
+def mapped(pages):
+    """After a pointer map, a row of 600 bytes whose overflow page is page 4."""
+    db = Database(pages)
+    db.schema(("table", "t", 3))
+    db.long_rows(3, (600, 92, 4))
+    db.map(3, (1, 0), (3, 3))
+    return db
+
+
+def two_tables(first, last, last_child):
+    """Leaves of `customer` with the rowids 4 and 5, and 6 and 7; leaves of `order` with 100 and 200, and 201."""
+    db = Database(7)
+    db.schema(("table", "customer", 2), ("table", "order", 5))
+    db.interior(2, 4, (3, 5))
+    db.leaf(first, 4, 5)
+    db.leaf(4, 6, 7)
+    db.interior(5, last_child, (6, 200))
+    db.leaf(6, 100, 200)
+    db.leaf(last, 201)
+    return db
+
+
+def leaves_exchanged(_):
+    return two_tables(7, 3, 7)
+
+
+def leaf_shared(_):
+    """The last child of `order` is the last one of `customer`, so that its own is lost."""
+    return two_tables(3, 7, 4)
+
+
+def whole(_):
+    return two_tables(3, 7, 7)
+
+
+def root_cut_off(_):
+    db = Database(3)
+    db.schema(("table", "early_a", 2), ("table", "early_b", 3), ("index", "late_a", 39))
+    db.leaf(2)
+    db.leaf(3)
+    return db
+
+
+def wrong_entry(_):
+    """The last child is of page 3 and not, as its entry says, of page 4."""
+    db = Database(5)
+    db.schema(("table", "t", 3))
+    db.interior(3, 5, (4, 10))
+    db.leaf(4, 10)
+    db.leaf(5, 11)
+    db.map(3, (1, 0), (5, 3), (5, 4))
+    return db
+
+
+def far_children(_):
+    """Of the children of `t`, pages 90 to 92 and 0 are no pages of the file; nor is page 80, a child of `u`."""
+    db = table(5, ("table", "u", 4))
+    db.interior(2, 3, (90, 1), (91, 2), (92, 3), (0, 4))
+    db.leaf(3, 5)
+    db.interior(4, 5, (80, 1))
+    db.leaf(5, 2)
+    return db
+
+
+def four_keys(_):
+    """Four keys in turn are the greatest while rows come that are not above them."""
+    db = table(7)
+    db.interior(2, 7, (3, 50), (4, 60), (5, 70), (6, 80))
+    db.leaf(3, 10, 50)
+    db.leaf(4, 20, 60)
+    db.leaf(5, 30, 40, 70)
+    db.leaf(6, 70, 80)
+    db.leaf(7, 75, 90)
+    return db
+
+
+def ten_rows(_):
+    """After the row 50 come the rows 1 to 10. Page 5 is in no use."""
+    db = table(5)
+    db.interior(2, 4, (3, 50))
+    db.leaf(3, 50)
+    db.leaf(4, *range(1, 11))
+    return db
+
+
+def extreme_rows(_):
+    """A root that is a leaf, with the greatest rowid, the least, and -1."""
+    db = table(2)
+    db.leaf(2, (1 << 63) - 1, 1 << 63, (1 << 64) - 1)
+    return db
+
+
+def two_looks(_):
+    """Of the children, pages 3 and 5 are zeros, and pages 4 and 6 have no type."""
+    db = table(7)
+    db.interior(2, 7, (3, 1), (4, 2), (5, 3), (6, 4))
+    db.put(4, 0, bytes.fromhex("48 69 21 20 7e 7f 1f"))
+    db.put(6, 0, b"\x80")
+    db.leaf(7, 5)
+    return db
+
+
+def two_depths(_):
+    """A leaf whose depth is 2 after leaves whose depth is 3."""
+    db = table(6)
+    db.interior(2, 6, (3, 10))
+    db.interior(3, 5, (4, 5))
+    db.leaf(4, 5)
+    db.leaf(5, 10)
+    db.leaf(6, 11)
+    return db
+
+
+def two_chains(_):
+    """A row that goes on on page 5, and one that goes on on pages 3 and 4."""
+    db = table(5)
+    db.long_rows(2, (600, 92, 5), (1108, 92, 3))
+    db.put(3, 0, be(4))
+    return db
+
+
+def stripes(pages):
+    """Pages that nothing refers to: those of even numbers are zeros, and the others leaves of an index with a cell."""
+    db = Database(pages)
+    for page in range(3, pages + 1, 2):
+        db.leaf_index(page, bytes(7))
+    return db
+
+
+def lost_between(_):
+    """The map's entries of pages 4 and 8 are wrong, and pages 5 to 7 in no use: two of zeros, and a leaf between."""
+    db = Database(8)
+    db.schema(("table", "t", 3))
+    db.interior(3, 8, (4, 10))
+    db.leaf(4, 10)
+    db.leaf_index(6)
+    db.leaf(8, 11)
+    db.map(3, (1, 0), (5, 9), (0, 0), (0, 0), (0, 0), (5, 9))
+    return db
+
+
+def looks(_):
+    """A page of each kind that nothing refers to, but a leaf of a table; page 5 is zeros, and the content area of page 6 out of bounds."""
+    db = Database(6)
+    db.interior(2, 9, (8, 3))
+    db.leaf_index(3, bytes(7), bytes(7))
+    db.interior_index(4, 9)
+    db.leaf(6)
+    db.put(6, 5, b"\0\0")
+    return db
+
+
+def lost_rows(_):
+    """Two leaves that nothing refers to: one with the least rowid, 0 and the greatest, and one with a row."""
+    db = Database(3)
+    db.leaf(2, 1 << 63, 0, (1 << 63) - 1)
+    db.leaf(3, 7)
+    return db
+
+
+def all_looks(_):
+    """A page of each of the six looks that nothing refers to, twice."""
+    db = Database(13)
+    for page in (2, 8):
+        db.interior_index(page, 9)
+        db.put(page + 1, 0, b"\xff")
+        db.leaf(page + 2, 5)
+        db.interior(page + 4, 9, (8, 3))
+        db.leaf_index(page + 5, bytes(7))
+    return db
+
+
+def lost_names(_):
+    """A lost interior page names itself, 0, a page past the end, page 3 twice, and page 1; the pointer of its last cell is out of bounds."""
+    db = Database(3)
+    db.interior(2, 1, (2, 1), (0, 2), (99, 3), (3, 4), (3, 5), (3, 6))
+    db.put(2, 22, b"\1\xfd")
+    db.leaf(3, 7)
+    return db
+
+
+def database(text):
+    """The bytes of a database by its name, its pages where these vary, and what is written over it."""
+    front, _, changes = text.partition(":")
+    name, _, pages = front.partition(" ")
+    db = globals()[name.replace("-", "_")](int(pages or 0))
+    for change in filter(None, changes.split(",")):
+        page, at, digits = change.split(maxsplit=2)
+        db.put(int(page), int(at), bytes.fromhex(digits))
+    return db.bytes
+
+
+def main():
+    if len(sys.argv) != 2:
+        sys.exit(__doc__)
+    folder = sys.argv[1]
+    os.makedirs(folder, exist_ok=True)
+    with open(os.path.join(TOP, "tests/explain/small.txt"), encoding="utf-8") as it:
+        blocks = it.read().split("== ")[1:]
+    for number, block in enumerate(blocks):
+        title, *lines = block.splitlines(keepends=True)
+        lines = [line for line in lines if not line.startswith("#")]
+        limit = lines.pop(0).split()[1] if lines[0].startswith("--limit") else "100"
+        with open(os.path.join(folder, f"{number}.db"), "wb") as it:
+            it.write(database(title.strip()))
+        with open(os.path.join(folder, f"{number}.explain"), "w", encoding="utf-8") as it:
+            it.write("".join(lines))
+        print(f"{number}|{limit}|{title.strip()}")
+
+
+if __name__ == "__main__":
+    main()
