@@ -170,16 +170,35 @@ for text in tests/explain/*.explain; do
     count "explain --limit 1 ${text%.explain}.db" has_sums "$text"
 done
 
-# Small databases with one damage each.
+# has_lines TEXT: whether the last run wrote a picture that has the lines of a text, in their order.
+has_lines() {
+    awk '
+        NR == FNR { wanted[n++] = $0; next }
+        { rest = rest $0 "\n" }
+        END {
+            for (i = 0; i < n; i++) {
+                if (!(at = index(rest, wanted[i]))) exit 1
+                rest = substr(rest, at + length(wanted[i]))
+            }
+            exit rest !~ /<\/g>\n<\/svg>\n$/
+        }' "$1" "$work/out"
+}
+
+# Small databases, most with one damage each.
 if command -v python3 > "$work/out"; then
-    tests/small.py "$work/small" > "$work/list"
+    tests/small/make.py tests/small/explain.txt "$work/small" > "$work/list"
     while IFS='|' read -r number limit name; do
         run explain --limit "$limit" "$work/small/$number.db"
-        count "explain --limit $limit $name" cmp -s "$work/small/$number.explain" "$work/out"
+        count "explain --limit $limit $name" cmp -s "$work/small/$number.text" "$work/out"
         count "the status of $name" ended $([ "$(< "$work/out")" = ok ]; echo $?) '*' ''
     done < "$work/list"
+    tests/small/make.py tests/small/map.txt "$work/small" > "$work/list"
+    while IFS='|' read -r number _ name; do
+        run map "$work/small/$number.db"
+        count "map $name" has_lines "$work/small/$number.text"
+    done < "$work/list"
 else
-    leave_out $((2 * $(grep -c '^== ' tests/explain/small.txt))) python3
+    leave_out $((2 * $(grep -c '^== ' tests/small/explain.txt) + $(grep -c '^== ' tests/small/map.txt))) python3
 fi
 
 # Pictures, with the name of the file and no line of a fault.

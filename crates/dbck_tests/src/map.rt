@@ -1,5 +1,2 @@
-// The picture of a file's pages: of each kind of page, of names that would be markup, of squares that cover runs of pages,
-// and of reads, writes and memory that are refused.
-mod frames;
-mod pictures;
+// `map` where something is refused to it. What it draws of whole files is in tests/small.
 mod refused;

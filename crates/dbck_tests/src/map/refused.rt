@@ -1,7 +1,6 @@
 // Reads, writes and memory that are refused in turn.
-use crate::map::pictures::small;
 use dbexplain::explain;
-use dbfiles::{StatedSource, holds};
+use dbfiles::{StatedSource, TestFile, holds, schema_row};
 use dbmap::{map, map_in};
 use dbreport::Verdict;
 use dbsource::{ByteRange, LogSource, MemOut, MemSource, RunError, StreamOut};
@@ -9,6 +8,22 @@ use linked_list_allocator::LocalHeap;
 use std::alloc::{AllocError, Global};
 use std::process::Abort;
 use std::test::Fail;
+
+// A table `a`, whose root is page 2, with a payload that goes on on page 3; an index on page 4; page 5 is a trunk and 6 its leaf; page 7 is in
+// no use.
+fn small(alloc: Global) -> Result<Vec<u8>, AllocError> {
+    let mut file = TestFile::new(alloc, 512, 7)?;
+    file.schema(&[
+        schema_row(b"table", b"a", 2),
+        schema_row(b"index", b"<&\"\n'>", 4),
+    ]);
+    file.leaf_table(2).long_cell(5, &[0; 600], 92, 3);
+    file.leaf_index(4);
+    file.overflow(3, 0, &[0; 508]);
+    file.freelist(5, 2);
+    file.trunk(5, 0, &[6]);
+    Ok(file.into_bytes())
+}
 
 // The call of the source with this number fails: nothing was put by then.
 fn fails_at_read(rt: &impl Abort, alloc: Global, file: &[u8], fails_at: u64) {

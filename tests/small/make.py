@@ -1,16 +1,17 @@
 #!/usr/bin/env python3
-"""Makes small databases with one damage each: small.py FOLDER.
+"""Makes small databases, most with one damage each: make.py TEXT FOLDER.
 
-tests/explain/small.txt has a block for each: a line `== NAME: CHANGES`, or `== NAME PAGES: CHANGES`, what is known of it in lines that
-begin with `#`, perhaps a line `--limit N`, and then what `explain` is to write. NAME is a function below, and CHANGES are bytes that are
-written over it: `2 508 0000ffff` on page 2 from byte 508 on. Each database is FOLDER/K.db and its text FOLDER/K.explain; of each a line
-`K|limit|NAME: CHANGES` is printed.
+TEXT is explain.txt or map.txt beside this file, which has a block for each: a line `== NAME PAGES: CHANGES`, what is known of it in lines
+that begin with `#`, perhaps a line `--limit N`, and then what `explain` is to write, or the lines that its picture is to have, in their
+order. NAME is a function below. PAGES, which may be left out, is how many pages it has, or is cut or filled to with zeros. CHANGES are
+bytes that are written over it: `2 508 0000ffff` on page 2 from byte 508 on. Each database is FOLDER/K.db and its text FOLDER/K.text; of
+each a line `K|limit|NAME PAGES: CHANGES` is printed.
 """
 
 import os
+import re
 import sys
 
-TOP = os.path.dirname(os.path.dirname(os.path.abspath(__file__)))
 LEAF_TABLE, LEAF_INDEX, INTERIOR_TABLE, INTERIOR_INDEX = 13, 10, 5, 2
 
 
@@ -38,21 +39,22 @@ def schema_row(kind, name, root):
 
 
 class Database:
-    """Pages of 512 bytes: an empty schema, and zeros."""
+    """Pages of one size: an empty schema, and zeros."""
 
-    def __init__(self, pages):
-        self.bytes = bytearray(512 * pages)
-        self.put(1, 0, b"SQLite format 3\0" + be(512, 2) + bytes([1, 1, 0, 64, 32, 32]))
-        self.put(1, 100, bytes([LEAF_TABLE, 0, 0, 0, 0]) + be(512, 2))
+    def __init__(self, pages, size=512):
+        self.size = size
+        self.bytes = bytearray(size * pages)
+        self.put(1, 0, b"SQLite format 3\0" + be(size, 2) + bytes([1, 1, 0, 64, 32, 32]))
+        self.put(1, 100, bytes([LEAF_TABLE, 0, 0, 0, 0]) + be(size, 2))
 
     def put(self, page, at, piece):
-        start = 512 * (page - 1) + at
+        start = self.size * (page - 1) + at
         self.bytes[start:start + len(piece)] = piece
 
     def tree_page(self, page, kind, cells, right=None):
         """A page of these cells, which lie from the end of the page on, four bytes long at least."""
         head = 100 if page == 1 else 0
-        pointers, end = b"", 512
+        pointers, end = b"", self.size
         for cell in cells:
             end -= max(4, len(cell))
             self.put(page, end, cell)
@@ -99,7 +101,7 @@ class Database:
 
 
 def table(pages, *more):
-    """A database of a table t, whose root is page 2."""
+    """A table t, whose root is page 2, and perhaps others."""
     db = Database(pages)
     db.schema(("table", "t", 2), *more)
     return db
@@ -319,31 +321,100 @@ def lost_names(_):
     return db
 
 
-def database(text):
-    """The bytes of a database by its name, its pages where these vary, and what is written over it."""
+def kinds(_):
+    """A table `a` with a payload that goes on on page 3; an index whose name would be markup, on page 4; page 5 is a trunk and 6 its leaf;
+    page 7 is in no use."""
+    db = Database(7)
+    db.schema(("table", "a", 2), ("index", "<&\"\n'>", 4))
+    db.tree_page(2, LEAF_TABLE, [varint(600) + varint(5) + bytes(92) + be(3)])
+    db.leaf_index(4)
+    db.freelist(5, 2, 6)
+    return db
+
+
+def eight_trees(_):
+    db = Database(8)
+    db.schema(*(("table", name, root) for root, name in enumerate("abcdefg", 2)))
+    for page in range(2, 9):
+        db.leaf(page)
+    return db
+
+
+def strange_names(_):
+    """Two trees of one name, and a name that turns text around."""
+    db = Database(4)
+    db.schema(("table", "t", 2), ("table", "t", 3), ("table", "\u202eb\u2066\uffff\u202f", 4))
+    for page in (2, 3, 4):
+        db.leaf(page)
+    return db
+
+
+def four_tables(_):
+    """After a pointer map, four tables of a page each."""
+    db = Database(6)
+    db.schema(*(("table", name, root) for root, name in enumerate("abcd", 3)))
+    db.map(6, (1, 0), (1, 0), (1, 0), (1, 0))
+    for page in range(3, 7):
+        db.leaf(page)
+    return db
+
+
+def led(_):
+    """Table `a` has rows on the pages 3 and 4, where rowid 5 comes after key 10 of page 2: T06. The trunk on page 5 names page 3: R03. Table
+    `b` has an empty leaf on each of the pages 7 to 10: P10, of which three lead. Page 11 is in no use: N01."""
+    db = Database(11)
+    db.schema(("table", "a", 2), ("table", "b", 6))
+    db.interior(2, 4, (3, 10))
+    db.tree_page(3, LEAF_TABLE, [b"\1\1x", b"\1\x09x"])
+    db.tree_page(4, LEAF_TABLE, [b"\1\5x"])
+    db.freelist(5, 1, 3)
+    db.interior(6, 10, (7, 1), (8, 2), (9, 3))
+    for page in range(7, 11):
+        db.leaf(page)
+    return db
+
+
+def many_entries(_):
+    """33 tables have three empty leaves each: 99 entries of P10. Nothing refers to page 134, of zeros, nor to page 135, a leaf of an index."""
+    db = Database(135, 4096)
+    for tree in range(33):
+        leaf = 35 + 3 * tree
+        db.interior(2 + tree, leaf + 2, (leaf, 1), (leaf + 1, 2))
+        for page in range(leaf, leaf + 3):
+            db.leaf(page)
+    db.schema(*(("table", "t", root) for root in range(2, 35)))
+    db.leaf_index(135, bytes(7))
+    return db
+
+
+def write(path, text):
+    """The database of a name, its pages, and what is written over it."""
     front, _, changes = text.partition(":")
     name, _, pages = front.partition(" ")
-    db = globals()[name.replace("-", "_")](int(pages or 0))
+    pages = int(pages or 0)
+    db = globals()[name.replace("-", "_")](pages)
     for change in filter(None, changes.split(",")):
         page, at, digits = change.split(maxsplit=2)
         db.put(int(page), int(at), bytes.fromhex(digits))
-    return db.bytes
+    with open(path, "wb") as it:
+        it.write(db.bytes)
+        if pages:
+            it.truncate(db.size * pages)
 
 
 def main():
-    if len(sys.argv) != 2:
+    if len(sys.argv) != 3:
         sys.exit(__doc__)
-    folder = sys.argv[1]
+    folder = sys.argv[2]
     os.makedirs(folder, exist_ok=True)
-    with open(os.path.join(TOP, "tests/explain/small.txt"), encoding="utf-8") as it:
-        blocks = it.read().split("== ")[1:]
+    with open(sys.argv[1], encoding="utf-8") as it:
+        blocks = re.split("^== ", it.read(), flags=re.M)[1:]
     for number, block in enumerate(blocks):
         title, *lines = block.splitlines(keepends=True)
         lines = [line for line in lines if not line.startswith("#")]
         limit = lines.pop(0).split()[1] if lines[0].startswith("--limit") else "100"
-        with open(os.path.join(folder, f"{number}.db"), "wb") as it:
-            it.write(database(title.strip()))
-        with open(os.path.join(folder, f"{number}.explain"), "w", encoding="utf-8") as it:
+        write(os.path.join(folder, f"{number}.db"), title.strip())
+        with open(os.path.join(folder, f"{number}.text"), "w", encoding="utf-8") as it:
             it.write("".join(lines))
         print(f"{number}|{limit}|{title.strip()}")
 
