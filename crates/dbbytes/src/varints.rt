@@ -1,5 +1,5 @@
 // Variable-length integers (Database File Format, 1.6).
-ghost use Rattle.std.specs.Prelude.{◌≡◌, ◌<◌, ◌≤◌, drop, length, Some, IfSome};
+ghost use Rattle.std.specs.Prelude.{◌≡◌, ◌<◌, ◌≤◌, drop, length, None, Some, IfSome, MatchBool, ◌==◌};
 ghost use Rattle.dbformat.specs.Varint.{varint};
 ghost use Rattle.dbbytes.specs.Varint.{GoesOn};
 
@@ -14,7 +14,7 @@ pub fn varint(bytes: &[u8]) -> Option<(u64, usize)>
     ensures within { IfSome result (λ r. (0 < r.1) × (r.1 ≤ 9) × (r.1 ≤ length bytes.now)) }
 {
     if bytes.len() < 4 {
-        return long_varint(bytes);
+        return varint_by_bytes(bytes);
     }
     let one = u64::from(bytes[0]);
     if one < 128 {
@@ -33,7 +33,7 @@ pub fn varint(bytes: &[u8]) -> Option<(u64, usize)>
         return Some((four, 4));
     }
     if bytes.len() < 9 {
-        return long_varint(bytes);
+        return varint_by_bytes(bytes);
     }
     Some(varint_after_four(bytes, four))
 }
@@ -69,18 +69,28 @@ fn varint_after_four(bytes: &[u8], four: u64) -> (u64, usize)
 }
 
 // `varint`, byte by byte.
-#[cold]
-#[inline(never)]
-fn long_varint(bytes: &[u8]) -> Option<(u64, usize)>
+#[inline(always)]
+fn varint_by_bytes(bytes: &[u8]) -> Option<(u64, usize)>
     ensures value { result ≡ varint bytes.now }
     ensures within { IfSome result (λ r. (0 < r.1) × (r.1 ≤ 9) × (r.1 ≤ length bytes.now)) }
+{
+    let (value, len) = long_varint(bytes);
+    if len == 0 { None } else { Some((value, len)) }
+}
+
+// `varint`, byte by byte. Its length is 0 where the bytes end within it. A pair is returned in registers: an `Option` of one needs
+// room that each caller would clear for each number.
+#[cold]
+#[inline(never)]
+fn long_varint(bytes: &[u8]) -> (u64, usize)
+    ensures value { MatchBool (result.1 == 0) (varint bytes.now ≡ None) (varint bytes.now ≡ Some result) }
 {
     let mut number = PartialVarint::new();
     for byte in bytes {
         match number.push(*byte) {
             VarintProgress::More(partial) => number = partial,
-            VarintProgress::Whole { value, length } => return Some((value, usize::from(length))),
+            VarintProgress::Whole { value, length } => return (value, usize::from(length)),
         }
     }
-    None
+    (0, 0)
 }
