@@ -17,17 +17,18 @@ use Rattle.dbformat.specs.declared.Coverage.TheVariants.{Overlap, Unheld}
 use Rattle.dbpage.specs.Packed.{first_cells, payload_of, greatest_of, AddUpTo, HasOverflow, IsAboveLast, IsAllLocal, IsUnpacked, key_at}
 use Rattle.dbpage.specs.declared.packed.CellSums.{CellSums}
 
--- of no cell
-abbrev pub no_sums : CellSums
-no_sums = record { payload = 0; greatest = 0; first = None; last = None; has_overflow = false }
+-- of no cell of a page whose first key is this
+abbrev pub no_sums : Option ℤ → CellSums
+no_sums first = record { payload = 0; greatest = 0; first = first; last = None; has_overflow = false }
 
-pub none_read : (v : View) → AddUpTo v 0 no_sums
-none_read v = record {
+pub none_read : (v : View) (first : Option ℤ) → (0 < count v → key_at v 0 ≡ first) → (count v ≡ 0 → first ≡ None) → AddUpTo v 0 (no_sums first)
+none_read v first some none = record {
   readable = λ i h. absurd (omega arith);
   rising = λ i a b h p q. absurd (omega arith);
-  first_is = λ h. absurd (omega arith);
+  first_is = some;
   last_is = λ i h. absurd (omega arith);
-  empty = λ h. (refl, refl);
+  empty = none;
+  unread = λ h. refl;
   payload_is = refl;
   greatest_is = refl;
   overflow_is = λ i h. absurd (omega arith);
@@ -51,10 +52,9 @@ first_cells_more v n c readable =
 
 module _ (v : View) (n : ℕ) (sums : CellSums) (was : AddUpTo v n sums) where
   pub one_more_read : (c : Cell) → cell v n ≡ Ok c → length c.local ≤ 65536 → IsAboveLast sums.last c.key
-      → (now : CellSums) → now.payload ≡ sums.payload + length c.local → now.greatest ≡ max sums.greatest c.size → (n ≡ 0 → now.first ≡ c.key)
-      → (0 < n → now.first ≡ sums.first)
+      → (now : CellSums) → now.payload ≡ sums.payload + length c.local → now.greatest ≡ max sums.greatest c.size → now.first ≡ sums.first
       → now.last ≡ c.key → now.has_overflow ≡ (sums.has_overflow || is_some c.overflow) → AddUpTo v (n + 1) now
-  one_more_read c readable fits greater now payload greatest at_first later last overflow =
+  one_more_read c readable fits greater now payload greatest first last overflow =
       let all = first_cells_more v n c readable in
       let key : key_at v n ≡ c.key = rw readable refl in
       record {
@@ -66,12 +66,10 @@ module _ (v : View) (n : ℕ) (sums : CellSums) (was : AddUpTo v n sums) where
           | inl before ↦ was.rising i a b before p q
           | inr same ↦ greater a b (sym (was.last_is i (omega arith)) ∙ p) (sym key ∙ ap (key_at v) (next_is i h same) ∙ q)
         ];
-        first_is = λ h. elim (cases_lt 0 n) [
-          | inl some ↦ was.first_is some ∙ sym (later some)
-          | inr none ↦ ap (key_at v) (first_at none) ∙ key ∙ sym (at_first (omega arith))
-        ];
+        first_is = λ h. was.first_is h ∙ sym first;
         last_is = λ i h. ap (key_at v) (at_is i h) ∙ key ∙ sym last;
-        empty = λ h. absurd (omega (arith, h));
+        empty = λ h. first ∙ was.empty h;
+        unread = λ h. absurd (omega (arith, h));
         payload_is = omega (arith, payload, was.payload_is, ap payload_of all, sum_by-append (λ (i, c). length c.local) (first_cells v n) ((n, c) ∷ []));
         greatest_is = greatest ∙ greatest_more all;
         overflow_is = subst (λ b. MatchBool b (HasOverflow v (n + 1)) ((i : ℕ) → i < n + 1 → IsAllLocal v i)) (sym overflow)
@@ -84,9 +82,6 @@ module _ (v : View) (n : ℕ) (sums : CellSums) (was : AddUpTo v n sums) where
 
       next_is : (i : ℕ) → i + 1 < n + 1 → n ≤ i + 1 → n ≡ i + 1
       next_is i h same = omega arith
-
-      first_at : n ≤ 0 → 0 ≡ n
-      first_at h = omega arith
 
       at_is : (i : ℕ) → i + 1 ≡ n + 1 → i ≡ n
       at_is i h = omega arith
@@ -124,7 +119,7 @@ unpacked_at_key v i sums c was within readable falls page all =
     falls (λ a b p q. rises i refl a b p q)
   where
     rises : (n : ℕ) → n ≡ i → (a b : ℤ) → sums.last ≡ Some a → c.key ≡ Some b → a <ℤ b
-    rises zero h a b p q = absurd (some_is_none a (sym p ∙ (was.empty (sym h)).1))
+    rises zero h a b p q = absurd (some_is_none a (sym p ∙ was.unread (sym h)))
     rises (suc n) h a b p q =
         let at : n + 1 ≡ i = omega arith in
         let key : key_at v i ≡ c.key = rw readable refl in

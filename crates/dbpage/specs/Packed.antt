@@ -47,13 +47,14 @@ HasRisingKeys v n = (i : ℕ) (a b : ℤ) → i + 1 < n → key_at v i ≡ Some 
 abbrev pub IsAboveLast : Option ℤ → Option ℤ → Type 0
 IsAboveLast last key = (a b : ℤ) → last ≡ Some a → key ≡ Some b → a <ℤ b
 
--- the first n cells are readable, and their keys rise; these are their sums
+-- the first n cells are readable, and their keys rise; these are their sums, with the key of the first cell of the page
 pub record AddUpTo (v : View) (n : ℕ) (sums : CellSums) : Type 0 where
   pub readable : (i : ℕ) → i < n → IsOk (cell v i)
   pub rising : HasRisingKeys v n
-  pub first_is : 0 < n → key_at v 0 ≡ sums.first
+  pub first_is : 0 < count v → key_at v 0 ≡ sums.first
   pub last_is : (i : ℕ) → i + 1 ≡ n → key_at v i ≡ sums.last
-  pub empty : n ≡ 0 → (sums.first ≡ None) × (sums.last ≡ None)
+  pub empty : count v ≡ 0 → sums.first ≡ None
+  pub unread : n ≡ 0 → sums.last ≡ None
   pub payload_is : sums.payload ≡ payload_of (first_cells v n)
   pub greatest_is : sums.greatest ≡ greatest_of (first_cells v n)
   pub overflow_is : MatchBool sums.has_overflow (HasOverflow v n) ((i : ℕ) → i < n → IsAllLocal v i)

@@ -49,6 +49,8 @@ impl<'a> Cell<'a> {
 impl<'a> PageView<'a> {
     /// Cell `i`. It is an error ([`CellFault::Offset`]) where its pointer leads out of the content area, and else
     /// ([`CellFault::Unreadable`]) where it does not end within the usable bytes or its payload is too long.
+    // Inlined, so that only what its caller uses is read.
+    #[inline(always)]
     pub fn cell(&self, i: u32) -> Result<Cell<'a>, CellFault>
         requires { i < count self.now }
         ensures { result ≡ cell self.now i }
@@ -56,7 +58,7 @@ impl<'a> PageView<'a> {
         self.read_cell(self.kind, i)
     }
 
-    // `cell`, inlined, so that only what its caller uses is read. If the caller has the kind as a constant, no cell tests it.
+    // `cell`. If the caller has the kind as a constant, no cell tests it.
     #[inline(always)]
     pub(crate) fn read_cell(&self, kind: PageKind, i: u32) -> Result<Cell<'a>, CellFault>
         requires within { i < count self.now }

@@ -5,7 +5,7 @@ ghost use Rattle.dbformat.specs.Cell.{count};
 ghost use Rattle.dbformat.specs.Coverage.{items};
 ghost use Rattle.dbpage.specs.Marking.{ShareNoByte, AreMarked, Holds, cells_upto, is_claimed};
 ghost use Rattle.dbpage.specs.Beginning.{IsBegun};
-ghost use Rattle.dbpage.specs.Packed.{AddUpTo, IsPacked, IsAboveLast, IsUnpacked};
+ghost use Rattle.dbpage.specs.Packed.{AddUpTo, IsPacked, IsAboveLast, IsUnpacked, key_at};
 
 use crate::held_bytes::mark_freeblocks;
 use crate::mark_count::MarkCount;
@@ -63,7 +63,7 @@ impl<'a> PageView<'a> {
         requires room { self.now.usable ≤ length table.old }
         ensures { MatchOption result (IsUnpacked self.now) (IsPacked self.now) }
     {
-        let mut sums = CellSums::new();
+        let mut sums = CellSums::new(self.first_key(kind));
         let mut run = CellRun::new(self.usable);
         for i in 0..self.cells {
             let (offset, len) = self.add_cell(kind, i, &mut sums)?;
@@ -220,12 +220,27 @@ impl<'a> PageView<'a> {
         }
         sums.payload += cell.local.len() as u32;
         sums.greatest = sums.greatest.max(cell.size);
-        if i == 0 {
-            sums.first = cell.key;
-        }
         sums.last = cell.key;
-        sums.has_overflow |= cell.overflow.is_some();
+        if cell.overflow.is_some() {
+            sums.has_overflow = true;
+        }
         Some((cell.offset, cell.len.max(4)))
+    }
+
+    // The key of the first cell of a page of this kind, where there is one and it has a key.
+    #[inline(always)]
+    fn first_key(&self, kind: PageKind) -> Option<i64>
+        requires { kind ≡ self.now.kind }
+        ensures some { 0 < count self.now → key_at self.now 0 ≡ result }
+        ensures none { count self.now ≡ 0 → result ≡ None }
+    {
+        if self.cells == 0 {
+            return None;
+        }
+        match self.read_cell(kind, 0) {
+            Ok(cell) => cell.key,
+            Err(_) => None,
+        }
     }
 
     // The result for a page: the sums of its cells, and from `held`, the bytes that its items hold, those that none holds.
@@ -255,13 +270,13 @@ struct Beginning {
 impl CellSums {
     // The sums of no cell.
     #[inline(always)]
-    fn new() -> CellSums
-        ensures { result ≡ record { payload = 0; greatest = 0; first = None; last = None; has_overflow = false } }
+    fn new(first: Option<i64>) -> CellSums
+        ensures { result ≡ record { payload = 0; greatest = 0; first = first; last = None; has_overflow = false } }
     {
         CellSums {
             payload: 0,
             greatest: 0,
-            first: None,
+            first,
             last: None,
             has_overflow: false,
         }

@@ -1,9 +1,9 @@
-use Rattle.std.proofs.Common.{◌≡◌, ◌+◌, ◌-◌, ◌<◌, ◌≤◌, ℕ, suc, false, true, length, drop, refl, sym, ap, ◌∙◌, arith}
+use Rattle.std.proofs.Common.{◌≡◌, ◌+◌, ◌-◌, ◌<◌, ℕ, suc, false, true, length, drop, sym, ap, ◌∙◌, arith}
 use Rattle.std.specs.Prelude.{nat_le}
 use Rattle.std.proofs.Math.Seq.{drop-length}
 use Rattle.std.proofs.lemmas.Bool.Decides.{nat_tests}
 use Rattle.std.proofs.lemmas.List.{length-drop}
-use Rattle.dbformat.specs.Runs.{longest_run, longer}
+use Rattle.dbformat.specs.Runs.{longest_run}
 use Rattle.dbpage.proofs.LongRuns.{no_run, run_at, run_short, longest_at, run_here}
 use Rattle.dbpage.proofs.byte_runs.longest_run.Goals as goal
 

@@ -1,4 +1,5 @@
-use Rattle.std.proofs.Common.{◌+◌, ◌||◌, max, length, sym, ap, ◌∙◌, arith}
+use Rattle.std.proofs.Common.{◌≡◌, ◌+◌, ◌||◌, Bool, true, false, max, length, refl, sym, ap, ◌∙◌, arith}
+use Rattle.std.proofs.Math.Bool.{or-true}
 use Rattle.std.specs.Prelude.{is_some}
 use Rattle.dbformat.specs.Head.{View, cell_count}
 use Rattle.dbformat.specs.Cell.{Cell}
@@ -7,7 +8,7 @@ use Rattle.dbpage.proofs.Items.{Holds-from_read}
 use Rattle.dbpage.proofs.PackedLemmas.{one_more_read, unpacked_at_unreadable, unpacked_at_key}
 use Rattle.dbpage.specs.declared.packed.CellSums.{CellSums}
 use Rattle.dbpage.proofs.view.PageView.add_cell.Goals as goal
-use Rattle.dbpage.proofs.view.PageView.add_cell.Goals.{then-i-eq0, else-i-eq0}
+use Rattle.dbpage.proofs.view.PageView.add_cell.Goals.{then-is_some, else-is_some}
 
 pub returns-in_default : goal.returns-in_default
 returns-in_default c = unpacked_at_unreadable c.args.self.now c.args.i c.in_default.field-0 c.requires.within (sym c.read_cell.ensures ∙ c.in_default.is)
@@ -40,6 +41,10 @@ overflow_add-sums c =
       c.requires.within,
     )
 
+or_false : (b : Bool) → b ≡ (b || false)
+or_false true = refl
+or_false false = refl
+
 pub returns : goal.returns
 returns c =
     let v = c.args.self.now in
@@ -56,16 +61,16 @@ returns c =
     (omega (arith, fits, ap (λ (w : View). w.usable) c.self.view_is, c.self.invariant.most)) (λ a b p q. c.if-not-is_rising.ensures a b p (key ∙ q)) in
     let payload = ap (λ (e : Cell). sums.payload + length e.local) same in
     let greatest = c.max-sums.ensures ∙ ap (λ (e : Cell). max sums.greatest e.size) same in
-    let overflow = ap (λ b. sums.has_overflow || b) (c.is_some.ensures ∙ ap (λ (e : Cell). is_some e.overflow) same) in (
+    let some = c.is_some.ensures ∙ ap (λ (e : Cell). is_some e.overflow) same in (
       has,
-      elim c.if-i-eq0.branch [
-        | then-i-eq0 w ↦
+      elim c.if-is_some.branch [
+        | then-is_some w ↦
             read _ (ap (λ (s : CellSums). s.payload) w.sums-is ∙ payload) (ap (λ (s : CellSums). s.greatest) w.sums-is ∙ greatest)
-            (λ h. ap (λ (s : CellSums). s.first) w.sums-is ∙ key)
-            (λ h. absurd (omega (arith, h, w.if-i-eq0.true))) key (ap (λ (s : CellSums). s.has_overflow || c.is_some.result) w.sums-is ∙ overflow)
-        | else-i-eq0 w ↦
+            (ap (λ (s : CellSums). s.first) w.sums-is) (ap (λ (s : CellSums). s.last) w.sums-is ∙ key)
+            (ap (λ (s : CellSums). s.has_overflow) w.sums-is ∙ sym (or-true sums.has_overflow) ∙ ap (λ b. sums.has_overflow || b) (sym w.if-is_some.true ∙ some))
+        | else-is_some w ↦
             read _ (ap (λ (s : CellSums). s.payload) w.sums-is ∙ payload) (ap (λ (s : CellSums). s.greatest) w.sums-is ∙ greatest)
-            (λ h. absurd (omega (arith, h, w.if-i-eq0.false)))
-            (λ h. ap (λ (s : CellSums). s.first) w.sums-is) key (ap (λ (s : CellSums). s.has_overflow || c.is_some.result) w.sums-is ∙ overflow)
+            (ap (λ (s : CellSums). s.first) w.sums-is) (ap (λ (s : CellSums). s.last) w.sums-is ∙ key)
+            (ap (λ (s : CellSums). s.has_overflow) w.sums-is ∙ or_false sums.has_overflow ∙ ap (λ b. sums.has_overflow || b) (sym w.if-is_some.false ∙ some))
       ],
     )

@@ -18,7 +18,7 @@ loop-i-init c =
     let start : content_start v.number v.bytes ≤ v.usable =
     omega (arith, usable, ap (λ (w : View). content_start w.number w.bytes) c.self.view_is, c.self.invariant.start_is, c.self.invariant.inside) in
     record {
-      read = subst (AddUpTo v 0) (sym sums) (none_read v);
+      read = subst (AddUpTo v 0) (sym sums) (none_read v c.first_key.result c.first_key.ensures.some c.first_key.ensures.none);
       run = run_as v 0 (no_cells v v.usable start (omega arith)) (omega (arith, ap (λ (r : CellRun). r.from) c.new-run.ensures, usable))
           (omega (arith, ap (λ (r : CellRun). r.to) c.new-run.ensures, usable));
     }
