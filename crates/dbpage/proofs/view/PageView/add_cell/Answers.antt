@@ -67,7 +67,8 @@ returns c =
         | then-is_some w ↦
             read _ (ap (λ (s : CellSums). s.payload) w.sums-is ∙ payload) (ap (λ (s : CellSums). s.greatest) w.sums-is ∙ greatest)
             (ap (λ (s : CellSums). s.first) w.sums-is) (ap (λ (s : CellSums). s.last) w.sums-is ∙ key)
-            (ap (λ (s : CellSums). s.has_overflow) w.sums-is ∙ sym (or-true sums.has_overflow) ∙ ap (λ b. sums.has_overflow || b) (sym w.if-is_some.true ∙ some))
+            (ap (λ (s : CellSums). s.has_overflow) w.sums-is ∙ sym (or-true sums.has_overflow)
+            ∙ ap (λ b. sums.has_overflow || b) (sym w.if-is_some.true ∙ some))
         | else-is_some w ↦
             read _ (ap (λ (s : CellSums). s.payload) w.sums-is ∙ payload) (ap (λ (s : CellSums). s.greatest) w.sums-is ∙ greatest)
             (ap (λ (s : CellSums). s.first) w.sums-is) (ap (λ (s : CellSums). s.last) w.sums-is ∙ key)
