@@ -52,7 +52,7 @@ takes_stop {o = o} {n = n} {w = w} a b p q h =
       count = rw p at h.count;
     })
 
--- So much of a text was put, and so much waits, that this rest of it is left.
+-- Of a text some was put and some waits; this is the rest.
 pub record HasTaken (old now : OutState) (waiting rest whole : List ℕ) : Type 0 where
   pub done : List ℕ
   pub split : done ++ (waiting ++ rest) ≡ whole

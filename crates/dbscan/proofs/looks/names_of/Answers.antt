@@ -9,7 +9,7 @@ use Rattle.dbmarks.specs.Marking.{is_unmarked}
 use Rattle.dbscan.proofs.looks.names_of.Goals as goal
 use Rattle.dbscan.proofs.looks.names_of.Goals.{in-Some+then-is_lost, in-Some+else-is_lost, in_default}
 
--- so many of the first i pages that a page names, and so many of them are lost
+-- how many of the first i numbers on a page name a page, and how many of these pages are lost
 abbrev IsOf : View → (ℕ → Bool) → ℕ → ℕ → ℕ → Type 0
 IsOf v lost i pages gone =
     (pages ≡ count_by (λ k. is_some (named_page v k)) (range_with_len 0 i))
