@@ -2,14 +2,14 @@
 //! and its name. An example of a program over `dbscan`.
 //!
 //! A row is a cell: of a leaf page, and in a table WITHOUT ROWID, whose tree is one of an index, of an interior page too. The cells of a
-//! damaged page are not counted. The counts of SQLite's own `sqlite_schema` are not shown.
+//! damaged page are not counted. A name of more than 1000 bytes is shown as `?`.
 #![tactic(auto)]
 
 use anyhow::{Context, Result};
 use dbbytes::{WriteFailed, name_text};
 use dbscan::{Desk, Header, Marks, Notice, PageKind, PageType, Reporter, RowKind, STARTS, scan};
-use dbsource::{FileSource, Geometry, MemOut};
-use std::alloc::Allocator;
+use dbsource::{FileSource, Geometry, MemOut, Source};
+use std::alloc::{Allocator, Global};
 use std::env;
 
 /// How many rows there are at each start.
@@ -50,31 +50,40 @@ impl Reporter for RowCounts {
     }
 }
 
-fn main(rt: HostRuntime) -> Result<()> {
-    let path = env::args(&rt)?.nth(1).context("usage: dbrows FILE")?;
-    let mut source = FileSource::open(&rt, path.as_str()).context(format_args!("opening {path}"))?;
-    let header = Header::read(&mut source)?;
-    let encoding = header.encoding();
-    let mut desk = Desk::new(rt.alloc(), header)?;
-    desk.renew();
+/// Scans a file, and counts the rows at each start.
+fn count_rows(alloc: Global, desk: &mut Desk, source: &mut impl Source) -> Result<RowCounts> {
     let mut rows = RowCounts {
-        starts: vec![in rt.alloc(); 0; STARTS]?,
+        starts: vec![in alloc; 0; STARTS]?,
     };
-    scan(&mut desk, &mut source, &mut rows)?;
+    desk.renew();
+    scan(desk, source, &mut rows)?;
+    Ok(rows)
+}
+
+/// Prints a line for each table.
+fn print_rows(rt: &(impl Print + AllocGlobal), desk: &Desk, rows: &RowCounts) -> Result<()> {
     for start in 1..=desk.roots().len() {
         let Some(row) = desk.roots().get(start) else {
-            continue
+            continue;
         };
         if row.kind == RowKind::Table {
+            let count = rows.starts.get(start as usize).copied().unwrap_or(0);
             let mut name = MemOut::new(rt.alloc());
             name_text(
-                row.name.unwrap_or(b"(a name of more than 1000 bytes)"),
-                encoding,
+                row.name.unwrap_or(b"?"),
+                desk.header().encoding(),
                 &mut name,
             )?;
-            let name = str::from_utf8(name.bytes())?;
-            println!(rt; "{}\t{name}", rows.starts[start as usize])?;
+            println!(rt; "{count}\t{}", str::from_utf8(name.bytes())?)?;
         }
     }
     Ok(())
+}
+
+fn main(rt: HostRuntime) -> Result<()> {
+    let path = env::args(&rt)?.nth(1).context("usage: dbrows FILE")?;
+    let mut source = FileSource::open(&rt, path.as_str()).context(format_args!("opening {path}"))?;
+    let mut desk = Desk::new(rt.alloc(), Header::read(&mut source)?)?;
+    let rows = count_rows(rt.alloc(), &mut desk, &mut source)?;
+    print_rows(&rt, &desk, &rows)
 }
