@@ -43,7 +43,7 @@ use Rattle.dbreport.specs.declared.statistics.Form.{Form}
 use Rattle.dbreport.proofs.ListedNames.{listed_name}
 use Rattle.dbreport.proofs.OtherRows.{others_text}
 use Rattle.dbreport.proofs.StatNotices.{Sheet, all_lines, lines, next, notices_written}
-use Rattle.dbreport.proofs.StatTexts.{rows_below}
+use Rattle.dbscan.proofs.RowsBelow.{rows_below}
 use Rattle.dbreport.proofs.StatTrees.{freelist_rows}
 use Rattle.dbscan.proofs.StartByStart.{of_later}
 use Rattle.dbscan.proofs.Starts.{quiet_go}

@@ -21,17 +21,10 @@ use Rattle.dbformat.specs.Rows.{StatRow, FormRow, tree_row, row_in, stat_rows, t
 use Rattle.dbformat.specs.Survey.{rules_of}
 use Rattle.dbformat.proofs.Roles.{child_leads, no_root_on, root_off}
 use Rattle.dbformat.proofs.Theory.{are_rules}
+use Rattle.dbscan.proofs.RowsBelow.{rows_join, rows_none}
 use Rattle.dbsound.proofs.RowCounts.RowPages.{of_row, row_of}
 
 -- ---- rows and roots of lists of visits
-
-pub rows_none : (file : List ℕ) → stat_rows file [] ≡ []
-unfolding stat_rows
-rows_none file = refl
-
-pub rows_join : (file : List ℕ) (A B : List Reference) → stat_rows file (A ++ B) ≡ stat_rows file A ++ stat_rows file B
-unfolding stat_rows
-rows_join file A B = filter_map-append (λ r. row_in (role_of r) file r) A B
 
 first_row : (file : List ℕ) (r : Reference) (V : List Reference) (row : StatRow) → row_in (role_of r) file r ≡ Some row → stat_rows file (r ∷ V) ≡ row
     ∷ stat_rows file V

@@ -7,6 +7,7 @@ pub mod FaultPages
 pub mod FaultsHeard
 pub mod Finished
 pub mod HeardFaults
+pub mod HeardRows
 pub mod Keeping
 pub mod MapLogs
 pub mod MapPlaces
@@ -14,6 +15,7 @@ pub mod PlacedFaults
 pub mod Reached
 pub mod RootLists
 pub mod RootsTaken
+pub mod RowsBelow
 pub mod RunItems
 pub mod Scanned
 pub mod SchemaTold

@@ -3,6 +3,7 @@ pub mod Desks
 pub mod EndPass
 pub mod Findings
 pub mod Finishes
+pub mod HeardRows
 pub mod Kept
 pub mod Looks
 pub mod MapReads
