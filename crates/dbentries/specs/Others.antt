@@ -11,6 +11,7 @@ use Rattle.dbtrace.specs.declared.Reported.{Reported}
 use Rattle.dbentries.specs.Kept.{look_cells}
 use Rattle.dbentries.specs.Lines.{cells_text, indented}
 use Rattle.dbentries.specs.Listing.{Entry}
+use Rattle.dbentries.specs.declared.entry.Entry as kept
 use Rattle.dbentries.specs.declared.entry.Others.{Others}
 use Rattle.dbentries.specs.declared.runs.Run.{Run}
 
@@ -90,3 +91,7 @@ kept_text _ o = last_text o.count o.page o.item
 -- if there are any
 abbrev pub kept_faults_line : Cause → Others → List ℕ
 kept_faults_line c o = if o.count == 0 then [] else indented (kept_text c o)
+
+-- the line of an entry
+abbrev pub kept_others_text : kept.Entry → List ℕ
+kept_others_text k = kept_faults_line k.first.cause k.others

@@ -1,14 +1,12 @@
--- A fault as it is heard.
-use Rattle.std.specs.Prelude.{◌≡◌, Option, Some, None}
+-- What a reporter makes of a notice that keeps faults and rows.
+use Rattle.std.specs.Prelude.{◌≡◌}
+use Rattle.dbformat.specs.Rows.{StatRow}
 use Rattle.dbtrace.specs.declared.Reported.{Reported}
-use Rattle.dbscan.specs.Notices.{Notice}
-use Rattle.dbscan.specs.Placed.{reported_of}
+use Rattle.dbscan.specs.Notices.{Notice, heard_fault, heard_row, ended, walked}
 
--- A reporter on which only faults have an effect, each with its part and its cause: its state after a fault, if there is one.
-abbrev pub TakesAny : {K : Type 0} → (Reported → K → K → Type 0) → Option Reported → K → K → Type 0
-TakesAny adds None s t = t ≡ s
-TakesAny adds (Some x) s t = adds x s t
-
--- and after a notice
-abbrev pub HearsReported : {K : Type 0} → (Reported → K → K → Type 0) → K → Notice → K → Type 0
-HearsReported adds s notice t = TakesAny adds (reported_of notice) s t
+-- A reporter on which only faults and rows have an effect: each fault with its part and its cause.
+abbrev pub HearsReported : {K : Type 0} → (Reported → K → K → Type 0) → (StatRow → K → K → Type 0) → K → Notice → K → Type 0
+HearsReported adds notes s (heard_fault x) t = adds x s t
+HearsReported adds notes s (heard_row at r) t = notes r s t
+HearsReported adds notes s (ended at) t = t ≡ s
+HearsReported adds notes s (walked g marks) t = t ≡ s

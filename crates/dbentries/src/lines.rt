@@ -3,14 +3,15 @@ ghost use Rattle.arrayvec.specs.ArrayVec.{array_vec_len};
 ghost use Rattle.std.specs.Prelude.{◌≡◌, ◌+◌, ◌≤◌, [], ◌++◌, length};
 ghost use Rattle.std.specs.Fmt.{signed_decimal};
 ghost use Rattle.std.specs.Option.{option_map_or};
-ghost use Rattle.dbsource.specs.Outs.{Puts};
-ghost use Rattle.dbentries.specs.Lines.{blank_text, cause_text, cells_text, broken_chain_text, key_text, leaf_text, look_text, named_text, page_kind_text, rowid_text, rowids_text, tree_look_text, zeros_text};
+ghost use Rattle.dblines.specs.Writing.{Wrote};
+ghost use Rattle.dbentries.specs.Lines.{blank_text, broken_chain_text, cause_text, cells_text, key_text, leaf_text, look_text, named_text};
+ghost use Rattle.dbentries.specs.Lines.{page_kind_text, rowid_text, rowids_text, tree_look_text, zeros_text};
 
 use crate::first_bytes::first_bytes_text;
 use arrayvec::ArrayVec;
 use dbformat::{Look, PageKind, Rowids, TreeLook, hex_byte};
-use dblines::{append, append_number};
-use dbsource::{Out, WriteFailed};
+use dblines::{Writer, append, append_number};
+use dbsource::Out;
 use dbtrace::{Cause, CellChain, CellKey, NamedPages};
 use itoa::Buffer;
 
@@ -182,30 +183,26 @@ fn blank_text(byte: u8) -> ArrayVec<u8, 32>
     line
 }
 
-// Puts what a page looks like.
-fn put_look<O: Out>(out: &mut O, look: Look, named: Option<NamedPages>) -> Result<(), WriteFailed>
-    ensures { Puts result (O.held out.old) (O.held out.new) (look_text look named) }
+// Writes what a page looks like.
+fn put_look<O: Out>(writer: &mut Writer<'_, O>, look: Look, named: Option<NamedPages>)
+    ensures { Wrote O.held writer.old (look_text look named) writer.new }
 {
     match look {
-        Look::Blank(byte) => out.put(blank_text(byte).as_slice()),
-        Look::Tree(look) => out.put(tree_look_text(look, named).as_slice()),
-        Look::Other(first) => out.put(first_bytes_text(first).as_slice()),
+        Look::Blank(byte) => writer.put(blank_text(byte).as_slice()),
+        Look::Tree(look) => writer.put(tree_look_text(look, named).as_slice()),
+        Look::Other(first) => writer.put(first_bytes_text(first).as_slice()),
     }
 }
 
-/// Puts what a fault goes back to, if that is not its own place: one line.
-///
-/// # Errors
-///
-/// [`WriteFailed`] where the Out failed: it took a beginning of the line.
-pub fn put_cause<O: Out>(out: &mut O, cause: &Cause) -> Result<(), WriteFailed>
-    ensures { Puts result (O.held out.old) (O.held out.new) (cause_text cause.now) }
+/// Writes what a fault goes back to, if that is not its own place: one line.
+pub fn put_cause<O: Out>(writer: &mut Writer<'_, O>, cause: &Cause)
+    ensures { Wrote O.held writer.old (cause_text cause.now) writer.new }
 {
     match *cause {
-        Cause::Itself | Cause::Page(_, _) => Ok(()),
-        Cause::Key(key) => out.put(key_text(key).as_slice()),
-        Cause::Leaf(page) => out.put(leaf_text(page).as_slice()),
-        Cause::Chain(chain) => out.put(chain_text(chain).as_slice()),
-        Cause::Look(look, facts) => put_look(out, look, facts.named),
+        Cause::Itself | Cause::Page(_, _) => {}
+        Cause::Key(key) => writer.put(key_text(key).as_slice()),
+        Cause::Leaf(page) => writer.put(leaf_text(page).as_slice()),
+        Cause::Chain(chain) => writer.put(chain_text(chain).as_slice()),
+        Cause::Look(look, facts) => put_look(writer, look, facts.named),
     }
 }

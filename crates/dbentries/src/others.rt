@@ -2,23 +2,22 @@
 ghost use Rattle.arrayvec.specs.ArrayVec.{array_vec_len};
 ghost use Rattle.std.specs.Prelude.{◌≡◌, ◌+◌, ◌-◌, ◌*◌, ◌≤◌, ◌++◌, None, length, take, codes};
 ghost use Rattle.std.specs.List.{join_by};
-ghost use Rattle.dbsource.specs.Failures.{failures_after, is_any};
-ghost use Rattle.dbsource.specs.Outs.{Puts, Writes};
+ghost use Rattle.dblines.specs.Writing.{Wrote};
 ghost use Rattle.dbentries.specs.Kept.{kept_of};
 ghost use Rattle.dbentries.specs.Lines.{indented};
 ghost use Rattle.dbentries.specs.Listing as listing;
 ghost use Rattle.dbtrace.specs.Causes.{with_run};
 ghost use Rattle.dbtrace.specs.declared.Cause.TheVariants as cause;
 ghost use Rattle.dbentries.specs.Others.{all_cells_text, alike_text, kept_faults_line, kept_text, last_text, more_pages_text};
-ghost use Rattle.dbentries.specs.Others.{more_runs_text, next_run_text, others_text, run_text, shown_runs_text};
+ghost use Rattle.dbentries.specs.Others.{kept_others_text, more_runs_text, next_run_text, others_text, run_text, shown_runs_text};
 
 use crate::entry::{Entry, Others};
 use crate::lines::append_cells;
 use crate::runs::{Run, Runs};
 use arrayvec::ArrayVec;
 use dbformat::Look;
-use dblines::{append, append_number};
-use dbsource::{Out, WriteFailed};
+use dblines::{Writer, append, append_number};
+use dbsource::Out;
 use dbtrace::Cause;
 
 // Adds a run: a page, or from the first page to the last.
@@ -149,27 +148,23 @@ fn last_text(others: &Others) -> ArrayVec<u8, 128>
     line
 }
 
-// Puts the line of the faults that belong to one with this cause, if there are any.
-fn put_kept<O: Out>(out: &mut O, cause: &Cause, others: &Others) -> Result<(), WriteFailed>
-    ensures { Puts result (O.held out.old) (O.held out.new) (kept_faults_line cause.now others.now) }
+// Writes the line of the faults that belong to one with this cause, if there are any.
+fn put_kept<O: Out>(writer: &mut Writer<'_, O>, cause: &Cause, others: &Others)
+    ensures { Wrote O.held writer.old (kept_faults_line cause.now others.now) writer.new }
 {
     if others.count == 0 {
-        return Ok(());
+        return;
     }
     match *cause {
-        Cause::Look(look, _) => out.put(pages_text(look, others).as_slice()),
-        _ => out.put(last_text(others).as_slice()),
+        Cause::Look(look, _) => writer.put(pages_text(look, others).as_slice()),
+        _ => writer.put(last_text(others).as_slice()),
     }
 }
 
-/// Puts the line of the faults that belong to an entry, if there are any.
-///
-/// # Errors
-///
-/// [`WriteFailed`] where the Out failed: it took a beginning of the line.
-pub fn put_others<O: Out>(out: &mut O, entry: &Entry) -> Result<(), WriteFailed>
-    ensures line { (e : listing.Entry) → entry.now ≡ kept_of e → Writes result (O.held out.old).bytes (O.held out.new).bytes (others_text e) }
-    ensures count { (O.held out.new).failures ≡ failures_after is_any result (O.held out.old).failures }
+/// Writes the line of the faults that belong to an entry, if there are any.
+pub fn put_others<O: Out>(writer: &mut Writer<'_, O>, entry: &Entry)
+    ensures line { Wrote O.held writer.old (kept_others_text entry.now) writer.new }
+    ensures entry { (e : listing.Entry) → kept_others_text (kept_of e) ≡ others_text e }
 {
-    put_kept(out, &entry.first.cause, &entry.others)
+    put_kept(writer, &entry.first.cause, &entry.others);
 }

@@ -13,7 +13,7 @@ use Rattle.dbformat.proofs.Theory.{one_survey}
 use Rattle.dbsound.proofs.Soundness.{sound_by_verdict}
 use Rattle.dbsource.specs.Errors.{is_write_failed}
 use Rattle.dbsource.specs.Failures.{failures_after, is_any, one_more}
-use Rattle.dbsource.specs.Outs.{OutState, Writes}
+use Rattle.dbsource.specs.Outs.{OutState, Puts, Writes}
 use Rattle.dbsource.specs.declared.error.RunError.{RunError}
 use Rattle.dbsource.specs.declared.error.RunError.TheVariants.{Refused, ReadFailed, OutOfMemory, WriteFailed}
 use Rattle.dbsource.proofs.Beginnings.{begins_nothing}
@@ -28,11 +28,13 @@ use Rattle.dbreport.proofs.RunReports.{check_answer}
 use Rattle.dbentries.specs.Listed.{listed_entries, listed_faults}
 use Rattle.dbentries.specs.Listing.{entries}
 use Rattle.dbentries.specs.Lists.{ListsFirst}
+use Rattle.dbentries.proofs.ListedFaults.{shown}
 use Rattle.dbexplain.specs.Explained.{explain_report, explain_text, found_text}
-use Rattle.dbexplain.specs.Keeping.{IsEmpty}
+use Rattle.dbexplain.specs.Keeping.{IsEmpty, lines_of}
 use Rattle.dbexplain.specs.Reporting.{Ends, Hears, IsReportLeft, LeavesExplained, PutsLines}
 use Rattle.dbexplain.specs.Runs.{IsExplained, OutFailures, PutsFound, WritesReport}
 use Rattle.dbexplain.specs.declared.reporter.ExplainReporter.{ExplainReporter}
+use Rattle.dbexplain.proofs.KeptEntries.{found_lines}
 use Rattle.dbexplain.proofs.Left.{is_left}
 
 -- ---- the report of a file that is read
@@ -67,14 +69,16 @@ module _ {A O : Type 0} (held : O → OutState) (limit : ℕ) (file : List ℕ) 
       → PutsFound limit file V (held first.out.now) (held after.out.now)
   found_put k lines =
       let found : ListsFirst limit file V now.kept.now.listing = k.1 in
-      let text = found_text limit (entries found.told) in record {
+      let l = now.kept.now.listing in
+      let text = lines_of l.entries.listed in record {
         text = text;
-        found = record { told = found.told; first = found.first; lines = refl };
-        answer = lines.put;
-        put = record {
-          held = subst (λ o. Writes lines.put (held o).bytes (held after.out.now).bytes text) k.0 (lines.lines limit found.told found.listed);
-          count = lines.count ∙ ap (λ o. failures_after is_any lines.put (held o).failures) k.0;
+        found = record {
+          told = found.told;
+          first = found.first;
+          lines = found_lines limit (entries found.told) l (shown limit found.told l found.listed);
         };
+        answer = lines.put;
+        put = subst (λ o. Puts lines.put (held o) (held after.out.now) text) k.0 lines.lines;
       }
 
   -- at any other answer nothing is put after the run
@@ -114,7 +118,7 @@ module _ {A O : Type 0} (held : O → OutState) (now after : ExplainReporter A O
   pub out_failures : (r : Result Verdict RunError) (a : ℕ) → (held now.out.now).failures ≡ failures_after is_write_failed r a → Ends held r now after
       → OutFailures r a (held after.out.now).failures
   out_failures (Ok v) a e k = ap (λ o. (held o).failures) k ∙ e
-  out_failures (Err ReadFailed) a e k = let l = after_lines k.put (held now.out.now).failures (held after.out.now).failures k.count in
+  out_failures (Err ReadFailed) a e k = let l = after_lines k.put (held now.out.now).failures (held after.out.now).failures k.lines.count in
       let P : ℕ → Type 0 = λ m. ((held after.out.now).failures ≡ m) ⊎ ((held after.out.now).failures ≡ one_more m) in subst P e l
   out_failures (Err WriteFailed) a e k = ap (λ o. (held o).failures) k ∙ e
   out_failures (Err OutOfMemory) a e k = ap (λ o. (held o).failures) k ∙ e

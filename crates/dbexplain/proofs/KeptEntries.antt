@@ -1,37 +1,38 @@
 -- The lines of entries, one after another, by what is kept of them.
-use Rattle.std.proofs.Common.{◌≡◌, ℕ, zero, suc, ◌+◌, ◌<◌, ◌≤◌, Bool, true, false, Option, Some, None, List, [], ◌∷◌, ◌++◌, length, take, drop, map, get_or}
-use Rattle.std.proofs.Common.{add-one, drop-cons, refl, ap, ap₂, ◌∙◌}
+use Rattle.std.proofs.Common.{◌≡◌, ℕ, zero, suc, Bool, true, false, Option, Some, None, List, [], ◌∷◌, ◌++◌, take, map, refl, sym, ap, ap₂, ◌∙◌}
+use Rattle.std.proofs.Common.{append_assoc}
 use Rattle.std.specs.Prelude.{flat_map, fold, nat_lt, if◌then◌else◌}
 use Rattle.std.specs.Option.{option_map_or}
-use Rattle.std.proofs.lemmas.List.{drop_all}
 use Rattle.dbformat.specs.Lines.{fault_line}
 use Rattle.dbtrace.specs.declared.Reported.{Reported}
 use Rattle.dbentries.specs.Kept.{lone_entry, kept_of}
 use Rattle.dbentries.specs.Listing as listing
 use Rattle.dbentries.specs.Listing.{changed_at, entries, home, joined, most, with_fault}
 use Rattle.dbentries.specs.declared.entry.Entry.{Entry}
-use Rattle.dbentries.proofs.KeptLists.{no_entry}
+use Rattle.dbentries.specs.Lines.{cause_text}
+use Rattle.dbentries.specs.Others.{others_text}
+use Rattle.dbentries.proofs.Belonging.{line_is}
 use Rattle.dbentries.proofs.Noting.{first_kept}
 use Rattle.dbentries.specs.Lists.{Held, Shows}
-use Rattle.dbexplain.specs.Explained.{found_text}
-use Rattle.dbexplain.specs.Keeping.{lines_of}
+use Rattle.dbexplain.specs.Explained.{after_cause, entry_text, found_text, front_text}
+use Rattle.dbexplain.specs.Keeping.{kept_entry_text, lines_of}
+use Rattle.dbformat.specs.Reference.{Reference}
 
--- the fault of an entry is its first
-pub first_of : (k : Entry) (e : listing.Entry) → k ≡ kept_of e → k.first ≡ e.first
-first_of k e is = ap (λ (k : Entry). k.first) is ∙ first_kept e.others (lone_entry e.first)
+-- what is written of an entry is written by what is kept of it
+kept_text : (file : List ℕ) (V : List Reference) (e : listing.Entry) → kept_entry_text file V (kept_of e) ≡ entry_text file V e
+kept_text file V e =
+    let x = e.first in
+    ap₂ (λ (x : Reported) last. front_text file V x.fault ++ (cause_text x.cause ++ (after_cause file V x.fault.page x.cause ++ last)))
+    (first_kept e.others (lone_entry x)) (line_is e)
+    ∙ ap (λ w. front_text file V x.fault ++ w) (sym (append_assoc (cause_text x.cause) (after_cause file V x.fault.page x.cause) (others_text e)))
 
--- the text of entries, by the next one
-pub next_text : (text : listing.Entry → List ℕ) (es : List listing.Entry) (i : ℕ) → i < length es
-    → flat_map text (drop i es) ≡ text (get_or es i no_entry) ++ flat_map text (drop (i + 1) es)
-next_text text es i h = rw (add-one, drop-cons es i no_entry h) refl
-
-pub no_text : (text : listing.Entry → List ℕ) (es : List listing.Entry) (i : ℕ) → length es ≤ i → flat_map text (drop i es) ≡ []
-no_text text es i h = ap (flat_map text) (drop_all i es h)
-
--- the fault lines, by the next one
-pub next_line : (kept : List Entry) (i : ℕ) (none : Entry) → i < length kept → lines_of (drop i kept) ≡ fault_line (get_or kept i none).first.fault
-    ++ lines_of (drop (i + 1) kept)
-next_line kept i none h = rw (add-one, drop-cons kept i none h) refl
+pub kept_texts : (file : List ℕ) (V : List Reference) (kept : List Entry) (es : List listing.Entry) → kept ≡ map kept_of es
+    → flat_map (kept_entry_text file V) kept ≡ flat_map (entry_text file V) es
+kept_texts file V kept es is = ap (flat_map (kept_entry_text file V)) is ∙ each es
+  where
+    each : (es : List listing.Entry) → flat_map (kept_entry_text file V) (map kept_of es) ≡ flat_map (entry_text file V) es
+    each [] = refl
+    each (e ∷ es) = ap₂ (λ a b. a ++ b) (kept_text file V e) (each es)
 
 -- those of what is kept are those of the entries
 pub same_lines : (es : List listing.Entry) → lines_of (map kept_of es) ≡ flat_map (λ (e : listing.Entry). fault_line e.first.fault) es

@@ -1,11 +1,12 @@
 -- What a run leaves of a reporter of which nothing had been heard.
-use Rattle.std.proofs.Common.{◌≡◌, ◌≢◌, ℕ, ◌*◌, ◌<◌, ◌≤◌, List, [], ◌∷◌, length, Err, Result, inl, inr, refl, sym, ap, subst, ◌∙◌, arith}
+use Rattle.std.proofs.Common.{◌≡◌, ◌≢◌, ℕ, ◌*◌, ◌<◌, List, [], ◌∷◌, length, Err, Result, inl, inr, refl, sym, ap, subst, ◌∙◌, arith}
 use Rattle.std.proofs.lemmas.List.{length-map}
 use Rattle.dbsurvey.specs.Moves.{MovesBySome}
 use Rattle.dbformat.specs.File.{geometry}
 use Rattle.dbformat.specs.Lines.{counted, ok_line}
 use Rattle.dbformat.specs.Reference.{Reference}
 use Rattle.dbformat.specs.Report.{faults}
+use Rattle.dbformat.specs.Rows.{stat_rows}
 use Rattle.dbformat.specs.Survey.{Survey}
 use Rattle.dbformat.specs.declared.Verdict.{Verdict}
 use Rattle.dbtrace.specs.declared.Reported.{Reported}
@@ -14,9 +15,10 @@ use Rattle.dbsource.specs.declared.error.RunError.{RunError}
 use Rattle.dbsource.specs.declared.error.RunError.TheVariants.{Refused, ReadFailed, OutOfMemory, WriteFailed}
 use Rattle.dbsource.proofs.Beginnings.{begins_nothing}
 use Rattle.dbwalk.specs.Telling.{StopsBy}
-use Rattle.dbowner.specs.Climbs.{Trees}
+use Rattle.dbowner.specs.Trees.{AreTrees}
+use Rattle.dbowner.proofs.Trees.{all_noted}
 use Rattle.dbscan.specs.Desks.{DeskView}
-use Rattle.dbscan.specs.Finishes.{HasHeard, Leaves}
+use Rattle.dbscan.specs.Finishes.{HasHeard, IsDeskOf, Leaves}
 use Rattle.dbscan.specs.Notices.{CutsNever, run_notices}
 use Rattle.dbscan.specs.Placed.{told_faults}
 use Rattle.dbscan.proofs.AllTold.{all_told}
@@ -38,13 +40,14 @@ none_counted (t ∷ ts) h = absurd (let e : ⊥ = omega arith in e)
 
 -- it has heard all of a file with survey V, where it had heard nothing before
 pub record HasHeardFile {A O : Type 0} (limit : ℕ) (file : List ℕ) (V : List Reference) (first now : ExplainReporter A O) : Type 0 where
+  pub survey : Survey file V
   pub empty : IsEmpty limit (geometry file) first.kept.now
-  pub all : HasHeardFaults limit (told_faults file V) first now
+  pub all : HasHeardFaults limit first (told_faults file V) (stat_rows file V) now
 
 pub file_heard : {A O : Type 0} {limit : ℕ} {file : List ℕ} {V : List Reference} {d : DeskView} {first now : ExplainReporter A O}
     → HasHeard Hears d file V first now → IsEmpty limit (geometry file) first.kept.now → HasHeardFile limit file V first now
 file_heard {limit = limit} {file = file} {V = V} {first = first} {now = now} h empty =
-    record { empty = empty; all = all_heard file V h.desk.survey first now limit (geometry file) empty h.heard }
+    record { survey = h.desk.survey; empty = empty; all = all_heard file V h.desk.survey first now limit (geometry file) empty h.heard }
 
 module _ {A O : Type 0} (held : O → OutState) {limit : ℕ} {file : List ℕ} {V : List Reference} {first now : ExplainReporter A O}
     (heard : HasHeardFile limit file V first now) where
@@ -65,19 +68,17 @@ module _ {A O : Type 0} (held : O → OutState) {limit : ℕ} {file : List ℕ} 
       → Writes r (held first.out.now).bytes (held after).bytes text
   clean_put none r after w = written r after ok_line (sym (ok_text limit file V (none_counted (told_faults file V) (sym heard.all.tally.all ∙ none)))) w
 
-  -- some were found
-  pub told_some : now.kept.now.tally.all ≢ 0 → told_faults file V ≡ [] → ⊥
-  told_some some e = some (heard.all.tally.all ∙ ap (λ (ts : List Reported). counted (length ts)) e)
-
-  -- with the lost pages
-  pub all_kept : (l : Held) → ListsAll limit file V l → length l.zeros ≡ length now.kept.now.listing.zeros
-      → HasAll limit file V (record now.kept.now { listing = l })
-  all_kept l listed words = record {
-    listing = listed;
+  -- some were found, and listed with the lost pages
+  pub all_kept : (d : DeskView) (l : Held) → IsDeskOf d file V → ListsAll limit file V l → length l.zeros ≡ length now.kept.now.listing.zeros
+      → now.kept.now.tally.all ≢ 0 → HasAll d (record now.kept.now { listing = l }) file V
+  all_kept d l desk listed words some = record {
+    desk = desk;
+    some = λ e. some (heard.all.tally.all ∙ ap (λ (ts : List Reported). counted (length ts)) e);
+    listing = listed.entries;
     tally = heard.all.tally;
     bits = subst (λ n. (geometry file).pages < 64 * n) (sym heard.all.bits) heard.empty.bits;
     zeros = subst (λ n. (geometry file).pages < 64 * n) (sym (words ∙ heard.all.zeros)) heard.empty.zeros;
-    room = subst (λ (t : Trees). (geometry file).pages ≤ length t.known) (sym heard.all.trees) heard.empty.room;
+    trees = subst (AreTrees V) (sym heard.all.trees) (all_noted file V first.kept.now.trees.known heard.survey heard.empty.room);
   }
 
 -- ---- a run that was cut off before its end

@@ -1,5 +1,4 @@
 pub mod Below
-pub mod Causes
 pub mod Desks
 pub mod Explained
 pub mod Heard

@@ -1,14 +1,10 @@
 -- The report by the pieces that are put, and what is kept for them.
-use Rattle.std.proofs.Common.{◌≡◌, ℕ, ◌≤◌, Bool, true, false, cond, List, [], ◌∷◌, ◌++◌, length, map, take, drop, refl, ap, ◌∙◌, arith}
+use Rattle.std.proofs.Common.{◌≡◌, ℕ, Bool, true, false, cond, List, [], ◌∷◌, ◌++◌, map, take, drop, refl, ap, ◌∙◌}
 use Rattle.std.specs.Prelude.{filter, flat_map, not, sum_by}
-use Rattle.dbformat.specs.File.{geometry}
 use Rattle.dbformat.specs.Lines.{ok_line}
 use Rattle.dbformat.specs.Reference.{Reference}
 use Rattle.dbformat.specs.Report.{more_text}
 use Rattle.dbtrace.specs.declared.Reported.{Reported}
-use Rattle.dbmarks.specs.Marking.{AreMarksOf}
-use Rattle.dbmarks.specs.declared.marks.Mark.{Mark}
-use Rattle.dbmarks.proofs.Markings.{marks_of-length}
 use Rattle.dbentries.specs.Listing as listing
 use Rattle.dbentries.specs.Listing.{entries, size}
 use Rattle.dbscan.specs.Placed.{told_faults}
@@ -18,13 +14,6 @@ use Rattle.dbentries.specs.Lists.{Held, Shows}
 use Rattle.dbexplain.specs.Explained.{entry_text, explain_text}
 use Rattle.dbexplain.specs.Summary.{summary}
 use Rattle.dbexplain.proofs.KeptEntries.{some_listed}
-
--- there is room for what is known of each page that has a mark
-pub marks_fit : (file : List ℕ) (V : List Reference) (marks : List Mark) (room : ℕ) → AreMarksOf file V marks → (geometry file).pages ≤ room → length marks
-    ≤ room
-marks_fit file V marks room marked fits =
-    let all : length marks ≡ (geometry file).pages = ap length marked ∙ marks_of-length (geometry file) V in
-    omega (arith, all, fits)
 
 -- the line that counts the faults of the other entries
 pub rest_line : (limit : ℕ) (es : List listing.Entry) (l : Held) → Shows limit es l → more_text l.entries.rest ≡ more_text (sum_by size (drop limit es))

@@ -23,13 +23,14 @@ use Rattle.dbformat.specs.File.{geometry}
 use Rattle.dbformat.specs.Header.{encoding, first_trunk}
 use Rattle.dbformat.specs.Lines.{code_text, code_words, counted, line_feed}
 use Rattle.dbformat.specs.Reference.{Way, Reference, trunk}
-use Rattle.dbformat.specs.Schema.{schema, schema_link, start, root_start, rooted_rows, freelist_starts, starts}
+use Rattle.dbformat.specs.Schema.{schema, schema_link, start, root_start, rooted_rows, freelist_starts, later_starts, starts}
 use Rattle.dbformat.specs.SchemaRow.{SchemaRow}
 use Rattle.dbformat.specs.Survey.{Survey}
 use Rattle.dbformat.specs.declared.FaultCode.{FaultCode}
 use Rattle.dbformat.specs.declared.Encoding.{Encoding}
 use Rattle.dbformat.specs.declared.Geometry.{Geometry}
 use Rattle.dbformat.proofs.HeaderPrefix.{encoding_within}
+use Rattle.dbformat.proofs.SchemaStart.{schema_below}
 use Rattle.dbsource.specs.HeaderBytes.{HeaderBytes}
 use Rattle.dbsource.specs.Headers.{IsHeaderOf}
 use Rattle.dbscan.specs.Roots.{AreListed, listed_rows}
@@ -38,7 +39,6 @@ use Rattle.dbtrace.specs.declared.Part.{Part}
 use Rattle.dbtrace.specs.declared.Part.TheVariants as part
 use Rattle.dbtrace.specs.declared.Reported.{Reported}
 use Rattle.dbformat.specs.Starts.{start_at}
-use Rattle.dbowner.proofs.RootPages.{starts_are}
 use Rattle.dbformat.proofs.BelowStarts.{length_taken, rows_start}
 use Rattle.dbscan.specs.Placed.{told_faults}
 use Rattle.dbscan.proofs.Reached.{of_starts}
@@ -185,6 +185,12 @@ module _ (file : List ℕ) (V : List Reference) (s : Survey file V) where
   abbrev rows : List SchemaRow
   rows = listed_rows file V
 
+  -- the starts of a file, by its rows
+  starts_are : starts file V ≡ schema_link ∷ (map (root_start file) (enumerate_from 1 rows) ++ freelist_starts file)
+  unfolding later_starts
+  starts_are = ap (λ l. schema_link ∷ (map (root_start file) (enumerate_from 1 (take last_root_start (rooted_rows l))) ++ freelist_starts file))
+      (sym (schema_below file V s))
+
   -- no fault was reported at the freelist's start where there is no first trunk
   none_free : freelist_starts file ≡ [] → start_count ts freelist_start ≡ 0
   none_free none = count_none (λ (t : Reported). is_part_of_start freelist_start t.part) ts (λ t i. by_case t i (is_part_of_start freelist_start t.part) refl)
@@ -201,7 +207,7 @@ module _ (file : List ℕ) (V : List Reference) (s : Survey file V) where
       by_case t i true e =
           let at = (of_starts file V s t i freelist_start (start_is freelist_start t.part e)).start in
           let m = IsIn-from_map (λ (l : Link Way). l.step) (starts file V) freelist_start at in
-          absurd (no_step m.0 (subst (IsIn m.0) (starts_are file V s rows refl) m.1) m.2)
+          absurd (no_step m.0 (subst (IsIn m.0) starts_are m.1) m.2)
 
   free_line : start_sum_line file V ts freelist_start ≡ flat_map (λ (l : Link Way). start_sum_line file V ts l.step) (freelist_starts file)
   free_line = by_case (first_trunk file == 0) none_free
@@ -220,7 +226,7 @@ module _ (file : List ℕ) (V : List Reference) (s : Survey file V) where
       let M = map (root_start file) (enumerate_from 1 rows) in
       ap₂ (λ a b. start_sum_line file V ts 0 ++ (a ++ b)) (sym (rows_lines 1 rows)) free_line
       ∙ ap (λ w. start_sum_line file V ts 0 ++ w) (sym (flat_map-append f M (freelist_starts file)))
-      ∙ ap (flat_map f) (sym (starts_are file V s rows refl))
+      ∙ ap (flat_map f) (sym starts_are)
 
   module _ (t : Tallied) (is : IsTallyTo V ts n t) where
     trees_are : tree_counts rows t ≡ map (counted_start V ts n) (range_with_len 0 (suc (length rows)))

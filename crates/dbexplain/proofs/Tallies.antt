@@ -1,14 +1,12 @@
 -- A tally with one fault more.
-use Rattle.std.proofs.Common.{◌≡◌, ℕ, zero, suc, ◌+◌, ◌/◌, ◌%◌, ◌<◌, ◌≤◌, Bool, true, false, ◌||◌, List, [], ◌∷◌, ◌++◌, length, map, replicate, get_or, Some}
+use Rattle.std.proofs.Common.{◌≡◌, ℕ, zero, suc, ◌+◌, ◌<◌, ◌≤◌, Bool, true, false, ◌||◌, List, [], ◌∷◌, ◌++◌, length, map, replicate, Some}
 use Rattle.std.proofs.Common.{refl, sym, ap, ◌∙◌, arith, length-append}
 use Rattle.std.specs.Prelude.{if◌then◌else◌, count_by, not, ◌&&◌, slice_get, slice_set, slice_index_or, ◌==◌}
-use Rattle.std.specs.Int.{bit_at}
 use Rattle.std.proofs.Math.Bool.{or-false}
 use Rattle.std.proofs.Math.ListN.{length-set}
 use Rattle.std.proofs.lemmas.Bool.{eqb-true}
 use Rattle.std.proofs.lemmas.Bool.Decides.{nat_tests}
 use Rattle.std.proofs.lemmas.List.Folds.{list_any-append}
-use Rattle.std.proofs.lemmas.Nat.Bits.{bit_at-zero}
 use Rattle.std.proofs.lemmas.Option.{get_or_from_slice_get, slice_get_within}
 use Rattle.dbsurvey.proofs.Lists.{count-append}
 use Rattle.dbformat.specs.Address.{freelist_start}
@@ -28,7 +26,7 @@ use Rattle.dbexplain.specs.Tallies.{Tallied, IsTallyOf, counted_code, counted_in
 use Rattle.dbexplain.specs.TallySteps.{start_fault_counted}
 use Rattle.dbexplain.specs.declared.tally.CodeCount.{CodeCount}
 use Rattle.dbexplain.specs.declared.tally.StartCount.{StartCount}
-use Rattle.dbentries.proofs.Bits.{none_set, room_kept, set_is}
+use Rattle.dbentries.proofs.Bits.{room_kept, set_is}
 
 -- ---- counts
 

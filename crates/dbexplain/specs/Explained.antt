@@ -14,7 +14,7 @@ use Rattle.dbformat.specs.declared.FaultCode.TheVariants.{H06}
 use Rattle.dbtrace.specs.declared.Cause.{Cause}
 use Rattle.dbtrace.specs.declared.Cause.TheVariants as cause
 use Rattle.dbtrace.specs.declared.Reported.{Reported}
-use Rattle.dbentries.specs.Lines.{cause_text, indented, key_text, leaf_text, look_text}
+use Rattle.dbentries.specs.Lines.{cause_text, indented}
 use Rattle.dbentries.specs.Listing.{Entry, entries, size}
 use Rattle.dbentries.specs.Others.{others_text}
 use Rattle.dbentries.specs.Listed.{IsBeginning, listed_entries, listed_faults}
@@ -35,13 +35,17 @@ abbrev pub missing_line : List ℕ → FaultCode → List ℕ
 missing_line file H06 = indented (missing_text ((geometry file).pages + 1) (stated_pages file))
 missing_line file _ = []
 
--- what a fault of page p goes back to; of a key and a leaf also where its page is, and of a page what is known of it
+-- what comes after the line of a cause of a fault of page p: of a key and a leaf where its page is, and of a page what is known of it
+abbrev pub after_cause : List ℕ → List Reference → ℕ → Cause → List ℕ
+after_cause file V p (cause.Key k) = place_line file V k.page
+after_cause file V p (cause.Leaf page) = place_line file V page
+after_cause file V p (cause.Page page facts) = facts_text (geometry file).page_size page facts
+after_cause file V p (cause.Look l facts) = facts_text (geometry file).page_size p facts
+after_cause file V p c = []
+
+-- what a fault of page p goes back to
 abbrev pub cause_lines : List ℕ → List Reference → ℕ → Cause → List ℕ
-cause_lines file V p (cause.Key k) = key_text k ++ place_line file V k.page
-cause_lines file V p (cause.Leaf page) = leaf_text page ++ place_line file V page
-cause_lines file V p (cause.Page page facts) = facts_text (geometry file).page_size page facts
-cause_lines file V p (cause.Look l facts) = look_text l facts.named ++ facts_text (geometry file).page_size p facts
-cause_lines file V p c = cause_text c
+cause_lines file V p c = cause_text c ++ after_cause file V p c
 
 -- the fault line, where the fault is, and the missing pages
 abbrev pub front_text : List ℕ → List Reference → Fault → List ℕ

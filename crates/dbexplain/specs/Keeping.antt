@@ -1,32 +1,57 @@
 -- What is kept of a file until its report is written.
-use Rattle.std.specs.Prelude.{ℕ, ◌≤◌, List, [], flat_map, length}
+use Rattle.std.specs.Prelude.{◌≡◌, ℕ, ◌<◌, List, [], ◌++◌, flat_map, length}
 use Rattle.dbformat.specs.File.{geometry}
 use Rattle.dbformat.specs.Lines.{fault_line}
 use Rattle.dbformat.specs.Reference.{Reference}
 use Rattle.dbformat.specs.declared.Geometry.{Geometry}
+use Rattle.dbentries.specs.Lines.{cause_text}
+use Rattle.dbentries.specs.Others.{kept_others_text}
 use Rattle.dbentries.specs.declared.entry.Entry.{Entry}
-use Rattle.dbentries.specs.Lists.{IsUnused, ListsAll}
+use Rattle.dbentries.specs.Listed.{listed_faults}
+use Rattle.dbentries.specs.Lists.{IsListOf, IsUnused}
+use Rattle.dbscan.specs.Desks.{DeskView}
+use Rattle.dbscan.specs.Finishes.{IsDeskOf}
 use Rattle.dbscan.specs.Placed.{told_faults}
 use Rattle.dbentries.specs.Bits.{HasPageBit}
-use Rattle.dbexplain.specs.Tallies.{IsTallyOf}
+use Rattle.dbowner.specs.Trees.{AreTrees}
+use Rattle.dbexplain.specs.Explained.{after_cause, front_text}
+use Rattle.dbexplain.specs.Notes.{AreOwnersOf}
+use Rattle.dbexplain.specs.Tallies.{IsTallyOf, Tallied}
+use Rattle.dbentries.specs.Zeros.{AreZeros}
 use Rattle.dbexplain.specs.declared.kept.Kept.{Kept}
+use Rattle.dbexplain.specs.declared.owners.Owners.{Owners}
+
+-- what is written of an entry, by what is kept of it
+abbrev pub kept_entry_text : List ℕ → List Reference → Entry → List ℕ
+kept_entry_text file V k =
+    front_text file V k.first.fault ++ (cause_text k.first.cause ++ (after_cause file V k.first.fault.page k.first.cause ++ kept_others_text k))
 
 -- the fault lines of what is kept of some entries
 abbrev pub lines_of : List Entry → List ℕ
 lines_of kept = flat_map (λ (e : Entry). fault_line e.first.fault) kept
 
--- nothing is known of a file of this shape, and there is room for `limit` entries
+-- nothing is known of a file of this shape, and there is room for `limit` entries and for its pages
 pub record IsEmpty {A : Type 0} (limit : ℕ) (g : Geometry) (k : Kept A) : Type 0 where
   pub listing : IsUnused limit k.listing
   pub tally : IsTallyOf [] k.tally
   pub bits : HasPageBit k.tally.pages g.pages
   pub zeros : HasPageBit k.listing.zeros g.pages
-  pub room : g.pages ≤ length k.trees.known
+  pub room : g.pages < length k.trees.known
 
--- all faults of a file were counted, and are listed
-pub record HasAll {A : Type 0} (limit : ℕ) (file : List ℕ) (V : List Reference) (k : Kept A) : Type 0 where
-  pub listing : ListsAll limit file V k.listing
+-- Faults were found in the file of a desk. All of them were counted, and are listed, and the start of each page was noted.
+pub record HasAll {A : Type 0} (d : DeskView) (k : Kept A) (file : List ℕ) (V : List Reference) : Type 0 where
+  pub desk : IsDeskOf d file V
+  pub some : told_faults file V ≡ [] → ⊥
+  pub listing : IsListOf (listed_faults file V) k.listing
   pub tally : IsTallyOf (told_faults file V) k.tally
   pub bits : HasPageBit k.tally.pages (geometry file).pages
   pub zeros : HasPageBit k.listing.zeros (geometry file).pages
-  pub room : (geometry file).pages ≤ length k.trees.known
+  pub trees : AreTrees V k.trees.known
+
+-- All faults of a file were counted by a tally, and these bits are of the pages that are zeros.
+pub record IsCounted {A : Type 0} (o : Owners A) (t : Tallied) (words : List ℕ) (file : List ℕ) (V : List Reference) : Type 0 where
+  pub owners : AreOwnersOf o file V
+  pub tally : IsTallyOf (told_faults file V) t
+  pub bits : HasPageBit t.pages (geometry file).pages
+  pub room : HasPageBit words (geometry file).pages
+  pub zeros : AreZeros (listed_faults file V) words

@@ -19,6 +19,7 @@ use Rattle.dbmarks.specs.declared.marks.Mark.TheVariants as mark
 use Rattle.dbscan.specs.Roots.{AreListed}
 use Rattle.dbowner.specs.Texts.{place_from, place_front, place_words}
 use Rattle.dbexplain.specs.Below.{page_place_line, line_of_start, header_line, line_of_entry, value_page}
+use Rattle.dbowner.specs.Trees.{AreTrees}
 use Rattle.dbowner.specs.declared.place.Place.{Place}
 use Rattle.dbexplain.specs.declared.notes.LineBelow.{LineBelow}
 use Rattle.dbexplain.specs.declared.notes.LineBelow.TheVariants as note
@@ -85,9 +86,10 @@ below_of _ = below.Own
 abbrev pub page_or_none : Geometry → ℤ → ℕ
 page_or_none g value = if is_page g (value_page value) then value_page value else 0
 
--- All this is of a file and its survey: the header, the marks of the visits, and the rows of the schema.
+-- All this is of a file and its survey: the header, the marks of the visits, the rows of the schema, and the starts of pages.
 pub record AreOwnersOf {A : Type 0} (o : Owners A) (file : List ℕ) (V : List Reference) : Type 0 where
   pub header : IsHeaderOf o.header.now file
   pub survey : Survey file V
   pub marks : AreMarksOf file V o.marks.now
   pub rows : AreListed file V o.roots.now.rows
+  pub trees : AreTrees V o.trees.now.known

@@ -4,21 +4,21 @@ use Rattle.std.specs.Io.KnownBytes.{Appends}
 use Rattle.dbformat.specs.File.{geometry}
 use Rattle.dbformat.specs.Reference.{Reference}
 use Rattle.dbformat.specs.Report.{faults, verdict}
+use Rattle.dbformat.specs.Rows.{StatRow}
 use Rattle.dbformat.specs.declared.Verdict.{Verdict}
 use Rattle.dbtrace.specs.declared.Reported.{Reported}
-use Rattle.dbsource.specs.Failures.{failures_after, is_any}
-use Rattle.dbsource.specs.Outs.{Begins, OutState, Writes}
+use Rattle.dbsource.specs.Outs.{Begins, OutState, Puts}
 use Rattle.dbsource.specs.declared.error.RunError.{RunError}
 use Rattle.dbsource.specs.declared.error.RunError.TheVariants.{ReadFailed}
 use Rattle.dbsource.specs.declared.out.WriteFailed.{WriteFailed}
 use Rattle.dbwalk.specs.Telling.{SinkState, one_out}
 use Rattle.dbscan.specs.Notices.{Notice}
 use Rattle.dbentries.specs.Listed.{listed_entries}
-use Rattle.dbentries.specs.Listing.{entries}
-use Rattle.dbentries.specs.Lists.{HoldsFaults, ListsFault, ListsFirst}
+use Rattle.dbentries.specs.Lists.{ListsFault, ListsFirst}
 use Rattle.dbentries.specs.Reported.{HearsReported}
-use Rattle.dbexplain.specs.Explained.{explain_text, found_text}
-use Rattle.dbexplain.specs.Keeping.{IsEmpty}
+use Rattle.dbowner.specs.Trees.{row_noted}
+use Rattle.dbexplain.specs.Explained.{explain_text}
+use Rattle.dbexplain.specs.Keeping.{IsEmpty, lines_of}
 use Rattle.dbexplain.specs.Tallies.{IsTallyOf}
 use Rattle.dbexplain.specs.declared.reporter.ExplainReporter.{ExplainReporter}
 
@@ -32,9 +32,16 @@ module _ {A O : Type 0} where
     pub trees : t.kept.now.trees ≡ s.kept.now.trees
     pub out : t.out.now ≡ s.out.now
 
-  -- a notice was taken: a fault was added, and nothing else changes it
+  -- The start of the page of a row was noted.
+  pub record Notes (r : StatRow) (s t : ExplainReporter A O) : Type 0 where
+    pub trees : t.kept.now.trees.known ≡ row_noted s.kept.now.trees.known r
+    pub tally : t.kept.now.tally ≡ s.kept.now.tally
+    pub listing : t.kept.now.listing ≡ s.kept.now.listing
+    pub out : t.out.now ≡ s.out.now
+
+  -- a notice was taken: a fault was added, or a row noted, and nothing else changes it
   abbrev pub Hears : ExplainReporter A O → Notice → ExplainReporter A O → Type 0
-  Hears = HearsReported Adds
+  Hears = HearsReported Adds Notes
 
   module _ (held : O → OutState) where
     -- it borrows its Out, whose failures are counted
@@ -55,9 +62,7 @@ module _ {A O : Type 0} where
     -- What the end of a run makes of it: after a failed read the lines of the entries found so far were put, as far as the Out took them.
     pub record PutsLines (s t : ExplainReporter A O) : Type 0 where
       pub put : Result (Unit {0}) WriteFailed
-      pub lines : (limit : ℕ) (told : List Reported) → HoldsFaults limit told s.kept.now.listing
-          → Writes put (held s.out.now).bytes (held t.out.now).bytes (found_text limit (entries told))
-      pub count : (held t.out.now).failures ≡ failures_after is_any put (held s.out.now).failures
+      pub lines : Puts put (held s.out.now) (held t.out.now) (lines_of s.kept.now.listing.entries.listed)
 
     -- by the answer
     abbrev pub Ends : Result Verdict RunError → ExplainReporter A O → ExplainReporter A O → Type 0

@@ -1,13 +1,13 @@
 // What is known of a page with faults.
 ghost use Rattle.std.specs.Prelude.{◌≡◌, ◌≤◌};
 ghost use Rattle.dbformat.specs.FixedPages.{IsInRange};
-ghost use Rattle.dbsource.specs.Outs.{Puts};
+ghost use Rattle.dblines.specs.Writing.{Wrote};
 ghost use Rattle.dbexplain.specs.Facts.{facts_text, run_line};
 
 use arrayvec::ArrayVec;
 use dbformat::{ByteRun, Geometry, hex_byte};
-use dblines::{append, append_number};
-use dbsource::{Out, WriteFailed};
+use dblines::{Writer, append, append_number};
+use dbsource::Out;
 use dbwalk::PageFacts;
 
 // The line of a run of one byte in a page, by offsets in the file.
@@ -32,22 +32,17 @@ fn run_line(shape: Geometry, page: u32, run: ByteRun) -> ArrayVec<u8, 96>
     line
 }
 
-/// Puts what is known of a page with faults: its longest run of one byte.
-///
-/// # Errors
-///
-/// [`WriteFailed`] where the Out failed: it took a beginning of the lines.
+/// Writes what is known of a page with faults: its longest run of one byte.
 pub(crate) fn put_facts<O: Out>(
-    out: &mut O,
+    writer: &mut Writer<'_, O>,
     shape: Geometry,
     page: u32,
     facts: &PageFacts,
-) -> Result<(), WriteFailed>
+)
     requires { IsInRange shape }
-    ensures { Puts result (O.held out.old) (O.held out.new) (facts_text shape.page_size page facts.now) }
+    ensures { Wrote O.held writer.old (facts_text shape.page_size page facts.now) writer.new }
 {
-    match facts.run {
-        Some(run) => out.put(run_line(shape, page, run).as_slice()),
-        None => Ok(()),
+    if let Some(run) = facts.run {
+        writer.put(run_line(shape, page, run).as_slice());
     }
 }

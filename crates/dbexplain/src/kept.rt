@@ -18,7 +18,7 @@ pub(crate) struct Kept<A: Allocator = Global> {
 }
 
 impl<A: Allocator + Copy> Kept<A> {
-    // That of a file of this shape, of which nothing else is known yet, with room for `limit` entries. It takes no memory after this.
+    // For a file of this shape, before it is read, with room for `limit` entries. It takes no memory after this.
     pub(crate) fn new_in(alloc: A, limit: u32, geometry: &Geometry) -> Result<Kept<A>, AllocError>
         requires { IsInRange geometry.now }
         ensures { IfOk result (IsEmpty limit geometry.now) }

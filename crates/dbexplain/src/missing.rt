@@ -1,16 +1,16 @@
 // The pages that a file lacks.
-ghost use Rattle.std.specs.Prelude.{◌≡◌, ◌+◌, [], ℕ, List};
-ghost use Rattle.dbformat.specs.File.{geometry};
-ghost use Rattle.dbsource.specs.Headers.{IsHeaderOf};
-ghost use Rattle.dbsource.specs.Failures.{failures_after, is_any};
-ghost use Rattle.dbsource.specs.Outs.{Puts, Writes};
+ghost use Rattle.std.specs.Prelude.{◌≡◌};
+ghost use Rattle.dblines.specs.Writing.{WroteOf};
 ghost use Rattle.dbentries.specs.Lines.{indented};
 ghost use Rattle.dbexplain.specs.Explained.{missing_line, missing_text};
+ghost use Rattle.dbexplain.specs.Notes.{AreOwnersOf};
 
+use crate::owners::Owners;
 use arrayvec::ArrayVec;
 use dbformat::FaultCode;
-use dblines::{append, append_number};
-use dbsource::{Header, Out, WriteFailed};
+use dblines::{Writer, append, append_number};
+use dbsource::Out;
+use std::alloc::Allocator;
 
 // The line of the pages from one number to another.
 fn missing_text(first: u64, last: u64) -> ArrayVec<u8, 96>
@@ -31,26 +31,17 @@ fn missing_text(first: u64, last: u64) -> ArrayVec<u8, 96>
     line
 }
 
-/// Puts which pages are missing, below a fault with the code H06, which says that the header states more pages than there are.
-///
-/// # Errors
-///
-/// [`WriteFailed`] where the Out failed: it took a beginning of the line.
-pub(crate) fn put_missing<O: Out>(
-    out: &mut O,
-    header: &Header,
+/// Writes which pages are missing, below a fault with the code H06, which says that the header states more pages than there are.
+pub(crate) fn put_missing<A: Allocator, O: Out>(
+    writer: &mut Writer<'_, O>,
+    owners: &Owners<'_, A>,
     code: FaultCode,
-) -> Result<(), WriteFailed>
-    ensures line { (file : List ℕ) → IsHeaderOf header.now file
-        → Writes result (O.held out.old).bytes (O.held out.new).bytes (missing_line file code) }
-    ensures count { (O.held out.new).failures ≡ failures_after is_any result (O.held out.old).failures }
+)
+    ensures { WroteOf O.held writer.old (AreOwnersOf owners.now) (λ file V. missing_line file code) writer.new }
 {
-    match code {
-        FaultCode::H06 => {
-            let first = u64::from(header.geometry().pages) + 1;
-            let line = missing_text(first, u64::from(header.stated_pages()));
-            out.put(line.as_slice())
-        }
-        _ => Ok(()),
+    if let FaultCode::H06 = code {
+        let first = u64::from(owners.header.geometry().pages) + 1;
+        let line = missing_text(first, u64::from(owners.header.stated_pages()));
+        writer.put(line.as_slice());
     }
 }

@@ -3,7 +3,6 @@ ghost use Rattle.std.specs.Prelude.{◌≡◌, [], option_map};
 ghost use Rattle.std.specs.Option.{option_map_or};
 ghost use Rattle.dbformat.specs.FixedPages.{IsInRange};
 ghost use Rattle.dbmarks.specs.EndMarks.{entry_value};
-ghost use Rattle.dbsource.specs.Outs.{Puts};
 ghost use Rattle.dblines.specs.Writing.{Wrote};
 ghost use Rattle.dbowner.specs.Texts.{tree_of_row};
 ghost use Rattle.dbexplain.specs.Below.{header_line, line_of_entry};
@@ -14,7 +13,7 @@ use arrayvec::ArrayVec;
 use dblines::{Writer, append, append_number};
 use dbmarks::MapEntry;
 use dbowner::TreeNames;
-use dbsource::{Geometry, Out, WriteFailed};
+use dbsource::{Geometry, Out};
 use dbwalk::Mark;
 use std::alloc::Allocator;
 
@@ -98,8 +97,8 @@ fn put_note_of<A: Allocator, O: Out>(
     }
 }
 
-// Writes the lines of two notes.
-fn write_notes<A: Allocator, O: Out>(
+/// Writes the lines of two notes.
+pub(crate) fn put_notes<A: Allocator, O: Out>(
     writer: &mut Writer<'_, O>,
     names: &TreeNames<'_, A>,
     shape: Geometry,
@@ -110,19 +109,4 @@ fn write_notes<A: Allocator, O: Out>(
 {
     put_note_of(writer, names, shape, notes.0);
     put_note_of(writer, names, shape, notes.1);
-}
-
-// Puts the lines of two notes.
-pub(crate) fn put_notes<A: Allocator, O: Out>(
-    names: &TreeNames<'_, A>,
-    out: &mut O,
-    shape: Geometry,
-    notes: (Option<LineBelow>, Option<LineBelow>),
-) -> Result<(), WriteFailed>
-    requires { IsInRange shape }
-    ensures { Puts result (O.held out.old) (O.held out.new) (notes_text shape (tree_of_row names.now.encoding names.now.roots.now.rows) notes) }
-{
-    let mut writer = Writer::new(out);
-    write_notes(&mut writer, names, shape, notes);
-    writer.end()
 }

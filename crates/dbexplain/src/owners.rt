@@ -6,9 +6,7 @@ ghost use Rattle.dbformat.specs.File.{geometry};
 ghost use Rattle.dbformat.specs.FixedPages.{geometry_of};
 ghost use Rattle.dbformat.specs.Header.{encoding};
 ghost use Rattle.dbformat.specs.Reference.{Reference};
-ghost use Rattle.dbsource.specs.Failures.{failures_after, is_any};
-ghost use Rattle.dbsource.specs.Outs.{Writes};
-ghost use Rattle.dbowner.specs.Climbs.{AreTrees};
+ghost use Rattle.dblines.specs.Writing.{WroteOf};
 ghost use Rattle.dbowner.specs.Texts.{tree_text};
 ghost use Rattle.dbexplain.specs.Below.{entry_line, lines_below, own_line, place_line};
 ghost use Rattle.dbexplain.specs.Notes.{AreOwnersOf, below_of, note_text, notes_text, page_or_none};
@@ -16,18 +14,20 @@ ghost use Rattle.dbexplain.specs.Notes.{AreOwnersOf, below_of, note_text, notes_
 use crate::notes::{LineBelow, put_notes, wanted_entry};
 use crate::page_lines::Spot;
 use dbformat::{Fault, FaultCode};
+use dblines::Writer;
 use dbowner::{PageTrees, RootList, TreeNames, mark_of, place_of};
-use dbsource::{Header, Out, WriteFailed};
+use dbsource::{Header, Out};
 use dbwalk::Marks;
 use std::alloc::{Allocator, Global};
 
-/// What is known of a file at the end of a run: its header, the marks of its pages, and the rows of its schema that have a
-/// root page.
+/// What is known of a file at the end of a run: its header, the marks of its pages, the rows of its schema that have a root page,
+/// and the tree of each page.
 #[derive(Drop)]
 pub(crate) struct Owners<'a, A: Allocator = Global> {
     pub header: &'a Header,
     pub marks: &'a Marks<A>,
     pub roots: &'a RootList<A>,
+    pub trees: &'a PageTrees<A>,
 }
 
 // What is written below a fault.
@@ -72,8 +72,8 @@ fn below_of(code: FaultCode) -> Below
 }
 
 impl<A: Allocator> Owners<'_, A> {
-    // The texts of the trees.
-    fn names(&self) -> TreeNames<'_, A>
+    /// The texts of the trees.
+    pub(crate) fn names(&self) -> TreeNames<'_, A>
         ensures encoding { result.encoding ≡ encoding self.now.header.now.bytes }
         ensures roots { result.roots.now ≡ self.now.roots.now }
     {
@@ -96,28 +96,26 @@ impl<A: Allocator> Owners<'_, A> {
     }
 
     // Where a page is.
-    fn spot(&self, trees: &mut PageTrees<A>, page: u32) -> LineBelow
-        ensures line { (file : List ℕ) (V : List Reference) → AreOwnersOf self.now file V → AreTrees file V trees.old.known
+    fn spot(&self, page: u32) -> LineBelow
+        ensures { (file : List ℕ) (V : List Reference) → AreOwnersOf self.now file V
             → note_text (geometry file) (tree_text file V) result ≡ place_line file V page }
-        ensures trees { (file : List ℕ) (V : List Reference) → AreOwnersOf self.now file V → AreTrees file V trees.old.known → AreTrees file V trees.new.known }
     {
         LineBelow::Page(Spot {
             page,
             place: place_of(self.marks, page),
-            start: trees.start_of(self.marks, page),
+            start: self.trees.start_of(self.marks, page),
         })
     }
 
     // Where a fault is.
-    fn own_note(&self, trees: &mut PageTrees<A>, fault: &Fault) -> LineBelow
-        ensures line { (file : List ℕ) (V : List Reference) → AreOwnersOf self.now file V → AreTrees file V trees.old.known
+    fn own_note(&self, fault: &Fault) -> LineBelow
+        ensures { (file : List ℕ) (V : List Reference) → AreOwnersOf self.now file V
             → note_text (geometry file) (tree_text file V) result ≡ own_line file V fault.now }
-        ensures trees { (file : List ℕ) (V : List Reference) → AreOwnersOf self.now file V → AreTrees file V trees.old.known → AreTrees file V trees.new.known }
     {
         if fault.page == 0 {
             LineBelow::Start(fault.item)
         } else {
-            self.spot(trees, fault.page)
+            self.spot(fault.page)
         }
     }
 
@@ -133,76 +131,38 @@ impl<A: Allocator> Owners<'_, A> {
     }
 
     // What the lines below a fault say.
-    fn notes(
-        &self,
-        trees: &mut PageTrees<A>,
-        fault: &Fault,
-    ) -> (Option<LineBelow>, Option<LineBelow>)
-        ensures lines { (file : List ℕ) (V : List Reference) → AreOwnersOf self.now file V → AreTrees file V trees.old.known
+    fn notes(&self, fault: &Fault) -> (Option<LineBelow>, Option<LineBelow>)
+        ensures { (file : List ℕ) (V : List Reference) → AreOwnersOf self.now file V
             → notes_text (geometry file) (tree_text file V) result ≡ lines_below file V fault.now fault.now.code }
-        ensures trees { (file : List ℕ) (V : List Reference) → AreOwnersOf self.now file V → AreTrees file V trees.old.known → AreTrees file V trees.new.known }
     {
         match below_of(fault.code) {
             Below::Nothing => (None, None),
             Below::StatedPages => (Some(LineBelow::Header(self.header.stated_pages())), None),
             Below::GreatestRoot => (Some(LineBelow::Header(self.header.greatest_root())), None),
             Below::FreelistCount => (Some(LineBelow::Header(self.header.freelist_count())), None),
-            Below::Own => (Some(self.own_note(trees, fault)), None),
+            Below::Own => (Some(self.own_note(fault)), None),
             Below::Both => {
-                let own = self.own_note(trees, fault);
-                let other = self.spot(trees, self.value_page(fault.value));
-                (Some(own), Some(other))
+                let other = self.spot(self.value_page(fault.value));
+                (Some(self.own_note(fault)), Some(other))
             }
-            Below::Entry => {
-                let own = self.own_note(trees, fault);
-                (Some(own), self.entry_note(fault.page))
-            }
+            Below::Entry => (Some(self.own_note(fault)), self.entry_note(fault.page)),
         }
     }
 
-    /// Puts the lines below a fault: the number of the header that is wrong, or where its page is, and with it the page that
+    /// Writes the lines below a fault: the number of the header that is wrong, or where its page is, and with it the page that
     /// it names, or the entry that was wanted.
-    ///
-    /// # Errors
-    ///
-    /// [`WriteFailed`] where a put failed. A beginning of the lines was put then.
-    pub(crate) fn put_below<O: Out>(
-        &self,
-        trees: &mut PageTrees<A>,
-        out: &mut O,
-        fault: &Fault,
-    ) -> Result<(), WriteFailed>
-        ensures lines { (file : List ℕ) (V : List Reference) → AreOwnersOf self.now file V → AreTrees file V trees.old.known
-            → Writes result (O.held out.old).bytes (O.held out.new).bytes (lines_below file V fault.now fault.now.code) }
-        ensures trees { (file : List ℕ) (V : List Reference) → AreOwnersOf self.now file V → AreTrees file V trees.old.known → AreTrees file V trees.new.known }
-        ensures count { (O.held out.new).failures ≡ failures_after is_any result (O.held out.old).failures }
+    pub(crate) fn put_below<O: Out>(&self, writer: &mut Writer<'_, O>, fault: &Fault)
+        ensures { WroteOf O.held writer.old (AreOwnersOf self.now) (λ file V. lines_below file V fault.now fault.now.code) writer.new }
     {
-        let notes = self.notes(trees, fault);
-        put_notes(&self.names(), out, self.header.geometry(), notes)
+        let notes = self.notes(fault);
+        put_notes(writer, &self.names(), self.header.geometry(), notes);
     }
 
-    /// Puts the line of a page: where it is, and in which tree. A number that no page has gets no line.
-    ///
-    /// # Errors
-    ///
-    /// [`WriteFailed`] where a put failed. A beginning of the line was put then.
-    pub(crate) fn put_page<O: Out>(
-        &self,
-        trees: &mut PageTrees<A>,
-        out: &mut O,
-        page: u32,
-    ) -> Result<(), WriteFailed>
-        ensures line { (file : List ℕ) (V : List Reference) → AreOwnersOf self.now file V → AreTrees file V trees.old.known
-            → Writes result (O.held out.old).bytes (O.held out.new).bytes (place_line file V page) }
-        ensures trees { (file : List ℕ) (V : List Reference) → AreOwnersOf self.now file V → AreTrees file V trees.old.known → AreTrees file V trees.new.known }
-        ensures count { (O.held out.new).failures ≡ failures_after is_any result (O.held out.old).failures }
+    /// Writes the line of a page: where it is, and in which tree. A number that no page has gets no line.
+    pub(crate) fn put_page<O: Out>(&self, writer: &mut Writer<'_, O>, page: u32)
+        ensures { WroteOf O.held writer.old (AreOwnersOf self.now) (λ file V. place_line file V page) writer.new }
     {
-        let note = self.spot(trees, page);
-        put_notes(
-            &self.names(),
-            out,
-            self.header.geometry(),
-            (Some(note), None),
-        )
+        let notes = (Some(self.spot(page)), None);
+        put_notes(writer, &self.names(), self.header.geometry(), notes);
     }
 }

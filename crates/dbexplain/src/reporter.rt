@@ -1,6 +1,7 @@
 // The reporter of `explain`.
 ghost use Rattle.std.specs.Prelude.{◌≡◌};
-ghost use Rattle.dbexplain.specs.Reporting.{Adds, Ends, explain_held};
+ghost use Rattle.dbwalk.specs.Rows.{row_of};
+ghost use Rattle.dbexplain.specs.Reporting.{Adds, Ends, Notes, explain_held};
 
 use crate::kept::Kept;
 use crate::report::{put_found, put_report};
@@ -9,10 +10,10 @@ use dbformat::Verdict;
 use dblines::put_ok;
 use dbscan::{Desk, Finish, Notice, Reporter};
 use dbsource::{Geometry, Out, RunError, Source, WriteFailed};
-use dbwalk::Marks;
+use dbwalk::{Marks, Row};
 use std::alloc::Allocator;
 
-/// Counts and lists the faults of a file. When all of it has been heard it looks at the lost pages, and puts the report.
+/// Counts and lists the faults of a file, and notes the starts of its pages. When all of it has been heard it looks at the lost pages, and puts the report.
 #[derive(Drop)]
 pub(crate) struct ExplainReporter<'a, A: Allocator, O> {
     pub(crate) kept: &'a mut Kept<A>,
@@ -36,6 +37,14 @@ impl<'a, A: Allocator, O: Out> ExplainReporter<'a, A, O> {
     {
         self.kept.tally.add(told);
         self.kept.listing.hear(told);
+    }
+
+    // Notes the start of the page of a row.
+    fn note(&mut self, row: &Row<'_>)
+        ensures noted { Notes (row_of row.now) self.old self.new }
+        ensures held { explain_held O.held self.new ≡ explain_held O.held self.old }
+    {
+        self.kept.trees.note(row);
     }
 
     /// After a failed read, puts the lines of the entries found so far. That the Out fails then too is not reported.
@@ -62,7 +71,8 @@ impl<A: Allocator, O: Out> Reporter for ExplainReporter<'_, A, O> {
     fn hear(&mut self, notice: &Notice<'_>) -> Result<(), WriteFailed> {
         match notice {
             Notice::Fault(told) => self.add(told),
-            Notice::Row(_, _) | Notice::Ended(_) => {}
+            Notice::Row(_, row) => self.note(row),
+            Notice::Ended(_) => {}
         }
         Ok(())
     }

@@ -1,7 +1,11 @@
 // What texts are written to, one after another.
 ghost use Rattle.std.specs.Prelude.{◌≡◌, false};
+ghost use Rattle.dbformat.specs.Lines.{fault_line};
+ghost use Rattle.dbformat.specs.Report.{more_text};
 ghost use Rattle.dblines.specs.Writing.{Wrote, answer_of};
 
+use crate::lines::{put_fault, put_rest};
+use dbformat::Fault;
 use dbsource::{Out, WriteFailed};
 
 /// An Out, until it fails: nothing is put to it after that. So a text is written piece by piece, and who began it asks once, at its end.
@@ -30,6 +34,24 @@ impl<'o, O: Out> Writer<'o, O> {
     {
         if !self.has_failed {
             self.has_failed = self.out.put(bytes).is_err();
+        }
+    }
+
+    /// Writes the line of a fault.
+    pub fn put_fault(&mut self, fault: &Fault)
+        ensures { Wrote O.held self.old (fault_line fault.now) self.new }
+    {
+        if !self.has_failed {
+            self.has_failed = put_fault(self.out, fault).is_err();
+        }
+    }
+
+    /// Writes the line that says how many faults are not shown, if there are any.
+    pub fn put_rest(&mut self, count: u64)
+        ensures { Wrote O.held self.old (more_text count) self.new }
+    {
+        if !self.has_failed {
+            self.has_failed = put_rest(self.out, count).is_err();
         }
     }
 

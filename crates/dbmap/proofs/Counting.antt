@@ -8,6 +8,7 @@ use Rattle.dbformat.specs.File.{geometry}
 use Rattle.dbformat.specs.Lines.{counted}
 use Rattle.dbformat.specs.Reference.{Reference}
 use Rattle.dbformat.specs.Report.{faults, verdict, verdict_of}
+use Rattle.dbformat.specs.Rows.{stat_rows}
 use Rattle.dbformat.specs.Survey.{Survey}
 use Rattle.dbformat.specs.declared.FaultCode.{FaultCode}
 use Rattle.dbformat.specs.declared.Verdict.{Verdict}
@@ -26,7 +27,9 @@ use Rattle.dbentries.specs.Lists.{HasListed, Held, ListsAll}
 use Rattle.dbentries.proofs.Heard.{never_stops}
 use Rattle.dbmap.specs.FaultNotes.{AreNoted}
 use Rattle.dbmap.specs.Faults.{coded}
-use Rattle.dbmap.specs.KeptFaults.{HasFaults, HasTreeRoom, HearsNone}
+use Rattle.dbowner.specs.Trees.{AreTrees}
+use Rattle.dbowner.proofs.Trees.{all_noted}
+use Rattle.dbmap.specs.KeptFaults.{HasFaults, HearsNone}
 use Rattle.dbmap.specs.MapPictures.{map_picture}
 use Rattle.dbmap.specs.Maps.{PutsMap}
 use Rattle.dbmap.specs.MapReporter.{Hears, LeavesMap}
@@ -44,7 +47,7 @@ module _ {A O : Type 0} (file : List ℕ) (V : List Reference) (survey : Survey 
     (empty : HearsNone (geometry file).pages s.kept.now) where
   -- all of a run was heard, and nothing before it: its faults were counted, and these are kept
   module _ (heard : Moves Hears s (run_notices file V) t) where
-    all : HasNotedFaults (geometry file).pages (told_faults file V) s t
+    all : HasNotedFaults (geometry file).pages s (told_faults file V) (stat_rows file V) t
     all = all_heard file V survey s t none empty heard
 
     as_many : length (told_faults file V) ≡ length (faults file V)
@@ -65,7 +68,7 @@ module _ {A O : Type 0} (file : List ℕ) (V : List Reference) (survey : Survey 
     -- with the lost pages
     pub map_keeps : (l : Held) → ListsAll 100 file V l → HasFaults file V (record t.kept.now { listing = l })
     map_keeps l listed = record {
-      room = subst (λ (w : DrawState A). HasTreeRoom (geometry file).pages w.trees.known) (sym all.state) empty.room;
+      trees = subst (AreTrees V) (sym all.trees) (all_noted file V s.kept.now.state.trees.known survey empty.room);
       notes = subst (λ (fs : List (ℕ × FaultCode)). AreNoted (geometry file).pages fs [] t.kept.now.notes)
           (coded_told (told_faults file V) ∙ ap (map coded) (all_told file V)) all.notes;
       listing = listed;

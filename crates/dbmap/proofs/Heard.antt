@@ -1,9 +1,12 @@
 -- What a reporter keeps that has heard all of a file, or a beginning of it.
-use Rattle.std.proofs.Common.{◌≡◌, ℕ, ◌≤◌, List, [], ◌∷◌, ◌++◌, length, map, refl, ap, subst, ◌∙◌, arith, length-append}
+use Rattle.std.proofs.Common.{◌≡◌, ℕ, ◌≤◌, List, [], ◌∷◌, ◌++◌, length, map, refl, sym, ap, subst, ◌∙◌, arith, length-append}
+use Rattle.std.specs.Prelude.{fold}
+use Rattle.std.proofs.lemmas.List.Sums.{fold-append}
 use Rattle.dbsurvey.specs.Moves.{Moves, MovesBySome}
 use Rattle.dbformat.specs.File.{geometry}
 use Rattle.dbformat.specs.Lines.{counted}
 use Rattle.dbformat.specs.Reference.{Reference}
+use Rattle.dbformat.specs.Rows.{StatRow, stat_rows}
 use Rattle.dbformat.specs.Survey.{Survey}
 use Rattle.dbformat.specs.declared.FaultCode.{FaultCode}
 use Rattle.dbtrace.specs.declared.Reported.{Reported}
@@ -13,10 +16,12 @@ use Rattle.dbscan.specs.Placed.{told_faults}
 use Rattle.dbentries.specs.Lists.{HasListed, Held}
 use Rattle.dbentries.proofs.Heard.{file_begun, file_heard}
 use Rattle.dbentries.proofs.ListedFaults.{one_listed}
+use Rattle.dbowner.specs.Trees.{row_noted}
 use Rattle.dbmap.specs.FaultNotes.{AreNoted}
 use Rattle.dbmap.specs.Faults.{coded}
 use Rattle.dbmap.specs.KeptFaults.{HearsNone}
-use Rattle.dbmap.specs.MapReporter.{Adds, Hears}
+use Rattle.dbmap.specs.MapReporter.{Adds, Hears, Notes}
+use Rattle.dbmap.specs.declared.draw_state.DrawState.{DrawState}
 use Rattle.dbmap.specs.declared.map_reporter.MapReporter.{MapReporter}
 
 -- the pages and codes of some faults
@@ -28,38 +33,48 @@ told_more [] x = refl
 told_more (t ∷ ts) x = ap (λ l. coded t.fault ∷ l) (told_more ts x)
 
 module _ {A O : Type 0} where
-  -- These faults were counted, noted and listed; nothing else changed.
-  pub record HasNotedFaults (pages : ℕ) (ts : List Reported) (first now : MapReporter A O) : Type 0 where
+  -- These faults were counted, noted and listed, and the starts of these rows noted; nothing else changed.
+  pub record HasNotedFaults (pages : ℕ) (first : MapReporter A O) (ts : List Reported) (rs : List StatRow) (now : MapReporter A O) : Type 0 where
     pub count : now.faults ≡ counted (length ts)
     pub notes : AreNoted pages (codes_told ts) [] now.kept.now.notes
     pub listing : HasListed 100 ts now.kept.now.listing
-    pub state : now.kept.now.state ≡ first.kept.now.state
+    pub trees : now.kept.now.state.trees.known ≡ fold row_noted first.kept.now.state.trees.known rs
     pub out : now.out.now ≡ first.out.now
 
   abbrev listing : MapReporter A O → Held
   listing s = s.kept.now.listing
 
-  one_heard : (pages : ℕ) (first : MapReporter A O) (x : Reported) (ts : List Reported) (s t : MapReporter A O)
-      → (listing s).entries.part ≤ rank x.part → HasNotedFaults pages ts first s → Adds x s t → HasNotedFaults pages (ts ++ x ∷ []) first t
-  one_heard pages first x ts s t most h a = record {
+  one_heard : (pages : ℕ) (first : MapReporter A O) (x : Reported) (ts : List Reported) (rs : List StatRow) (s t : MapReporter A O)
+      → (listing s).entries.part ≤ rank x.part → HasNotedFaults pages first ts rs s → Adds x s t → HasNotedFaults pages first (ts ++ x ∷ []) rs t
+  one_heard pages first x ts rs s t most h a = record {
     count = let e = a.count in let n = h.count in let l = length-append ts (x ∷ []) in omega (arith, e, n, l);
     notes = subst (λ (l : List (ℕ × FaultCode)). AreNoted pages l [] t.kept.now.notes) (told_more ts x) (a.kept.notes pages (codes_told ts) [] h.notes);
     listing = one_listed 100 ts x (listing s) (listing t) most h.listing a.kept.listing;
-    state = a.kept.state ∙ h.state;
+    trees = ap (λ (w : DrawState A). w.trees.known) a.kept.state ∙ h.trees;
+    out = a.out ∙ h.out;
+  }
+
+  one_noted : (pages : ℕ) (first : MapReporter A O) (r : StatRow) (ts : List Reported) (rs : List StatRow) (s t : MapReporter A O)
+      → HasNotedFaults pages first ts rs s → Notes r s t → HasNotedFaults pages first ts (rs ++ r ∷ []) t
+  one_noted pages first r ts rs s t h a = record {
+    count = a.count ∙ h.count;
+    notes = subst (AreNoted pages (codes_told ts) []) (sym a.notes) h.notes;
+    listing = subst (HasListed 100 ts) (sym a.listing) h.listing;
+    trees = a.trees ∙ ap (λ k. row_noted k r) h.trees ∙ sym (fold-append row_noted first.kept.now.state.trees.known rs (r ∷ []));
     out = a.out ∙ h.out;
   }
 
 module _ {A O : Type 0} (file : List ℕ) (V : List Reference) (survey : Survey file V) (first now : MapReporter A O)
     (none : first.faults ≡ 0) (empty : HearsNone (geometry file).pages first.kept.now) where
-  nothing_noted : HasNotedFaults (geometry file).pages [] first first
-  nothing_noted = record { count = none; notes = empty.notes; listing = empty.listing.none; state = refl; out = refl }
+  nothing_noted : HasNotedFaults (geometry file).pages first [] [] first
+  nothing_noted = record { count = none; notes = empty.notes; listing = empty.listing.none; trees = refl; out = refl }
 
   -- all of it
-  pub all_heard : Moves Hears first (run_notices file V) now → HasNotedFaults (geometry file).pages (told_faults file V) first now
-  all_heard m = file_heard Adds listing (λ x s t a. a.kept.listing) (λ ts s. HasNotedFaults (geometry file).pages ts first s)
-      (one_heard (geometry file).pages first) file V survey first now empty.listing.part nothing_noted m
+  pub all_heard : Moves Hears first (run_notices file V) now → HasNotedFaults (geometry file).pages first (told_faults file V) (stat_rows file V) now
+  all_heard m = file_heard Adds Notes listing (λ x s t a. a.kept.listing) (λ r s t a. a.listing) (HasNotedFaults (geometry file).pages first)
+      (one_heard (geometry file).pages first) (one_noted (geometry file).pages first) file V survey first now empty.listing.part nothing_noted m
 
   -- nothing is put, where only some of it was heard
   pub some_untouched : MovesBySome Hears first (run_notices file V) now → now.out.now ≡ first.out.now
-  some_untouched m = (file_begun Adds listing (λ x s t a. a.kept.listing) (λ ts s. HasNotedFaults (geometry file).pages ts first s)
-      (one_heard (geometry file).pages first) file V survey first now empty.listing.part nothing_noted m).2.out
+  some_untouched m = (file_begun Adds Notes listing (λ x s t a. a.kept.listing) (λ r s t a. a.listing) (HasNotedFaults (geometry file).pages first)
+      (one_heard (geometry file).pages first) (one_noted (geometry file).pages first) file V survey first now empty.listing.part nothing_noted m).3.out

@@ -9,6 +9,6 @@ module _ {A O : Type 0} where
   pub same_name : (ns : List Notice) (s t : MapReporter A O) → Moves Hears s ns t → t.name ≡ s.name
   same_name [] s t m = ap (λ (u : MapReporter A O). u.name) (sym m)
   same_name (heard_fault x ∷ ns) s t m = same_name ns m.0 t m.2 ∙ m.1.name
-  same_name (heard_row at r ∷ ns) s t m = same_name ns m.0 t m.2 ∙ ap (λ (u : MapReporter A O). u.name) m.1
+  same_name (heard_row at r ∷ ns) s t m = same_name ns m.0 t m.2 ∙ m.1.name
   same_name (ended at ∷ ns) s t m = same_name ns m.0 t m.2 ∙ ap (λ (u : MapReporter A O). u.name) m.1
   same_name (walked g marks ∷ ns) s t m = same_name ns m.0 t m.2 ∙ ap (λ (u : MapReporter A O). u.name) m.1

@@ -29,17 +29,17 @@ one_square g first n = let e = flat_push (square_text g) first n in cc
 
 module _ {O : Type 0} {held : O → OutState} {marks : List Mark} {g : Drawn} where
   -- what does not depend on the survey
-  pub as_drawn : {known : List (Option (Option ℕ))} {s t : Canvas O} {text : List ℕ} (is : Drawn → List ℕ) → ((V : List Reference) → text ≡ is (surveyed g V))
+  pub as_drawn : {known : List ℕ} {s t : Canvas O} {text : List ℕ} (is : Drawn → List ℕ) → ((V : List Reference) → text ≡ is (surveyed g V))
       → Draws held s text t
       → DrawsAs held marks known g is s t
   as_drawn {text = text} is e h = record { text = text; same = λ file V of. e V; draws = h }
 
-  pub as_nothing : {known : List (Option (Option ℕ))} (s : Canvas O) (is : Drawn → List ℕ) → ((V : List Reference) → [] ≡ is (surveyed g V))
+  pub as_nothing : {known : List ℕ} (s : Canvas O) (is : Drawn → List ℕ) → ((V : List Reference) → [] ≡ is (surveyed g V))
       → DrawsAs held marks known g is s s
   as_nothing s is e = as_drawn is e (draws_nothing s)
 
   -- one thing, and then another
-  pub as_then : {known now : List (Option (Option ℕ))} {s m t : Canvas O} {a b : Drawn → List ℕ} → StaysOf marks known now → DrawsAs held marks known g a s m
+  pub as_then : {known now : List ℕ} {s m t : Canvas O} {a b : Drawn → List ℕ} → StaysOf marks known now → DrawsAs held marks known g a s m
       → DrawsAs held marks now g b m t
       → DrawsAs held marks known g (λ d. a d ++ b d) s t
   as_then stays h k = record {
@@ -49,7 +49,7 @@ module _ {O : Type 0} {held : O → OutState} {marks : List Mark} {g : Drawn} wh
   }
 
   -- which is this
-  pub as_is : {known : List (Option (Option ℕ))} {s t : Canvas O} {a : Drawn → List ℕ} (b : Drawn → List ℕ)
+  pub as_is : {known : List ℕ} {s t : Canvas O} {a : Drawn → List ℕ} (b : Drawn → List ℕ)
       → ((V : List Reference) → a (surveyed g V) ≡ b (surveyed g V))
       → DrawsAs held marks known g a s t → DrawsAs held marks known g b s t
   as_is b e h = record { text = h.text; same = λ file V of. h.same file V of ∙ e V; draws = h.draws }

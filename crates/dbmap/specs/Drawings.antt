@@ -7,7 +7,7 @@ use Rattle.dbformat.specs.Report.{faults}
 use Rattle.dbformat.specs.Starts.{start_at}
 use Rattle.dbmarks.specs.Marking.{page_mark}
 use Rattle.dbmarks.specs.declared.marks.Mark.{Mark}
-use Rattle.dbowner.specs.Climbs.{place_by}
+use Rattle.dbowner.specs.Trees.{place_by}
 use Rattle.dbowner.specs.declared.place.Place.{Place}
 use Rattle.dbscan.specs.Desks.{DeskView}
 use Rattle.dbscan.specs.Finishes.{IsDeskOf}
@@ -47,7 +47,7 @@ abbrev pub surveyed : Drawn → List Reference → Drawn
 surveyed g V = record g { start = start_at V }
 
 -- A text was drawn, and where these marks and what is known of the trees of pages are a file's, it is this one.
-pub record DrawsAs {O : Type 0} (held : O → OutState) (marks : List Mark) (known : List (Option (Option ℕ)))
+pub record DrawsAs {O : Type 0} (held : O → OutState) (marks : List Mark) (known : List ℕ)
     (g : Drawn) (is : Drawn → List ℕ) (s t : Canvas O) : Type 0 where
   pub text : List ℕ
   pub same : (file : List ℕ) (V : List Reference) → IsOf marks known file V → text ≡ is (surveyed g V)

@@ -4,6 +4,7 @@ use Rattle.dbformat.specs.File.{geometry}
 use Rattle.dbformat.specs.Lines.{counted}
 use Rattle.dbformat.specs.Reference.{Reference}
 use Rattle.dbformat.specs.Report.{faults, verdict}
+use Rattle.dbformat.specs.Rows.{StatRow}
 use Rattle.dbformat.specs.declared.Verdict.{Verdict}
 use Rattle.dbtrace.specs.declared.Reported.{Reported}
 use Rattle.dbsource.specs.Outs.{OutState}
@@ -11,6 +12,7 @@ use Rattle.dbsource.specs.declared.error.RunError.{RunError}
 use Rattle.dbwalk.specs.Telling.{SinkState, one_out}
 use Rattle.dbscan.specs.Notices.{Notice}
 use Rattle.dbentries.specs.Reported.{HearsReported}
+use Rattle.dbowner.specs.Trees.{row_noted}
 use Rattle.dbmap.specs.KeptFaults.{HearsNone, HasNoted}
 use Rattle.dbmap.specs.MapPictures.{map_picture}
 use Rattle.dbmap.specs.Maps.{PutsMap}
@@ -24,9 +26,18 @@ module _ {A O : Type 0} where
     pub out : t.out.now ≡ s.out.now
     pub name : t.name ≡ s.name
 
-  -- a notice was taken: a fault was added, and nothing else changes it
+  -- the start of the page of a row is noted
+  pub record Notes (r : StatRow) (s t : MapReporter A O) : Type 0 where
+    pub trees : t.kept.now.state.trees.known ≡ row_noted s.kept.now.state.trees.known r
+    pub notes : t.kept.now.notes ≡ s.kept.now.notes
+    pub listing : t.kept.now.listing ≡ s.kept.now.listing
+    pub count : t.faults ≡ s.faults
+    pub out : t.out.now ≡ s.out.now
+    pub name : t.name ≡ s.name
+
+  -- a notice was taken: a fault was added, or a row noted, and nothing else changes it
   abbrev pub Hears : MapReporter A O → Notice → MapReporter A O → Type 0
-  Hears = HearsReported Adds
+  Hears = HearsReported Adds Notes
 
 -- it borrows its Out, whose failures are counted
 abbrev pub map_held : {A O : Type 0} → (O → OutState) → MapReporter A O → SinkState

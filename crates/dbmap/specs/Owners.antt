@@ -5,7 +5,7 @@ use Rattle.dbformat.specs.Reference.{Reference}
 use Rattle.dbformat.specs.Survey.{Survey}
 use Rattle.dbmarks.specs.Marking.{AreMarksOf}
 use Rattle.dbmarks.specs.declared.marks.Mark.{Mark}
-use Rattle.dbowner.specs.Climbs.{AreTrees}
+use Rattle.dbowner.specs.Trees.{AreTrees}
 use Rattle.dbowner.specs.declared.place.Place.{Place}
 use Rattle.dbowner.specs.declared.place.Place.TheVariants as place
 use Rattle.dbmap.specs.declared.owner_shares.Owner.{Owner}
@@ -45,11 +45,11 @@ owner_by largest place.Nowhere start = owner.Nobody
 -- ---- what is remembered of a file
 
 -- What is remembered is of a file with survey V: the marks are those of its visits, and what is known of the trees of its pages is right.
-pub record IsOf (marked : List Mark) (known : List (Option (Option ℕ))) (file : List ℕ) (V : List Reference) : Type 0 where
+pub record IsOf (marked : List Mark) (known : List ℕ) (file : List ℕ) (V : List Reference) : Type 0 where
   pub survey : Survey file V
   pub marks : AreMarksOf file V marked
-  pub trees : AreTrees file V known
+  pub trees : AreTrees V known
 
 -- what is known stays right
-abbrev pub StaysOf : List Mark → List (Option (Option ℕ)) → List (Option (Option ℕ)) → Type 0
+abbrev pub StaysOf : List Mark → List ℕ → List ℕ → Type 0
 StaysOf marked old new = (file : List ℕ) (V : List Reference) → IsOf marked old file V → IsOf marked new file V

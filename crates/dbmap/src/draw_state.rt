@@ -1,16 +1,10 @@
 // What changes from one square to the next.
-ghost use Rattle.std.specs.Prelude.{◌≡◌, ◌≤◌, [], None, List, ℕ, length};
+ghost use Rattle.std.specs.Prelude.{◌≡◌, [], None};
 ghost use Rattle.std.specs.Option.{option_map_or};
-ghost use Rattle.dbformat.specs.Reference.{Reference};
-ghost use Rattle.dbformat.specs.Survey.{Survey};
-ghost use Rattle.dbmarks.specs.Marking.{AreMarksOf};
-ghost use Rattle.dbowner.specs.Climbs.{AreTrees};
-ghost use Rattle.dbscan.specs.Roots.{AreListed};
 ghost use Rattle.dbmap.specs.TreeTexts.{HoldsTreeName, shown_tree};
 
 use crate::tree_text::shown_tree;
-use dbowner::{PageTrees, RootList, TreeNames};
-use dbwalk::Marks;
+use dbowner::{PageTrees, TreeNames};
 use dbxml::Shown;
 use std::alloc::{Allocator, Global};
 
@@ -35,18 +29,12 @@ impl<A: Allocator> DrawState<A> {
         }
     }
 
-    /// Goes back before the first square, with the roots of a file entered.
-    pub(crate) fn begin<B: Allocator, C: Allocator>(
-        &mut self,
-        marks: &Marks<B>,
-        roots: &RootList<C>,
-    )
+    /// Goes back before the first square.
+    pub(crate) fn begin(&mut self)
         ensures name { self.new.name ≡ [] }
         ensures named { self.new.named ≡ None }
-        ensures trees { (file : List ℕ) (V : List Reference) → Survey file V → AreMarksOf file V marks.now → AreListed file V roots.now.rows
-            → length marks.now ≤ length self.old.trees.known → AreTrees file V self.new.trees.known }
+        ensures trees { self.new.trees ≡ self.old.trees }
     {
-        self.trees.enter_roots(marks, roots);
         self.name = Shown::new();
         self.named = None;
     }

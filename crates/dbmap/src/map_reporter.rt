@@ -1,7 +1,8 @@
 // The reporter of a map.
 ghost use Rattle.std.specs.Prelude.{◌≡◌};
 ghost use Rattle.dbformat.specs.Report.{verdict_of};
-ghost use Rattle.dbmap.specs.MapReporter.{Adds, map_held};
+ghost use Rattle.dbwalk.specs.Rows.{row_of};
+ghost use Rattle.dbmap.specs.MapReporter.{Adds, Notes, map_held};
 
 use crate::kept::KeptFaults;
 use crate::maps::put_map;
@@ -9,11 +10,11 @@ use dbentries::Reported;
 use dbformat::Verdict;
 use dbscan::{Desk, Finish, Notice, Reporter};
 use dbsource::{Geometry, Out, RunError, Source, WriteFailed};
-use dbwalk::Marks;
+use dbwalk::{Marks, Row};
 use std::alloc::Allocator;
 
-// Counts faults, notes the pages that they are found at, and lists those that lead. When the file has been heard it looks at the lost
-// pages, and puts the picture.
+// Counts faults, notes the pages that they are found at, and lists those that lead; and notes the starts of pages. When the file has
+// been heard it looks at the lost pages, and puts the picture.
 #[derive(Drop)]
 pub(crate) struct MapReporter<'a, A: Allocator, O> {
     name: &'a str,
@@ -52,6 +53,14 @@ impl<'a, A: Allocator, O: Out> MapReporter<'a, A, O> {
         self.kept.note(told);
     }
 
+    // Notes the start of the page of a row.
+    fn note_row(&mut self, row: &Row<'_>)
+        ensures noted { Notes (row_of row.now) self.old self.new }
+        ensures held { map_held O.held self.new ≡ map_held O.held self.old }
+    {
+        self.kept.state.trees.note(row);
+    }
+
     // What was found.
     fn verdict(&self) -> Verdict
         ensures { result ≡ verdict_of self.now.faults }
@@ -73,7 +82,8 @@ impl<A: Allocator, O: Out> Reporter for MapReporter<'_, A, O> {
     fn hear(&mut self, notice: &Notice<'_>) -> Result<(), WriteFailed> {
         match notice {
             Notice::Fault(told) => self.note(told),
-            Notice::Row(_, _) | Notice::Ended(_) => {}
+            Notice::Row(_, row) => self.note_row(row),
+            Notice::Ended(_) => {}
         }
         Ok(())
     }

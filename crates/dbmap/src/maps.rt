@@ -49,8 +49,8 @@ pub(crate) fn put_map<A: Allocator, O: Out>(
     ensures { PutsPicture result (O.held out.old) (O.held out.new) name.now desk.now kept.old faults }
 {
     kept.note_listed();
-    kept.state.begin(desk.marks(), desk.roots());
-    kept.tally.count(desk.marks(), &mut kept.state.trees);
+    kept.state.begin();
+    kept.tally.count(desk.marks(), &kept.state.trees);
     let largest = kept.tally.largest();
     let names = TreeNames {
         encoding: desk.header().encoding(),

@@ -3,7 +3,7 @@ ghost use Rattle.std.specs.Prelude.{◌≡◌, ◌≤◌, ℕ, List, map, replic
 ghost use Rattle.dbformat.specs.Reference.{Reference};
 ghost use Rattle.dbmap.specs.OwnerShares.{no_share};
 ghost use Rattle.dbmap.specs.LegendLines.{other_trees, others_share};
-ghost use Rattle.dbmap.specs.Owners.{IsOf, StaysOf, rank_of, tree_starts};
+ghost use Rattle.dbmap.specs.Owners.{IsOf, rank_of, tree_starts};
 ghost use Rattle.dbmap.specs.Tallies.{IsNone, IsPageTallyOf, largest_trees, left_pages, next_tree, page_counted, pages_at, share_at};
 ghost use Rattle.dbmap.specs.Tallies.{start_counted, tree_at, used_counted};
 
@@ -85,9 +85,8 @@ impl<A: Allocator> PageTally<A> {
     }
 
     /// Counts all pages, and none that was counted before.
-    pub(crate) fn count<B: Allocator>(&mut self, marks: &Marks<B>, trees: &mut PageTrees<B>)
-        ensures tally { (file : List ℕ) (V : List Reference) → IsOf marks.now trees.old.known file V → IsPageTallyOf file V self.new }
-        ensures trees { StaysOf marks.now trees.old.known trees.new.known }
+    pub(crate) fn count<B: Allocator>(&mut self, marks: &Marks<B>, trees: &PageTrees<B>)
+        ensures { (file : List ℕ) (V : List Reference) → IsOf marks.now trees.now.known file V → IsPageTallyOf file V self.new }
     {
         self.clear();
         for index in 0..marks.pages() {

@@ -1,6 +1,4 @@
-pub mod Slots
-pub mod Passing
 pub mod Owned
 pub mod PageMarks
-pub mod RootPages
+pub mod Slots
 pub mod Trees

@@ -1,4 +1,3 @@
 pub mod Owners
-pub mod Climbs
-pub mod Steps
 pub mod Texts
+pub mod Trees

@@ -4,9 +4,8 @@
 //! ([`PageTrees::start_of`]), what it is there ([`place_of`]), and that the tree of a root page owns it
 //! ([`visited_pages_are_owned`]).
 //!
-//! [`PageTrees`] keeps four bytes a page. When all starts have been walked from, [`PageTrees::enter_roots`] notes the root
-//! pages, in one pass over the list; each later question climbs by the marks to the first page of which the start is known, and
-//! notes it of those that it passes. So all questions together pass no more pages than there are.
+//! [`PageTrees`] keeps four bytes a page: of a page of a tree or a chain the start that its row was heard with
+//! ([`PageTrees::note`]). The marks say the rest.
 //!
 //! specs/Texts has the texts of trees and pages: [`TreeNames`] puts that of a tree, and [`place_front`], [`place_words`] and
 //! [`place_from`] give what a page is in its tree, piece by piece.

@@ -3,8 +3,8 @@ ghost use Rattle.std.specs.Prelude.{◌≡◌, ℕ, List};
 ghost use Rattle.dbformat.specs.Reference.{Reference};
 ghost use Rattle.dbformat.specs.Survey.{Survey};
 ghost use Rattle.dbmarks.specs.Marking.{AreMarksOf, page_mark};
-ghost use Rattle.dbowner.specs.Climbs.{place_by};
 ghost use Rattle.dbowner.specs.Owners as owners;
+ghost use Rattle.dbowner.specs.Trees.{place_by};
 
 use dbwalk::{Mark, Marks};
 use std::alloc::Allocator;

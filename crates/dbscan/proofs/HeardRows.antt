@@ -24,7 +24,8 @@ use Rattle.dbtrace.specs.declared.Part.{Part}
 use Rattle.dbtrace.specs.declared.Part.TheVariants as part
 use Rattle.dbscan.specs.Findings.{found_rows}
 use Rattle.dbscan.specs.HeardRows.{row_heard, rows_heard}
-use Rattle.dbscan.specs.Notices.{Notice, found, ended, whole, errands_left, root_reference, tree_notices, later_notices, start_notices, end_notices, run_notices}
+use Rattle.dbscan.specs.Notices.{Notice, found, ended, whole, errands_left, root_reference, tree_notices, later_notices, start_notices}
+use Rattle.dbscan.specs.Notices.{end_notices, run_notices}
 use Rattle.dbscan.specs.Roots.{listed_rows}
 use Rattle.dbscan.specs.Starts.{At, at_freelist, at_row, at_schema, schema_reference}
 use Rattle.dbscan.proofs.RowsBelow.{rows_below, rows_join}

@@ -1,9 +1,8 @@
-// The start that each page belongs to, what it is, and how many pages are passed to know it.
+// The start that each page belongs to, and what it is.
 use crate::owners::walked::{Walked, two_trees, walk_all};
 use dbfiles::{TestFile, Text, expect_text, holds};
 use dbformat::Geometry;
 use dbowner::{PageTrees, place_of};
-use dbwalk::Marks;
 use linked_list_allocator::LocalHeap;
 use std::alloc::{AllocError, Global};
 use std::fmt::Write;
@@ -45,64 +44,28 @@ const GEOMETRY: Geometry = Geometry {
     has_map: false,
 };
 
-// The start and the place of a page.
-fn check_page(rt: &impl Abort, marks: &Marks, trees: &mut PageTrees, page: u32, want: &str) {
-    let start = trees.start_of(marks, page);
-    let place = place_of(marks, page);
-    let mut text = Text::new();
-    let _ = write!(text, "{start:?} {place:?}");
-    expect_text!(*rt; text, want, &page);
-}
-
-// Of all pages from 0 on, forwards or backwards.
-fn check_pages(
-    rt: &impl Abort,
-    marks: &Marks,
-    trees: &mut PageTrees,
-    wanted: &[&str],
-    is_backwards: bool,
-) {
-    for step in 0..wanted.len() {
-        let page = if is_backwards {
-            wanted.len() - 1 - step
-        } else {
-            step
-        };
-        check_page(rt, marks, trees, (page % 65536) as u32, wanted[page]);
+// The start and the place of each page from 0 on.
+fn check_pages(rt: &impl Abort, desk: &Walked, wanted: &[&str]) {
+    for page in 0..wanted.len() {
+        let number = (page % 65536) as u32;
+        let start = desk.noting.trees.start_of(&desk.marks, number);
+        let place = place_of(&desk.marks, number);
+        let mut text = Text::new();
+        let _ = write!(text, "{start:?} {place:?}");
+        expect_text!(*rt; text, wanted[page], &page);
     }
 }
 
-// Pages 3, 4, 8 and 9 are passed, each once, in whatever order it is asked for them and however often.
-fn check_passed(rt: &impl Abort, desk: &Walked, trees: &mut PageTrees, is_backwards: bool) {
-    trees.enter_roots(&desk.marks, &desk.roots);
-    holds!(*rt; trees.passed() == 0, is_backwards);
-    for again in 0..2 {
-        check_pages(rt, &desk.marks, trees, &OWNED, is_backwards);
-        holds!(*rt; trees.passed() == 4, again);
-    }
-}
-
-// Nothing is known of any page.
-fn check_unknown(rt: &impl Abort, marks: &Marks, trees: &mut PageTrees) {
-    for page in 0..14u32 {
-        holds!(*rt; trees.start_of(marks, page).is_none(), page);
-    }
-}
-
-// Before roots are entered no tree is known, and where the desk is cleared, what was known of the file before is forgotten.
+// Where the desk is cleared, no page belongs to a start.
 #[test]
-fn each_page_is_passed_once(rt: HostRuntime) -> Result<(), Fail> {
+fn each_page_has_its_start(rt: HostRuntime) -> Result<(), Fail> {
     let file = two_trees(rt.alloc())?;
     let mut desk = walk_all(rt.alloc(), file.as_slice())?;
-    let mut trees = PageTrees::new(rt.alloc(), &GEOMETRY)?;
-    holds!(rt; trees.start_of(&desk.marks, 9).is_none(), "not yet entered");
-    check_passed(&rt, &desk, &mut trees, false);
-    check_passed(&rt, &desk, &mut trees, true);
+    check_pages(&rt, &desk, &OWNED);
     desk.marks.clear();
-    desk.roots.clear();
-    trees.enter_roots(&desk.marks, &desk.roots);
-    holds!(rt; trees.passed() == 0, "cleared");
-    check_unknown(&rt, &desk.marks, &mut trees);
+    for page in 0..14u32 {
+        holds!(rt; desk.noting.trees.start_of(&desk.marks, page).is_none(), page);
+    }
     Ok(())
 }
 
@@ -110,30 +73,16 @@ fn each_page_is_passed_once(rt: HostRuntime) -> Result<(), Fail> {
 fn a_map_page_belongs_to_no_tree(rt: HostRuntime) -> Result<(), Fail> {
     let file = TestFile::of(rt.alloc(), "Mapped 4")?.into_bytes();
     let desk = walk_all(rt.alloc(), file.as_slice())?;
-    let mut trees = PageTrees::new(rt.alloc(), &GEOMETRY)?;
-    trees.enter_roots(&desk.marks, &desk.roots);
-    check_pages(&rt, &desk.marks, &mut trees, &AFTER_A_MAP, false);
+    check_pages(&rt, &desk, &AFTER_A_MAP);
     Ok(())
 }
 
-// Whether a heap has room enough for the pages; then all is known.
-fn has_room(rt: &impl Abort, desk: &Walked, heap: &LocalHeap) -> bool {
-    match PageTrees::new_in(heap, &GEOMETRY) {
-        Ok(mut trees) => {
-            trees.enter_roots(&desk.marks, &desk.roots);
-            holds!(*rt; trees.start_of(&desk.marks, 9) == Some(1), "in a heap");
-            true
-        }
-        Err(_) => false,
-    }
-}
-
 // How many of the heaps of up to 15 blocks have too little room.
-fn refused_of(rt: &impl Abort, alloc: Global, desk: &Walked) -> Result<u32, AllocError> {
+fn refused_of(alloc: Global) -> Result<u32, AllocError> {
     let mut refused: u32 = 0;
     for blocks in 0..16usize {
         let heap = LocalHeap::new(alloc, blocks.wrapping_mul(16))?;
-        if !has_room(rt, desk, &heap) {
+        if PageTrees::new_in(&heap, &GEOMETRY).is_err() {
             refused = refused.wrapping_add(1);
         }
     }
@@ -143,9 +92,7 @@ fn refused_of(rt: &impl Abort, alloc: Global, desk: &Walked) -> Result<u32, Allo
 // With less room than the pages take the growth is refused; it is the only one.
 #[test]
 fn the_growth_is_refused(rt: HostRuntime) -> Result<(), Fail> {
-    let file = two_trees(rt.alloc())?;
-    let desk = walk_all(rt.alloc(), file.as_slice())?;
-    let refused = refused_of(&rt, rt.alloc(), &desk)?;
-    holds!(rt; 3 <= refused && refused < 16, refused);
+    let refused = refused_of(rt.alloc())?;
+    holds!(rt; 4 <= refused && refused < 16, refused);
     Ok(())
 }

@@ -6,9 +6,10 @@ use crate::support::quiet::Quiet;
 use crate::support::walk::SCHEMA;
 use dbfiles::{TestFile, schema_row};
 use dbformat::{Encoding, RowKind};
+use dbowner::PageTrees;
 use dbscan::RootList;
-use dbsource::{Bench, Header, MemSource, RunError};
-use dbwalk::{Marks, Root, RootKind, SchemaRow, walk_freelist, walk_tree};
+use dbsource::{Bench, Header, MemSource, RunError, WriteFailed};
+use dbwalk::{Cause, Fault, Marks, Root, RootKind, Row, SchemaRow, Sink, walk_freelist, walk_tree};
 use std::alloc::{AllocError, Global};
 use std::test::Fail;
 
@@ -33,12 +34,38 @@ pub(crate) fn two_trees(alloc: Global) -> Result<Vec<u8>, AllocError> {
     Ok(file.into_bytes())
 }
 
-/// The marks of all pages and the list of roots after walks from all starts, beside the header.
+/// The marks of all pages, the list of roots and the starts of pages after walks from all starts, beside the header.
 #[derive(Drop)]
 pub(crate) struct Walked {
     pub(crate) header: Header,
     pub(crate) marks: Marks,
     pub(crate) roots: RootList,
+    pub(crate) noting: Noting,
+}
+
+/// A sink that notes the start of the page of each row.
+#[derive(Drop)]
+pub(crate) struct Noting {
+    pub(crate) trees: PageTrees,
+}
+
+impl Sink for Noting {
+    ghost use Rattle.std.specs.Prelude.{[], ⊤};
+
+    ghost takes = { λ _ _ _. ⊤ };
+
+    ghost drops = { λ _ _ _. ⊤ };
+
+    ghost held = { λ _. record { lent = []; failures = [] } };
+
+    fn fault(&mut self, _fault: &Fault, _cause: &Cause) -> Result<(), WriteFailed> {
+        Ok(())
+    }
+
+    fn row(&mut self, row: &Row<'_>) -> Result<(), WriteFailed> {
+        self.trees.note(row);
+        Ok(())
+    }
 }
 
 pub(crate) fn walk_all(alloc: Global, file: &[u8]) -> Result<Walked, Fail> {
@@ -50,6 +77,9 @@ pub(crate) fn walk_all(alloc: Global, file: &[u8]) -> Result<Walked, Fail> {
         header,
         marks,
         roots: RootList::new(alloc),
+        noting: Noting {
+            trees: PageTrees::new_in(alloc, &geometry)?,
+        },
     };
     walk_starts(file, &mut bench, &mut walked)?;
     Ok(walked)
@@ -57,22 +87,23 @@ pub(crate) fn walk_all(alloc: Global, file: &[u8]) -> Result<Walked, Fail> {
 
 // The walks over the schema and all trees that it names, and along the freelist.
 fn walk_starts(file: &[u8], bench: &mut Bench, walked: &mut Walked) -> Result<(), RunError> {
-    let (mut taker, mut sink) = (Quiet::default(), Quiet::default());
+    let mut taker = Quiet::default();
     let mut source = MemSource::new(file);
     let Walked {
         header,
         marks,
         roots,
+        noting,
     } = walked;
-    walk_tree(&mut source, bench, marks, SCHEMA, roots, &mut sink)?;
+    walk_tree(&mut source, bench, marks, SCHEMA, roots, noting)?;
     for start in 1..roots.len().saturating_add(1) {
         if let Some(row) = roots.get(start) {
             let root = root_of(start, &row);
-            walk_tree(&mut source, bench, marks, root, &mut taker, &mut sink)?;
+            walk_tree(&mut source, bench, marks, root, &mut taker, noting)?;
         }
     }
     if header.first_trunk() != 0 {
-        walk_freelist(&mut source, bench, marks, header.first_trunk(), &mut sink)?;
+        walk_freelist(&mut source, bench, marks, header.first_trunk(), noting)?;
     }
     Ok(())
 }

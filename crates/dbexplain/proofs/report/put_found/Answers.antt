@@ -1,14 +1,12 @@
-use Rattle.std.proofs.Common.{ap, subst, ◌∙◌}
-use Rattle.dbsource.specs.Outs.{Writes}
-use Rattle.dbentries.specs.Listing.{entries}
-use Rattle.dbentries.proofs.ListedFaults.{shown}
+use Rattle.std.proofs.Common.{◌≡◌, rules, ap}
+use Rattle.dblines.proofs.Writing.{put_written}
 use Rattle.dbexplain.specs.Keeping.{lines_of}
-use Rattle.dbexplain.proofs.KeptEntries.{found_lines}
 use Rattle.dbexplain.proofs.report.put_found.Goals as goal
 
-pub returns-clause-lines : goal.returns-clause-lines
-returns-clause-lines g c = λ limit told are.
-    let listing = c.args.kept.now.listing in
-    let same = ap lines_of c.listed.ensures ∙ found_lines limit (entries told) listing (shown limit told listing are) in
-    subst (Writes c.put_fault_lines.result (g.O.Out.held c.args.out.now).bytes (g.O.Out.held c.put_fault_lines.new.out).bytes) same
-    c.put_fault_lines.ensures.held
+pub returns : goal.returns
+returns g c =
+    let wrote = c.put_fault_lines.ensures in
+    let same = wrote.same_out in
+    let k : c.out-1.given.0 ≡ c.put_fault_lines.new.writer.out.now = search (rules, same) in
+    rw k (put_written c.end.result _ _ _ _ _ c.new-writer.ensures.fresh c.end.ensures
+    (rw (ap g.O.Out.held c.new-writer.ensures.out, ap lines_of c.listed.ensures) at wrote.written))

@@ -1,4 +1,4 @@
-use Rattle.std.proofs.Common.{◌≡◌, ◌-◌, ◌≤◌, Bool, ◌&&◌}
+use Rattle.std.proofs.Common.{◌≡◌, ◌-◌, ◌≤◌, ◌&&◌}
 use Rattle.std.specs.Prelude.{count_by, slice_index_or, ◌==◌}
 use Rattle.std.specs.List.{range_with_len}
 use Rattle.dbexplain.specs.Summary.{is_of_kind}

@@ -1,4 +1,4 @@
-use Rattle.std.proofs.Common.{rules, ◌≡◌, ℕ, List, length, map, ap, ap₂, subst, ◌∙◌, arith}
+use Rattle.std.proofs.Common.{rules, ◌≡◌, ℕ, List, map, sym, ap, ap₂, subst, ◌∙◌, arith}
 use Rattle.dbsurvey.specs.Address.{IsIn}
 use Rattle.dbformat.specs.Address.{freelist_start}
 use Rattle.dbformat.specs.File.{geometry}
@@ -6,11 +6,11 @@ use Rattle.dbformat.specs.FixedPages.{geometry_of}
 use Rattle.dbformat.specs.Header.{encoding}
 use Rattle.dbformat.specs.Starts.{start_at}
 use Rattle.dbformat.specs.declared.Geometry.{Geometry}
-use Rattle.dbmarks.proofs.Markings.{marks_of-length}
 use Rattle.dbowner.proofs.PageMarks.{place_is}
 use Rattle.dbscan.specs.Roots.{Listed}
 use Rattle.dbsource.specs.HeaderBytes.{HeaderBytes}
 use Rattle.dbowner.specs.Texts.{tree_of_row}
+use Rattle.dbowner.specs.Trees.{AreTrees, Trees}
 use Rattle.dbxml.specs.Names.{short_text}
 use Rattle.dbmap.specs.TreeTexts.{shown_tree}
 use Rattle.dbmap.specs.Drawings.{marked_place}
@@ -40,18 +40,11 @@ returns g c =
     record {
       text = c.draw_picture.ensures.text;
       is = λ file V desk has found.
-          let marked = c.marks.ensures ∙ desk.marks in
-          let all : length c.marks.result.now ≡ (geometry file).pages = ap length marked ∙ marks_of-length (geometry file) V in
-          let room = has.room in
-          let kept = ap (λ (w : DrawState _). length w.trees.known) c.note_listed.ensures.state in
-          let began : IsOf c.marks-2.result.now c.begin.new.self.trees.known file V = record {
-            survey = desk.survey;
-            marks = c.marks-2.ensures ∙ desk.marks;
-            trees = c.begin.ensures.trees file V desk.survey marked (ap (λ (l : Listed). l.rows) c.roots.ensures ∙ desk.rows) (omega (arith, all, room, kept));
-          } in
-          let tally = c.count.ensures.tally file V began in
-          let counted : IsOf c.marks-3.result.now c.count.new.trees.known file V =
-          record { survey = desk.survey; marks = c.marks-3.ensures ∙ desk.marks; trees = (c.count.ensures.trees file V began).trees } in
+          let kept = c.begin.ensures.trees ∙ ap (λ (w : DrawState _). w.trees) c.note_listed.ensures.state in
+          let trees = subst (λ (t : Trees). AreTrees V t.known) (sym kept) has.trees in
+          let tally = c.count.ensures file V (record { survey = desk.survey; marks = c.marks.ensures ∙ desk.marks; trees = trees }) in
+          let counted : IsOf c.marks-2.result.now c.begin.new.self.trees.known file V =
+          record { survey = desk.survey; marks = c.marks-2.ensures ∙ desk.marks; trees = trees } in
           let shape = c.geometry-geometry.ensures.shape ∙ desk.header.shape in
           let notes = c.note_listed.new.self.notes in
           let noted : AreNoted (geometry file).pages (coded_faults file V) (framed_pages file V) notes =
@@ -62,16 +55,16 @@ returns g c =
           (c.stated_pages.ensures ∙ ap (λ (h : HeaderBytes). stated_of h.bytes) c.header-2.ensures.value ∙ ap stated_of desk.header.begins) in
           let shorten : (ℕ → List ℕ) → ℕ → List ℕ = λ names start. short_text (names start) in
           let tree = ap shorten (ap₂ tree_of_row (c.encoding.ensures ∙ ap (λ (h : HeaderBytes). encoding h.bytes) c.header.ensures.value)
-          (ap (λ (l : Listed). l.rows) c.roots-2.ensures) ∙ known_trees file V c.args.desk.now.header c.args.desk.now.roots.rows desk.header desk.rows) in
-          let names = c.new-2.ensures ∙ ap (λ (ts : List RankedTree). map (shown_tree c.encoding.result c.roots-2.result.now.rows) (tree_starts ts))
+          (ap (λ (l : Listed). l.rows) c.roots.ensures) ∙ known_trees file V c.args.desk.now.header c.args.desk.now.roots.rows desk.header desk.rows) in
+          let names = c.new-2.ensures ∙ ap (λ (ts : List RankedTree). map (shown_tree c.encoding.result c.roots.result.now.rows) (tree_starts ts))
           c.as_slice.ensures.value ∙ ap₂ map tree largest in
           let fixed = ap (λ (h : HeaderBytes). geometry_of h.bytes h.file_len) c.header-3.ensures.value ∙ desk.header.shape in
-          let marks = c.marks-3.ensures ∙ desk.marks in
+          let marks = c.marks-2.ensures ∙ desk.marks in
           let lines = (rw c.as_slice-2.ensures.value at c.new-legend.ensures)
-          ∙ legend_is file V c.count.new.self c.roots-3.result.now.rows starts c.framed-strong.result.0 c.framed-strong.result.1 tally
+          ∙ legend_is file V c.count.new.self c.roots-2.result.now.rows starts c.framed-strong.result.0 c.framed-strong.result.1 tally
           (λ k i. largest_within (pages_at c.count.new.self.starts) c.count.new.self.trees freelist_start 12 k (omega (arith, tally.all.few))
           (subst (IsIn k) c.largest-largest.ensures.largest i))
-          (ap (λ (l : Listed). l.rows) c.roots-3.ensures ∙ desk.rows)
+          (ap (λ (l : Listed). l.rows) c.roots-2.ensures ∙ desk.rows)
           ∙ ap (λ ks. legend_lines file V ks c.framed-strong.result.0 c.framed-strong.result.1) largest
           ∙ ap₂ (legend_lines file V (largest_of file V))
           (c.framed-strong.ensures.strong ∙ ap (strong_pages (is_marked_framed notes)) (ap (λ (s : Geometry). s.pages) shape) ∙ strong_is file V notes noted)

@@ -1,6 +1,6 @@
 use Rattle.std.proofs.Common.{ap, ◌∙◌}
 use Rattle.dbmarks.specs.Marking.{page_mark}
-use Rattle.dbowner.specs.Climbs.{place_by}
+use Rattle.dbowner.specs.Trees.{place_by}
 use Rattle.dbowner.proofs.PageMarks.{place_is}
 use Rattle.dbowner.proofs.place.place_of.Goals as goal
 

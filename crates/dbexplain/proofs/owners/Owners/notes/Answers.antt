@@ -6,20 +6,20 @@ use Rattle.dbexplain.specs.declared.owners.Below.TheVariants as below
 use Rattle.dbexplain.proofs.Below.{lines_of}
 use Rattle.dbexplain.proofs.owners.Owners.notes.Goals as goal
 
-pub returns-in-StatedPages-clause-lines : goal.returns-in-StatedPages-clause-lines
-returns-in-StatedPages-clause-lines g c = λ file V h t.
+pub returns-in-StatedPages : goal.returns-in-StatedPages
+returns-in-StatedPages g c = λ file V h.
     (append-nil (header_line c.stated_pages.result)
     ∙ ap header_line (c.stated_pages.ensures ∙ ap stated_pages h.header.begins ∙ stated_pages_within file)
     ∙ lines_of file V c.args.fault.now below.StatedPages (sym c.in-StatedPages.is ∙ c.below_of.ensures))
 
-pub returns-in-GreatestRoot-clause-lines : goal.returns-in-GreatestRoot-clause-lines
-returns-in-GreatestRoot-clause-lines g c = λ file V h t.
+pub returns-in-GreatestRoot : goal.returns-in-GreatestRoot
+returns-in-GreatestRoot g c = λ file V h.
     (append-nil (header_line c.greatest_root.result)
     ∙ ap header_line (c.greatest_root.ensures ∙ ap greatest_root h.header.begins ∙ greatest_root_within file)
     ∙ lines_of file V c.args.fault.now below.GreatestRoot (sym c.in-GreatestRoot.is ∙ c.below_of.ensures))
 
-pub returns-in-FreelistCount-clause-lines : goal.returns-in-FreelistCount-clause-lines
-returns-in-FreelistCount-clause-lines g c = λ file V h t.
+pub returns-in-FreelistCount : goal.returns-in-FreelistCount
+returns-in-FreelistCount g c = λ file V h.
     (append-nil (header_line c.freelist_count.result)
     ∙ ap header_line (c.freelist_count.ensures ∙ ap freelist_count h.header.begins ∙ freelist_count_within file)
     ∙ lines_of file V c.args.fault.now below.FreelistCount (sym c.in-FreelistCount.is ∙ c.below_of.ensures))

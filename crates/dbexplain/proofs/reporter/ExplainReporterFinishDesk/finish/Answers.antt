@@ -9,7 +9,9 @@ use Rattle.dbwalk.specs.Telling.{one_out}
 use Rattle.dbscan.proofs.Finished.{finished}
 use Rattle.dbexplain.specs.Reporting.{Hears, LeavesExplained, explain_held}
 use Rattle.dbentries.proofs.Desks.{desk_kept, looked_keeps}
-use Rattle.dbexplain.proofs.Left.{all_counted, all_kept, clean_put, file_heard, told_some, written}
+use Rattle.dbentries.specs.Listed.{listed_entries}
+use Rattle.dbexplain.specs.Explained.{explain_text}
+use Rattle.dbexplain.proofs.Left.{all_counted, all_kept, clean_put, file_heard, written}
 use Rattle.dbexplain.proofs.reporter.ExplainReporterFinishDesk.finish.Goals as goal
 
 -- the answer of a put
@@ -64,11 +66,12 @@ returns-in_err-put_report g c =
     rw q.1 (rw q.2 (record {
       asks = asks_weaker _ _ (Err error.WriteFailed) (λ n. refl) look.asks (λ log l. l) (λ file way V first heard limit empty.
           let k = file_heard heard empty in
-          let kept = all_kept held k c.look_at_lost.new.self (way limit V heard.desk k.all.listing) look.room in
+          let all = way limit V heard.desk k.all.listing in
           let here = desk_kept c.args.desk.now c.look_at_lost.new.desk file V look.desk heard.desk in
-          written held k (cut c.in_err-put_report.field-0.0) c.put_report.new.out _ refl
-          (put.report limit file V here kept (told_some held k some)));
-      keeps = looked_keeps look.desk (record { lent = refl; failures = inl (put.count, refl) }) (inr refl);
+          written held k (cut c.in_err-put_report.field-0.0) c.put_report.new.out put.all
+          (put.is file V (all_kept held k _ c.look_at_lost.new.self here all look.room some)
+          ∙ ap (λ n. explain_text n file V (listed_entries file V)) all.room) put.puts.held);
+      keeps = looked_keeps look.desk (record { lent = refl; failures = inl (put.puts.count, refl) }) (inr refl);
     }))
 
 pub returns : goal.returns
@@ -79,11 +82,12 @@ returns g c =
     let put = c.in_ok-put_report.ensures in record {
       asks = asks_weaker _ _ (Ok _) (λ n. refl) look.asks (λ log l. l) (λ file way V first heard limit empty.
           let k = file_heard heard empty in
-          let kept = all_kept held k c.look_at_lost.new.self (way limit V heard.desk k.all.listing) look.room in
+          let all = way limit V heard.desk k.all.listing in
           let here = desk_kept c.args.desk.now c.look_at_lost.new.desk file V look.desk heard.desk in (
-            written held k done c.put_report.new.out _ refl
-                (put.report limit file V here kept (told_some held k some)),
+            written held k done c.put_report.new.out put.all
+                (put.is file V (all_kept held k _ c.look_at_lost.new.self here all look.room some)
+                ∙ ap (λ n. explain_text n file V (listed_entries file V)) all.room) put.puts.held,
             c.of-verdict.ensures.faults (faults file V) (c.all-faults.ensures ∙ all_counted held k),
           ));
-      keeps = looked_keeps look.desk (ap (one_out c.args.self.now.out.ghost_name) put.count) tt;
+      keeps = looked_keeps look.desk (ap (one_out c.args.self.now.out.ghost_name) put.puts.count) tt;
     }

@@ -27,16 +27,12 @@ loop-page-preserved g c = record {
       shares_next largest (marked_place c.args.self.now.marks.now) (start_at V) c.args.first c.loop-page.page c.owner.result c.is_overflow.result
       c.loop-page.shares c.add.new.self
       (omega (arith, c.loop-page.auto.page))
-      (c.owner.ensures ∙ ap₂ (owner_by largest) at (c.start_of-start.ensures.visit file V was.survey was.marks was.trees))
+      (c.owner.ensures ∙ ap₂ (owner_by largest) at (c.start_of-start.ensures file V was.survey was.marks was.trees))
       (c.is_overflow.ensures ∙ ap is_overflow at) c.add.ensures.counted (c.loop-page.invariant.shares file V of));
   many = c.add.ensures.many c.loop-page.invariant.many;
   at = inr (omega arith);
   named = c.loop-page.invariant.named;
-  trees = λ file V of. (let was = c.loop-page.invariant.trees file V of in record {
-    survey = was.survey;
-    marks = was.marks;
-    trees = c.start_of-start.ensures.right file V was.survey was.marks was.trees;
-  });
+  trees = c.loop-page.invariant.trees;
 }
 
 pub returns-clause-shares : goal.returns-clause-shares
@@ -57,5 +53,5 @@ returns-2-clause-shares g c = λ file V of.
     (shares_next largest (marked_place c.args.self.now.marks.now) (start_at V) c.args.first c.loop-page.page c.owner.result c.is_overflow.result
     c.loop-page.shares c.add.new.self
     (omega (arith, c.loop-page.auto.page))
-    (c.owner.ensures ∙ ap₂ (owner_by largest) at (c.start_of-start.ensures.visit file V was.survey was.marks was.trees))
+    (c.owner.ensures ∙ ap₂ (owner_by largest) at (c.start_of-start.ensures file V was.survey was.marks was.trees))
     (c.is_overflow.ensures ∙ ap is_overflow at) c.add.ensures.counted (c.loop-page.invariant.shares file V of))
