@@ -16,6 +16,16 @@ pub fn varint(bytes: &[u8]) -> Option<(u64, usize)>
     if bytes.len() < 4 {
         return varint_by_bytes(bytes);
     }
+    varint_of_four(bytes)
+}
+
+/// `varint` of four bytes or more.
+#[inline(always)]
+pub fn varint_of_four(bytes: &[u8]) -> Option<(u64, usize)>
+    requires { 4 ≤ length bytes.now }
+    ensures value { result ≡ varint bytes.now }
+    ensures within { IfSome result (λ r. (0 < r.1) × (r.1 ≤ 9) × (r.1 ≤ length bytes.now)) }
+{
     let one = u64::from(bytes[0]);
     if one < 128 {
         return Some((one, 1));

@@ -6,7 +6,7 @@ ghost use Rattle.dbformat.specs.Varint.{varint};
 ghost use Rattle.dbformat.specs.declared.PageKind.TheVariants.{InteriorIndex, InteriorTable, LeafIndex, LeafTable};
 
 use crate::view::PageView;
-use dbbytes::{local_len, most_local, varint};
+use dbbytes::{local_len, most_local, varint, varint_of_four};
 use dbformat::{CellFault, PageKind, PayloadKind, u16_at, u32_at};
 use std::marker::Model;
 
@@ -147,7 +147,7 @@ impl<'a> PageView<'a> {
         requires most { self.now.usable ≤ 65536 }
         ensures { result ≡ cell_at LeafTable self.now offset }
     {
-        let (size, size_len) = self.varint_at(offset)?;
+        let (size, size_len) = self.first_varint_at(offset)?;
         let (rowid, rowid_len) = self.varint_at(offset + size_len)?;
         let before = size_len + rowid_len;
         self.payload_cell(
@@ -184,7 +184,7 @@ impl<'a> PageView<'a> {
         requires most { self.now.usable ≤ 65536 }
         ensures { result ≡ cell_at LeafIndex self.now offset }
     {
-        let (size, size_len) = self.varint_at(offset)?;
+        let (size, size_len) = self.first_varint_at(offset)?;
         self.payload_cell(PayloadKind::Index, offset, size_len, size, None, None)
     }
 
@@ -207,6 +207,17 @@ impl<'a> PageView<'a> {
         ensures within { IfSome result (λ r. (r.1 ≤ 9) × (offset + r.1 ≤ self.now.usable)) }
     {
         let (value, len) = varint(&self.bytes[offset as usize..self.usable as usize])?;
+        Some((value, len as u32))
+    }
+
+    // `varint_at`, where four bytes or more are left.
+    #[inline(always)]
+    fn first_varint_at(&self, offset: u32) -> Option<(u64, u32)>
+        requires { offset + 4 ≤ self.now.usable }
+        ensures value { result ≡ varint (bytes_from self.now offset) }
+        ensures within { IfSome result (λ r. (r.1 ≤ 9) × (offset + r.1 ≤ self.now.usable)) }
+    {
+        let (value, len) = varint_of_four(&self.bytes[offset as usize..self.usable as usize])?;
         Some((value, len as u32))
     }
 

@@ -1,7 +1,7 @@
 use Rattle.std.proofs.Common.{arith}
 use Rattle.std.proofs.lemmas.Grind.{common_steps}
 use Rattle.dbbytes.proofs.VarintLemmas.{varint_after_first}
-use Rattle.dbbytes.proofs.varints.varint.Goals as goal
+use Rattle.dbbytes.proofs.varints.varint_of_four.Goals as goal
 
 pub returns-then-one-lt128-clause-value : goal.returns-then-one-lt128-clause-value
 returns-then-one-lt128-clause-value c =
