@@ -1,6 +1,6 @@
 // The faults within one page of a tree (Database File Format, 1.6).
-ghost use Rattle.std.specs.Prelude.{◌≡◌, ℕ, ◌≤◌, ◌<◌, ◌==◌, length, None, Some, [], ◌∷◌, Bool, IsOk, IfOk, IsTrue, MatchResult, is_some};
-ghost use Rattle.std.specs.List.{flat_map, list_any};
+ghost use Rattle.std.specs.Prelude.{◌≡◌, ℕ, ◌≤◌, ◌<◌, ◌==◌, length, None, Some, [], ◌∷◌, Bool, IsOk, IfOk, IsTrue, MatchResult};
+ghost use Rattle.std.specs.List.{flat_map};
 ghost use Rattle.std.specs.Option.{option_to_list};
 ghost use Rattle.dbformat.specs.Cell.{cell, count};
 ghost use Rattle.dbformat.specs.Coverage.{coverage};
@@ -128,17 +128,6 @@ fn cause_within(view: &PageView<'_>, number: u32) -> Cause
     )
 }
 
-// The same, where one of these faults was found. A sound page is not looked at.
-fn cause_found(view: &PageView<'_>, number: u32, found: &[Option<Fault>; 3]) -> Cause
-    requires most { view.now.usable ≤ 65536 }
-    ensures { IsTrue (list_any is_some found.now) → result ≡ cause.Page number (with_run (content_run view.now)) }
-{
-    match found {
-        [None, None, None] => Cause::Itself,
-        _ => cause_within(view, number),
-    }
-}
-
 // Whether pages of this kind belong to trees of that kind.
 fn is_of_tree(page: PageKind, tree: TreeKind) -> bool
     ensures { result ≡ is_same_tree (tree_of page) tree }
@@ -201,8 +190,22 @@ pub(crate) fn tell_readable<K: Sink>(
     let freeblock = freeblock_fault(view, number);
     let coverage = unheld_fault(view, number, freeblock.is_none(), unheld);
     let empty = empty_fault(view, number, is_child);
-    let cause = cause_found(view, number, &[fragments, freeblock, coverage]);
-    tell_each(&[fragments, freeblock, coverage, empty], &cause, sink)
+    let found = [fragments, freeblock, coverage, empty];
+    if are_none(&found) {
+        return Ok(());
+    }
+    tell_each(&found, &cause_within(view, number), sink)
+}
+
+// Whether none of these faults is there, as on most pages.
+#[inline(always)]
+fn are_none(faults: &[Option<Fault>; 4]) -> bool
+    ensures { IsTrue result → flat_map option_to_list faults.now ≡ [] }
+{
+    match faults {
+        [None, None, None, None] => true,
+        _ => false,
+    }
 }
 
 // Reports those of these faults that are there.

@@ -25,8 +25,8 @@ use Rattle.dbtrace.proofs.Causing.{inner_codes, inner_same, told_by-append, tree
 use Rattle.dbtrace.proofs.Depths.{no_depth, told_same as told_alike}
 use Rattle.dbwalk.specs.Found.{view_row, damaged_row, inner_cause, view_cause, with_leaf, page_findings}
 use Rattle.dbwalk.specs.Telling.{IsReportedTo, HasFailed, SinkState}
-use Rattle.std.specs.List.{range_with_len, cons_option, list_any}
-use Rattle.std.specs.Option.{is_none, is_some}
+use Rattle.std.specs.List.{range_with_len, cons_option}
+use Rattle.std.specs.Option.{is_none}
 use Rattle.std.proofs.lemmas.Grind.{common_steps, flat_map-append}
 use Rattle.std.proofs.lemmas.Bool.Decides.{nat_tests}
 use Rattle.dbsurvey.proofs.Moving.{Moves-append, stops_first, stops_after}
@@ -224,21 +224,6 @@ pub inner_told : (v : View) (number : ℕ) (is_child : Bool) → number ≡ v.nu
     → told_by (inner_cause why) (inner_faults v is_child) ≡ told_by (view_cause v) (inner_faults v is_child)
 inner_told v number is_child n why e =
     inner_same (inner_cause why) (view_cause v) (ap (λ w. map (inner_cause w) inner_codes) (e ∙ ap (λ q. cause.Page q (with_run (content_run v))) n)) v is_child
-
--- that a page has no cells goes back to nothing
-pub empty_told : (v : View) (is_child : Bool) (empty : Option Fault) → option_to_list empty ≡ empty_fault v is_child → (x y : Cause)
-    → told_by (inner_cause x) (option_to_list empty) ≡ told_by (inner_cause y) (option_to_list empty)
-empty_told v is_child empty e x y = ap (told_by (inner_cause x)) e ∙ told_alike (inner_cause x) (inner_cause y) _ _ refl ∙ sym (ap (told_by (inner_cause y)) e)
-
--- The cause of a page without other faults does not matter.
-pub cause_unused : (x y : Cause) (a b c d : Option Fault) → ((list_any is_some (a ∷ b ∷ c ∷ [])) ≡ true → x ≡ y) → told_by (inner_cause x) (option_to_list d)
-    ≡ told_by (inner_cause y) (option_to_list d)
-    → told_by (inner_cause x) (flat_map option_to_list (a ∷ b ∷ c ∷ d ∷ [])) ≡ told_by (inner_cause y) (flat_map option_to_list (a ∷ b ∷ c ∷ d ∷ []))
-cause_unused x y None None None d h k = ap (told_by (inner_cause x)) (append-nil (option_to_list d)) ∙ k
-    ∙ sym (ap (told_by (inner_cause y)) (append-nil (option_to_list d)))
-cause_unused x y None None (Some c) d h k = ap (λ z. told_by (inner_cause z) (c ∷ (option_to_list d ++ []))) (h refl)
-cause_unused x y None (Some b) c d h k = ap (λ z. told_by (inner_cause z) (b ∷ (option_to_list c ++ (option_to_list d ++ [])))) (h refl)
-cause_unused x y (Some a) b c d h k = ap (λ z. told_by (inner_cause z) (a ∷ (option_to_list b ++ (option_to_list c ++ (option_to_list d ++ []))))) (h refl)
 
 -- What was found of a page whose cells have the faults cs: it is all of them.
 pub inner_found : (v : View) (is_child good : Bool) (fragments freeblock coverage empty : Option Fault) (cs : List Fault) → cell_faults v ≡ cs
