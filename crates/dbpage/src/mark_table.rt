@@ -149,8 +149,10 @@ fn ones(from: u32, to: u32) -> u64
     requires { (from ≤ to) × (from < 64) × (to ≤ 64) }
     ensures { result ≡ 2 ^ to - 2 ^ from }
 {
-    let end = if to == 64 { 0 } else { 1u64 << to };
-    end.wrapping_sub(1 << from)
+    if to == 64 {
+        return u64::MAX << from;
+    }
+    ((1u64 << (to - from)) - 1) << from
 }
 
 // Eight bytes of the table as a number: the marks of 64 bytes.
