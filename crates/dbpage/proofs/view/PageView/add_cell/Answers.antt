@@ -61,17 +61,17 @@ returns c =
     (omega (arith, fits, ap (λ (w : View). w.usable) c.self.view_is, c.self.invariant.most)) (λ a b p q. c.if-not-is_rising.ensures a b p (key ∙ q)) in
     let payload = ap (λ (e : Cell). sums.payload + length e.local) same in
     let greatest = c.max-sums.ensures ∙ ap (λ (e : Cell). max sums.greatest e.size) same in
-    let some = c.is_some.ensures ∙ ap (λ (e : Cell). is_some e.overflow) same in (
+    let some = c.is_some.ensures ∙ ap (λ (e : Cell). is_some e.overflow) same in
+    let joined = λ (b : Bool) (h : c.is_some.result ≡ b). ap (λ o. sums.has_overflow || o) (sym h ∙ some) in (
       has,
       elim c.if-is_some.branch [
         | then-is_some w ↦
             read _ (ap (λ (s : CellSums). s.payload) w.sums-is ∙ payload) (ap (λ (s : CellSums). s.greatest) w.sums-is ∙ greatest)
             (ap (λ (s : CellSums). s.first) w.sums-is) (ap (λ (s : CellSums). s.last) w.sums-is ∙ key)
-            (ap (λ (s : CellSums). s.has_overflow) w.sums-is ∙ sym (or-true sums.has_overflow)
-            ∙ ap (λ b. sums.has_overflow || b) (sym w.if-is_some.true ∙ some))
+            (ap (λ (s : CellSums). s.has_overflow) w.sums-is ∙ sym (or-true sums.has_overflow) ∙ joined true w.if-is_some.true)
         | else-is_some w ↦
             read _ (ap (λ (s : CellSums). s.payload) w.sums-is ∙ payload) (ap (λ (s : CellSums). s.greatest) w.sums-is ∙ greatest)
             (ap (λ (s : CellSums). s.first) w.sums-is) (ap (λ (s : CellSums). s.last) w.sums-is ∙ key)
-            (ap (λ (s : CellSums). s.has_overflow) w.sums-is ∙ or_false sums.has_overflow ∙ ap (λ b. sums.has_overflow || b) (sym w.if-is_some.false ∙ some))
+            (ap (λ (s : CellSums). s.has_overflow) w.sums-is ∙ or_false sums.has_overflow ∙ joined false w.if-is_some.false)
       ],
     )
