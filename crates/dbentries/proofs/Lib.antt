@@ -4,7 +4,6 @@ pub mod Bits
 pub mod Desks
 pub mod Few
 pub mod Heard
-pub mod KeptLists
 pub mod ListedFaults
 pub mod Looking
 pub mod LostPages

@@ -12,7 +12,7 @@ use Rattle.dbentries.specs.Store.{Stored, beside_before, home_kept, is_beside, i
 use Rattle.dbentries.specs.declared.entry.Entry.{Entry}
 use Rattle.dbentries.proofs.Numbers.{last-append, numbers-append}
 
--- Those before number n were looked at: none of the code and part of a fault goes back to the same, and so many there are.
+-- Those before number n were looked at: none of the code and part of a fault goes back to the same, and this is how many of them there are.
 pub record HasLookedAt (x : Reported) (begins : ℕ) (listed : List Entry) (n count : ℕ) (last : Option ℕ) : Type 0 where
   pub none : find (is_listed_cause x listed) (beside_before x begins listed n) ≡ None
   pub as_many : count ≡ length (beside_before x begins listed n)

@@ -1,9 +1,8 @@
 -- Pages that are zeros, by their bits.
-use Rattle.std.proofs.Common.{◌≡◌, ℕ, Bool, true, false, cond, ◌||◌, ◌&&◌, List, [], ◌∷◌, ◌++◌, length, refl, sym, ap, ap₂, inl, inr, arith, ◌∙◌}
+use Rattle.std.proofs.Common.{◌≡◌, ℕ, Bool, true, false, cond, ◌||◌, ◌&&◌, List, [], ◌∷◌, ◌++◌, refl, sym, ap, ap₂, inl, inr, arith, ◌∙◌}
 use Rattle.std.specs.Prelude.{◌==◌, filter}
 use Rattle.std.specs.List.{range_with_len}
 use Rattle.std.proofs.Math.Bool.{or-false}
-use Rattle.std.proofs.Math.ListN.{length-set}
 use Rattle.std.proofs.lemmas.List.Folds.{list_any-append}
 use Rattle.dbsurvey.specs.Address.{IsIn}
 use Rattle.dbsurvey.proofs.Elements.{IsIn-from_range}
@@ -14,14 +13,6 @@ use Rattle.dbentries.specs.Bits.{bit_set, has_bit, HasPageBit}
 use Rattle.dbentries.specs.Listed.{listed_faults}
 use Rattle.dbentries.specs.Zeros.{AreZeros, is_of_zeros, is_zero_page, zero_noted, zero_pages}
 use Rattle.dbentries.proofs.Bits.{room_kept, set_is}
-
--- there are as many words as before
-pub words_kept : (x : Reported) (words : List ℕ) → length (zero_noted x words) ≡ length words
-words_kept x words = by_case (is_of_zeros x.cause)
-  where
-    by_case : (b : Bool) → length (cond b (bit_set x.fault.page words) words) ≡ length words
-    by_case true = length-set words _ _
-    by_case false = refl
 
 -- with one fault more
 pub zeros_more : (xs : List Reported) (x : Reported) (words : List ℕ) → AreZeros xs words → AreZeros (xs ++ x ∷ []) (zero_noted x words)

@@ -1,10 +1,10 @@
 -- The lines below a fault, by what is known of a file.
-use Rattle.std.proofs.Common.{◌≡◌, ℕ, Bool, true, false, List, [], ◌++◌, Option, Some, None, refl, sym, ap, ap₂, ◌∙◌}
+use Rattle.std.proofs.Common.{◌≡◌, ℕ, ℤ, Bool, true, false, cond, List, [], ◌++◌, Option, Some, None, refl, sym, ap, ◌∙◌}
 use Rattle.std.specs.Prelude.{option_map}
 use Rattle.std.specs.Option.{option_map_or}
 use Rattle.dbformat.specs.EndFaults.{visit_of}
 use Rattle.dbformat.specs.File.{geometry}
-use Rattle.dbformat.specs.FixedPages.{geometry_of, is_page, is_fixed}
+use Rattle.dbformat.specs.FixedPages.{is_page, is_fixed}
 use Rattle.dbformat.specs.Header.{encoding, stated_pages, greatest_root, freelist_count}
 use Rattle.dbformat.specs.Reference.{Role, root, child, first_overflow, later_overflow, trunk, free_leaf, Reference, role_of, from_of, entry_of}
 use Rattle.dbformat.specs.SchemaRow.{SchemaRow}
@@ -24,9 +24,8 @@ use Rattle.dbmarks.proofs.EndMarking.{found_in}
 use Rattle.dbscan.specs.Roots.{AreListed}
 use Rattle.dbformat.proofs.HeaderPrefix.{encoding_within}
 use Rattle.dbowner.specs.Texts.{tree_of_row, tree_text}
-use Rattle.dbexplain.specs.Below.{own_line, both_lines, header_line, line_of_entry, entry_line, lines_below}
-use Rattle.dbexplain.specs.Notes.{below_of, wanted_entry, notes_text}
-use Rattle.dbexplain.specs.declared.notes.LineBelow.{LineBelow}
+use Rattle.dbexplain.specs.Below.{own_line, both_lines, header_line, line_of_entry, entry_line, lines_below, place_line, value_page}
+use Rattle.dbexplain.specs.Notes.{below_of, page_or_none, wanted_entry}
 use Rattle.dbexplain.specs.declared.owners.Below.{Below}
 use Rattle.dbexplain.specs.declared.owners.Below.TheVariants as below
 use Rattle.dbowner.proofs.PageMarks.{mark_here, no_visit, unused}
@@ -95,9 +94,11 @@ pub known_trees : (file : List ℕ) (V : List Reference) (h : HeaderBytes) (rows
 known_trees file V h rows e header listed texts =
     ap (λ e. tree_of_row e rows) (texts ∙ ap encoding header.begins ∙ encoding_within file) ∙ ap (tree_of_row (encoding file)) listed
 
-pub known_text : (file : List ℕ) (V : List Reference) (h : HeaderBytes) (rows : List SchemaRow) (g : Geometry) (e : Encoding)
-    (n : Option LineBelow × Option LineBelow)
-    → IsHeaderOf h file → AreListed file V rows → g ≡ geometry_of h.bytes h.file_len → e ≡ encoding h.bytes
-    → notes_text g (tree_of_row e rows) n ≡ notes_text (geometry file) (tree_text file V) n
-known_text file V h rows g e n header listed shape texts =
-    ap₂ (λ g tree. notes_text g tree n) (shape ∙ header.shape) (known_trees file V h rows e header listed texts)
+-- the line of the page that a value is, if it is that of a page
+pub value_line : (file : List ℕ) (V : List Reference) (v : ℤ) (g : Geometry) → g ≡ geometry file → place_line file V (page_or_none g v)
+    ≡ place_line file V (value_page v)
+value_line file V v g e = ap (λ g. place_line file V (page_or_none g v)) e ∙ by_case (is_page (geometry file) (value_page v)) refl
+  where
+    by_case : (b : Bool) → is_page (geometry file) (value_page v) ≡ b → place_line file V (page_or_none (geometry file) v) ≡ place_line file V (value_page v)
+    by_case true e = ap (λ b. place_line file V (cond b (value_page v) 0)) e
+    by_case false e = ap (λ b. place_line file V (cond b (value_page v) 0)) e ∙ rw e refl

@@ -27,7 +27,7 @@ use Rattle.dbexplain.specs.Summary.{is_part_of_start, is_whole, CodesAddUp, Star
 -- ---- what is counted once for each of a list
 
 module _ {K X : Type 0} (p : K → X → Bool) where
-  -- one more is counted at those that it is of
+  -- an element more is counted by each test that it passes
   one_more : (ks : List K) (x : X) (xs : List X) → sum_by (λ k. count_by (p k) (x ∷ xs)) ks ≡ count_by (λ k. p k x) ks + sum_by (λ k. count_by (p k) xs) ks
   one_more [] x xs = refl
   one_more (k ∷ ks) x xs =

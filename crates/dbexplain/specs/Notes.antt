@@ -1,4 +1,4 @@
--- The pieces of the lines below a fault, and what these lines say.
+-- The pieces of the lines below a fault, and what is known of a file for them.
 use Rattle.std.specs.Prelude.{ℕ, ◌-◌, ◌*◌, ℤ, List, [], ◌∷◌, ◌++◌, Option, Some, None, codes, decimal, ◌==◌, if◌then◌else◌}
 use Rattle.std.specs.Option.{option_map_or}
 use Rattle.dbformat.specs.Address.{freelist_start}
@@ -11,18 +11,16 @@ use Rattle.dbformat.specs.declared.FaultCode.{FaultCode}
 use Rattle.dbformat.specs.declared.FaultCode.TheVariants.{H01, H02, H03, H04, H05, H06, H07, H08, H09, H10, R02, R03, T04, O01, M01, M02}
 use Rattle.dbformat.specs.declared.Geometry.{Geometry}
 use Rattle.dbsource.specs.Headers.{IsHeaderOf}
-use Rattle.dbmarks.specs.EndMarks.{entry_value, mark_entry}
+use Rattle.dbmarks.specs.EndMarks.{mark_entry}
 use Rattle.dbmarks.specs.Marking.{AreMarksOf}
 use Rattle.dbmarks.specs.declared.marks.Mark.{Mark}
 use Rattle.dbmarks.specs.declared.marks.Mark.TheVariants.{Unmarked}
 use Rattle.dbmarks.specs.declared.marks.Mark.TheVariants as mark
 use Rattle.dbscan.specs.Roots.{AreListed}
 use Rattle.dbowner.specs.Texts.{place_from, place_front, place_words}
-use Rattle.dbexplain.specs.Below.{page_place_line, line_of_start, header_line, line_of_entry, value_page}
+use Rattle.dbexplain.specs.Below.{value_page}
 use Rattle.dbowner.specs.Trees.{AreTrees}
 use Rattle.dbowner.specs.declared.place.Place.{Place}
-use Rattle.dbexplain.specs.declared.notes.LineBelow.{LineBelow}
-use Rattle.dbexplain.specs.declared.notes.LineBelow.TheVariants as note
 use Rattle.dbexplain.specs.declared.owners.Below.{Below}
 use Rattle.dbexplain.specs.declared.owners.Below.TheVariants as below
 use Rattle.dbexplain.specs.declared.owners.Owners.{Owners}
@@ -50,17 +48,6 @@ wanted_entry None = None
 wanted_entry (Some Unmarked) = None
 wanted_entry (Some mark.Fixed) = None
 wanted_entry (Some m) = Some (mark_entry m)
-
--- the line of a note, by the shape of the file and the texts of its trees
-abbrev pub note_text : Geometry → (ℕ → List ℕ) → LineBelow → List ℕ
-note_text g tree (note.Page s) = page_place_line g tree s.page s.place s.start
-note_text g tree (note.Start k) = line_of_start tree k
-note_text g tree (note.Header n) = header_line n
-note_text g tree (note.Entry e) = line_of_entry (entry_value e)
-
--- the lines of two notes
-abbrev pub notes_text : Geometry → (ℕ → List ℕ) → Option LineBelow × Option LineBelow → List ℕ
-notes_text g tree n = option_map_or (note_text g tree) n.0 [] ++ option_map_or (note_text g tree) n.1 []
 
 -- what is written below a fault with this code
 abbrev pub below_of : FaultCode → Below

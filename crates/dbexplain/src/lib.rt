@@ -15,7 +15,6 @@ mod facts;
 mod kept;
 mod laws;
 mod missing;
-mod notes;
 mod owners;
 mod page_lines;
 mod reached;

@@ -1,23 +1,21 @@
 // The lines below a fault, by what is known of a file at the end of a run.
-ghost use Rattle.std.specs.Prelude.{◌≡◌, ℕ, List, []};
-ghost use Rattle.std.specs.Option.{option_map_or};
+ghost use Rattle.std.specs.Prelude.{◌≡◌, option_map};
 ghost use Rattle.dbformat.specs.EndFaults.{visit_of};
-ghost use Rattle.dbformat.specs.File.{geometry};
 ghost use Rattle.dbformat.specs.FixedPages.{geometry_of};
 ghost use Rattle.dbformat.specs.Header.{encoding};
-ghost use Rattle.dbformat.specs.Reference.{Reference};
-ghost use Rattle.dblines.specs.Writing.{WroteOf};
-ghost use Rattle.dbowner.specs.Texts.{tree_text};
-ghost use Rattle.dbexplain.specs.Below.{entry_line, lines_below, own_line, place_line};
-ghost use Rattle.dbexplain.specs.Notes.{AreOwnersOf, below_of, note_text, notes_text, page_or_none};
+ghost use Rattle.dbmarks.specs.EndMarks.{entry_value};
+ghost use Rattle.dblines.specs.Writing.{Wrote, WroteOf};
+ghost use Rattle.dbexplain.specs.Below.{entry_line, header_line, line_of_entry, lines_below, own_line, place_line};
+ghost use Rattle.dbexplain.specs.Notes.{AreOwnersOf, below_of, page_or_none, wanted_entry};
 
-use crate::notes::{LineBelow, put_notes, wanted_entry};
-use crate::page_lines::Spot;
+use crate::page_lines::{Spot, put_page_line, put_start_line};
+use arrayvec::ArrayVec;
 use dbformat::{Fault, FaultCode};
-use dblines::Writer;
+use dblines::{Writer, append, append_number};
+use dbmarks::MapEntry;
 use dbowner::{PageTrees, RootList, TreeNames, mark_of, place_of};
 use dbsource::{Header, Out};
-use dbwalk::Marks;
+use dbwalk::{Mark, Marks};
 use std::alloc::{Allocator, Global};
 
 /// What is known of a file at the end of a run: its header, the marks of its pages, the rows of its schema that have a root page,
@@ -71,6 +69,46 @@ fn below_of(code: FaultCode) -> Below
     }
 }
 
+// The entry that a page with this mark has, if it is in use.
+fn wanted_entry(mark: Option<Mark>) -> Option<MapEntry>
+    ensures { option_map entry_value result ≡ wanted_entry mark }
+{
+    match mark? {
+        Mark::Unmarked | Mark::Fixed => None,
+        mark => Some(mark.entry()),
+    }
+}
+
+fn header_line(number: u32) -> ArrayVec<u8, 64>
+    ensures { result.items ≡ header_line number }
+{
+    let mut line = ArrayVec::new();
+    append(&mut line, "    header: ");
+    append_number(&mut line, u64::from(number));
+    append(&mut line, "\n");
+    line
+}
+
+fn entry_line(entry: MapEntry) -> ArrayVec<u8, 96>
+    ensures { result.items ≡ line_of_entry (entry_value entry) }
+{
+    let mut line = ArrayVec::new();
+    append(&mut line, "    entry wanted: type ");
+    append_number(&mut line, u64::from(entry.kind));
+    append(&mut line, ", number ");
+    append_number(&mut line, u64::from(entry.number));
+    append(&mut line, "\n");
+    line
+}
+
+// Writes the line of a number of the header.
+fn put_header<O: Out>(writer: &mut Writer<'_, O>, number: u32)
+    ensures { Wrote O.held writer.old (header_line number) writer.new }
+{
+    let line = header_line(number);
+    writer.put(line.as_slice());
+}
+
 impl<A: Allocator> Owners<'_, A> {
     /// The texts of the trees.
     pub(crate) fn names(&self) -> TreeNames<'_, A>
@@ -83,10 +121,11 @@ impl<A: Allocator> Owners<'_, A> {
         }
     }
 
-    // The page that a value is, or 0 where there is none.
-    fn value_page(&self, value: i64) -> u32
-        ensures { result ≡ page_or_none (geometry_of self.now.header.now.bytes self.now.header.now.file_len) value }
+    // The page that the value of a fault is, or 0 where there is none.
+    fn value_page(&self, fault: &Fault) -> u32
+        ensures { result ≡ page_or_none (geometry_of self.now.header.now.bytes self.now.header.now.file_len) fault.now.value }
     {
+        let value = fault.value;
         let pages = self.header.geometry().pages;
         if value >= 1 && value <= i64::from(pages) {
             value as u32
@@ -95,57 +134,36 @@ impl<A: Allocator> Owners<'_, A> {
         }
     }
 
-    // Where a page is.
-    fn spot(&self, page: u32) -> LineBelow
-        ensures { (file : List ℕ) (V : List Reference) → AreOwnersOf self.now file V
-            → note_text (geometry file) (tree_text file V) result ≡ place_line file V page }
+    /// Writes the line of a page: where it is, and in which tree. A number that no page has gets no line.
+    pub(crate) fn put_page<O: Out>(&self, writer: &mut Writer<'_, O>, page: u32)
+        ensures { WroteOf O.held writer.old (AreOwnersOf self.now) (λ file V. place_line file V page) writer.new }
     {
-        LineBelow::Page(Spot {
+        let spot = Spot {
             page,
             place: place_of(self.marks, page),
             start: self.trees.start_of(self.marks, page),
-        })
+        };
+        put_page_line(writer, &self.names(), self.header.geometry(), spot);
     }
 
-    // Where a fault is.
-    fn own_note(&self, fault: &Fault) -> LineBelow
-        ensures { (file : List ℕ) (V : List Reference) → AreOwnersOf self.now file V
-            → note_text (geometry file) (tree_text file V) result ≡ own_line file V fault.now }
+    // Writes where a fault is.
+    fn put_own<O: Out>(&self, writer: &mut Writer<'_, O>, fault: &Fault)
+        ensures { WroteOf O.held writer.old (AreOwnersOf self.now) (λ file V. own_line file V fault.now) writer.new }
     {
         if fault.page == 0 {
-            LineBelow::Start(fault.item)
+            put_start_line(writer, &self.names(), fault.item);
         } else {
-            self.spot(fault.page)
+            self.put_page(writer, fault.page);
         }
     }
 
-    // The entry of the pointer map that a page has, if it is in use.
-    fn entry_note(&self, page: u32) -> Option<LineBelow>
-        ensures { (file : List ℕ) (V : List Reference) → AreOwnersOf self.now file V
-            → option_map_or (note_text (geometry file) (tree_text file V)) result [] ≡ entry_line (visit_of V page) }
+    // Writes the entry of the pointer map that a page has, if it is in use.
+    fn put_wanted<O: Out>(&self, writer: &mut Writer<'_, O>, page: u32)
+        ensures { WroteOf O.held writer.old (AreOwnersOf self.now) (λ file V. entry_line (visit_of V page)) writer.new }
     {
         match wanted_entry(mark_of(self.marks, page)) {
-            Some(entry) => Some(LineBelow::Entry(entry)),
-            None => None,
-        }
-    }
-
-    // What the lines below a fault say.
-    fn notes(&self, fault: &Fault) -> (Option<LineBelow>, Option<LineBelow>)
-        ensures { (file : List ℕ) (V : List Reference) → AreOwnersOf self.now file V
-            → notes_text (geometry file) (tree_text file V) result ≡ lines_below file V fault.now fault.now.code }
-    {
-        match below_of(fault.code) {
-            Below::Nothing => (None, None),
-            Below::StatedPages => (Some(LineBelow::Header(self.header.stated_pages())), None),
-            Below::GreatestRoot => (Some(LineBelow::Header(self.header.greatest_root())), None),
-            Below::FreelistCount => (Some(LineBelow::Header(self.header.freelist_count())), None),
-            Below::Own => (Some(self.own_note(fault)), None),
-            Below::Both => {
-                let other = self.spot(self.value_page(fault.value));
-                (Some(self.own_note(fault)), Some(other))
-            }
-            Below::Entry => (Some(self.own_note(fault)), self.entry_note(fault.page)),
+            Some(entry) => writer.put(entry_line(entry).as_slice()),
+            None => {}
         }
     }
 
@@ -154,15 +172,20 @@ impl<A: Allocator> Owners<'_, A> {
     pub(crate) fn put_below<O: Out>(&self, writer: &mut Writer<'_, O>, fault: &Fault)
         ensures { WroteOf O.held writer.old (AreOwnersOf self.now) (λ file V. lines_below file V fault.now fault.now.code) writer.new }
     {
-        let notes = self.notes(fault);
-        put_notes(writer, &self.names(), self.header.geometry(), notes);
-    }
-
-    /// Writes the line of a page: where it is, and in which tree. A number that no page has gets no line.
-    pub(crate) fn put_page<O: Out>(&self, writer: &mut Writer<'_, O>, page: u32)
-        ensures { WroteOf O.held writer.old (AreOwnersOf self.now) (λ file V. place_line file V page) writer.new }
-    {
-        let notes = (Some(self.spot(page)), None);
-        put_notes(writer, &self.names(), self.header.geometry(), notes);
+        match below_of(fault.code) {
+            Below::Nothing => {}
+            Below::StatedPages => put_header(writer, self.header.stated_pages()),
+            Below::GreatestRoot => put_header(writer, self.header.greatest_root()),
+            Below::FreelistCount => put_header(writer, self.header.freelist_count()),
+            Below::Own => self.put_own(writer, fault),
+            Below::Both => {
+                self.put_own(writer, fault);
+                self.put_page(writer, self.value_page(fault));
+            }
+            Below::Entry => {
+                self.put_own(writer, fault);
+                self.put_wanted(writer, fault.page);
+            }
+        }
     }
 }

@@ -15,7 +15,7 @@ module _ (index : Bool) (rows : List SchemaRow) (cs : List StartCount) where
   abbrev is_whole : ℕ → Bool
   is_whole k = is_of_kind index rows k && ((slice_index_or cs k no_count).faults == 0)
 
-  -- so many trees are before this start, and so many of them have no fault
+  -- the sum is that of the starts before this one
   abbrev AreBefore : ℕ → TreeSum → Type 0
   AreBefore start t = (t.all ≡ count_by (is_of_kind index rows) (range_with_len 1 (start - 1))) × (t.whole ≡ count_by is_whole (range_with_len 1 (start - 1)))
       × (t.whole ≤ t.all) × (t.all ≤ start)

@@ -1,13 +1,45 @@
-use Rattle.std.proofs.Common.{ap, ◌∙◌}
-use Rattle.dbexplain.proofs.Below.{known_text}
+use Rattle.std.proofs.Common.{◌++◌, [], sym, ap, ◌∙◌}
+use Rattle.dbformat.specs.Header.{stated_pages, greatest_root, freelist_count}
+use Rattle.dbformat.proofs.HeaderPrefix.{stated_pages_within, greatest_root_within, freelist_count_within}
+use Rattle.dblines.proofs.Writing.{of_all, of_as, of_then, wrote_nothing}
+use Rattle.dbexplain.specs.Below.{header_line, own_line, place_line}
+use Rattle.dbexplain.specs.declared.owners.Below.TheVariants as below
+use Rattle.dbexplain.proofs.Below.{lines_of, value_line}
 use Rattle.dbexplain.proofs.owners.Owners.put_below.Goals as goal
 
-pub returns : goal.returns
-returns g c = record {
-  all = _;
-  wrote = c.put_notes.ensures;
-  is = λ file V h.
-      known_text file V c.args.self.now.header.now c.names.result.roots.now.rows c.geometry.result c.names.result.encoding c.notes-notes.result
-      h.header (ap (λ r. r.rows) c.names.ensures.roots ∙ h.rows) c.geometry.ensures.shape c.names.ensures.encoding
-      ∙ c.notes-notes.ensures file V h;
+pub returns-in-Nothing : goal.returns-in-Nothing
+returns-in-Nothing g c = record {
+  all = [];
+  wrote = wrote_nothing c.args.writer.now;
+  is = λ file V h. lines_of file V c.args.fault.now below.Nothing (sym c.in-Nothing.is ∙ c.below_of.ensures);
 }
+
+pub returns-in-StatedPages : goal.returns-in-StatedPages
+returns-in-StatedPages g c =
+    of_as (λ file V h. ap header_line (c.stated_pages.ensures ∙ ap stated_pages h.header.begins ∙ stated_pages_within file)
+    ∙ lines_of file V c.args.fault.now below.StatedPages (sym c.in-StatedPages.is ∙ c.below_of.ensures)) (of_all c.put_header.ensures)
+
+pub returns-in-GreatestRoot : goal.returns-in-GreatestRoot
+returns-in-GreatestRoot g c =
+    of_as (λ file V h. ap header_line (c.greatest_root.ensures ∙ ap greatest_root h.header.begins ∙ greatest_root_within file)
+    ∙ lines_of file V c.args.fault.now below.GreatestRoot (sym c.in-GreatestRoot.is ∙ c.below_of.ensures)) (of_all c.put_header-in-GreatestRoot.ensures)
+
+pub returns-in-FreelistCount : goal.returns-in-FreelistCount
+returns-in-FreelistCount g c =
+    of_as (λ file V h. ap header_line (c.freelist_count.ensures ∙ ap freelist_count h.header.begins ∙ freelist_count_within file)
+    ∙ lines_of file V c.args.fault.now below.FreelistCount (sym c.in-FreelistCount.is ∙ c.below_of.ensures)) (of_all c.put_header-in-FreelistCount.ensures)
+
+pub returns-in-Own : goal.returns-in-Own
+returns-in-Own g c =
+    of_as (λ file V h. lines_of file V c.args.fault.now below.Own (sym c.in-Own.is ∙ c.below_of.ensures)) c.put_own.ensures
+
+pub returns-in-Both : goal.returns-in-Both
+returns-in-Both g c =
+    let f = c.args.fault.now in
+    of_as (λ file V h. ap (λ w. own_line file V f ++ w) (ap (place_line file V) c.value_page.ensures ∙ value_line file V f.value _ h.header.shape)
+    ∙ lines_of file V f below.Both (sym c.in-Both.is ∙ c.below_of.ensures)) (of_then c.put_own-in-Both.ensures c.put_page.ensures)
+
+pub returns-in-Entry : goal.returns-in-Entry
+returns-in-Entry g c =
+    of_as (λ file V h. lines_of file V c.args.fault.now below.Entry (sym c.in-Entry.is ∙ c.below_of.ensures))
+    (of_then c.put_own-in-Entry.ensures c.put_wanted.ensures)
