@@ -2,6 +2,7 @@ pub mod BodyLemmas
 pub mod KeptLemmas
 pub mod ListLemmas
 pub mod NameLemmas
+pub mod PlainLemmas
 pub mod RecordLemmas
 pub mod SieveLemmas
 pub mod UnitLemmas

@@ -1,10 +1,11 @@
 // How a name is shown on a line that it must not turn around.
-ghost use Rattle.std.specs.Prelude.{◌≡◌, encode_utf8, IsTrue};
+ghost use Rattle.std.specs.Prelude.{◌≡◌, ◌<◌, ℕ, true, length, slice_index, encode_utf8, IsTrue};
 ghost use Rattle.std.specs.Char.Utf16.{utf16_lossy_chars};
 ghost use Rattle.std.specs.List.{flat_map};
 ghost use Rattle.std.specs.Str.{chars};
 ghost use Rattle.dbformat.specs.PlainNames.{byte_code, is_coded, plain_char, plain_name};
 ghost use Rattle.dbsource.specs.Outs.{Puts};
+ghost use Rattle.dbbytes.specs.Escapes.{IsPlainByte};
 ghost use Rattle.dbbytes.specs.Units.{units};
 
 use crate::name::escape;
@@ -38,10 +39,25 @@ pub fn plain_name_text<O: Out>(
     }
 }
 
-// Puts the characters of a text.
+// Whether all bytes are characters of ASCII, none of which is written by its code.
+fn are_plain(bytes: &[u8]) -> bool
+    ensures { result ≡ true → (k : ℕ) → k < length bytes.now → IsPlainByte (slice_index bytes.now k) }
+{
+    for byte in bytes {
+        if *byte < 32 || *byte > 126 || *byte == b'\\' {
+            return false;
+        }
+    }
+    true
+}
+
+// Puts the characters of a text: all at once, where they are plain.
 fn put_chars<O: Out>(text: &str, out: &mut O) -> Result<(), WriteFailed>
     ensures { Puts result (O.held out.old) (O.held out.new) (flat_map plain_char (chars text.now)) }
 {
+    if are_plain(text.as_bytes()) {
+        return out.put(text.as_bytes());
+    }
     for char in text.chars() {
         put_char(char, out)?;
     }

@@ -7,7 +7,13 @@ use Rattle.std.proofs.lemmas.List.{at_drop_all, length_push}
 use Rattle.std.proofs.lemmas.Result.{err_from_is_err_and}
 use Rattle.dbformat.specs.PlainNames.{plain_char}
 use Rattle.dbbytes.proofs.NameLemmas.{rest_items, put_more, put_stop, put_all}
+use Rattle.dbbytes.proofs.PlainLemmas.{plain_text}
 use Rattle.dbbytes.proofs.plain.put_chars.Goals as goal
+
+pub returns-then-are_plain : goal.returns-then-are_plain
+returns-then-are_plain g c =
+    let same = c.as_bytes.ensures.value in
+    rw (plain_text c.args.text.now (rw same at (c.are_plain.ensures c.if-are_plain.true))) (rw c.as_bytes-then-are_plain.ensures.value at c.put.ensures)
 
 pub returns-in_err-put_char : goal.returns-in_err-put_char
 returns-in_err-put_char g c =
