@@ -31,7 +31,7 @@ pub use dbscan::Desk;
 pub use dbsource::{Out, ReadFailed, Source, WriteFailed};
 pub use dbtrace::{Cause, Part, Reported};
 pub use entry::{Entry, Others};
-pub use lines::put_cause;
+pub use lines::{append_signed, put_cause};
 pub use listing::Listing;
 pub use others::put_others;
 pub use page_bits::PageBits;

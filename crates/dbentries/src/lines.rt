@@ -15,8 +15,8 @@ use dbsource::Out;
 use dbtrace::{Cause, CellChain, CellKey, NamedPages};
 use itoa::Buffer;
 
-// Adds a number with its sign.
-fn append_signed<const CAP: usize>(line: &mut ArrayVec<u8, CAP>, number: i64)
+/// Adds a number with its sign.
+pub fn append_signed<const CAP: usize>(line: &mut ArrayVec<u8, CAP>, number: i64)
     requires { array_vec_len line.old + 20 ≤ CAP }
     ensures text { line.new.items ≡ line.old.items ++ signed_decimal number }
     ensures short { array_vec_len line.new ≤ array_vec_len line.old + 20 }

@@ -6,7 +6,7 @@ ghost use Rattle.dblines.specs.Writing.{Wrote};
 ghost use Rattle.dbentries.specs.Kept.{kept_of};
 ghost use Rattle.dbentries.specs.Lines.{indented};
 ghost use Rattle.dbentries.specs.Listing as listing;
-ghost use Rattle.dbtrace.specs.Causes.{with_run};
+ghost use Rattle.dbtrace.specs.Causes.{no_rowids, page_facts};
 ghost use Rattle.dbtrace.specs.declared.Cause.TheVariants as cause;
 ghost use Rattle.dbentries.specs.Others.{all_cells_text, alike_text, kept_faults_line, kept_text, last_text, more_pages_text};
 ghost use Rattle.dbentries.specs.Others.{kept_others_text, more_runs_text, next_run_text, others_text, run_text, shown_runs_text};
@@ -125,7 +125,7 @@ fn alike_text(look: Look, count: u64, cells: u64) -> ArrayVec<u8, 640>
 
 // The pages that look like this one.
 fn pages_text(look: Look, others: &Others) -> ArrayVec<u8, 640>
-    ensures { result.items ≡ indented (kept_text (cause.Look look (with_run None)) others.now) }
+    ensures { result.items ≡ indented (kept_text (cause.Look look (page_facts no_rowids None)) others.now) }
 {
     let mut line = alike_text(look, others.count, others.cells);
     append_shown_runs(&mut line, &others.runs);

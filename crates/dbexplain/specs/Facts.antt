@@ -1,5 +1,6 @@
 -- What is written of what is known of a page with faults (own).
-use Rattle.std.specs.Prelude.{ℕ, ◌+◌, ◌-◌, ◌*◌, List, [], ◌++◌, codes, decimal, ◌==◌, if◌then◌else◌}
+use Rattle.std.specs.Prelude.{ℕ, ℤ, ◌+◌, ◌-◌, ◌*◌, List, [], ◌++◌, Option, Some, None, codes, decimal, ◌==◌, if◌then◌else◌}
+use Rattle.std.specs.Fmt.{signed_decimal}
 use Rattle.std.specs.Option.{option_map_or}
 use Rattle.dbformat.specs.Text.{hex_text}
 use Rattle.dbformat.specs.declared.ByteRun.{ByteRun}
@@ -19,6 +20,24 @@ abbrev pub run_line : ℕ → ℕ → ByteRun → List ℕ
 run_line page_size p run = indented (bytes_text (page_begin page_size p + run.start) (page_begin page_size p + run.start + (run.len - 1))
     ++ (if run.byte == 0 then codes " are zeros" else codes " are all " ++ hex_text 2 run.byte))
 
--- what is known of page p: its longest run of one byte
+-- the line of rowids
+abbrev pub rowids_line : List ℕ → List ℕ
+rowids_line bounds = indented (codes "by the keys around it, its rowids are" ++ bounds)
+
+-- that rowids are above a key, and that they are up to one
+abbrev pub above_text : ℤ → List ℕ
+above_text key = codes " above " ++ signed_decimal key
+
+abbrev pub up_to_text : ℤ → List ℕ
+up_to_text key = codes " up to " ++ signed_decimal key
+
+-- between which rowids the rows of a page are, if there are keys around it
+abbrev pub rowids_text : Option ℤ → Option ℤ → List ℕ
+rowids_text None None = []
+rowids_text (Some above) None = rowids_line (above_text above)
+rowids_text None (Some up_to) = rowids_line (up_to_text up_to)
+rowids_text (Some above) (Some up_to) = rowids_line (above_text above ++ codes " and" ++ up_to_text up_to)
+
+-- what is known of page p: its longest run of one byte, and its rowids
 abbrev pub facts_text : ℕ → ℕ → PageFacts → List ℕ
-facts_text page_size p facts = option_map_or (run_line page_size p) facts.run []
+facts_text page_size p facts = option_map_or (run_line page_size p) facts.run [] ++ rowids_text facts.rowids.above facts.rowids.up_to

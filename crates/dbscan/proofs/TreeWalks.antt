@@ -30,7 +30,7 @@ use Rattle.dbwalk.specs.declared.taker.Taken.{Taken}
 use Rattle.dbwalk.proofs.RootTakings.{tree_given, tree_told}
 use Rattle.dbwalk.proofs.Telling.Belows.{told_none, stops_by_first, stops_by_after}
 use Rattle.dbwalk.proofs.Telling.Lefts.{left_call, left_none}
-use Rattle.dbwalk.proofs.Underway.WalkedTrees.{root_address}
+use Rattle.dbwalk.proofs.Trees.Bounds.{root_address}
 use Rattle.dbscan.specs.Notices.{Notice, found, ended, errands_left, root_reference, tree_notices, later_notices, start_notices}
 use Rattle.dbscan.specs.Starts.{IsSchemaOf, at_freelist, at_row, at_schema, later_errands, root_of, schema_reference}
 use Rattle.dbscan.specs.Tellers.{HandsOn}

@@ -60,7 +60,10 @@ fn lost_cause<A: Allocator>(page: &[u8], number: u32, usable: u32, marks: &Marks
     };
     Cause::Look(
         look_of(page, number, usable),
-        PageFacts { run: None, named },
+        PageFacts {
+            named,
+            ..PageFacts::NONE
+        },
     )
 }
 

@@ -29,7 +29,7 @@ use Rattle.dbtrace.specs.Progress.{Progress, cause_by, leaf_after, depth_of, dep
 use Rattle.dbtrace.specs.Steps.{AreAside}
 use Rattle.dbtrace.specs.Walk.{Walk, machine, advance}
 use Rattle.dbtrace.proofs.Depths.{page_parts, not_leaf, no_leaf}
-use Rattle.dbtrace.proofs.Causing.{page_same}
+use Rattle.dbtrace.proofs.Causing.{AgreeOn, page_codes, page_same}
 use Rattle.dbtrace.proofs.SchemaOrder.{parent_inside}
 use Rattle.dbtrace.proofs.Told.{visited, trace, part, tells, IsOf, told_as}
 
@@ -40,7 +40,7 @@ module _ (file : List ℕ) where
 
   -- an event of no page of a tree
   abbrev IsOff : Event → Type 0
-  IsOff (at_page r) = tree_view file r ≡ None
+  IsOff (at_page r) = tree_kind (role_of r) ≡ None
   IsOff (at_key r v x) = ⊥
   IsOff (at_refused r) = Unit {0}
 
@@ -48,7 +48,7 @@ module _ (file : List ℕ) where
   step_off U p (at_page r) h = ap (λ leaf. record { greatest = p.greatest; leaf = leaf }) (kept p.leaf)
     where
       kept : (leaf : Option TreeLeaf) → leaf_after file leaf r ≡ leaf
-      kept None = ap (λ b. cond b (Some (leaf_at r)) None) (not_leaf file (start_of r.address) r h)
+      kept None = ap (λ b. cond b (Some (leaf_at r)) None) (not_leaf file (start_of r.address) r (no_view r h))
       kept (Some d) = refl
   step_off U p (at_key r v x) h = absurd h
   step_off U p (at_refused r) h = refl
@@ -57,13 +57,16 @@ module _ (file : List ℕ) where
       ≡ told_by (cause_of file U e) (event_faults file U e)
   faults_off U p (at_page r) h = ap (λ l. told_by (cause_by file U p (at_page r)) (page_faults file [] r ++ l)) quiet
       ∙ ap (told_by (cause_by file U p (at_page r))) (append-nil (page_faults file [] r))
-      ∙ page_same (cause_by file U p (at_page r)) (cause_of file U (at_page r)) refl file refl refl r
-      ∙ ap (told_by (cause_of file U (at_page r))) (sym (page_parts file U r ∙ ap (λ l. page_faults file [] r ++ l) (no_leaf file U r h)
+      ∙ page_same (cause_by file U p (at_page r)) (cause_of file U (at_page r)) file refl refl r in_tree
+      ∙ ap (told_by (cause_of file U (at_page r))) (sym (page_parts file U r ∙ ap (λ l. page_faults file [] r ++ l) (no_leaf file U r (no_view r h))
       ∙ append-nil (page_faults file [] r)))
     where
       quiet : depth_faults file p.leaf r ≡ []
       quiet = ap (λ b. told_if (b && not (depth r.address == depth_of p.leaf (depth r.address))) (fault T05 r.page 0 (pos (depth r.address))))
-          (not_leaf file (start_of r.address) r h)
+          (not_leaf file (start_of r.address) r (no_view r h))
+
+      in_tree : (kind : TreeKind) → tree_kind (role_of r) ≡ Some kind → AgreeOn page_codes (cause_by file U p (at_page r)) (cause_of file U (at_page r))
+      in_tree kind e = let f = sym h ∙ e in cc
   faults_off U p (at_key r v x) h = absurd h
   faults_off U p (at_refused r) h = refl
 
@@ -115,7 +118,7 @@ module _ (file : List ℕ) (W : List Reference) (c : Reference) (none : tree_kin
   off t i = by_event t.key t.event (told_as file W c t (((tells file W c).exact t).0 i))
     where
       by_event : (place : Address) (e : Event) → IsOf file (visited file W c) place e → IsOff file e
-      by_event place (at_page r) h = no_view file r (no_tree_below r h.0)
+      by_event place (at_page r) h = no_tree_below r h.0
       by_event place (at_key r v x) h = let e = sym (no_view file r (no_tree_below r h.0)) ∙ h.1 in cc
       by_event place (at_refused r) h = tt
 

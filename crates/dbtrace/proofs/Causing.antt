@@ -11,7 +11,7 @@ use Rattle.dbformat.specs.File.{page_bytes}
 use Rattle.dbformat.specs.Head.{View, view, tree_of, is_same_tree}
 use Rattle.dbformat.specs.Cell.{Cell, cell, count}
 use Rattle.dbformat.specs.Coverage.{bad_freeblock, coverage}
-use Rattle.dbformat.specs.Reference.{Role, root, child, first_overflow, later_overflow, trunk, free_leaf, Reference, role_of}
+use Rattle.dbformat.specs.Reference.{Role, root, child, first_overflow, later_overflow, trunk, free_leaf, Reference, role_of, tree_kind}
 use Rattle.dbformat.specs.PageFaults.{fragment_fault, cell_fault, cell_faults, freeblock_fault, coverage_fault, empty_fault, inner_faults, faults_of_view}
 use Rattle.dbformat.specs.PageFaults.{tree_page_faults, depth_fault, role_faults, page_faults}
 use Rattle.dbformat.specs.Schema.{SchemaCell}
@@ -132,25 +132,26 @@ module _ (why other : FaultCode → Cause) where
         by_view (Err ContentStart) = same_one _ (cause_at 2 h)
         by_view (Ok v) = by_tree v (is_same_tree (tree_of v.kind) kind) _ (cause_at 1 h)
 
-    -- of any
-    pub page_same : (file : List ℕ) → why O01 ≡ other O01 → why L01 ≡ other L01 → (r : Reference) → AreSame (page_faults file [] r)
-    unfolding page_faults
-    page_same file chains trunks r = by_role (role_of r)
-      where
-        tree_page : (kind : TreeKind) (is_child : Bool) → AreSame
-            (tree_page_faults kind is_child r.page (usable_size file) (page_bytes file r.page) ++ depth_fault file [] r)
-        tree_page kind is_child =
-            let fs = tree_page_faults kind is_child r.page (usable_size file) (page_bytes file r.page) in
-            let none : fs ++ depth_fault file [] r ≡ fs = ap (λ l. fs ++ l) (no_depth file r) ∙ append-nil fs in
-            ap (told_by why) none ∙ tree_same kind is_child r.page (usable_size file) (page_bytes file r.page) ∙ sym (ap (told_by other) none)
+  -- of any
+  pub page_same : (file : List ℕ) → why O01 ≡ other O01 → why L01 ≡ other L01 → (r : Reference)
+      → ((kind : TreeKind) → tree_kind (role_of r) ≡ Some kind → AgreeOn page_codes why other) → AreSame (page_faults file [] r)
+  unfolding page_faults
+  page_same file chains trunks r in_tree = by_role (role_of r) refl
+    where
+      tree_page : (kind : TreeKind) (is_child : Bool) → AgreeOn page_codes why other → AreSame
+          (tree_page_faults kind is_child r.page (usable_size file) (page_bytes file r.page) ++ depth_fault file [] r)
+      tree_page kind is_child h =
+          let fs = tree_page_faults kind is_child r.page (usable_size file) (page_bytes file r.page) in
+          let none : fs ++ depth_fault file [] r ≡ fs = ap (λ l. fs ++ l) (no_depth file r) ∙ append-nil fs in
+          ap (told_by why) none ∙ tree_same h kind is_child r.page (usable_size file) (page_bytes file r.page) ∙ sym (ap (told_by other) none)
 
-        by_role : (role : Role) → AreSame (role_faults role file [] r)
-        by_role (root kind) = tree_page kind false
-        by_role (child kind) = tree_page kind true
-        by_role (first_overflow left) = told_same why other _ _ chains
-        by_role (later_overflow left) = told_same why other _ _ chains
-        by_role trunk = told_same why other _ _ trunks
-        by_role free_leaf = refl
+      by_role : (role : Role) → role_of r ≡ role → AreSame (role_faults role file [] r)
+      by_role (root kind) e = tree_page kind false (in_tree kind (ap tree_kind e))
+      by_role (child kind) e = tree_page kind true (in_tree kind (ap tree_kind e))
+      by_role (first_overflow left) e = told_same why other _ _ chains
+      by_role (later_overflow left) e = told_same why other _ _ chains
+      by_role trunk e = told_same why other _ _ trunks
+      by_role free_leaf e = refl
 
 -- those of rows of the schema go back to nothing else
 pub rows_alone : (why : FaultCode → Cause) → AgreeOn row_codes why alone → (is_full : Bool) (rows : List SchemaCell)

@@ -31,18 +31,19 @@ use Rattle.dbformat.proofs.Theory.{are_rules, is_story, shows_visits}
 use Rattle.dbformat.specs.declared.Fault.{Fault}
 use Rattle.dbformat.specs.declared.FaultCode.{FaultCode}
 use Rattle.dbformat.specs.declared.FaultCode.TheVariants.{T06}
-use Rattle.dbtrace.specs.Causes.{cell_key, first_leaf, top_before, cause_of}
+use Rattle.dbtrace.specs.Causes.{cell_key, first_leaf, key_above, key_up_to, top_before, visit_cause, cause_of}
 use Rattle.dbtrace.specs.Finding.{Finding, told_row, told_alone, told_by, told_at, visited_below}
 use Rattle.dbtrace.specs.declared.Cause.{Cause}
 use Rattle.dbtrace.specs.declared.Cause.TheVariants as cause
+use Rattle.dbtrace.specs.declared.RowidBounds.{RowidBounds}
 use Rattle.dbtrace.specs.Fold.{IsFold}
 use Rattle.dbtrace.specs.Item.{Item, found, given, given_cell, given_cells, roots_in, counted_findings, faults_at, rows_at_event, items_at}
-use Rattle.dbtrace.specs.Progress.{Progress, cause_by, rows_of, late_faults, depth_faults}
+use Rattle.dbtrace.specs.Progress.{Progress, cause_by, key_value, rows_of, late_faults, depth_faults}
 use Rattle.dbtrace.specs.Starts.{IsOfEarlierStart, AreOfEarlierStarts}
 use Rattle.dbtrace.specs.Walk.{Walk, machine, begin, advance, run_below}
-use Rattle.dbtrace.proofs.Causing.{AgreeOn, alone, row_codes, told_by-append, page_same, rows_alone}
+use Rattle.dbtrace.proofs.Causing.{AgreeOn, alone, page_codes, row_codes, told_by-append, page_same, rows_alone}
 use Rattle.dbtrace.proofs.Depths.{leaf_from, told_same, depth_told, page_parts}
-use Rattle.dbtrace.proofs.Keys.{greatest_is, started, top_is, late_is}
+use Rattle.dbtrace.proofs.Keys.{greatest_is, started, top_is, above_itself, above_told, late_is}
 use Rattle.dbtrace.proofs.RowsTold.{rows_told, schema_told, rows_before}
 use Rattle.dbtrace.proofs.Told.{visited, trace, tells, IsOf, told_as, below_start, visited_before}
 
@@ -201,17 +202,31 @@ module _ (file : List ℕ) (k : ℕ) (W : List Reference) (c : Reference) (at : 
     abbrev by_visits : Event → List Fault → List Finding
     by_visits e fs = told_by (cause_of file (at_event e) e) fs
 
+    -- the greatest key before a page
+    above_is : (r : Reference) → IsIn r (visited file W c) → t.key ≡ r.address
+        → key_value (after A).state.greatest ≡ key_above file (at_event (at_page r)) r.address
+    above_is r i place =
+        ap key_value (greatest_is file (begin W) A)
+        ∙ sym (above_told file k W c at early A B t split r place (at_start r i))
+        ∙ sym (above_itself file (W ++ X) r)
+        ∙ ap (λ U. key_above file (U ++ r ∷ []) r.address) (sym visits_so_far)
+
     -- a page: by the first leaf
-    page : (r : Reference) → IsIn r (visited file W c) → by_progress (at_page r) (faults_at file (at_event (at_page r)) (after A).state (at_page r))
+    page : (r : Reference) → IsIn r (visited file W c) → t.key ≡ r.address → by_progress (at_page r) (faults_at file (at_event (at_page r)) (after A).state
+        (at_page r))
         ≡ by_visits (at_page r) (page_faults file (at_event (at_page r)) r)
-    page r i =
+    page r i place =
         told_by-append (cause_by file (at_event (at_page r)) (after A).state (at_page r)) (page_faults file [] r) (depth_faults file (after A).state.leaf r)
         ∙ ap (λ l. l ++ by_progress (at_page r) (depth_faults file (after A).state.leaf r))
-        (page_same (cause_by file (at_event (at_page r)) (after A).state (at_page r)) (cause_of file (at_event (at_page r)) (at_page r)) refl file refl refl r)
+        (page_same (cause_by file (at_event (at_page r)) (after A).state (at_page r)) (cause_of file (at_event (at_page r)) (at_page r)) file refl refl r
+        (λ kind in_tree. ap (λ above. map (visit_cause (bounds above) file r) page_codes) (above_is r i place)))
         ∙ ap (λ l. by_visits (at_page r) (page_faults file [] r) ++ l) depths
         ∙ sym (told_by-append (cause_of file (at_event (at_page r)) (at_page r)) (page_faults file [] r) (depth_fault file (at_event (at_page r)) r))
         ∙ ap (by_visits (at_page r)) (sym (page_parts file (at_event (at_page r)) r))
       where
+        bounds : Option ℤ → RowidBounds
+        bounds above = record { above = above; up_to = key_up_to file (at_event (at_page r)) r }
+
         all : at_event (at_page r) ≡ W ++ (X ++ r ∷ [])
         all = ap (λ U. U ++ r ∷ []) visits_so_far ∙ append_assoc W X (r ∷ [])
 
@@ -319,7 +334,7 @@ module _ (file : List ℕ) (k : ℕ) (W : List Reference) (c : Reference) (at : 
 
     faults : (e : Event) → t.event ≡ e → IsOf file (visited file W c) t.key e
         → by_progress e (counted_faults file (roots_in (after A).items) (at_event e) (after A).state e) ≡ by_visits e (event_faults file (at_event e) e)
-    faults (at_page r) f h = page r h.0
+    faults (at_page r) f h = page r h.0 h.1
     faults (at_refused r) f h = refl
     faults (at_key r v x) f h = subst (λ U. told_by (cause_by file U (after A).state (at_key r v x))
         (flat_map (row_faults_if (nat_le last_root_start (roots_in (after A).items))) (rows_of file U r v x)

@@ -2,17 +2,20 @@
 -- a key of the tree at a smaller place.
 use Rattle.std.proofs.Common.{◌≡◌, ℕ, ℤ, int_lt, ◌↔◌, inl, inr, Bool, true, false, cond, not, ◌&&◌, List, [], ◌∷◌, ◌++◌, map, Option, Some, None, refl, sym, ap}
 use Rattle.std.proofs.Common.{subst, arith, ◌∙◌}
-use Rattle.std.specs.Prelude.{flat_map, int_le, option_map, ◌==◌}
+use Rattle.std.specs.Prelude.{filter, flat_map, int_le, option_map, pos, ◌==◌}
 use Rattle.std.specs.List.{list_any}
 use Rattle.std.proofs.lemmas.Bool.{and_parts, and_from, eqb-true, eq-eqb, both_ways}
+use Rattle.std.proofs.lemmas.Grind.{flat_map-append}
 use Rattle.std.proofs.lemmas.Int.{ints}
+use Rattle.std.proofs.lemmas.List.{append-nil}
+use Rattle.std.proofs.lemmas.List.Elements.{filter-append}
 use Rattle.dbsurvey.specs.Address.{IsIn, Address, IsBefore, IsAscending}
 use Rattle.dbsurvey.specs.Greatest.{IsOut, IsOutAfter, is_out, greatest_from}
 use Rattle.dbsurvey.specs.Run.{run}
 use Rattle.dbsurvey.specs.Story.{Told}
 use Rattle.dbsurvey.specs.InOrder.{is_before, visits_in}
-use Rattle.dbsurvey.proofs.Lists.{filter-from, filter-has, any_true, any_one}
-use Rattle.dbsurvey.proofs.Order.{IsIn-right, IsIn-cases, EachPair-append, EachPair-left}
+use Rattle.dbsurvey.proofs.Lists.{filter-from, filter-has, filter-none, any_true, any_one}
+use Rattle.dbsurvey.proofs.Order.{IsBefore-beginning, IsIn-right, IsIn-cases, EachPair-append, EachPair-left}
 use Rattle.dbsurvey.proofs.Ordering.{is_before-means, is_before-from, IsIn-map, IsIn-from_map, IsIn-flat_map, IsIn-from_flat_map}
 use Rattle.dbsurvey.proofs.Running.{running_greatest, int_line}
 use Rattle.dbformat.specs.Tests.{told_if}
@@ -24,8 +27,9 @@ use Rattle.dbformat.specs.Reference.{Reference, tree_view}
 use Rattle.dbformat.specs.KeyFaults.{Key, key_of, keys_of_view, keys_at, keys, earlier_keys, is_out_of_order, key_faults}
 use Rattle.dbformat.specs.Story.{Event, at_page, at_key, at_refused, own_visit}
 use Rattle.dbformat.specs.declared.FaultCode.TheVariants.{T06}
+use Rattle.dbformat.proofs.LookBack.{not_before}
 use Rattle.dbformat.proofs.Places.{key_place}
-use Rattle.dbtrace.specs.Causes.{cell_key, top_key}
+use Rattle.dbtrace.specs.Causes.{cell_key, key_above, top_key}
 use Rattle.dbtrace.specs.Progress.{key_entry, greatest_after, key_value, late_faults}
 use Rattle.dbtrace.specs.declared.CellKey.{CellKey}
 use Rattle.dbtrace.specs.Starts.{IsOfEarlierStart, AreOfEarlierStarts}
@@ -93,6 +97,30 @@ same_test key k = ap (λ b. cond key.is_rowid b (int_lt key.value k.value)) (le_
 earlier_longer : (k : ℕ) (a b : Address) → IsOfEarlierStart k a → IsOfEarlierStart k (a ++ b)
 earlier_longer k [] b h = absurd h
 earlier_longer k (x ∷ a) b h = h
+
+-- the keys of a page are not before it
+pub above_itself : (file : List ℕ) (U : List Reference) (r : Reference) → key_above file (U ++ r ∷ []) r.address ≡ key_above file U r.address
+unfolding keys
+above_itself file U r = ap (λ ks. option_map (λ k. k.value) (top_key ks))
+    (ap (filter is_before_it) (flat_map-append (keys_at file) U (r ∷ []))
+    ∙ filter-append is_before_it (flat_map (keys_at file) U) (flat_map (keys_at file) (r ∷ []))
+    ∙ ap (λ ks. filter is_before_it (flat_map (keys_at file) U) ++ ks)
+    (ap (filter is_before_it) (append-nil (keys_at file r)) ∙ filter-none is_before_it (keys_at file r) (in_it (tree_view file r)))
+    ∙ append-nil (filter is_before_it (flat_map (keys_at file) U)))
+  where
+    is_before_it : Key → Bool
+    is_before_it k = (start_of k.place == start_of r.address) && is_before k.place r.address
+
+    and_false : (a b : Bool) → b ≡ false → (a && b) ≡ false
+    and_false true b e = e
+    and_false false b e = refl
+
+    in_it : (o : Option View) (k : Key) → IsIn k (keys_of_view r o) → is_before_it k ≡ false
+    in_it None k i = absurd i
+    in_it (Some v) k i =
+        let m = IsIn-from_flat_map (key_of r v) (cells v) k i in
+        and_false (start_of k.place == start_of r.address) (is_before k.place r.address)
+        (not_before k.place r.address (subst (λ a. IsBefore r.address a) (sym (key_place r v m.0 k m.2)) (IsBefore-beginning r.address (key_step m.0.0) [])))
 
 module _ (file : List ℕ) (k : ℕ) (W : List Reference) (c : Reference) (at : c.address ≡ k ∷ []) (early : AreOfEarlierStarts k W) where
   pub started : (r : Reference) (s : ℕ) → IsIn r (visited file W c) → start_of (then_step r.address s) ≡ k
@@ -197,3 +225,16 @@ module _ (file : List ℕ) (k : ℕ) (W : List Reference) (c : Reference) (at : 
     pub late_is : key_faults file U key ≡ late_faults top key
     unfolding key_faults
     late_is = ap (λ b. told_if b (fault T06 key.page key.item key.value)) late
+
+  -- the greatest key before a page is the greatest so far
+  pub above_told : (A B : List (Told Event)) (t : Told Event) → trace file W c ≡ A ++ (t ∷ B) → (r : Reference) → t.key ≡ r.address
+      → start_of r.address ≡ k → key_above file (W ++ visits_in own_visit A) r.address ≡ key_value (greatest_after None (keys_told A))
+  above_told A B t split r place start =
+      value_of (top_key (earlier_keys file (W ++ visits_in own_visit A) first)) ∙ ap key_value (top_is A B t split first (sym place) start)
+    where
+      first : Key
+      first = record { place = r.address; page = 0; item = 0; value = pos 0; is_rowid = false }
+
+      value_of : (o : Option Key) → option_map (λ k. k.value) o ≡ key_value (option_map cell_key o)
+      value_of None = refl
+      value_of (Some k) = refl

@@ -1,7 +1,7 @@
 -- Causes look back alone: the cause of a fault rests on the pages that were visited before it.
-use Rattle.std.proofs.Common.{◌≡◌, ℕ, zero, suc, ◌+◌, ◌-◌, inl, inr, Bool, true, false, cond, not, ◌&&◌, List, [], ◌∷◌, ◌++◌, map, length, take, Option, Some}
-use Rattle.std.proofs.Common.{None, refl, sym, ap, ap₂, subst, ◌∙◌, append_assoc}
-use Rattle.std.specs.Prelude.{find, flat_map, option_to_list, ◌==◌}
+use Rattle.std.proofs.Common.{◌≡◌, ℕ, zero, suc, ◌+◌, ◌-◌, inl, inr, Bool, true, false, cond, not, ◌&&◌, List, [], ◌∷◌, ◌++◌, map, length, take, ℤ, Option}
+use Rattle.std.proofs.Common.{Some, None, refl, sym, ap, ap₂, subst, ◌∙◌, append_assoc}
+use Rattle.std.specs.Prelude.{find, flat_map, option_and_then, option_map, option_to_list, pos, ◌==◌}
 use Rattle.std.specs.Option.{option_map_or}
 use Rattle.dbsurvey.specs.Address.{IsIn, Address, IsBefore}
 use Rattle.dbsurvey.specs.InOrder.{is_before, visits_in, read_back}
@@ -26,12 +26,13 @@ use Rattle.dbformat.proofs.Places.{key_place}
 use Rattle.dbformat.proofs.Theory.{no_tell, told_in_order}
 use Rattle.dbformat.specs.Schema.{starts}
 use Rattle.dbtrace.specs.Causes.{cell_key, leaf_at, top_key, top_before, first_leaf, chain_number, head_address, is_same, chain_head, chain_of, chain_cause}
-use Rattle.dbtrace.specs.Causes.{is_from_zeros, cause_of}
+use Rattle.dbtrace.specs.Causes.{is_from_zeros, key_from, rowids_of, visit_cause, cause_of}
 use Rattle.dbtrace.specs.Finding.{Finding, told_row, told_fault, told_by, told_at}
 use Rattle.dbtrace.specs.LookBack.{visits_up_to, CausesLookBack, FindingsLookBack}
 use Rattle.dbtrace.specs.declared.Cause.{Cause}
 use Rattle.dbtrace.specs.declared.Cause.TheVariants as cause
-use Rattle.dbtrace.proofs.Causing.{told_by-append, page_same}
+use Rattle.dbtrace.specs.declared.RowidBounds.{RowidBounds}
+use Rattle.dbtrace.proofs.Causing.{page_codes, told_by-append, page_same}
 use Rattle.dbtrace.proofs.Depths.{told_same, page_parts}
 use Rattle.dbtrace.proofs.Told.{IsOf, told_of}
 
@@ -94,6 +95,20 @@ module _ (file : List ℕ) (U T : List Reference) (place : Address) (after : (t 
       (λ t i. not_same t.address (head_address r.address)
       (begins_before (length r.address - chain_number r.address) r.address t.address (subst (λ a. IsBefore a t.address) (sym e) (after t i)))))
 
+  -- the keys before a page, and the cells above it
+  rowids_front : (r : Reference) → r.address ≡ place → rowids_of file (U ++ T) r ≡ rowids_of file U r
+  rowids_front r e = ap₂ (λ above up_to. bounds above up_to)
+      (ap (λ ks. option_map (λ k. k.value) (top_key ks)) (keys_front file U T place after (at_place r.address) e))
+      (ap (λ root. option_and_then (λ u. key_from file u r) root)
+      (none_after (λ u. is_same u.address (take 1 r.address)) U T
+      (λ t i. not_same t.address (take 1 r.address) (begins_before 1 r.address t.address (subst (λ a. IsBefore a t.address) (sym e) (after t i))))))
+    where
+      at_place : Address → Key
+      at_place a = record { place = a; page = 0; item = 0; value = pos 0; is_rowid = false }
+
+      bounds : Option ℤ → Option ℤ → RowidBounds
+      bounds above up_to = record { above = above; up_to = up_to }
+
   chain_front : (r : Reference) → r.address ≡ place → (left : Option ℕ) (more : ℕ) (in_zeros : Bool) → chain_cause file (U ++ T) r left more in_zeros
       ≡ chain_cause file U r left more in_zeros
   chain_front r e None more in_zeros = refl
@@ -124,7 +139,8 @@ module _ (file : List ℕ) (U T : List Reference) (place : Address) (after : (t 
       ap (told_by (by_all (at_page r))) (page_parts file U r)
       ∙ told_by-append (by_all (at_page r)) (page_faults file [] r) (depth_fault file U r)
       ∙ ap₂ (λ a b. a ++ b)
-      (page_same (by_all (at_page r)) (by_front (at_page r)) refl file (chain_front r e (bytes_left (role_of r)) 1 false) refl r)
+      (page_same (by_all (at_page r)) (by_front (at_page r)) file (chain_front r e (bytes_left (role_of r)) 1 false) refl r
+      (λ kind in_tree. ap (λ rowids. map (visit_cause rowids file r) page_codes) (rowids_front r e)))
       (depth_front r i)
       ∙ sym (ap (told_by (by_front (at_page r))) (page_parts file U r) ∙ told_by-append (by_front (at_page r)) (page_faults file [] r) (depth_fault file U r))
 

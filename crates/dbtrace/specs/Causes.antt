@@ -1,24 +1,24 @@
 -- What a fault goes back to (own), by the pages that are visited up to it: a key out of order to the first cell with the greatest
 -- key before it, a leaf at another depth to the first leaf, a fault along an overflow chain to the cell of the chain, a page
 -- of an unknown type to what it looks like, and any other fault within a page to the page.
-use Rattle.std.specs.Prelude.{ℕ, ◌+◌, ◌-◌, ◌/◌, not, option_and_then, Bool, false, ℤ, ◌&&◌, ◌||◌, List, [], ◌∷◌, find, length, take, Option, Some, None, is_some, count_by, int_lt, if◌then◌else◌, ◌==◌}
+use Rattle.std.specs.Prelude.{ℕ, ◌+◌, ◌-◌, ◌/◌, not, option_and_then, Bool, false, ℤ, ◌&&◌, ◌||◌, List, [], ◌∷◌, find, filter, drop, length, take, Option, Some, None, is_some, option_map, count_by, int_lt, unwrap_or, if◌then◌else◌, ◌==◌}
 use Rattle.std.specs.List.{list_any, range_with_len}
-use Rattle.std.specs.Option.{option_map_or}
+use Rattle.std.specs.Option.{option_map_or, option_or}
 use Rattle.std.specs.Result.{result_ok}
 use Rattle.dbsurvey.specs.Address.{Address}
 use Rattle.dbsurvey.specs.InOrder.{is_before}
 use Rattle.dbformat.specs.Options.{◌>>=◌}
 use Rattle.dbformat.specs.File.{geometry, page_bytes}
 use Rattle.dbformat.specs.Head.{View, is_interior, view}
-use Rattle.dbformat.specs.Cell.{cell, count}
+use Rattle.dbformat.specs.Cell.{cell, child_number, count}
 use Rattle.dbformat.specs.NamedPages.{named_page}
 use Rattle.dbformat.specs.Header.{usable_size}
-use Rattle.dbformat.specs.Address.{start_of, depth, chain_place}
+use Rattle.dbformat.specs.Address.{cell_of_step, start_of, depth, chain_place}
 use Rattle.dbformat.specs.Reference.{Role, later_overflow, Reference, role_of, from_of, item_of, bytes_left, tree_view}
 use Rattle.dbformat.specs.Looks.{is_zeros, look_of}
 use Rattle.dbformat.specs.Runs.{content_run, usable_run}
 use Rattle.dbformat.specs.PageFaults.{is_leaf_of}
-use Rattle.dbformat.specs.KeyFaults.{Key, key_of, earlier_keys}
+use Rattle.dbformat.specs.KeyFaults.{Key, key_of, keys, earlier_keys}
 use Rattle.dbformat.specs.Story.{Event, at_page, at_key, at_refused}
 use Rattle.dbformat.specs.declared.ByteRun.{ByteRun}
 use Rattle.dbformat.specs.declared.FaultCode.{FaultCode}
@@ -30,6 +30,7 @@ use Rattle.dbtrace.specs.declared.TreeLeaf.{TreeLeaf}
 use Rattle.dbtrace.specs.declared.CellChain.{CellChain}
 use Rattle.dbtrace.specs.declared.NamedPages.{NamedPages}
 use Rattle.dbtrace.specs.declared.PageFacts.{PageFacts}
+use Rattle.dbtrace.specs.declared.RowidBounds.{RowidBounds}
 use Rattle.dbtrace.specs.declared.Cause.{Cause}
 use Rattle.dbtrace.specs.declared.Cause.TheVariants as cause
 
@@ -120,6 +121,50 @@ is_from_zeros file r = of_role (role_of r)
 abbrev pub refusal_cause : List ℕ → List Reference → Reference → Cause
 refusal_cause file V r = chain_cause file V r (bytes_left (role_of r)) 0 (is_from_zeros file r)
 
+-- Rowids.
+
+-- the keys at smaller places of the tree
+abbrev pub keys_before : List ℕ → List Reference → Address → List Key
+keys_before file V place = filter (λ k. (start_of k.place == start_of place) && is_before k.place place) (keys file V)
+
+-- the greatest of them
+abbrev pub key_above : List ℕ → List Reference → Address → Option ℤ
+key_above file V place = option_map (λ k. k.value) (top_key (keys_before file V place))
+
+-- the key of the cell whose left child is child i of a page: the right child has none
+abbrev pub left_key : View → ℕ → Option ℤ
+left_key v i = if i == count v then None else option_and_then (λ x. x.key) (result_ok (cell v i))
+
+-- page p, where its head is sound
+abbrev pub sound_page : List ℕ → ℕ → Option View
+sound_page file p = result_ok (view p (usable_size file) (page_bytes file p))
+
+-- the innermost of these keys along the steps from a page to one below it, or else this bound
+abbrev pub bound_along : List ℕ → Option ℤ → Option View → List ℕ → Option ℤ
+bound_along file bound page [] = bound
+bound_along file bound None (step ∷ steps) = bound
+bound_along file bound (Some v) (step ∷ steps) = bound_along file (option_or (left_key v (cell_of_step step)) bound)
+    (sound_page file (unwrap_or (child_number v (cell_of_step step)) 0)) steps
+
+-- the key of the innermost cell whose left child leads from a root to a page below it
+abbrev pub key_from : List ℕ → Reference → Reference → Option ℤ
+key_from file root r = bound_along file None (sound_page file root.page) (drop 1 r.address)
+
+-- the root of the tree of an address
+abbrev pub root_of : List Reference → Address → Option Reference
+root_of V a = find (λ u. is_same u.address (take 1 a)) V
+
+-- the key of the innermost cell whose left child leads to a visit
+abbrev pub key_up_to : List ℕ → List Reference → Reference → Option ℤ
+key_up_to file V r = option_and_then (λ root. key_from file root r) (root_of V r.address)
+
+-- between which rowids the rows of a visited page are: no cell of an index has a rowid
+abbrev pub rowids_of : List ℕ → List Reference → Reference → RowidBounds
+rowids_of file V r = record { above = key_above file V r.address; up_to = key_up_to file V r }
+
+abbrev pub no_rowids : RowidBounds
+no_rowids = record { above = None; up_to = None }
+
 -- Pages.
 
 -- the longest run of a page that looks like this: none of a blank page, of which it says nothing new
@@ -127,25 +172,26 @@ abbrev pub run_beside : Look → ℕ → List ℕ → Option ByteRun
 run_beside (look.Blank byte) usable page = None
 run_beside look usable page = usable_run usable page
 
-abbrev pub with_run : Option ByteRun → PageFacts
-with_run run = record { run = run; named = None }
+-- what is known of a page of a tree
+abbrev pub page_facts : RowidBounds → Option ByteRun → PageFacts
+page_facts rowids run = record { run = run; named = None; rowids = rowids }
 
--- The cause of a fault of this code within page p of a tree: by its bytes, and by its view where it is undamaged.
-abbrev pub page_cause : ℕ → ℕ → List ℕ → Option View → FaultCode → Cause
-page_cause p usable page v P01 = cause.Look (look_of p usable page) (with_run (run_beside (look_of p usable page) usable page))
-page_cause p usable page v P02 = cause.Page p (with_run None)
-page_cause p usable page v P03 = cause.Page p (with_run (usable_run usable page))
-page_cause p usable page v P04 = cause.Page p (with_run (option_and_then content_run v))
-page_cause p usable page v P05 = cause.Page p (with_run (option_and_then content_run v))
-page_cause p usable page v P06 = cause.Page p (with_run (option_and_then content_run v))
-page_cause p usable page v P07 = cause.Page p (with_run (option_and_then content_run v))
-page_cause p usable page v P08 = cause.Page p (with_run (option_and_then content_run v))
-page_cause p usable page v P09 = cause.Page p (with_run (option_and_then content_run v))
-page_cause p usable page v _ = cause.Itself
+-- The cause of a fault of this code within page p of a tree: by its rowids, its bytes, and its view where it is undamaged.
+abbrev pub page_cause : RowidBounds → ℕ → ℕ → List ℕ → Option View → FaultCode → Cause
+page_cause rowids p usable page v P01 = cause.Look (look_of p usable page) (page_facts rowids (run_beside (look_of p usable page) usable page))
+page_cause rowids p usable page v P02 = cause.Page p (page_facts rowids None)
+page_cause rowids p usable page v P03 = cause.Page p (page_facts rowids (usable_run usable page))
+page_cause rowids p usable page v P04 = cause.Page p (page_facts rowids (option_and_then content_run v))
+page_cause rowids p usable page v P05 = cause.Page p (page_facts rowids (option_and_then content_run v))
+page_cause rowids p usable page v P06 = cause.Page p (page_facts rowids (option_and_then content_run v))
+page_cause rowids p usable page v P07 = cause.Page p (page_facts rowids (option_and_then content_run v))
+page_cause rowids p usable page v P08 = cause.Page p (page_facts rowids (option_and_then content_run v))
+page_cause rowids p usable page v P09 = cause.Page p (page_facts rowids (option_and_then content_run v))
+page_cause rowids p usable page v _ = cause.Itself
 
 -- that of a visited page
-abbrev pub visit_cause : List ℕ → Reference → FaultCode → Cause
-visit_cause file r code = page_cause r.page (usable_size file) (page_bytes file r.page) (tree_view file r) code
+abbrev pub visit_cause : RowidBounds → List ℕ → Reference → FaultCode → Cause
+visit_cause rowids file r code = page_cause rowids r.page (usable_size file) (page_bytes file r.page) (tree_view file r) code
 
 -- Lost pages.
 
@@ -156,10 +202,14 @@ names_of is_lost v = if is_interior v.kind then Some (record {
   lost = count_by (λ i. option_map_or is_lost (named_page v i) false) (range_with_len 0 (count v + 1));
 }) else None
 
+-- what is known of a lost page
+abbrev pub lost_facts : (ℕ → Bool) → Option View → PageFacts
+lost_facts is_lost v = record { run = None; named = option_and_then (names_of is_lost) v; rowids = no_rowids }
+
 -- the cause of the fault of lost page p, by its usable bytes
 abbrev pub lost_cause : (ℕ → Bool) → ℕ → ℕ → List ℕ → Cause
 lost_cause is_lost p usable page =
-    cause.Look (look_of p usable page) (record { run = None; named = option_and_then (names_of is_lost) (result_ok (view p usable page)) })
+    cause.Look (look_of p usable page) (lost_facts is_lost (result_ok (view p usable page)))
 
 -- by the bytes of a file
 abbrev pub lost_cause_at : (ℕ → Bool) → List ℕ → ℕ → Cause
@@ -169,7 +219,7 @@ lost_cause_at is_lost file p = lost_cause is_lost p (geometry file).usable (page
 abbrev pub cause_of : List ℕ → List Reference → Event → FaultCode → Cause
 cause_of file V (at_page r) T05 = option_map_or (λ l. cause.Leaf l.page) (first_leaf file V r) cause.Itself
 cause_of file V (at_page r) O01 = chain_cause file V r (bytes_left (role_of r)) 1 false
-cause_of file V (at_page r) code = visit_cause file r code
+cause_of file V (at_page r) code = visit_cause (rowids_of file V r) file r code
 cause_of file V (at_key r v cell) T06 = option_map_or (λ k. cause.Key (cell_key k)) (top_before file V (key_of r v cell)) cause.Itself
 cause_of file V (at_key r v cell) _ = cause.Itself
 cause_of file V (at_refused r) _ = refusal_cause file V r

@@ -14,9 +14,10 @@ use Rattle.dbformat.specs.KeyFaults.{Key, key_of}
 use Rattle.dbformat.specs.Story.{Event, at_page, at_key, at_refused}
 use Rattle.dbformat.specs.declared.Fault.{Fault}
 use Rattle.dbformat.specs.declared.FaultCode.{FaultCode}
-use Rattle.dbformat.specs.declared.FaultCode.TheVariants.{T05, T06}
-use Rattle.dbtrace.specs.Causes.{cell_key, leaf_at, cause_of}
+use Rattle.dbformat.specs.declared.FaultCode.TheVariants.{T05, T06, O01}
+use Rattle.dbtrace.specs.Causes.{cell_key, leaf_at, key_up_to, visit_cause, cause_of}
 use Rattle.dbtrace.specs.declared.CellKey.{CellKey}
+use Rattle.dbtrace.specs.declared.RowidBounds.{RowidBounds}
 use Rattle.dbtrace.specs.declared.TreeLeaf.{TreeLeaf}
 use Rattle.dbtrace.specs.declared.Cause.{Cause}
 use Rattle.dbtrace.specs.declared.Cause.TheVariants as cause
@@ -66,10 +67,15 @@ abbrev pub depth_faults : List ℕ → Option TreeLeaf → Reference → List Fa
 depth_faults file leaf r = told_if (is_leaf_of file (start_of r.address) r && not (depth r.address == depth_of leaf (depth r.address)))
     (fault T05 r.page 0 (pos (depth r.address)))
 
+-- the rowids of a visited page, where the bound by the cells above it is known
+abbrev pub rowids_by : Progress → Option ℤ → RowidBounds
+rowids_by p up_to = record { above = key_value p.greatest; up_to = up_to }
+
 -- The cause of a fault of this code at an event, by the progress so far, where U has the visits up to it.
 abbrev pub cause_by : List ℕ → List Reference → Progress → Event → FaultCode → Cause
 cause_by file U p (at_page r) T05 = option_map_or (λ l. cause.Leaf l.page) p.leaf cause.Itself
-cause_by file U p (at_page r) code = cause_of file U (at_page r) code
+cause_by file U p (at_page r) O01 = cause_of file U (at_page r) O01
+cause_by file U p (at_page r) code = visit_cause (rowids_by p (key_up_to file U r)) file r code
 cause_by file U p (at_key r v cell) T06 = option_map_or cause.Key p.greatest cause.Itself
 cause_by file U p (at_key r v cell) code = cause.Itself
 cause_by file U p (at_refused r) code = cause_of file U (at_refused r) code

@@ -52,6 +52,23 @@ pub struct NamedPages {
     pub lost: u32,
 }
 
+/// Between which rowids the rows of a page of a table are, by the keys around it.
+#[derive(Clone, Copy, Debug, PartialEq, Eq)]
+pub struct RowidBounds {
+    /// They are above the greatest key before the page in its tree.
+    pub above: Option<i64>,
+    /// They are up to the key of the innermost cell whose left child leads to the page.
+    pub up_to: Option<i64>,
+}
+
+impl RowidBounds {
+    /// There is no key around the page.
+    pub const NONE: RowidBounds = RowidBounds {
+        above: None,
+        up_to: None,
+    };
+}
+
 /// What is known of a page with faults. Two causes are compared without it.
 #[derive(Clone, Copy, Debug, PartialEq, Eq)]
 pub struct PageFacts {
@@ -60,6 +77,8 @@ pub struct PageFacts {
     pub run: Option<ByteRun>,
     /// Of a lost interior page what it names.
     pub named: Option<NamedPages>,
+    /// Of a page of a tree, its rowids.
+    pub rowids: RowidBounds,
 }
 
 impl PageFacts {
@@ -67,6 +86,7 @@ impl PageFacts {
     pub const NONE: PageFacts = PageFacts {
         run: None,
         named: None,
+        rowids: RowidBounds::NONE,
     };
 }
 

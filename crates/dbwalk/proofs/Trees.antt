@@ -2,3 +2,4 @@
 pub mod Stacking
 pub mod Frames
 pub mod TreeWays
+pub mod Bounds

@@ -1,5 +1,5 @@
 -- What a page of a tree is, by the bytes at a level, and what is reported of it.
-use Rattle.std.specs.Prelude.{◌≡◌, ℕ, false, pos, List, Option, Some, None, slice_get, IfSome, Bool, [], ◌∷◌, ◌++◌, map, option_to_list, if◌then◌else◌}
+use Rattle.std.specs.Prelude.{◌≡◌, ℕ, false, pos, List, Option, Some, None, slice_get, IfSome, Bool, [], ◌∷◌, ◌++◌, map, option_to_list}
 use Rattle.dbformat.specs.Faults.{fault}
 use Rattle.dbformat.specs.Head.{View, undamaged, is_interior, content_start, type_byte}
 use Rattle.dbformat.specs.declared.TreeKind.{TreeKind}
@@ -21,6 +21,7 @@ use Rattle.dbformat.specs.declared.PageType.TheVariants.{Tree, Damaged}
 use Rattle.dbtrace.specs.Causes.{page_cause, visit_cause}
 use Rattle.dbtrace.specs.Finding.{Finding, told_row, told_by}
 use Rattle.dbtrace.specs.Progress.{depth_faults}
+use Rattle.dbtrace.specs.declared.RowidBounds.{RowidBounds}
 use Rattle.dbtrace.specs.declared.TreeLeaf.{TreeLeaf}
 use Rattle.dbtrace.specs.declared.Cause.{Cause}
 use Rattle.dbtrace.specs.declared.Cause.TheVariants as cause
@@ -53,7 +54,7 @@ pub record IsLeafFound (usable : ℕ) (kind : TreeKind) (levels : List (List ℕ
 
 abbrev pub IsFound : ℕ → TreeKind → List (List ℕ) → ℕ → ℕ → PageFound → Type 0
 IsFound usable kind levels level page Damaged = IsDamagedAt usable kind levels level page
-IsFound usable kind levels level page Interior = IsOpen usable kind levels level (record { page = page; next = 0 })
+IsFound usable kind levels level page Interior = IsOpen usable kind levels level page 0
 IsFound usable kind levels level page (Leaf keys) = IsLeafFound usable kind levels level page keys
 
 -- of an undamaged page
@@ -79,16 +80,16 @@ damaged_row start path page = record {
 }
 
 -- the cause of a fault within an undamaged page; and the same where the page's is known: only that it has no cells goes back to nothing
-abbrev pub view_cause : View → FaultCode → Cause
-view_cause v = page_cause v.number v.usable v.bytes (Some v)
+abbrev pub view_cause : RowidBounds → View → FaultCode → Cause
+view_cause rowids v = page_cause rowids v.number v.usable v.bytes (Some v)
 
 abbrev pub inner_cause : Cause → FaultCode → Cause
 inner_cause page P10 = cause.Itself
 inner_cause page _ = page
 
 -- what is reported of an undamaged page: its row, and then the faults within it
-abbrev pub undamaged_findings : ℕ → List ℕ → View → Bool → List Finding
-undamaged_findings start path v is_child = told_row (view_row start path v) ∷ told_by (view_cause v) (inner_faults v is_child)
+abbrev pub undamaged_findings : ℕ → List ℕ → RowidBounds → View → Bool → List Finding
+undamaged_findings start path rowids v is_child = told_row (view_row start path v) ∷ told_by (view_cause rowids v) (inner_faults v is_child)
 
 -- the causes of a page, and that of a leaf at another depth, by the first leaf before it
 abbrev pub with_leaf : (FaultCode → Cause) → Option TreeLeaf → FaultCode → Cause
@@ -102,10 +103,11 @@ damage_fault p page damage.OtherTree = fault P02 p 0 (pos (type_byte p page))
 damage_fault p page damage.ContentStart = fault P03 p 0 (pos (content_start p page))
 
 -- what is reported of a damaged page: its row, and its one fault, by its bytes
-abbrev pub damaged_findings : ℕ → List ℕ → ℕ → ℕ → List ℕ → Fault → List Finding
-damaged_findings start path page usable bytes damage = told_row (damaged_row start path page) ∷ told_by (page_cause page usable bytes None) (damage ∷ [])
+abbrev pub damaged_findings : ℕ → List ℕ → RowidBounds → ℕ → ℕ → List ℕ → Fault → List Finding
+damaged_findings start path rowids page usable bytes damage = told_row (damaged_row start path page)
+    ∷ told_by (page_cause rowids page usable bytes None) (damage ∷ [])
 
--- what is reported of the visit of a page of a tree: its row, and its faults, by the first leaf before it
-abbrev pub page_findings : List ℕ → Option TreeLeaf → Reference → List Finding
-page_findings file leaf c = map told_row (option_to_list (event_row file (at_page c)))
-    ++ told_by (with_leaf (visit_cause file c) leaf) (page_faults file [] c ++ depth_faults file leaf c)
+-- what is reported of the visit of a page of a tree: its row, and its faults, by its rowids and the first leaf before it
+abbrev pub page_findings : List ℕ → RowidBounds → Option TreeLeaf → Reference → List Finding
+page_findings file rowids leaf c = map told_row (option_to_list (event_row file (at_page c)))
+    ++ told_by (with_leaf (visit_cause rowids file c) leaf) (page_faults file [] c ++ depth_faults file leaf c)

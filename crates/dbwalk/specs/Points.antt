@@ -1,6 +1,6 @@
 -- The point of a walk at which a part of it begins, by the state that the program keeps. What the part leaves is stated for all
 -- visits and references at that point.
-use Rattle.std.specs.Prelude.{◌≡◌, ℕ, ◌<◌, true, false, List, [], ◌∷◌, ◌++◌, length, Some}
+use Rattle.std.specs.Prelude.{◌≡◌, ℕ, ℤ, ◌<◌, true, false, List, [], ◌∷◌, ◌++◌, length, Option, Some}
 use Rattle.dbsurvey.specs.InOrder.{IsPast}
 use Rattle.dbsurvey.specs.Traverse.{is_followed}
 use Rattle.dbformat.specs.Address.{then_step, overflow_step}
@@ -11,7 +11,7 @@ use Rattle.dbformat.specs.Reference.{Reference, tree_view}
 use Rattle.dbformat.specs.Survey.{rules_of}
 use Rattle.dbformat.specs.declared.Geometry.{Geometry}
 use Rattle.dbwalk.specs.Entered.{IsNext}
-use Rattle.dbtrace.specs.Causes.{cell_rowid}
+use Rattle.dbtrace.specs.Causes.{cell_rowid, key_up_to}
 use Rattle.dbtrace.specs.Item.{Item}
 use Rattle.dbtrace.specs.Walk.{Walk}
 use Rattle.dbwalk.specs.Found.{HasPageAt}
@@ -47,16 +47,17 @@ abbrev pub AtRead : Geometry → Tree → List (List ℕ) → ℕ → (List ℕ 
 AtRead g tree levels page leaves = (file : List ℕ) (c : Reference) (from item : ℕ) → g ≡ geometry file → IsCandidate tree.kind tree.start tree.path.items page from item c
     → HasPageAt levels (length tree.path.items) (page_bytes file page) → leaves file c
 
--- at a page of a tree that was marked, and then read
-abbrev pub AtPage : {A S K T : Type 0} → List ℕ → List (List ℕ) → ℕ → TreeWalk A S K T → (Walk → Reference → Type 0) → Type 0
-AtPage file levels page walk leaves = (from : Walk) (c : Reference) (above item : ℕ) → IsCandidate walk.tree.kind walk.tree.start walk.tree.path.items page above item c
+-- at a page of a tree that was marked, and then read; `up_to` is the key of the innermost cell whose left child leads to it
+abbrev pub AtPage : {A S K T : Type 0} → List ℕ → List (List ℕ) → ℕ → Option ℤ → TreeWalk A S K T → (Walk → Reference → Type 0) → Type 0
+AtPage file levels page up_to walk leaves = (from : Walk) (c : Reference) (above item : ℕ) → IsCandidate walk.tree.kind walk.tree.start walk.tree.path.items page above item c
     → HasPageAt levels (length walk.tree.path.items) (page_bytes file page) → IsNext from.visits c → is_followed (rules_of file) from.visits c ≡ true
-    → AreMarksOf file (from.visits ++ (c ∷ [])) walk.marks.now → walk.tree.greatest ≡ from.state.greatest → walk.tree.leaf ≡ from.state.leaf → leaves from c
+    → AreMarksOf file (from.visits ++ (c ∷ [])) walk.marks.now → walk.tree.greatest ≡ from.state.greatest → walk.tree.leaf ≡ from.state.leaf
+    → key_up_to file (from.visits ++ (c ∷ [])) c ≡ up_to → leaves from c
 
 -- at a reference to a page of a tree
-abbrev pub AtReference : {A S K T : Type 0} → List ℕ → ℕ → ℕ → ℕ → TreeWalk A S K T → (Walk → Reference → Type 0) → Type 0
-AtReference file page above item walk leaves = (from : Walk) (c : Reference) → IsCandidate walk.tree.kind walk.tree.start walk.tree.path.items page above item c
-    → IsNext from.visits c → IsAt file from walk.marks.now walk.tree → leaves from c
+abbrev pub AtReference : {A S K T : Type 0} → List ℕ → ℕ → ℕ → ℕ → Option ℤ → TreeWalk A S K T → (Walk → Reference → Type 0) → Type 0
+AtReference file page above item up_to walk leaves = (from : Walk) (c : Reference) → IsCandidate walk.tree.kind walk.tree.start walk.tree.path.items page above item c
+    → IsNext from.visits c → IsAt file from walk.marks.now walk.tree → key_up_to file (from.visits ++ (c ∷ [])) c ≡ up_to → leaves from c
 
 -- at the next step of the last of some frames, where the sink and the taker were `before` at first
 abbrev pub AtStep : {A S K T : Type 0} → ((K × T) → Item → (K × T) → Type 0) → List ℕ → List (List ℕ) → List StackFrame → TreeWalk A S K T → (List Reference → Reference → (K × T) → Type 0) → Type 0

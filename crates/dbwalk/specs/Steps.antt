@@ -5,6 +5,7 @@ use Rattle.dbformat.specs.Cell.{Cell, cell, count, overflow_size, child_number}
 use Rattle.dbformat.specs.Head.{View, undamaged}
 use Rattle.dbformat.specs.declared.CellFault.{CellFault}
 use Rattle.dbformat.specs.declared.TreeKind.{TreeKind}
+use Rattle.dbtrace.specs.Causes.{left_key}
 use Rattle.dbwalk.specs.declared.steps.Next.{Next}
 use Rattle.dbwalk.specs.declared.steps.Next.TheVariants.{End, Nothing, Key, Chain, Child}
 
@@ -19,12 +20,13 @@ pub record IsChainAt (v : View) (s first left : ℕ) (rowid : Option ℤ) : Type
   pub rest : left ≡ overflow_size x
   pub key : rowid ≡ x.key
 
--- the page of child n
-pub record IsChildAt (v : View) (s page : ℕ) : Type 0 where
+-- the page of child n, and the key of the cell whose left child it is
+pub record IsChildAt (v : View) (s page : ℕ) (key : Option ℤ) : Type 0 where
   pub n : ℕ
   pub step : s ≡ child_step n
   pub low : n ≤ count v
   pub number : child_number v n ≡ Some page
+  pub left : key ≡ left_key v n
 
 -- the key of cell n
 pub record IsKeyAt (v : View) (s : ℕ) (value : ℤ) : Type 0 where
@@ -42,13 +44,18 @@ pub data IsEmptyAt (v : View) (s : ℕ) : Type 0 where
   unreadable : (n : ℕ) (f : CellFault) → s ≡ key_step n → n < count v → cell v n ≡ Err f → IsEmptyAt v s
   without_key : (n : ℕ) (x : Cell) → s ≡ key_step n → n < count v → cell v n ≡ Ok x → x.key ≡ None → IsEmptyAt v s
 
+-- a child, if there is one
+abbrev pub child_of : Option ℕ → Option ℤ → Next
+child_of None key = Nothing
+child_of (Some page) key = Child page key
+
 -- what the page has at the step
 abbrev pub IsNextStep : View → ℕ → Next → Type 0
 IsNextStep v s End = child_step (count v) < s
 IsNextStep v s Nothing = IsEmptyAt v s
 IsNextStep v s (Key value) = IsKeyAt v s value
 IsNextStep v s (Chain first left rowid) = IsChainAt v s first left rowid
-IsNextStep v s (Child page) = IsChildAt v s page
+IsNextStep v s (Child page key) = IsChildAt v s page key
 
 -- the same for the page at a level, which has at most 32768 cells
 pub record HasNext (usable : ℕ) (kind : TreeKind) (levels : List (List ℕ)) (level page s : ℕ) (next : Next) : Type 0 where

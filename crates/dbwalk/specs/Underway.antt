@@ -5,14 +5,16 @@ use Rattle.dbsurvey.specs.Moves.{Moves}
 use Rattle.dbsurvey.specs.Story.{Errand, Go, AreErrandsApart}
 use Rattle.dbsurvey.specs.Traverse.{is_followed}
 use Rattle.dbformat.specs.File.{page_bytes}
-use Rattle.dbformat.specs.Reference.{Way, Reference}
+use Rattle.dbformat.specs.Head.{View, is_interior}
+use Rattle.dbformat.specs.Reference.{Way, Reference, tree_view}
 use Rattle.dbformat.specs.Story.{Event, at_page}
 use Rattle.dbformat.specs.Survey.{rules_of}
 use Rattle.dbsource.specs.declared.error.RunError.{RunError}
+use Rattle.dbtrace.specs.Causes.{root_of}
 use Rattle.dbtrace.specs.Item.{Item}
 use Rattle.dbtrace.specs.Walk.{Walk, bare, advance, run_below, begin}
 use Rattle.dbmarks.specs.Marking.{AreMarksOf}
-use Rattle.dbwalk.specs.Walking.{IsOpenFrame, left_over, AreCalls, AreOpenFrames, AreRead}
+use Rattle.dbwalk.specs.Walking.{left_over, AreCalls, AreOpenFrames, AreRead}
 use Rattle.dbwalk.specs.Watching.{Handed, StopsAt}
 use Rattle.dbmarks.specs.declared.marks.Mark.{Mark}
 use Rattle.dbwalk.specs.declared.state.Tree.{Tree}
@@ -41,7 +43,9 @@ entered file from c (Err e) = done_below file from (Go c ∷ [])
 -- if the answer is true, it was followed to an undamaged interior page, whose bytes are at its level
 pub record IsInterior (file : List ℕ) (from : Walk) (c : Reference) (levels : List (List ℕ)) : Type 0 where
   pub followed : is_followed (rules_of file) from.visits c ≡ true
-  pub frame : IsOpenFrame file c (record { page = c.page; next = 0 })
+  pub view : View
+  pub viewed : tree_view file c ≡ Some view
+  pub interior : is_interior view.kind ≡ true
   pub bytes : slice_get levels (length c.address - 1) ≡ Some (page_bytes file c.page)
 
 abbrev pub IsEntered : List ℕ → Walk → Reference → Result Bool RunError → List (List ℕ) → Type 0
@@ -65,7 +69,8 @@ tree_walk file W c = run_below file (begin W) (Go c ∷ [])
 pub record IsWalkingOn {P : Type 0} (moves : P → Item → P → Type 0) (file : List ℕ) (W : List Reference) (c : Reference) (before : P) (stack : List StackFrame × List (List ℕ)) (state : List Mark × Tree) (w : P) : Type 0 where
   pub now : Walk
   pub under : IsUnderway moves file (tree_walk file W c) before now (left_over file state.1.kind c stack.0) state w
-  pub frames_are : AreOpenFrames file state.1.kind c stack.0
+  pub root : root_of now.visits c.address ≡ Some c
+  pub frames_are : AreOpenFrames file state.1.kind c c stack.0
   pub calls : AreCalls stack.0
   pub read : AreRead file stack.1 0 stack.0
 

@@ -9,6 +9,7 @@ use Rattle.dbformat.specs.Reference.{Role, root, child, Reference, role_of, tree
 use Rattle.dbformat.specs.declared.TreeKind.{TreeKind}
 use Rattle.dbmarks.specs.declared.marks.Mark.{Mark}
 use Rattle.dbmarks.specs.Marking.{unmarked_pages}
+use Rattle.dbtrace.specs.Causes.{key_from}
 use Rattle.dbwalk.specs.declared.steps.StackFrame.{StackFrame}
 use Rattle.std.specs.Option.{option_map_or}
 use Rattle.dbsurvey.specs.Story.{step_of, Errand, errands_at}
@@ -48,19 +49,19 @@ cost marks frames = unmarked_pages marks * 98312 + frames_cost frames
 
 -- On any source: the bytes at a frame's level are those of an undamaged interior page, and the frame is at one of its steps, or
 -- after them.
-pub record IsOpen (usable : ℕ) (kind : TreeKind) (levels : List (List ℕ)) (level : ℕ) (f : StackFrame) : Type 0 where
-  pub low : IsPageNumber f.page
+pub record IsOpen (usable : ℕ) (kind : TreeKind) (levels : List (List ℕ)) (level page next : ℕ) : Type 0 where
+  pub low : IsPageNumber page
   pub bytes : List ℕ
   pub there : slice_get levels level ≡ Some bytes
   pub view : View
-  pub viewed : undamaged kind f.page usable bytes ≡ Some view
+  pub viewed : undamaged kind page usable bytes ≡ Some view
   pub interior : is_interior view.kind ≡ true
-  pub within : f.next ≤ 3 * count view + 2
+  pub within : next ≤ 3 * count view + 2
 
 -- the same of each frame
 abbrev pub AreOpen : ℕ → TreeKind → List (List ℕ) → ℕ → List StackFrame → Type 0
 AreOpen usable kind levels level [] = Unit {0}
-AreOpen usable kind levels level (f ∷ fs) = IsOpen usable kind levels level f × AreOpen usable kind levels (level + 1) fs
+AreOpen usable kind levels level (f ∷ fs) = IsOpen usable kind levels level f.page f.next × AreOpen usable kind levels (level + 1) fs
 
 -- the visit of a page of a tree whose bytes are at its level
 pub record IsLeafAt (file : List ℕ) (kind : TreeKind) (k : ℕ) (children : List ℕ) (c : Reference) (levels : List (List ℕ)) (p : ℕ) : Type 0 where
@@ -101,18 +102,19 @@ abbrev pub left_over : List ℕ → TreeKind → Reference → List StackFrame �
 left_over file kind r [] = []
 left_over file kind r (f ∷ fs) = left_over file kind (child_at file kind r (f.next - 1)) fs ++ errands_from file r f.next
 
--- the frame of an undamaged interior page, at one of its steps or after them
-pub record IsOpenFrame (file : List ℕ) (r : Reference) (f : StackFrame) : Type 0 where
+-- the frame of an undamaged interior page of the tree whose root is visited as u, at one of its steps or after them
+pub record IsOpenFrame (file : List ℕ) (u r : Reference) (f : StackFrame) : Type 0 where
   pub page : f.page ≡ r.page
   pub view : View
   pub viewed : tree_view file r ≡ Some view
   pub interior : is_interior view.kind ≡ true
   pub within : f.next ≤ 3 * count view + 2
+  pub up_to : f.up_to ≡ key_from file u r
 
 -- the same of each frame
-abbrev pub AreOpenFrames : List ℕ → TreeKind → Reference → List StackFrame → Type 0
-AreOpenFrames file kind r [] = Unit {0}
-AreOpenFrames file kind r (f ∷ fs) = IsOpenFrame file r f × AreOpenFrames file kind (child_at file kind r (f.next - 1)) fs
+abbrev pub AreOpenFrames : List ℕ → TreeKind → Reference → Reference → List StackFrame → Type 0
+AreOpenFrames file kind u r [] = Unit {0}
+AreOpenFrames file kind u r (f ∷ fs) = IsOpenFrame file u r f × AreOpenFrames file kind u (child_at file kind r (f.next - 1)) fs
 
 -- each frame but the last is after the step of a child
 abbrev pub AreCalls : List StackFrame → Type 0

@@ -56,7 +56,7 @@ pub use dbbytes::{RowKind, SchemaRow};
 pub use dbformat::{Counts, Encoding, Fault, FaultCode, Geometry, PageKind, PageType};
 pub use dbmarks::{Mark, Marks};
 pub use dbsource::{Bench, RunError, Source, WriteFailed};
-pub use dbtrace::{Cause, CellChain, CellKey, PageFacts, TreeLeaf};
+pub use dbtrace::{Cause, CellChain, CellKey, PageFacts, RowidBounds, TreeLeaf};
 pub use freelist::walk_freelist;
 pub use root::{Root, RootKind};
 pub use sink::{Row, Sink};

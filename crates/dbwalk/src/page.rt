@@ -8,16 +8,27 @@ ghost use Rattle.dbformat.specs.Head.{tree_of, is_same_tree, undamaged};
 ghost use Rattle.dbformat.specs.PageFaults.{fragment_fault, cell_fault, cell_faults, freeblock_fault};
 ghost use Rattle.dbformat.specs.PageFaults.{coverage_fault, empty_fault, inner_faults, tree_page_faults};
 ghost use Rattle.dbformat.specs.Runs.{content_run};
-ghost use Rattle.dbtrace.specs.Causes.{page_cause, with_run};
+ghost use Rattle.dbtrace.specs.Causes.{page_cause, page_facts};
 ghost use Rattle.dbtrace.specs.Finding.{told_by};
 ghost use Rattle.dbtrace.specs.declared.Cause.TheVariants as cause;
 ghost use Rattle.dbwalk.specs.Found.{damage_fault, inner_cause, view_cause};
 ghost use Rattle.dbwalk.specs.Telling.{IsReportedTo};
 
-use crate::{Cause, PageFacts, Sink};
-use dbformat::{CellFault, Coverage, Fault, FaultCode, HeadFault, Look, PageKind, TreeKind};
+use crate::{Cause, PageFacts, RowidBounds, Sink};
+use dbformat::{
+    ByteRun, CellFault, Coverage, Fault, FaultCode, HeadFault, Look, PageKind, TreeKind,
+};
 use dbpage::{PageView, content_start, look_of, type_byte, uncounted_coverage, usable_run};
 use dbsource::WriteFailed;
+
+/// A page of a tree: the number of the tree's start, the children on the way to the page, its number, and its rowids.
+#[derive(Clone, Copy, Drop)]
+pub(crate) struct PagePlace<'a> {
+    pub(crate) start: u32,
+    pub(crate) path: &'a [u32],
+    pub(crate) page: u32,
+    pub(crate) rowids: RowidBounds,
+}
 
 /// Why a page of a tree is damaged.
 #[derive(Clone, Copy)]
@@ -85,47 +96,52 @@ pub(crate) fn damage_fault(page: &[u8], number: u32, damage: Damage) -> Fault
 }
 
 /// What this fault goes back to: the page, or for a page of an unknown type what it looks like; and the longest run of one byte.
-pub(crate) fn damage_cause(page: &[u8], number: u32, usable: u32, damage: Damage) -> Cause
+pub(crate) fn damage_cause(page: &[u8], place: &PagePlace<'_>, usable: u32, damage: Damage) -> Cause
     requires whole { usable ≤ length page.now }
     requires least { 480 ≤ usable }
     requires most { usable ≤ 65536 }
-    ensures { result ≡ page_cause number usable page.now None (damage_fault number page.now damage).code }
+    ensures { result ≡ page_cause place.now.rowids place.now.page usable page.now None (damage_fault place.now.page page.now damage).code }
 {
     let run = match damage {
-        Damage::UnknownType => return look_cause(page, number, usable),
+        Damage::UnknownType => return look_cause(page, place, usable),
         Damage::OtherTree => None,
         Damage::ContentStart => usable_run(page, usable),
     };
-    Cause::Page(number, PageFacts { run, named: None })
+    Cause::Page(place.page, page_facts(place.rowids, run))
+}
+
+// What is known of a page of a tree.
+fn page_facts(rowids: RowidBounds, run: Option<ByteRun>) -> PageFacts
+    ensures { result ≡ page_facts rowids run }
+{
+    PageFacts {
+        run,
+        named: None,
+        rowids,
+    }
 }
 
 // What a page of an unknown type goes back to.
-fn look_cause(page: &[u8], number: u32, usable: u32) -> Cause
+fn look_cause(page: &[u8], place: &PagePlace<'_>, usable: u32) -> Cause
     requires whole { usable ≤ length page.now }
     requires least { 480 ≤ usable }
     requires most { usable ≤ 65536 }
-    ensures { result ≡ page_cause number usable page.now None FaultCode.P01 }
+    ensures { result ≡ page_cause place.now.rowids place.now.page usable page.now None FaultCode.P01 }
 {
-    let look = look_of(page, number, usable);
+    let look = look_of(page, place.page, usable);
     let run = match look {
         Look::Blank(_) => None,
         Look::Tree(_) | Look::Other(_) => usable_run(page, usable),
     };
-    Cause::Look(look, PageFacts { run, named: None })
+    Cause::Look(look, page_facts(place.rowids, run))
 }
 
 // What the faults within an undamaged page go back to: the page, and its longest run of one byte in which a cell begins.
-fn cause_within(view: &PageView<'_>, number: u32) -> Cause
+fn cause_within(view: &PageView<'_>, place: &PagePlace<'_>) -> Cause
     requires most { view.now.usable ≤ 65536 }
-    ensures { result ≡ cause.Page number (with_run (content_run view.now)) }
+    ensures { result ≡ cause.Page place.now.page (page_facts place.now.rowids (content_run view.now)) }
 {
-    Cause::Page(
-        number,
-        PageFacts {
-            run: view.content_run(),
-            named: None,
-        },
-    )
+    Cause::Page(place.page, page_facts(place.rowids, view.content_run()))
 }
 
 // Whether pages of this kind belong to trees of that kind.
@@ -147,17 +163,18 @@ fn is_of_tree(page: PageKind, tree: TreeKind) -> bool
 #[inline(never)]
 pub(crate) fn tell_inner<K: Sink>(
     view: &PageView<'_>,
-    number: u32,
+    place: &PagePlace<'_>,
     is_child: bool,
     uses: &mut [u8],
     sink: &mut K,
 ) -> Result<(), WriteFailed>
-    requires number { number ≡ view.now.number }
+    requires number { place.now.page ≡ view.now.number }
     requires most { view.now.usable ≤ 65536 }
     requires room { view.now.usable ≤ length uses.old }
-    ensures { IsReportedTo K.takes K.drops K.held result sink.old (told_by (view_cause view.now) (inner_faults view.now is_child)) sink.new }
+    ensures { IsReportedTo K.takes K.drops K.held result sink.old (told_by (view_cause place.now.rowids view.now) (inner_faults view.now is_child)) sink.new }
 {
-    let cause = cause_within(view, number);
+    let number = place.page;
+    let cause = cause_within(view, place);
     tell_found(fragment_fault(view, number), &cause, sink)?;
     let are_cells_good = tell_cells(view, number, &cause, sink)?;
     let freeblock = freeblock_fault(view, number);
@@ -175,17 +192,18 @@ pub(crate) fn tell_inner<K: Sink>(
 /// [`WriteFailed`] where the sink failed: it was given the faults up to the one that it did not take.
 pub(crate) fn tell_readable<K: Sink>(
     view: &PageView<'_>,
-    number: u32,
+    place: &PagePlace<'_>,
     is_child: bool,
     unheld: u32,
     sink: &mut K,
 ) -> Result<(), WriteFailed>
-    requires number { number ≡ view.now.number }
+    requires number { place.now.page ≡ view.now.number }
     requires cells { (i : ℕ) → i < count view.now → IsOk (cell view.now i) }
     requires unheld { coverage view.now ≡ Coverage.Unheld unheld }
     requires most { view.now.usable ≤ 65536 }
-    ensures { IsReportedTo K.takes K.drops K.held result sink.old (told_by (view_cause view.now) (inner_faults view.now is_child)) sink.new }
+    ensures { IsReportedTo K.takes K.drops K.held result sink.old (told_by (view_cause place.now.rowids view.now) (inner_faults view.now is_child)) sink.new }
 {
+    let number = place.page;
     let fragments = fragment_fault(view, number);
     let freeblock = freeblock_fault(view, number);
     let coverage = unheld_fault(view, number, freeblock.is_none(), unheld);
@@ -194,7 +212,7 @@ pub(crate) fn tell_readable<K: Sink>(
     if are_none(&found) {
         return Ok(());
     }
-    tell_each(&found, &cause_within(view, number), sink)
+    tell_each(&found, &cause_within(view, place), sink)
 }
 
 // Whether none of these faults is there, as on most pages.

@@ -43,26 +43,31 @@ pub(crate) fn tree_step(level: usize, page: u32, from: u32, item: u32) -> Step
 }
 
 impl<A: Allocator, S: Source, K: Sink, T: Taker> TreeWalk<'_, '_, '_, '_, A, S, K, T> {
-    /// Reports a page of a tree that was marked, and read at the level of the tree's path. If it is a leaf, walks over its
-    /// cells. True if it is an undamaged interior page.
+    /// Reports a page of a tree that was marked, and read at the level of the tree's path; `up_to` is the key of the innermost
+    /// cell whose left child leads to it. If it is a leaf, walks over its cells. True if it is an undamaged interior page.
     ///
     /// # Errors
     ///
     /// [`RunError::ReadFailed`] exactly where the source failed, [`RunError::WriteFailed`] exactly where the sink failed,
     /// [`RunError::OutOfMemory`] exactly where the taker was refused memory.
-    pub(crate) fn visit_page(&mut self, bench: &mut Bench<A>, page: u32) -> Result<bool, RunError>
+    pub(crate) fn visit_page(
+        &mut self,
+        bench: &mut Bench<A>,
+        page: u32,
+        up_to: Option<i64>,
+    ) -> Result<bool, RunError>
         requires level { length self.old.tree.path.items < 20 }
         requires page { IsPageNumber page }
         ensures walked { Walked S.held K.held T.refusals result bench.old.geometry bench.new.geometry self.old self.new }
         ensures levels { bench.new.levels ≡ bench.old.levels }
         ensures path { self.new.tree.path ≡ self.old.tree.path }
-        ensures log { SaysOfFiles S.step S.held bench.old.geometry self.old self.new (λ file. AtPage file bench.old.levels page self.old (λ from c.
+        ensures log { SaysOfFiles S.step S.held bench.old.geometry self.old self.new (λ file. AtPage file bench.old.levels page up_to self.old (λ from c.
             Does (watches K.takes T.takes) (fails K.takes K.drops T.takes T.refuses) file (entered file from c result) result self.old self.new
             × IsEntered file from c result bench.new.levels)) }
         ensures open { IfOk result (λ yes. IsTrue yes
-            → IsOpen bench.new.geometry.usable self.new.tree.kind bench.new.levels (length self.old.tree.path.items) (record { page = page; next = 0 })) }
+            → IsOpen bench.new.geometry.usable self.new.tree.kind bench.new.levels (length self.old.tree.path.items) page 0) }
     {
-        match tell_page(bench, &mut self.tree, page, self.sink)? {
+        match tell_page(bench, &mut self.tree, page, up_to, self.sink)? {
             PageFound::Interior => Ok(true),
             PageFound::Damaged => Ok(false),
             PageFound::Leaf(keys) => {
@@ -89,16 +94,17 @@ impl<A: Allocator, S: Source, K: Sink, T: Taker> TreeWalk<'_, '_, '_, '_, A, S, 
         page: u32,
         from: u32,
         item: u32,
+        up_to: Option<i64>,
     ) -> Result<bool, RunError>
         requires from { IsPageNumber from }
         ensures walked { Walked S.held K.held T.refusals result bench.old.geometry bench.new.geometry self.old self.new }
         ensures levels { (level : ℕ) → level < length self.old.tree.path.items → slice_get bench.new.levels level ≡ slice_get bench.old.levels level }
         ensures path { self.new.tree.path ≡ self.old.tree.path }
-        ensures log { SaysOfFiles S.step S.held bench.old.geometry self.old self.new (λ file. AtReference file page from item self.old (λ at c.
+        ensures log { SaysOfFiles S.step S.held bench.old.geometry self.old self.new (λ file. AtReference file page from item up_to self.old (λ at c.
             Does (watches K.takes T.takes) (fails K.takes K.drops T.takes T.refuses) file (entered file at c result) result self.old self.new
             × IsEntered file at c result bench.new.levels)) }
         ensures open { IfOk result (λ yes. IsTrue yes → (length self.old.tree.path.items < 20)
-            × IsOpen bench.new.geometry.usable self.new.tree.kind bench.new.levels (length self.old.tree.path.items) (record { page = page; next = 0 })) }
+            × IsOpen bench.new.geometry.usable self.new.tree.kind bench.new.levels (length self.old.tree.path.items) page 0) }
         ensures fewer { IfOk result (λ yes. unmarked_pages self.new.marks.now ≤ unmarked_pages self.old.marks.now
             × (IsTrue yes → unmarked_pages self.new.marks.now < unmarked_pages self.old.marks.now)) }
     {
@@ -108,6 +114,6 @@ impl<A: Allocator, S: Source, K: Sink, T: Taker> TreeWalk<'_, '_, '_, '_, A, S, 
             return Ok(false);
         }
         bench.load(level, self.source, page)?;
-        self.visit_page(bench, page)
+        self.visit_page(bench, page, up_to)
     }
 }

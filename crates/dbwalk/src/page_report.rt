@@ -3,14 +3,14 @@ ghost use Rattle.std.specs.Prelude.{◌≡◌, ◌<◌, length, IfOk, OnOk};
 ghost use Rattle.dbformat.specs.FixedPages.{IsPageNumber};
 ghost use Rattle.dbwalk.specs.Found.{IsFound, page_findings};
 ghost use Rattle.dbwalk.specs.Telling.{IsReportedTo, SinkAfter};
-ghost use Rattle.dbtrace.specs.Progress.{leaf_after};
+ghost use Rattle.dbtrace.specs.Progress.{key_value, leaf_after};
 ghost use Rattle.dbsource.specs.Failures.{is_any};
 ghost use Rattle.dbwalk.specs.Points.{AtRead, IsSameButLeaf};
 
-use crate::Sink;
-use crate::page::undamaged;
-use crate::page_row::{PagePlace, tell_damaged, tell_undamaged};
-use crate::state::{KeySpan, Tree};
+use crate::page::{PagePlace, undamaged};
+use crate::page_row::{tell_damaged, tell_undamaged};
+use crate::state::{KeySpan, Tree, key_value};
+use crate::{RowidBounds, Sink};
 use dbsource::{Bench, WriteFailed};
 use std::alloc::Allocator;
 
@@ -23,8 +23,8 @@ pub(crate) enum PageFound {
     Leaf(Option<KeySpan>),
 }
 
-/// Reports the row of a page that was read at the level of the tree's path, and its faults. Of a leaf it also reports that its
-/// depth differs from that of the first leaf.
+/// Reports the row of a page that was read at the level of the tree's path, and its faults; `up_to` is the key of the innermost
+/// cell whose left child leads to it. Of a leaf it also reports that its depth differs from that of the first leaf.
 ///
 /// # Errors
 ///
@@ -33,6 +33,7 @@ pub(crate) fn tell_page<A: Allocator, K: Sink>(
     bench: &mut Bench<A>,
     tree: &mut Tree,
     page: u32,
+    up_to: Option<i64>,
     sink: &mut K,
 ) -> Result<PageFound, WriteFailed>
     requires level { length tree.old.path.items < 20 }
@@ -43,7 +44,7 @@ pub(crate) fn tell_page<A: Allocator, K: Sink>(
     ensures writes { SinkAfter is_any result (K.held sink.old) (K.held sink.new) }
     // For each file in which the bytes at the level are those of the page.
     ensures told { AtRead bench.old.geometry tree.old bench.old.levels page (λ file c.
-        IsReportedTo K.takes K.drops K.held result sink.old (page_findings file tree.old.leaf c) sink.new
+        IsReportedTo K.takes K.drops K.held result sink.old (page_findings file (record { above = key_value tree.old.greatest; up_to = up_to }) tree.old.leaf c) sink.new
         × OnOk result (tree.new.leaf ≡ leaf_after file tree.old.leaf c)) }
 {
     let level = tree.path.len();
@@ -53,6 +54,10 @@ pub(crate) fn tell_page<A: Allocator, K: Sink>(
         start: tree.start,
         path: tree.path.as_slice(),
         page,
+        rowids: RowidBounds {
+            above: key_value(tree.greatest),
+            up_to,
+        },
     };
     let (bytes, uses) = bench.uses(level);
     let keys = match undamaged(bytes, page, usable, tree.kind) {

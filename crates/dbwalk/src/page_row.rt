@@ -6,20 +6,12 @@ ghost use Rattle.dbwalk.specs.Telling.{IsReportedTo};
 ghost use Rattle.dbformat.specs.Cell.{cells};
 ghost use Rattle.dbpage.specs.Packed.{payload_of, greatest_of};
 
-use crate::page::{Damage, damage_cause, damage_fault, tell_inner, tell_readable};
+use crate::page::{Damage, PagePlace, damage_cause, damage_fault, tell_inner, tell_readable};
 use crate::state::KeySpan;
 use crate::{Row, Sink};
 use dbformat::{Counts, PageType};
 use dbpage::PageView;
 use dbsource::WriteFailed;
-
-/// A page of a tree: the number of the tree's start, the children on the way to the page, and its number.
-#[derive(Clone, Copy, Drop)]
-pub(crate) struct PagePlace<'a> {
-    pub(crate) start: u32,
-    pub(crate) path: &'a [u32],
-    pub(crate) page: u32,
-}
 
 /// Reports the row of an undamaged page, and then the faults within it. Answers with the span of its keys, if these rise and no
 /// cell has an overflow page. `uses` is room to work in, a byte for each usable byte of the page.
@@ -37,7 +29,8 @@ pub(crate) fn tell_undamaged<K: Sink>(
     requires number { place.now.page ≡ view.now.number }
     requires most { view.now.usable ≤ 65536 }
     requires room { view.now.usable ≤ length uses.old }
-    ensures told { IsReportedTo K.takes K.drops K.held result sink.old (undamaged_findings place.now.start place.now.path.now view.now is_child) sink.new }
+    ensures told { IsReportedTo K.takes K.drops K.held result sink.old (undamaged_findings place.now.start place.now.path.now place.now.rowids
+        view.now is_child) sink.new }
     ensures keys { IfOk result (λ keys. IfSome keys (HasSpan view.now)) }
 {
     let packed = view.packed(uses);
@@ -62,10 +55,10 @@ pub(crate) fn tell_undamaged<K: Sink>(
         },
     })?;
     let Some(page) = packed else {
-        tell_inner(view, place.page, is_child, uses, sink)?;
+        tell_inner(view, place, is_child, uses, sink)?;
         return Ok(None);
     };
-    tell_readable(view, place.page, is_child, page.unheld, sink)?;
+    tell_readable(view, place, is_child, page.unheld, sink)?;
     if page.sums.has_overflow {
         return Ok(None);
     }
@@ -91,8 +84,8 @@ pub(crate) fn tell_damaged<K: Sink>(
     requires whole { usable ≤ length bytes.now }
     requires least { 480 ≤ usable }
     requires most { usable ≤ 65536 }
-    ensures { IsReportedTo K.takes K.drops K.held result sink.old (damaged_findings place.now.start place.now.path.now place.now.page
-        usable bytes.now (damage_fault place.now.page bytes.now damage)) sink.new }
+    ensures { IsReportedTo K.takes K.drops K.held result sink.old (damaged_findings place.now.start place.now.path.now place.now.rowids
+        place.now.page usable bytes.now (damage_fault place.now.page bytes.now damage)) sink.new }
 {
     sink.row(&Row {
         start: place.start,
@@ -103,7 +96,7 @@ pub(crate) fn tell_damaged<K: Sink>(
         counts: Counts::NONE,
     })?;
     let fault = damage_fault(bytes, place.page, damage);
-    let cause = damage_cause(bytes, place.page, usable, damage);
+    let cause = damage_cause(bytes, place, usable, damage);
     sink.fault(&fault, &cause)
 }
 

@@ -3,7 +3,7 @@
 ghost use Rattle.std.specs.Prelude.{◌≡◌, ℕ, ◌<◌, ◌≤◌, suc};
 ghost use Rattle.dbformat.specs.Address.{overflow_step, child_step, key_step};
 ghost use Rattle.dbformat.specs.Cell.{count};
-ghost use Rattle.dbwalk.specs.Steps.{AreEmpty, HasNext, IsEmptyAt, IsNextStep};
+ghost use Rattle.dbwalk.specs.Steps.{AreEmpty, HasNext, IsEmptyAt, IsNextStep, child_of};
 
 use crate::page::undamaged;
 use dbformat::TreeKind;
@@ -11,11 +11,12 @@ use dbpage::PageView;
 use dbsource::Bench;
 use std::alloc::Allocator;
 
-/// An interior page that was visited, and its next step.
+/// An interior page that was visited, its next step, and the key of the innermost cell whose left child leads to the page.
 #[derive(Clone, Copy, Default)]
 pub(crate) struct StackFrame {
     pub(crate) page: u32,
     pub(crate) next: u32,
+    pub(crate) up_to: Option<i64>,
 }
 
 impl StackFrame {
@@ -24,10 +25,11 @@ impl StackFrame {
         requires { self.next < 4294967295 }
         ensures page { result.page ≡ self.page }
         ensures next { result.next ≡ suc self.next }
+        ensures up_to { result.up_to ≡ self.up_to }
     {
         StackFrame {
-            page: self.page,
             next: self.next + 1,
+            ..self
         }
     }
 }
@@ -47,8 +49,11 @@ pub(crate) enum Next {
         left: u32,
         rowid: Option<i64>,
     },
-    /// The page of a child.
-    Child(u32),
+    /// The page of a child, and the key of the cell whose left child it is.
+    Child {
+        page: u32,
+        key: Option<i64>,
+    },
 }
 
 /// The first step from that of a frame on at which the page at a level has something, as a frame, and what it has there. A damaged
@@ -61,6 +66,7 @@ pub(crate) fn step_of<A: Allocator>(
 ) -> (StackFrame, Next)
     requires { level < 20 }
     ensures page { result.0.page ≡ frame.page }
+    ensures up_to { result.0.up_to ≡ frame.up_to }
     ensures empty { AreEmpty bench.now.geometry.usable kind bench.now.levels level frame.page frame.next result.0.next }
     ensures next { HasNext bench.now.geometry.usable kind bench.now.levels level frame.page result.0.next result.1 }
 {
@@ -69,8 +75,7 @@ pub(crate) fn step_of<A: Allocator>(
         return (frame, Next::End);
     };
     let (next, what) = next_from(&view, view.cells(), frame.next);
-    let page = frame.page;
-    (StackFrame { page, next }, what)
+    (StackFrame { next, ..frame }, what)
 }
 
 // The first step from one on at which there is something, and what is there.
@@ -135,8 +140,21 @@ fn child_at(view: &PageView<'_>, cells: u32, i: u32) -> Next
     if i > cells {
         return Next::End;
     }
-    match view.child(i) {
-        Some(page) => Next::Child(page),
+    if i == cells {
+        return child_of(view.child(i), None);
+    }
+    match view.cell(i) {
+        Ok(cell) => child_of(cell.left, cell.key),
+        Err(_) => Next::Nothing,
+    }
+}
+
+// A child, if there is one.
+fn child_of(page: Option<u32>, key: Option<i64>) -> Next
+    ensures { result ≡ child_of page key }
+{
+    match page {
+        Some(page) => Next::Child { page, key },
         None => Next::Nothing,
     }
 }

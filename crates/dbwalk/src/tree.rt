@@ -38,11 +38,15 @@ impl<A: Allocator, S: Source, K: Sink, T: Taker> TreeWalk<'_, '_, '_, '_, A, S, 
         ensures log { SaysOfFiles S.step S.held bench.old.geometry self.old self.new (λ file. AtRoot file bench.old.levels page self.old (λ W c.
             Does (watches K.takes T.takes) (fails K.takes K.drops T.takes T.refuses) file (tree_walk file W c) result self.old self.new)) }
     {
-        if !self.visit_page(bench, page)? {
+        if !self.visit_page(bench, page, None)? {
             return Ok(());
         }
         let mut frames: ArrayVec<StackFrame, 20> = ArrayVec::new();
-        frames.push(StackFrame { page, next: 0 });
+        frames.push(StackFrame {
+            page,
+            next: 0,
+            up_to: None,
+        });
         while let Some(frame) = frames.pop() {
             let (frame, next) = step_of(bench, self.tree.kind, frames.len(), frame);
             self.take_step(bench, &mut frames, frame, next)?;

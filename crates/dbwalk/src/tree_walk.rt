@@ -32,19 +32,21 @@ pub(crate) struct TreeWalk<'s, 'm, 't, 'k, A: Allocator, S: Source, K: Sink, T: 
 }
 
 impl<A: Allocator, S: Source, K: Sink, T: Taker> TreeWalk<'_, '_, '_, '_, A, S, K, T> {
-    // Enters the child at the step of a frame that was taken from the stack. The frame goes back with its next step, and an
-    // undamaged interior page gets a frame of its own.
+    // Enters the child at the step of a frame that was taken from the stack; `key` is that of the cell whose left child it is. The
+    // frame goes back with its next step, and an undamaged interior page gets a frame of its own.
     fn enter_child(
         &mut self,
         bench: &mut Bench<A>,
         frames: &mut ArrayVec<StackFrame, 20>,
         frame: StackFrame,
         page: u32,
+        key: Option<i64>,
     ) -> Result<(), RunError>
         requires few { array_vec_len frames.old < 20 }
         requires open { AreOpen bench.old.geometry.usable self.old.tree.kind bench.old.levels 0 (frames.old.items ++ (frame ∷ [])) }
         requires path { self.old.tree.path.items ≡ path_of frames.old.items }
-        requires step { HasNext bench.old.geometry.usable self.old.tree.kind bench.old.levels (array_vec_len frames.old) frame.page frame.next (Child page) }
+        requires step { HasNext bench.old.geometry.usable self.old.tree.kind bench.old.levels (array_vec_len frames.old) frame.page
+            frame.next (Child page key) }
         ensures walked { Walked S.held K.held T.refusals result bench.old.geometry bench.new.geometry self.old self.new }
         ensures few { OnOk result (array_vec_len frames.new ≤ 20) }
         ensures open { OnOk result (AreOpen bench.new.geometry.usable self.new.tree.kind bench.new.levels 0 frames.new.items) }
@@ -56,13 +58,18 @@ impl<A: Allocator, S: Source, K: Sink, T: Taker> TreeWalk<'_, '_, '_, '_, A, S, 
             (self.new.marks.now, self.new.tree) (self.new.sink.now, self.new.taker.now))) }
     {
         let cell = frame.next / 3;
+        let up_to = key.or(frame.up_to);
         frames.push(frame.stepped());
         self.tree.path.push(cell);
-        if !self.enter_page(bench, page, frame.page, cell)? {
+        if !self.enter_page(bench, page, frame.page, cell, up_to)? {
             let _ = self.tree.path.pop();
             return Ok(());
         }
-        frames.push(StackFrame { page, next: 0 });
+        frames.push(StackFrame {
+            page,
+            next: 0,
+            up_to,
+        });
         Ok(())
     }
 
@@ -122,7 +129,7 @@ impl<A: Allocator, S: Source, K: Sink, T: Taker> TreeWalk<'_, '_, '_, '_, A, S, 
                 };
                 walk_unfed(self.source, bench, self.marks, &chain, self.sink)
             }
-            Next::Child(page) => self.enter_child(bench, frames, frame, page),
+            Next::Child { page, key } => self.enter_child(bench, frames, frame, page, key),
         }
     }
 }

@@ -198,8 +198,8 @@ fn in_room(
 // A buffer of a page for each of 22 levels, and four bytes a page of marks. The heap gives units of 16 bytes.
 const DESK: usize = 22 * 512 + 32;
 
-// 100 entries of 232 bytes.
-const ENTRIES: usize = DESK + 100 * 232;
+// 100 entries of 264 bytes.
+const ENTRIES: usize = DESK + 100 * 264;
 
 // A bit a page for those that are zeros.
 const ZEROS: usize = ENTRIES + 16;

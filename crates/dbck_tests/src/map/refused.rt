@@ -107,8 +107,8 @@ const SQUARES: usize = TALLY + 64;
 // And two bits a page.
 const MARKED: usize = SQUARES + 16;
 
-// 232 bytes for each of 100 entries.
-const ENTRIES: usize = MARKED + 100 * 232;
+// 264 bytes for each of 100 entries.
+const ENTRIES: usize = MARKED + 100 * 264;
 
 // No bits for pages that are zeros: one word of them.
 const ZEROS: usize = ENTRIES + 16;

@@ -12,12 +12,13 @@ use Rattle.dbformat.specs.PageFaults.{coverage_fault, empty_fault, inner_faults}
 use Rattle.dbformat.specs.Rows.{tree_page_row, row_in}
 use Rattle.dbformat.specs.declared.Fault.{Fault}
 use Rattle.dbformat.specs.declared.TreeKind.{TreeKind}
-use Rattle.dbtrace.specs.Causes.{chain_cause, page_cause, visit_cause, with_run}
+use Rattle.dbtrace.specs.Causes.{chain_cause, key_up_to, page_cause, page_facts, visit_cause}
 use Rattle.dbformat.specs.Runs.{content_run}
 use Rattle.dbtrace.specs.Finding.{told_row, told_by, Finding}
-use Rattle.dbtrace.specs.Progress.{Progress, cause_by, depth_faults}
+use Rattle.dbtrace.specs.Progress.{Progress, cause_by, depth_faults, rowids_by}
 use Rattle.dbtrace.specs.declared.Cause.{Cause}
 use Rattle.dbtrace.specs.declared.Cause.TheVariants as cause
+use Rattle.dbtrace.specs.declared.RowidBounds.{RowidBounds}
 use Rattle.dbtrace.specs.declared.TreeLeaf.{TreeLeaf}
 use Rattle.dbformat.specs.declared.FaultCode.{FaultCode}
 use Rattle.dbformat.specs.Story.{at_page}
@@ -52,11 +53,11 @@ is_child _ = false
 -- by the progress of a walk the faults of the page have the same causes
 pub page_causes : (file : List ℕ) (U : List Reference) (p : Progress) (c : Reference) {kind : TreeKind} → tree_kind (role_of c) ≡ Some kind
     → told_by (cause_by file U p (at_page c)) (page_faults file [] c ++ depth_faults file p.leaf c)
-    ≡ told_by (with_leaf (visit_cause file c) p.leaf) (page_faults file [] c ++ depth_faults file p.leaf c)
+    ≡ told_by (with_leaf (visit_cause (rowids_by p (key_up_to file U c)) file c) p.leaf) (page_faults file [] c ++ depth_faults file p.leaf c)
 page_causes file U p c {kind} role =
     told_by-append why (page_faults file [] c) (depth_faults file p.leaf c)
     ∙ ap (λ L. L ++ told_by why (depth_faults file p.leaf c))
-    (page_same why other refl file (ap (λ o. chain_cause file U c o 1 false) (no_chain (role_of c) role)) refl c)
+    (page_same why other file (ap (λ o. chain_cause file U c o 1 false) (no_chain (role_of c) role)) refl c (λ k e. refl))
     ∙ ap (λ L. told_by other (page_faults file [] c) ++ L) (told_alike why other _ _ refl)
     ∙ sym (told_by-append other (page_faults file [] c) (depth_faults file p.leaf c))
   where
@@ -64,7 +65,7 @@ page_causes file U p c {kind} role =
     why = cause_by file U p (at_page c)
 
     other : FaultCode → Cause
-    other = with_leaf (visit_cause file c) p.leaf
+    other = with_leaf (visit_cause (rowids_by p (key_up_to file U c)) file c) p.leaf
 
     no_chain : (r : Role) → tree_kind r ≡ Some kind → bytes_left r ≡ None
     no_chain (root k) e = refl
@@ -113,21 +114,21 @@ module _ (file : List ℕ) (c : Reference) (kind : TreeKind) (role : tree_kind (
   view_is = ap (λ o. option_and_then (λ kind. undamaged kind c.page (usable_size file) (page_bytes file c.page)) o) role
 
   -- its row first, and then its faults: those within it, and that of its depth
-  pub page_told : (leaf : Option TreeLeaf) (o : Option View) → tree_view file c ≡ o
-      → page_findings file leaf c ≡ (told_row (tree_page_row c o)
-      ∷ told_by (page_cause c.page (usable_size file) (page_bytes file c.page) o)
+  pub page_told : (rowids : RowidBounds) (leaf : Option TreeLeaf) (o : Option View) → tree_view file c ≡ o
+      → page_findings file rowids leaf c ≡ (told_row (tree_page_row c o)
+      ∷ told_by (page_cause rowids c.page (usable_size file) (page_bytes file c.page) o)
       (tree_page_faults kind (is_child (role_of c)) c.page (usable_size file) (page_bytes file c.page)))
-      ++ told_by (with_leaf (visit_cause file c) leaf) (depth_faults file leaf c)
-  page_told leaf o f =
-      let why = with_leaf (visit_cause file c) leaf in
+      ++ told_by (with_leaf (visit_cause rowids file c) leaf) (depth_faults file leaf c)
+  page_told rowids leaf o f =
+      let why = with_leaf (visit_cause rowids file c) leaf in
       let fs = tree_page_faults kind (is_child (role_of c)) c.page (usable_size file) (page_bytes file c.page) in
       let last = told_by why (depth_faults file leaf c) in
       ap (λ r. map told_row (option_to_list r) ++ told_by why (page_faults file [] c ++ depth_faults file leaf c)) (row_is o f)
       ∙ ap (λ fs. told_row (tree_page_row c o) ∷ told_by why (fs ++ depth_faults file leaf c)) faults_are
       ∙ ap (λ L. told_row (tree_page_row c o) ∷ L) (told_by-append why fs (depth_faults file leaf c))
       ∙ ap (λ L. told_row (tree_page_row c o) ∷ (L ++ last))
-      (tree_same why (visit_cause file c) refl kind (is_child (role_of c)) c.page (usable_size file) (page_bytes file c.page))
-      ∙ ap (λ o'. told_row (tree_page_row c o) ∷ (told_by (page_cause c.page (usable_size file) (page_bytes file c.page) o') fs ++ last)) f
+      (tree_same why (visit_cause rowids file c) refl kind (is_child (role_of c)) c.page (usable_size file) (page_bytes file c.page))
+      ∙ ap (λ o'. told_row (tree_page_row c o) ∷ (told_by (page_cause rowids c.page (usable_size file) (page_bytes file c.page) o') fs ++ last)) f
 
 -- the rows, where the address has no chain
 pub row_of_view : (c : Reference) (v : View) (start : ℕ) (path : List ℕ) → start_of c.address ≡ start → child_path c.address ≡ path → chain_place c.address
@@ -220,10 +221,12 @@ none_found None fs e = ap (λ l. length l == 0) e
 none_found (Some f) fs e = let some : false ≡ (1 == 0) = grind (arith, nat_tests) in some ∙ ap (λ l. length l == 0) e
 
 -- What is reported of the faults within a page, where their cause is that of the page.
-pub inner_told : (v : View) (number : ℕ) (is_child : Bool) → number ≡ v.number → (why : Cause) → why ≡ cause.Page number (with_run (content_run v))
-    → told_by (inner_cause why) (inner_faults v is_child) ≡ told_by (view_cause v) (inner_faults v is_child)
-inner_told v number is_child n why e =
-    inner_same (inner_cause why) (view_cause v) (ap (λ w. map (inner_cause w) inner_codes) (e ∙ ap (λ q. cause.Page q (with_run (content_run v))) n)) v is_child
+pub inner_told : (rowids : RowidBounds) (v : View) (number : ℕ) (is_child : Bool) → number ≡ v.number → (why : Cause) → why
+    ≡ cause.Page number (page_facts rowids (content_run v))
+    → told_by (inner_cause why) (inner_faults v is_child) ≡ told_by (view_cause rowids v) (inner_faults v is_child)
+inner_told rowids v number is_child n why e =
+    inner_same (inner_cause why) (view_cause rowids v)
+    (ap (λ w. map (inner_cause w) inner_codes) (e ∙ ap (λ q. cause.Page q (page_facts rowids (content_run v))) n)) v is_child
 
 -- What was found of a page whose cells have the faults cs: it is all of them.
 pub inner_found : (v : View) (is_child good : Bool) (fragments freeblock coverage empty : Option Fault) (cs : List Fault) → cell_faults v ≡ cs

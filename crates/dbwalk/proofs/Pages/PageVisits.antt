@@ -1,6 +1,6 @@
 -- What is reported of a page, by what a program finds of it.
-use Rattle.std.proofs.Common.{◌≡◌, ℕ, ◌+◌, true, false, not, ◌&&◌, cond, List, [], ◌∷◌, ◌++◌, length, map, Option, Some, None, refl, sym, ap, arith, ◌∙◌, Bool}
-use Rattle.std.proofs.Common.{Result, Ok, Err, subst, ◌-◌}
+use Rattle.std.proofs.Common.{◌≡◌, ℕ, ◌+◌, true, false, not, ◌&&◌, cond, List, [], ◌∷◌, ◌++◌, length, map, Option, Some, None, refl, sym, ap, ap₂, arith, ◌∙◌}
+use Rattle.std.proofs.Common.{Bool, Result, Ok, Err, subst, ◌-◌}
 use Rattle.std.specs.Prelude.{nat_lt, pos, ◌==◌, OnOk, slice_get}
 use Rattle.std.specs.Option.{option_map_or}
 use Rattle.std.proofs.lemmas.List.{append-nil}
@@ -20,6 +20,7 @@ use Rattle.dbformat.specs.declared.TreeKind.{TreeKind}
 use Rattle.dbtrace.specs.Causes.{leaf_at, page_cause, visit_cause}
 use Rattle.dbtrace.specs.Finding.{told_row, told_fault, told_by, Finding}
 use Rattle.dbtrace.specs.declared.Cause.{Cause}
+use Rattle.dbtrace.specs.declared.RowidBounds.{RowidBounds}
 use Rattle.dbtrace.specs.declared.TreeLeaf.{TreeLeaf}
 use Rattle.dbformat.specs.declared.FaultCode.{FaultCode}
 use Rattle.dbtrace.specs.Progress.{leaf_after, depth_faults, depth_of}
@@ -107,21 +108,21 @@ module _ (file : List ℕ) (kind : TreeKind) (k : ℕ) (path : List ℕ) (p from
       itself : (n : ℕ) → (n == n) ≡ true
       itself n = grind (arith, nat_tests)
 
-  module _ (leaf : Option TreeLeaf) where
+  module _ (rowids : RowidBounds) (leaf : Option TreeLeaf) where
     -- a damaged page: its row, and its one fault
     pub told_damaged : (f : Fault) → undamaged kind p (usable_size file) bytes ≡ None
         → tree_page_faults kind (nat_lt 1 (length path + 1)) p (usable_size file) bytes ≡ f ∷ []
-        → page_findings file leaf c ≡ damaged_findings k path p (usable_size file) bytes f
+        → page_findings file rowids leaf c ≡ damaged_findings k path rowids p (usable_size file) bytes f
     told_damaged f e g =
-        let why = page_cause c.page (usable_size file) (page_bytes file c.page) None in
-        page_told file c kind kind_is leaf None (viewed_as None e)
-        ∙ ap (λ fs. (told_row (tree_page_row c None) ∷ told_by why fs) ++ told_by (with_leaf (visit_cause file c) leaf) (depth_faults file leaf c))
+        let why = page_cause rowids c.page (usable_size file) (page_bytes file c.page) None in
+        page_told file c kind kind_is rowids leaf None (viewed_as None e)
+        ∙ ap (λ fs. (told_row (tree_page_row c None) ∷ told_by why fs) ++ told_by (with_leaf (visit_cause rowids file c) leaf) (depth_faults file leaf c))
         (faults_as (f ∷ []) g)
-        ∙ ap (λ fs. (told_row (tree_page_row c None) ∷ told_by why (f ∷ [])) ++ told_by (with_leaf (visit_cause file c) leaf) fs)
+        ∙ ap (λ fs. (told_row (tree_page_row c None) ∷ told_by why (f ∷ [])) ++ told_by (with_leaf (visit_cause rowids file c) leaf) fs)
         (no_leaf file leaf c (leaf_is None e)).0
         ∙ append-nil (told_row (tree_page_row c None) ∷ told_by why (f ∷ []))
         ∙ ap (λ r. told_row r ∷ told_by why (f ∷ [])) (sym (row_of_damage c p k path candidate.start candidate.path candidate.chain candidate.page))
-        ∙ ap (λ q. told_row (damaged_row k path p) ∷ told_by (page_cause q (usable_size file) (page_bytes file q) None) (f ∷ [])) candidate.page
+        ∙ ap (λ q. told_row (damaged_row k path p) ∷ told_by (page_cause rowids q (usable_size file) (page_bytes file q) None) (f ∷ [])) candidate.page
 
     -- it is no leaf
     pub leaf_after_damaged : undamaged kind p (usable_size file) bytes ≡ None → leaf_after file leaf c ≡ leaf
@@ -129,41 +130,42 @@ module _ (file : List ℕ) (kind : TreeKind) (k : ℕ) (path : List ℕ) (p from
 
     module _ (v : View) (viewed : undamaged kind p (usable_size file) bytes ≡ Some v) (number : v.number ≡ p)
         (within : tree_page_faults kind (nat_lt 1 (length path + 1)) p (usable_size file) bytes ≡ inner_faults v (nat_lt 1 (length path + 1))) where
-      pub row_and_faults : page_findings file leaf c ≡ undamaged_findings k path v (nat_lt 1 (length path + 1))
-          ++ told_by (with_leaf (visit_cause file c) leaf) (depth_faults file leaf c)
+      pub row_and_faults : page_findings file rowids leaf c ≡ undamaged_findings k path rowids v (nat_lt 1 (length path + 1))
+          ++ told_by (with_leaf (visit_cause rowids file c) leaf) (depth_faults file leaf c)
       row_and_faults =
-          let why = page_cause c.page (usable_size file) (page_bytes file c.page) (Some v) in
-          let last = told_by (with_leaf (visit_cause file c) leaf) (depth_faults file leaf c) in
+          let why = page_cause rowids c.page (usable_size file) (page_bytes file c.page) (Some v) in
+          let last = told_by (with_leaf (visit_cause rowids file c) leaf) (depth_faults file leaf c) in
           let child = nat_lt 1 (length path + 1) in
-          page_told file c kind kind_is leaf (Some v) (viewed_as (Some v) viewed)
+          page_told file c kind kind_is rowids leaf (Some v) (viewed_as (Some v) viewed)
           ∙ ap (λ fs. (told_row (tree_page_row c (Some v)) ∷ told_by why fs) ++ last) (faults_as (inner_faults v child) within)
-          ∙ ap (λ L. (told_row (tree_page_row c (Some v)) ∷ L) ++ last) (inner_same why (view_cause v) (ap of_page (candidate.page ∙ sym number)) v child)
-          ∙ ap (λ r. (told_row r ∷ told_by (view_cause v) (inner_faults v child)) ++ last)
+          ∙ ap (λ L. (told_row (tree_page_row c (Some v)) ∷ L) ++ last) (inner_same why (view_cause rowids v)
+          (ap of_page (candidate.page ∙ sym number)) v child)
+          ∙ ap (λ r. (told_row r ∷ told_by (view_cause rowids v) (inner_faults v child)) ++ last)
           (sym (row_of_view c v k path candidate.start candidate.path candidate.chain (number ∙ sym candidate.page)))
         where
           of_page : ℕ → List Cause
-          of_page q = map (page_cause q (usable_size file) (page_bytes file c.page) (Some v)) inner_codes
+          of_page q = map (page_cause rowids q (usable_size file) (page_bytes file c.page) (Some v)) inner_codes
 
       -- an interior page: its row, and the faults within it
-      pub told_interior : is_interior v.kind ≡ true → page_findings file leaf c ≡ undamaged_findings k path v (nat_lt 1 (length path + 1))
+      pub told_interior : is_interior v.kind ≡ true → page_findings file rowids leaf c ≡ undamaged_findings k path rowids v (nat_lt 1 (length path + 1))
       told_interior e = row_and_faults
-          ∙ ap (λ fs. undamaged_findings k path v (nat_lt 1 (length path + 1)) ++ told_by (with_leaf (visit_cause file c) leaf) fs)
+          ∙ ap (λ fs. undamaged_findings k path rowids v (nat_lt 1 (length path + 1)) ++ told_by (with_leaf (visit_cause rowids file c) leaf) fs)
           (no_leaf file leaf c (leaf_is (Some v) viewed ∙ ap not e)).0
-          ∙ append-nil (undamaged_findings k path v (nat_lt 1 (length path + 1)))
+          ∙ append-nil (undamaged_findings k path rowids v (nat_lt 1 (length path + 1)))
 
       pub leaf_after_interior : is_interior v.kind ≡ true → leaf_after file leaf c ≡ leaf
       leaf_after_interior e = (no_leaf file leaf c (leaf_is (Some v) viewed ∙ ap not e)).1
 
       -- a leaf: then that its depth is not that of the first
-      pub told_leaf : is_interior v.kind ≡ false → page_findings file leaf c ≡ undamaged_findings k path v (nat_lt 1 (length path + 1))
+      pub told_leaf : is_interior v.kind ≡ false → page_findings file rowids leaf c ≡ undamaged_findings k path rowids v (nat_lt 1 (length path + 1))
           ++ depth_told leaf p (length path + 1)
       told_leaf e = row_and_faults
-          ∙ ap (λ L. undamaged_findings k path v (nat_lt 1 (length path + 1)) ++ L)
-          ((at_leaf file (visit_cause file c) leaf c (length path + 1) (leaf_is (Some v) viewed ∙ ap not e) candidate.depth).0
+          ∙ ap (λ L. undamaged_findings k path rowids v (nat_lt 1 (length path + 1)) ++ L)
+          ((at_leaf file (visit_cause rowids file c) leaf c (length path + 1) (leaf_is (Some v) viewed ∙ ap not e) candidate.depth).0
           ∙ ap (λ q. depth_told leaf q (length path + 1)) candidate.page)
 
       pub leaf_after_leaf : is_interior v.kind ≡ false → leaf_after file leaf c ≡ Some (first_of leaf p (length path + 1))
-      leaf_after_leaf e = (at_leaf file (visit_cause file c) leaf c (length path + 1) (leaf_is (Some v) viewed ∙ ap not e) candidate.depth).1
+      leaf_after_leaf e = (at_leaf file (visit_cause rowids file c) leaf c (length path + 1) (leaf_is (Some v) viewed ∙ ap not e) candidate.depth).1
           ∙ ap (λ q. Some (first_of leaf q (length path + 1))) candidate.page
 
 -- How the report of a page ends.
@@ -174,10 +176,11 @@ on_err P (Err x) e = tt
 
 module _ {S : Type 0} (A E : Type 0) (takes drops : S → Finding → S → Type 0) (held : S → SinkState) (file : List ℕ) (kind : TreeKind) (k : ℕ) (path : List ℕ)
     (p from item : ℕ) (c : Reference) (candidate : IsCandidate kind k path p from item c)
-    (usable : ℕ) (usable_is : usable ≡ usable_size file) (bytes : List ℕ) (bytes_are : bytes ≡ page_bytes file p) (leaf : Option TreeLeaf)
-    (path' : List ℕ) (path_is : path' ≡ path) (depth : ℕ) (depth_is : depth ≡ length path + 1) (s : S) where
+    (usable : ℕ) (usable_is : usable ≡ usable_size file) (bytes : List ℕ) (bytes_are : bytes ≡ page_bytes file p)
+    (rowids : RowidBounds) (leaf : Option TreeLeaf) (path' : List ℕ) (path_is : path' ≡ path) (rowids' : RowidBounds) (rowids_are : rowids' ≡ rowids)
+    (depth : ℕ) (depth_is : depth ≡ length path + 1) (s : S) where
   abbrev Exit : Result A E → S → Option TreeLeaf → Type 0
-  Exit r t new = IsReportedTo takes drops held r s (page_findings file leaf c) t × OnOk r (new ≡ leaf_after file leaf c)
+  Exit r t new = IsReportedTo takes drops held r s (page_findings file rowids leaf c) t × OnOk r (new ≡ leaf_after file leaf c)
 
   seen_as : (o : Option View) → undamaged kind p usable bytes ≡ o → undamaged kind p (usable_size file) (page_bytes file p) ≡ o
   seen_as o e = ap (λ u. undamaged kind p u (page_bytes file p)) (sym usable_is) ∙ ap (λ b. undamaged kind p usable b) (sym bytes_are) ∙ e
@@ -189,18 +192,18 @@ module _ {S : Type 0} (A E : Type 0) (takes drops : S → Finding → S → Type
 
   module _ (f : Fault) (none : undamaged kind p usable bytes ≡ None) (one : (b : Bool) → tree_page_faults kind b p usable bytes ≡ f ∷ []) {B : Type 0}
       (r0 : Result B E) (t : S)
-      (told : IsReportedTo takes drops held r0 s (damaged_findings k path' p usable bytes f) t) where
-    all_told : page_findings file leaf c ≡ damaged_findings k path' p usable bytes f
-    all_told = told_damaged file kind k path p from item c candidate leaf f (seen_as None none)
+      (told : IsReportedTo takes drops held r0 s (damaged_findings k path' rowids' p usable bytes f) t) where
+    all_told : page_findings file rowids leaf c ≡ damaged_findings k path' rowids' p usable bytes f
+    all_told = told_damaged file kind k path p from item c candidate rowids leaf f (seen_as None none)
         (read_faults (nat_lt 1 (length path + 1)) (f ∷ []) (one (nat_lt 1 (length path + 1))))
-        ∙ ap (λ q. damaged_findings k q p (usable_size file) (page_bytes file p) f) (sym path_is)
-        ∙ ap (λ u. damaged_findings k path' p u (page_bytes file p) f) (sym usable_is)
-        ∙ ap (λ b. damaged_findings k path' p usable b f) (sym bytes_are)
+        ∙ ap (λ q. damaged_findings k q rowids p (usable_size file) (page_bytes file p) f) (sym path_is)
+        ∙ ap (λ u. damaged_findings k path' rowids p u (page_bytes file p) f) (sym usable_is)
+        ∙ ap₂ (λ w b. damaged_findings k path' w p usable b f) (sym rowids_are) (sym bytes_are)
 
     pub exit_damaged : (a : A) {b : B} → r0 ≡ Ok b → Exit (Ok a) t leaf
     exit_damaged a e = (
       subst (λ L. IsReportedTo {E = E} takes drops held (Ok a) s L t) (sym all_told) (told_ok a r0 e told),
-      sym (leaf_after_damaged file kind k path p from item c candidate leaf (seen_as None none)),
+      sym (leaf_after_damaged file kind k path p from item c candidate rowids leaf (seen_as None none)),
     )
 
     pub exit_damaged_stop : (new : Option TreeLeaf) (r : Result A E) {e x : E} → r0 ≡ Err e → r ≡ Err x → Exit r t new
@@ -208,13 +211,14 @@ module _ {S : Type 0} (A E : Type 0) (takes drops : S → Finding → S → Type
 
   module _ (v : View) (viewed : undamaged kind p usable bytes ≡ Some v) (number : v.number ≡ p)
       (within : (b : Bool) → tree_page_faults kind b p usable bytes ≡ inner_faults v b) {B : Type 0} (r0 : Result B E) (t : S)
-      (told : IsReportedTo takes drops held r0 s (undamaged_findings k path' v (nat_lt 1 depth)) t) where
+      (told : IsReportedTo takes drops held r0 s (undamaged_findings k path' rowids' v (nat_lt 1 depth)) t) where
     abbrev first_told : List Finding
-    first_told = undamaged_findings k path v (nat_lt 1 (length path + 1))
+    first_told = undamaged_findings k path rowids v (nat_lt 1 (length path + 1))
 
     told_first : IsReportedTo takes drops held r0 s first_told t
-    told_first = subst (λ n. IsReportedTo takes drops held r0 s (undamaged_findings k path v (nat_lt 1 n)) t) depth_is
-        (subst (λ q. IsReportedTo takes drops held r0 s (undamaged_findings k q v (nat_lt 1 depth)) t) path_is told)
+    told_first = subst (λ n. IsReportedTo takes drops held r0 s (undamaged_findings k path rowids v (nat_lt 1 n)) t) depth_is
+        (subst (λ q. IsReportedTo takes drops held r0 s (undamaged_findings k q rowids v (nat_lt 1 depth)) t) path_is
+        (subst (λ w. IsReportedTo takes drops held r0 s (undamaged_findings k path' w v (nat_lt 1 depth)) t) rowids_are told))
 
     abbrev there : undamaged kind p (usable_size file) (page_bytes file p) ≡ Some v
     there = seen_as (Some v) viewed
@@ -224,16 +228,16 @@ module _ {S : Type 0} (A E : Type 0) (takes drops : S → Finding → S → Type
 
     pub exit_stop : (new : Option TreeLeaf) (r : Result A E) {e x : E} → r0 ≡ Err e → r ≡ Err x → Exit r t new
     exit_stop new r e f = (
-      subst (λ L. IsReportedTo takes drops held r s L t) (sym (row_and_faults file kind k path p from item c candidate leaf v there number inner))
-          (told_stop r0 r first_told (told_by (with_leaf (visit_cause file c) leaf) (depth_faults file leaf c)) e f told_first),
+      subst (λ L. IsReportedTo takes drops held r s L t) (sym (row_and_faults file kind k path p from item c candidate rowids leaf v there number inner))
+          (told_stop r0 r first_told (told_by (with_leaf (visit_cause rowids file c) leaf) (depth_faults file leaf c)) e f told_first),
       on_err _ r f,
     )
 
     pub exit_interior : (a : A) {b : B} → r0 ≡ Ok b → is_interior v.kind ≡ true → Exit (Ok a) t leaf
     exit_interior a e i = (
-      subst (λ L. IsReportedTo {E = E} takes drops held (Ok a) s L t) (sym (told_interior file kind k path p from item c candidate leaf v there number inner i))
-          (told_ok a r0 e told_first),
-      sym (leaf_after_interior file kind k path p from item c candidate leaf v there number inner i),
+      subst (λ L. IsReportedTo {E = E} takes drops held (Ok a) s L t)
+          (sym (told_interior file kind k path p from item c candidate rowids leaf v there number inner i)) (told_ok a r0 e told_first),
+      sym (leaf_after_interior file kind k path p from item c candidate rowids leaf v there number inner i),
     )
 
     module _ {b : B} (ok : r0 ≡ Ok b) (is_leaf : is_interior v.kind ≡ false) {C : Type 0} (r1 : Result C E) (t1 : S)
@@ -244,15 +248,16 @@ module _ {S : Type 0} (A E : Type 0) (takes drops : S → Finding → S → Type
       told_last : IsReportedTo takes drops held r1 t last_told t1
       told_last = subst (λ n. IsReportedTo takes drops held r1 t (depth_told leaf p n) t1) depth_is last
 
-      both_told : IsReportedTo takes drops held r1 s (page_findings file leaf c) t1
+      both_told : IsReportedTo takes drops held r1 s (page_findings file rowids leaf c) t1
       both_told = subst (λ L. IsReportedTo takes drops held r1 s L t1)
-          (sym (told_leaf file kind k path p from item c candidate leaf v there number inner is_leaf))
+          (sym (told_leaf file kind k path p from item c candidate rowids leaf v there number inner is_leaf))
           (told_then r0 r1 first_told last_told ok told_first told_last)
 
       pub exit_leaf : (a : A) {z : C} (new : Option TreeLeaf) → r1 ≡ Ok z → new ≡ Some (first_of leaf p depth) → Exit (Ok a) t1 new
       exit_leaf a new e n = (
         told_ok a r1 e both_told,
-        n ∙ ap (λ n. Some (first_of leaf p n)) depth_is ∙ sym (leaf_after_leaf file kind k path p from item c candidate leaf v there number inner is_leaf),
+        n ∙ ap (λ n. Some (first_of leaf p n)) depth_is ∙ sym (leaf_after_leaf file kind k path p from item c candidate rowids leaf v there number inner
+            is_leaf),
       )
 
       pub exit_leaf_stop : (new : Option TreeLeaf) (r : Result A E) {e x : E} → r1 ≡ Err e → r ≡ Err x → Exit r t1 new
@@ -272,10 +277,12 @@ module _ (file : List ℕ) {kind : TreeKind} {k : ℕ} {children : List ℕ} {p 
       ∙ ap (λ b. undamaged kind' p usable b) (sym (bytes_are bytes e)) ∙ f)
 
   pub found_interior : (walk : Walk) → is_followed (rules_of file) walk.visits c ≡ true
-      → IsOpen usable kind' levels' (length children) (record { page = p; next = 0 }) → IsInterior file walk c levels'
+      → IsOpen usable kind' levels' (length children) p 0 → IsInterior file walk c levels'
   found_interior walk followed is = record {
     followed = followed;
-    frame = record { page = refl; view = is.view; viewed = view_of is.bytes (Some is.view) is.there is.viewed; interior = is.interior; within = omega arith };
+    view = is.view;
+    viewed = view_of is.bytes (Some is.view) is.there is.viewed;
+    interior = is.interior;
     bytes = ap (slice_get levels') (let d = candidate.depth in let e : length c.address - 1 ≡ length children = omega arith in e)
         ∙ is.there ∙ ap (λ b. Some b) (bytes_are is.bytes is.there) ∙ ap (λ q. Some (page_bytes file q)) (sym candidate.page);
   }

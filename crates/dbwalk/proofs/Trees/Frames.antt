@@ -90,24 +90,25 @@ on_ok_all (Err e) q = tt
 
 module _ (usable : ℕ) (kind : TreeKind) (levels : List (List ℕ)) where
   pub open_front : (level : ℕ) (fs : List StackFrame) (f : StackFrame) → AreOpen usable kind levels level (fs ++ (f ∷ [])) → AreOpen usable kind levels level fs
-      × IsOpen usable kind levels (level + length fs) f
-  open_front level [] f a = (tt, subst (λ n. IsOpen usable kind levels n f) (let e : level ≡ level + 0 = omega arith in e) a.0)
+      × IsOpen usable kind levels (level + length fs) f.page f.next
+  open_front level [] f a = (tt, subst (λ n. IsOpen usable kind levels n f.page f.next) (let e : level ≡ level + 0 = omega arith in e) a.0)
   open_front level (g ∷ fs) f a =
       let m = open_front (level + 1) fs f a.1 in
-      ((a.0, m.0), subst (λ n. IsOpen usable kind levels n f) (let e : level + 1 + length fs ≡ level + suc (length fs) = omega arith in e) m.1)
+      ((a.0, m.0), subst (λ n. IsOpen usable kind levels n f.page f.next) (let e : level + 1 + length fs ≡ level + suc (length fs) = omega arith in e) m.1)
 
-  pub open_push : (level : ℕ) (fs : List StackFrame) (f : StackFrame) → AreOpen usable kind levels level fs → IsOpen usable kind levels (level + length fs) f
+  pub open_push : (level : ℕ) (fs : List StackFrame) (f : StackFrame) → AreOpen usable kind levels level fs
+      → IsOpen usable kind levels (level + length fs) f.page f.next
       → AreOpen usable kind levels level (fs ++ (f ∷ []))
-  open_push level [] f a o = (subst (λ n. IsOpen usable kind levels n f) (let e : level + 0 ≡ level = omega arith in e) o, tt)
+  open_push level [] f a o = (subst (λ n. IsOpen usable kind levels n f.page f.next) (let e : level + 0 ≡ level = omega arith in e) o, tt)
   open_push level (g ∷ fs) f a o = (
     a.0,
     open_push (level + 1) fs f a.1
-        (subst (λ n. IsOpen usable kind levels n f) (let e : level + suc (length fs) ≡ level + 1 + length fs = omega arith in e) o),
+        (subst (λ n. IsOpen usable kind levels n f.page f.next) (let e : level + suc (length fs) ≡ level + 1 + length fs = omega arith in e) o),
   )
 
   -- a frame a step on
-  pub open_on : (level : ℕ) (f g : StackFrame) → g.page ≡ f.page → g.next ≡ suc f.next → (o : IsOpen usable kind levels level f) → suc f.next ≤ 3 * count o.view
-      + 2 → IsOpen usable kind levels level g
+  pub open_on : (level : ℕ) (f g : StackFrame) → g.page ≡ f.page → g.next ≡ suc f.next → (o : IsOpen usable kind levels level f.page f.next)
+      → suc f.next ≤ 3 * count o.view + 2 → IsOpen usable kind levels level g.page g.next
   open_on level f g page next o within = record {
     low = subst (λ p. p ≤ most_pages) (sym page) o.low;
     bytes = o.bytes;
@@ -120,8 +121,8 @@ module _ (usable : ℕ) (kind : TreeKind) (levels : List (List ℕ)) where
 
   -- where the bytes at the levels stay
   module _ (usable' : ℕ) (kind' : TreeKind) (levels' : List (List ℕ)) (usables : usable' ≡ usable) (kinds : kind' ≡ kind) where
-    pub one_kept : (level : ℕ) (f : StackFrame) → slice_get levels' level ≡ slice_get levels level → IsOpen usable kind levels level f
-        → IsOpen usable' kind' levels' level f
+    pub one_kept : (level : ℕ) (f : StackFrame) → slice_get levels' level ≡ slice_get levels level
+        → IsOpen usable kind levels level f.page f.next → IsOpen usable' kind' levels' level f.page f.next
     one_kept level f same o = record {
       low = o.low;
       bytes = o.bytes;
@@ -193,7 +194,7 @@ step_within v s Nothing other h = by_case h
     by_case (without_key n x e l read none) = omega arith
 step_within v s (Key value) other h = let e = h.step in let l = h.low in omega arith
 step_within v s (Chain first left rowid) other h = let e = h.step in let l = h.low in omega arith
-step_within v s (Child page) other h = let e = h.step in let l = h.low in omega arith
+step_within v s (Child page key) other h = let e = h.step in let l = h.low in omega arith
 
 -- The last frame of a turn, on any source.
 
@@ -202,7 +203,7 @@ pub record IsAtStep (usable : ℕ) (kind : TreeKind) (levels : List (List ℕ)) 
   pub low : IsPageNumber f.page
   pub most : f.next ≤ 98306
   pub front : AreOpen usable kind levels 0 fs
-  pub last : IsOpen usable kind levels (0 + length fs) f
+  pub last : IsOpen usable kind levels (0 + length fs) f.page f.next
   pub stands : IsNextStep last.view f.next next
 
 -- by another number of the level, and of what was found there

@@ -14,6 +14,7 @@ use Rattle.dbformat.specs.Reference.{Way, Reference, role_of, tree_kind}
 use Rattle.dbformat.specs.Story.{Event, at_page, at_key, own_visit, story_of}
 use Rattle.dbformat.specs.declared.TreeKind.{TreeKind}
 use Rattle.dbsource.specs.declared.error.RunError.{RunError}
+use Rattle.dbtrace.specs.Causes.{key_from, root_of}
 use Rattle.dbtrace.specs.Item.{Item, found}
 use Rattle.dbtrace.specs.Steps.{IsAside}
 use Rattle.dbtrace.specs.Walk.{Walk, advance, run_below, bare}
@@ -28,6 +29,7 @@ use Rattle.dbwalk.specs.Watching.{StopsAt, watches, fails, Handed}
 use Rattle.dbwalk.specs.declared.steps.StackFrame.{StackFrame}
 use Rattle.dbmarks.specs.declared.marks.Mark.{Mark}
 use Rattle.dbwalk.specs.declared.state.Tree.{Tree}
+use Rattle.dbwalk.proofs.Trees.Bounds.{root_stays}
 use Rattle.dbwalk.proofs.Trees.Stacking.{left-push, top-push, from_first}
 use Rattle.dbwalk.proofs.Trees.Frames.{read_front, read_push, read_kept, calls_front, calls_on, calls_push}
 use Rattle.dbwalk.proofs.Underway.CellSteps.{order_told_of, cell_items, no_row_inside, greatest_behind}
@@ -41,14 +43,14 @@ use Rattle.dbwalk.proofs.Underway.Handing.{found_handed, no_memory}
 
 -- frames
 
-module _ (file : List ℕ) (kind : TreeKind) where
-  open_front : (c : Reference) (fs : List StackFrame) (f : StackFrame) → AreOpenFrames file kind c (fs ++ (f ∷ [])) → AreOpenFrames file kind c fs
-      × IsOpenFrame file (top_visit file kind c fs) f
+module _ (file : List ℕ) (kind : TreeKind) (root : Reference) where
+  open_front : (c : Reference) (fs : List StackFrame) (f : StackFrame) → AreOpenFrames file kind root c (fs ++ (f ∷ [])) → AreOpenFrames file kind root c fs
+      × IsOpenFrame file root (top_visit file kind c fs) f
   open_front c [] f a = (tt, a.0)
   open_front c (g ∷ fs) f a = let k = open_front (child_at file kind c (g.next - 1)) fs f a.1 in ((a.0, k.0), k.1)
 
-  open_push : (c : Reference) (fs : List StackFrame) (f : StackFrame) → AreOpenFrames file kind c fs → IsOpenFrame file (top_visit file kind c fs) f
-      → AreOpenFrames file kind c (fs ++ (f ∷ []))
+  open_push : (c : Reference) (fs : List StackFrame) (f : StackFrame) → AreOpenFrames file kind root c fs → IsOpenFrame file root (top_visit file kind c fs) f
+      → AreOpenFrames file kind root c (fs ++ (f ∷ []))
   open_push c [] f a e = (e, tt)
   open_push c (g ∷ fs) f a e = (a.0, open_push (child_at file kind c (g.next - 1)) fs f a.1 e)
 
@@ -73,7 +75,8 @@ by_other {moves = moves} {file = file} {W = W} {c = c} {before = before} {frames
       now = on.now;
       under = subst (λ k. IsUnderway moves file (tree_walk file W c) before on.now (left_over file k c frames) (marks, tree') w) (sym kinds)
           (record { rest = u.rest; at = (u.at.0, tops ∙ u.at.1, leafs ∙ u.at.2); past = u.past; apart = u.apart; handed = u.handed });
-      frames_are = subst (λ k. AreOpenFrames file k c frames) (sym kinds) on.frames_are;
+      root = on.root;
+      frames_are = subst (λ k. AreOpenFrames file k c c frames) (sym kinds) on.frames_are;
       calls = on.calls;
       read = read_kept file levels levels' 0 frames (λ n l. same n (omega arith)) on.read;
     })
@@ -84,8 +87,8 @@ module _ {P : Type 0} {moves : P → Item → P → Type 0} {file : List ℕ} {W
   abbrev pub top : Reference
   top = top_visit file tree.kind c fs
 
-  pub frames : AreOpenFrames file tree.kind c fs × IsOpenFrame file top f
-  frames = open_front file tree.kind c fs f on.frames_are
+  pub frames : AreOpenFrames file tree.kind c c fs × IsOpenFrame file c top f
+  frames = open_front file tree.kind c c fs f on.frames_are
 
   abbrev Left : List (Errand Way Event) → Type 0
   Left es = IsUnderway moves file (tree_walk file W c) before on.now es (marks, tree) w
@@ -95,31 +98,40 @@ module _ {P : Type 0} {moves : P → Item → P → Type 0} {file : List ℕ} {W
   on_end e = record {
     now = on.now;
     under = subst Left (left-push file tree.kind c fs f ∙ ap (λ es. es ++ left_over file tree.kind c fs) e) on.under;
+    root = on.root;
     frames_are = frames.0;
     calls = calls_front fs f on.calls;
     read = read_front file levels 0 fs f on.read;
   }
 
   -- one step on
-  module _ (g : StackFrame) (page : g.page ≡ f.page) (next : g.next ≡ suc f.next) (within : suc f.next ≤ 3 * count frames.1.view + 2) where
+  module _ (g : StackFrame) (page : g.page ≡ f.page) (next : g.next ≡ suc f.next) (up_to : g.up_to ≡ f.up_to)
+      (within : suc f.next ≤ 3 * count frames.1.view + 2) where
     abbrev on_frames : List StackFrame
     on_frames = fs ++ (g ∷ [])
 
     abbrev rest : List (Errand Way Event)
     rest = left_over file tree.kind c on_frames
 
-    open_on : AreOpenFrames file tree.kind c on_frames
-    open_on = open_push file tree.kind c fs g frames.0
-        (record { page = page ∙ frames.1.page; view = frames.1.view; viewed = frames.1.viewed; interior = frames.1.interior; within = omega arith })
+    open_on : AreOpenFrames file tree.kind c c on_frames
+    open_on = open_push file tree.kind c c fs g frames.0 (record {
+      page = page ∙ frames.1.page;
+      view = frames.1.view;
+      viewed = frames.1.viewed;
+      interior = frames.1.interior;
+      within = omega arith;
+      up_to = up_to ∙ frames.1.up_to;
+    })
 
     -- what stays, whatever is at the step
-    turn : (now : Walk) (marks' : List Mark) (tree' : Tree) (x : P) → tree'.kind ≡ tree.kind
+    turn : (now : Walk) (marks' : List Mark) (tree' : Tree) (x : P) → tree'.kind ≡ tree.kind → root_of now.visits c.address ≡ Some c
         → IsUnderway moves file (tree_walk file W c) before now rest (marks', tree') x
         → IsWalkingOn moves file W c before (on_frames, levels) (marks', tree') x
-    turn now marks' tree' x kinds under = record {
+    turn now marks' tree' x kinds root under = record {
       now = now;
       under = subst (λ k. IsUnderway moves file (tree_walk file W c) before now (left_over file k c on_frames) (marks', tree') x) (sym kinds) under;
-      frames_are = subst (λ k. AreOpenFrames file k c on_frames) (sym kinds) open_on;
+      root = root;
+      frames_are = subst (λ k. AreOpenFrames file k c c on_frames) (sym kinds) open_on;
       calls = calls_on fs f g on.calls;
       read = read_on file levels f g page 0 fs on.read;
     }
@@ -132,7 +144,7 @@ module _ {P : Type 0} {moves : P → Item → P → Type 0} {file : List ℕ} {W
 
     -- a step at which nothing is
     pub on_skip : errands_from file top f.next ≡ errands_from file top (suc f.next) → IsWalkingOn moves file W c before (on_frames, levels) (marks, tree) w
-    on_skip e = turn on.now marks tree w refl (first_errands [] e)
+    on_skip e = turn on.now marks tree w refl on.root (first_errands [] e)
 
     -- the place of a readable cell's key, whether it has one or not
     module _ (n : ℕ) (cell : Cell) (x : P) (e : errands_from file top f.next ≡ tell_cell top frames.1.view n cell ∷ errands_from file top (suc f.next)) where
@@ -153,7 +165,7 @@ module _ {P : Type 0} {moves : P → Item → P → Type 0} {file : List ℕ} {W
       pub on_cell : (tree' : Tree) → tree'.kind ≡ tree.kind → tree'.greatest ≡ top_after tree.greatest top.page n cell.key → tree'.leaf ≡ tree.leaf
           → Moves moves w told x
           → IsWalkingOn moves file W c before (on_frames, levels) (marks, tree') x
-      on_cell tree' kinds tops leafs m = turn (advance file on.now event) marks tree' x kinds
+      on_cell tree' kinds tops leafs m = turn (advance file on.now event) marks tree' x kinds (root_stays on.now.visits [] c.address c on.root)
           (under_event moves file (tree_walk file W c) before on.now (marks, tree) (marks, tree') w x (record { key = _; event = event }) rest
           (first_errands (tell_cell top frames.1.view n cell ∷ []) e) refl (
             subst (λ U. AreMarksOf file U marks) (sym (append-nil on.now.visits)) on.under.at.0,
@@ -180,7 +192,9 @@ module _ {P : Type 0} {moves : P → Item → P → Type 0} {file : List ℕ} {W
         -- all below it is done by a call: a chain, or a child that is refused, or a leaf
         pub on_call : {A : Type 0} (a : A) → tree'.kind ≡ tree.kind → HasDone moves stops file (done_below file on.now (Go d ∷ [])) (Ok a) (marks', tree') w x
             → IsWalkingOn moves file W c before (on_frames, levels) (marks', tree') x
-        on_call a kinds done = turn (run_below file on.now (Go d ∷ [])) marks' tree' x kinds
+        on_call a kinds done = turn (run_below file on.now (Go d ∷ [])) marks' tree' x kinds (subst (λ V. root_of V c.address ≡ Some c)
+            (sym ((has_steps file).visits on.now (Go d ∷ []) (quiet_go d)))
+            (root_stays on.now.visits (visited_below file on.now.visits (Go d ∷ [])) c.address c on.root))
             (under_call moves file (tree_walk file W c) before on.now (marks, tree) (marks', tree') w x stops a (Go d ∷ []) rest (first_errands (Go d ∷ []) e)
             (quiet_go d) done)
 
@@ -193,23 +207,24 @@ module _ {P : Type 0} {moves : P → Item → P → Type 0} {file : List ℕ} {W
 
         -- an interior child is entered, and gets a frame
         pub on_enter : (n : ℕ) (h : StackFrame) (levels' : List (List ℕ)) → tree'.kind ≡ tree.kind → f.next ≡ child_step n → d
-            ≡ child_at file tree.kind top f.next → h.page ≡ d.page → h.next ≡ 0 → length d.address - 1 ≡ length on_frames
+            ≡ child_at file tree.kind top f.next → h.page ≡ d.page → h.next ≡ 0 → h.up_to ≡ key_from file c d → length d.address - 1 ≡ length on_frames
             → ((level : ℕ) → level < length on_frames → slice_get levels' level ≡ slice_get levels level)
             → HasDone moves stops file (entered file on.now d (Ok true)) (Ok true) (marks', tree') w x → IsInterior file on.now d levels'
             → IsWalkingOn moves file W c before (on_frames ++ (h ∷ []), levels') (marks', tree') x
-        on_enter n h levels' kinds step is here zero deep kept done inside =
+        on_enter n h levels' kinds step is here zero bound deep kept done inside =
             let k = tree.kind in
             let at : g.next - 1 ≡ f.next = omega arith in
             let up : top_visit file k c on_frames ≡ d = top-push file k c fs g ∙ ap (λ n. child_at file k top n) at ∙ sym is in
             let pushed : left_over file k c (on_frames ++ (h ∷ [])) ≡ errands_of (story_of file) d ++ rest = left-push file k c on_frames h
             ∙ ap (λ r. errands_from file r h.next ++ rest) up ∙ ap (λ n. errands_from file d n ++ rest) zero
-            ∙ ap (λ es. es ++ rest) (from_first file d k inside.frame.view (ap (λ r. tree_kind (role_of r)) is) inside.frame.viewed) in
-            let frame : IsOpenFrame file d h = record {
+            ∙ ap (λ es. es ++ rest) (from_first file d k inside.view (ap (λ r. tree_kind (role_of r)) is) inside.viewed) in
+            let frame : IsOpenFrame file c d h = record {
               page = here;
-              view = inside.frame.view;
-              viewed = inside.frame.viewed;
-              interior = inside.frame.interior;
+              view = inside.view;
+              viewed = inside.viewed;
+              interior = inside.interior;
               within = omega arith;
+              up_to = bound;
             } in
             record {
               now = advance file on.now (at_page d);
@@ -218,8 +233,9 @@ module _ {P : Type 0} {moves : P → Item → P → Type 0} {file : List ℕ} {W
                   (subst (λ es. IsUnderway moves file (tree_walk file W c) before (advance file on.now (at_page d)) es (marks', tree') x) (sym pushed)
                   (under_visit moves file (tree_walk file W c) before on.now (marks, tree) (marks', tree') w x d rest (first_errands (Go d ∷ []) e)
                   inside.followed done.at done.handed));
-              frames_are = subst (λ k. AreOpenFrames file k c (on_frames ++ (h ∷ []))) (sym kinds)
-                  (open_push file k c on_frames h open_on (subst (λ r. IsOpenFrame file r h) (sym up) frame));
+              root = root_stays on.now.visits (d ∷ []) c.address c on.root;
+              frames_are = subst (λ k. AreOpenFrames file k c c (on_frames ++ (h ∷ []))) (sym kinds)
+                  (open_push file k c c on_frames h open_on (subst (λ r. IsOpenFrame file c r h) (sym up) frame));
               calls = calls_push fs g h n (next ∙ ap suc step) (calls_on fs f g on.calls);
               read = read_push file levels' 0 on_frames h (read_kept file levels levels' 0 on_frames (λ n l. kept n (omega arith))
                   (read_on file levels f g page 0 fs on.read))

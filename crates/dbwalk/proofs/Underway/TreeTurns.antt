@@ -1,8 +1,8 @@
 -- One turn of the loop over the interior pages of a tree, by what the last frame's page has at its step.
 use Rattle.std.proofs.Common.{◌≡◌, ℕ, suc, ◌+◌, ◌-◌, ◌*◌, ◌/◌, ◌<◌, ◌≤◌, false, true, List, [], ◌∷◌, ◌++◌, map, length, Option, Some, Ok, Err, Result, ℤ, refl}
-use Rattle.std.proofs.Common.{sym, ap, subst, arith, ◌∙◌, Bool}
+use Rattle.std.proofs.Common.{sym, ap, ap₂, subst, arith, ◌∙◌, Bool}
 use Rattle.std.specs.Prelude.{option_and_then, slice_get, unwrap_or, OnOk, IfErr}
-use Rattle.std.specs.Option.{option_map_or}
+use Rattle.std.specs.Option.{option_map_or, option_or}
 use Rattle.std.specs.Result.{result_ok}
 use Rattle.std.proofs.lemmas.List.{length-append}
 use Rattle.dbsurvey.specs.Moves.{Moves}
@@ -15,6 +15,7 @@ use Rattle.dbformat.specs.Head.{View, undamaged}
 use Rattle.dbformat.specs.Header.{usable_size}
 use Rattle.dbformat.specs.Reference.{first_overflow, Reference, role_of, tree_kind, tree_view}
 use Rattle.dbsource.specs.declared.error.RunError.{RunError}
+use Rattle.dbtrace.specs.Causes.{key_from, key_up_to, left_key}
 use Rattle.dbtrace.specs.Item.{Item, found}
 use Rattle.dbtrace.specs.Walk.{Walk}
 use Rattle.dbwalk.specs.Chains.{IsChainOf}
@@ -34,6 +35,7 @@ use Rattle.dbwalk.specs.declared.steps.Next.TheVariants as step
 use Rattle.dbwalk.proofs.Leaves.LeafErrands.{chain_start, rowid_in}
 use Rattle.dbwalk.proofs.Pages.PageTellings.{view_is}
 use Rattle.dbwalk.proofs.Pages.PageVisits.{kind_is}
+use Rattle.dbwalk.proofs.Trees.Bounds.{child_key, child_up_to, root_address}
 use Rattle.dbwalk.proofs.Trees.Frames.{path_length, read_last, step_within}
 use Rattle.dbwalk.proofs.Trees.Stacking.{top_kind, step_no_chain, step_no_child, step_key, step_no_key, step_chain, step_child, step_end}
 use Rattle.dbwalk.proofs.Trees.TreeWays.{IsOnWay, child_candidate, top_candidate}
@@ -87,7 +89,7 @@ module _ {P : Type 0} {moves : P → Item → P → Type 0} {file : List ℕ} {W
     bytes = ap (slice_get levels) (path_length fs ∙ (let e : length fs ≡ 0 + length fs = omega arith in e)) ∙ read_last file levels 0 fs f on.read;
   }
 
-  module _ (g : StackFrame) (page : g.page ≡ f.page) (next : g.next ≡ suc f.next) where
+  module _ (g : StackFrame) (page : g.page ≡ f.page) (next : g.next ≡ suc f.next) (up_to : g.up_to ≡ f.up_to) where
     -- a step at which nothing is
     pub turned_empty : IsEmptyAt v f.next → IsWalkingOn moves file W c before (fs ++ (g ∷ []), levels) (marks, tree) w
     turned_empty h = by_case h
@@ -99,13 +101,13 @@ module _ {P : Type 0} {moves : P → Item → P → Type 0} {file : List ℕ} {W
             other e = cc
 
         by_case : IsEmptyAt v f.next → IsWalkingOn moves file W c before (fs ++ (g ∷ []), levels) (marks, tree) w
-        by_case (no_chain n step l none) = steps.on_skip fs f on g page next within
+        by_case (no_chain n step l none) = steps.on_skip fs f on g page next up_to within
             (subst (λ s. errands_from file top s ≡ errands_from file top (suc s)) (sym step) (step_no_chain file top tree.kind v role viewed n none))
-        by_case (no_child n step l none) = steps.on_skip fs f on g page next within
+        by_case (no_child n step l none) = steps.on_skip fs f on g page next up_to within
             (subst (λ s. errands_from file top s ≡ errands_from file top (suc s)) (sym step) (step_no_child file top tree.kind v role viewed n l none))
-        by_case (unreadable n b step l bad) = steps.on_skip fs f on g page next within
+        by_case (unreadable n b step l bad) = steps.on_skip fs f on g page next up_to within
             (subst (λ s. errands_from file top s ≡ errands_from file top (suc s)) (sym step) (step_no_key file top tree.kind v role viewed n b bad))
-        by_case (without_key n x step l read none) = steps.on_cell fs f on g page next within n x w
+        by_case (without_key n x step l read none) = steps.on_cell fs f on g page next up_to within n x w
             (subst (λ s. errands_from file top s ≡ tell_cell top v n x ∷ errands_from file top (suc s)) (sym step)
             (step_key file top tree.kind v role viewed n x l read))
             tree refl (ap (λ o. top_after tree.greatest top.page n o) (sym none)) refl
@@ -136,7 +138,7 @@ module _ {P : Type 0} {moves : P → Item → P → Type 0} {file : List ℕ} {W
       pub turned_key : (tree' : Tree) → tree'.kind ≡ tree.kind → tree'.greatest ≡ top_after tree.greatest f.page (f.next / 3) (Some value) → tree'.leaf
           ≡ tree.leaf → Moves moves w (map found (order_told false tree.greatest f.page (f.next / 3) value)) x
           → IsWalkingOn moves file W c before (fs ++ (g ∷ []), levels) (marks, tree') x
-      turned_key tree' kinds tops leafs m = steps.on_cell fs f on g page next within_key h.n h.x x key_errand tree' kinds
+      turned_key tree' kinds tops leafs m = steps.on_cell fs f on g page next up_to within_key h.n h.x x key_errand tree' kinds
           (tops ∙ ap (λ p. top_after tree.greatest p (f.next / 3) (Some value)) on_page ∙ ap (λ i. top_after tree.greatest top.page i (Some value)) at_cell
           ∙ ap (top_after tree.greatest top.page h.n) (sym h.key)) leafs
           (subst (λ l. Moves moves w (map found l) x) told_key m)
@@ -145,7 +147,7 @@ module _ {P : Type 0} {moves : P → Item → P → Type 0} {file : List ℕ} {W
       pub stopped_key : (stops : RunError → P → Item → P → Type 0) (e : RunError)
           → StopsAt moves stops e w (map found (order_told false tree.greatest f.page (f.next / 3) value)) x
           → StopsAt moves stops e before (tree_walk file W c).items x
-      stopped_key stops e k = steps.cell_stopped fs f on g page next within_key h.n h.x x key_errand stops e
+      stopped_key stops e k = steps.cell_stopped fs f on g page next up_to within_key h.n h.x x key_errand stops e
           (subst (λ l. StopsAt moves stops e w (map found l) x) told_key k)
 
     -- an overflow chain
@@ -193,7 +195,7 @@ module _ {P : Type 0} {moves : P → Item → P → Type 0} {file : List ℕ} {W
           third n = omega arith
 
       pub chain_next : IsNext on.now.visits chained
-      chain_next = steps.next_is fs f on g page next within_chain chained chain_errand
+      chain_next = steps.next_is fs f on g page next up_to within_chain chained chain_errand
 
       -- a call walks along it: the walk goes on after it, or not all of it could be done
       module _ (stops : RunError → P → Item → P → Type 0) (marks' : List Mark) (x : P) {items : List StackFrame} {levels' : List (List ℕ)}
@@ -201,20 +203,31 @@ module _ {P : Type 0} {moves : P → Item → P → Type 0} {file : List ℕ} {W
         pub turned_chain : (r : Result (Unit {0}) RunError) → HasDone moves stops file (done_below file on.now (Go chained ∷ [])) r (marks', tree) w x
             → HasTurned moves stops file (W, c, before) r (items, levels') (marks', tree) x
         turned_chain (Ok a) done = (
-          by_other (steps.on_call fs f on g page next within_chain chained chain_errand stops marks' tree x a refl done) are refl refl
+          by_other (steps.on_call fs f on g page next up_to within_chain chained chain_errand stops marks' tree x a refl done) are refl refl
               refl (λ n l. ap (λ ls. slice_get ls n) same),
           tt,
         )
-        turned_chain (Err e) done = (tt, steps.call_stopped fs f on g page next within_chain chained chain_errand stops marks' tree x e done)
+        turned_chain (Err e) done = (tt, steps.call_stopped fs f on g page next up_to within_chain chained chain_errand stops marks' tree x e done)
 
     -- a child
-    module _ (number : ℕ) (h : IsChildAt v f.next number) where
+    module _ (number : ℕ) (key : Option ℤ) (h : IsChildAt v f.next number key) where
       abbrev pub d : Reference
       d = child_at file tree.kind top f.next
 
       child_errand : errands_from file top f.next ≡ Go d ∷ errands_from file top (suc f.next)
       child_errand = subst (λ s. errands_from file top s ≡ Go (child_at file tree.kind top s) ∷ errands_from file top (suc s)) (sym h.step)
           (step_child file top tree.kind v role viewed h.n number h.low h.number)
+
+      -- the key of the innermost cell whose left child leads to it
+      key_is : key_from file c d ≡ option_or key f.up_to
+      key_is =
+          child_key file tree.kind tree.start c (root_address c.address tree.start candidate.depth candidate.start) fs v f.next
+          (kind_is file tree.kind tree.start [] c.page 0 tree.start c candidate) role (steps.frames fs f on).0 viewed
+          ∙ ap (λ i. option_or (left_key v i) (key_from file c top)) (ap (λ s. s / 3) h.step ∙ third h.n)
+          ∙ ap₂ (λ a b. option_or a b) (sym h.left) (sym (steps.frames fs f on).1.up_to)
+        where
+          third : (n : ℕ) → (3 * n + 1) / 3 ≡ n
+          third n = omega arith
 
       number_is : d.page ≡ number
       number_is = ap (λ o. option_map_or (λ v. unwrap_or (child_number v (cell_of_step f.next)) 0) o 0) viewed
@@ -224,23 +237,26 @@ module _ {P : Type 0} {moves : P → Item → P → Type 0} {file : List ℕ} {W
           third n = omega arith
 
       within_child : suc f.next ≤ 3 * count v + 2
-      within_child = step_within v f.next (step.Child number) (λ e. other e) h
+      within_child = step_within v f.next (step.Child number key) (λ e. other e) h
         where
-          other : step.Child number ≡ End → ⊥
+          other : step.Child number key ≡ End → ⊥
           other e = cc
 
       child_is : IsCandidate tree.kind tree.start (path_of fs ++ (cell_of_step f.next ∷ [])) d.page top.page (cell_of_step f.next) d
       child_is = child_candidate file tree.kind tree.start (path_of fs) way.p way.from way.item top way.candidate f.next h.n h.step
 
       -- what is promised of it
-      pub child_asked : {children : List ℕ} → children ≡ path_of fs ++ (cell_of_step f.next ∷ []) → {X : Walk → Reference → Type 0}
+      pub child_asked : {children : List ℕ} → children ≡ path_of fs ++ (cell_of_step f.next ∷ []) → {bound : Option ℤ} → bound ≡ option_or key f.up_to
+          → {X : Walk → Reference → Type 0}
           → ((at : Walk) (e : Reference) → IsCandidate tree.kind tree.start children number f.page (f.next / 3) e → IsNext at.visits e → IsAt file at marks tree
-          → X at e) → X on.now d
-      child_asked ways promised = promised on.now d
+          → key_up_to file (at.visits ++ (e ∷ [])) e ≡ bound → X at e) → X on.now d
+      child_asked ways bounds promised = promised on.now d
           (subst (λ l. IsCandidate tree.kind tree.start l number f.page (f.next / 3) d) (sym ways)
           (subst (λ p. IsCandidate tree.kind tree.start (path_of fs ++ (cell_of_step f.next ∷ [])) number p (f.next / 3) d) (sym on_page)
           (subst (λ q. IsCandidate tree.kind tree.start (path_of fs ++ (cell_of_step f.next ∷ [])) q top.page (f.next / 3) d) number_is child_is)))
-          (steps.next_is fs f on g page next within_child d child_errand) on.under.at
+          (steps.next_is fs f on g page next up_to within_child d child_errand) on.under.at
+          (child_up_to file tree.kind tree.start c (root_address c.address tree.start candidate.depth candidate.start) fs on.now.visits f.next on.root
+          ∙ key_is ∙ sym bounds)
 
       -- a call entered it
       abbrev Entered : (RunError → P → Item → P → Type 0) → List (List ℕ) → List Mark × Tree → P → Result Bool RunError → Type 0
@@ -250,28 +266,28 @@ module _ {P : Type 0} {moves : P → Item → P → Type 0} {file : List ℕ} {W
         -- it is refused, damaged, or a leaf
         pub child_passed : {levels' : List (List ℕ)} {yes : Bool} → yes ≡ false → Entered stops levels' (marks', tree') x (Ok yes)
             → IsWalkingOn moves file W c before (fs ++ (g ∷ []), levels) (marks', tree') x
-        child_passed {levels' = levels'} is done = steps.on_call fs f on g page next within_child d child_errand stops marks' tree' x false kinds
+        child_passed {levels' = levels'} is done = steps.on_call fs f on g page next up_to within_child d child_errand stops marks' tree' x false kinds
             (subst (λ y. Entered stops levels' (marks', tree') x (Ok y)) is done).0
 
         -- not all of it could be read and reported
         pub child_stopped : (e : RunError) → HasDone {A = Bool} moves stops file (entered file on.now d (Err e)) (Err e) (marks', tree') w x
             → StopsAt moves stops e before (tree_walk file W c).items x
-        child_stopped e done = steps.call_stopped fs f on g page next within_child d child_errand stops marks' tree' x e done
+        child_stopped e done = steps.call_stopped fs f on g page next up_to within_child d child_errand stops marks' tree' x e done
 
         -- it is an undamaged interior page
-        pub child_entered : {levels' : List (List ℕ)} (frame : StackFrame) → frame.page ≡ number → frame.next ≡ 0
+        pub child_entered : {levels' : List (List ℕ)} (frame : StackFrame) → frame.page ≡ number → frame.next ≡ 0 → frame.up_to ≡ option_or key f.up_to
             → ((n : ℕ) → n < length (fs ++ (g ∷ [])) → slice_get levels' n ≡ slice_get levels n)
             → {yes : Bool} → yes ≡ true → Entered stops levels' (marks', tree') x (Ok yes)
             → IsWalkingOn moves file W c before ((fs ++ (g ∷ [])) ++ (frame ∷ []), levels') (marks', tree') x
-        child_entered {levels' = levels'} frame pages start kept is done =
+        child_entered {levels' = levels'} frame pages start bound kept is done =
             let e = child_is.depth in
             let q = path_length fs in
             let m = length-append (path_of fs) (cell_of_step f.next ∷ []) in
             let n = length-append fs (g ∷ []) in
             let deep : length d.address - 1 ≡ length (fs ++ (g ∷ [])) = omega arith in
             let entry = subst (λ y. Entered stops levels' (marks', tree') x (Ok y)) is done in
-            steps.on_enter fs f on g page next within_child d child_errand stops marks' tree' x h.n frame levels' kinds h.step refl (pages ∙ sym number_is)
-            start deep kept entry.0 (entry.1 refl)
+            steps.on_enter fs f on g page next up_to within_child d child_errand stops marks' tree' x h.n frame levels' kinds h.step refl
+            (pages ∙ sym number_is) start (bound ∙ sym key_is) deep kept entry.0 (entry.1 refl)
 
 -- what a turn leaves where it failed
 pub turn_failed : {A E : Type 0} (Q : Type 0) (R : E → Type 0) (r : Result A E) (e : E) → r ≡ Err e → R e → OnOk r Q × IfErr r R

@@ -1,10 +1,12 @@
 -- A reference that is looked at: refused, or visited, where what its page leads to is done next.
-use Rattle.std.proofs.Common.{ℕ, ◌<◌, inl, inr, List, [], ◌∷◌, ◌++◌, refl, sym, subst, ◌≡◌, Bool, true, false, map, Option, Some, Result, Ok, Err, ap, ◌∙◌}
+use Rattle.std.proofs.Common.{ℕ, ℤ, ◌<◌, inl, inr, List, [], ◌∷◌, ◌++◌, refl, sym, subst, ◌≡◌, Bool, true, false, map, Option, Some, Result, Ok, Err, ap, ap₂}
+use Rattle.std.proofs.Common.{◌∙◌}
 use Rattle.dbsurvey.specs.Address.{Address, IsBefore}
 use Rattle.dbsurvey.proofs.Order.{IsIn-cases, IsBefore-trans, IsBefore-beginning}
 use Rattle.dbformat.specs.Laws.{event_row}
 use Rattle.dbformat.specs.Reference.{Reference, role_of, tree_kind}
 use Rattle.dbformat.specs.declared.TreeKind.{TreeKind}
+use Rattle.dbtrace.specs.declared.CellKey.{CellKey}
 use Rattle.dbtrace.specs.declared.TreeLeaf.{TreeLeaf}
 use Rattle.dbwalk.specs.LeafCells.{AreBefore}
 use Rattle.std.specs.Prelude.{OnOk, option_to_list}
@@ -21,7 +23,8 @@ use Rattle.dbsource.specs.declared.error.RunError.{RunError}
 use Rattle.dbsource.specs.declared.error.RunError.TheVariants.{ReadFailed, WriteFailed, OutOfMemory}
 use Rattle.dbtrace.specs.Finding.{Finding, told_at, told_row}
 use Rattle.dbtrace.specs.Item.{Item, found}
-use Rattle.dbtrace.specs.Progress.{leaf_after}
+use Rattle.dbtrace.specs.Causes.{key_up_to}
+use Rattle.dbtrace.specs.Progress.{key_value, leaf_after}
 use Rattle.dbtrace.specs.Walk.{Walk, bare, advance, run_below}
 use Rattle.dbtrace.proofs.Stepping.{has_steps}
 use Rattle.dbwalk.specs.Entered.{IsNext}
@@ -147,27 +150,32 @@ visited_before file from c next = before_more from.visits c (then_step c.address
 
 -- a page that was visited, by the depth of the first leaf that a program keeps
 module _ (file : List ℕ) (from : Walk) (c : Reference) {leaf : Option TreeLeaf} (leaf_is : leaf ≡ from.state.leaf) where
-  -- its findings are its items
-  page_items : {kind : TreeKind} → tree_kind (role_of c) ≡ Some kind → (visited file from c).items ≡ map found (page_findings file leaf c)
-  page_items role =
-      let U = from.visits ++ c ∷ [] in
-      ap (λ L. map found (map told_row (option_to_list (event_row file (at_page c))) ++ L)) (page_causes file U from.state c role)
-      ∙ ap (λ l. map found (page_findings file l c)) (sym leaf_is)
+  -- and by the greatest key so far, and that of the innermost cell whose left child leads to it
+  module _ {top : Option CellKey} (top_is : top ≡ from.state.greatest) {up_to : Option ℤ} (bound : key_up_to file (from.visits ++ (c ∷ [])) c ≡ up_to) where
+    abbrev told : List Finding
+    told = page_findings file (record { above = key_value top; up_to = up_to }) leaf c
 
-  pub page_moves : {kind : TreeKind} → tree_kind (role_of c) ≡ Some kind
-      → {S T : Type 0} (takes drops : S → Finding → S → Type 0) (keeps : T → SchemaRow → Taken → T → Type 0) (refuses : T → SchemaRow → T → Type 0) (s s' : S)
-      (t : T) → Moves takes s (page_findings file leaf c) s' → Moves (watches takes keeps) (s, t) (visited file from c).items (s', t)
-  page_moves role takes drops keeps refuses s s' t h =
-      subst (λ items. Moves (watches takes keeps) (s, t) items (s', t)) (sym (page_items role))
-      (found_moves takes drops keeps refuses (page_findings file leaf c) s s' t h)
+    -- its findings are its items
+    page_items : {kind : TreeKind} → tree_kind (role_of c) ≡ Some kind → (visited file from c).items ≡ map found told
+    page_items role =
+        let U = from.visits ++ c ∷ [] in
+        ap (λ L. map found (map told_row (option_to_list (event_row file (at_page c))) ++ L)) (page_causes file U from.state c role)
+        ∙ ap₂ (λ t u. map found (page_findings file (record { above = key_value t; up_to = u }) from.state.leaf c)) (sym top_is) bound
+        ∙ ap (λ l. map found (page_findings file (record { above = key_value top; up_to = up_to }) l c)) (sym leaf_is)
 
-  pub page_stops : {kind : TreeKind} → tree_kind (role_of c) ≡ Some kind
-      → {S T : Type 0} (takes drops : S → Finding → S → Type 0) (keeps : T → SchemaRow → Taken → T → Type 0) (refuses : T → SchemaRow → T → Type 0) (s s' : S)
-      (t : T) → Stops takes drops s (page_findings file leaf c) s'
-      → Stops (watches takes keeps) (fails takes drops keeps refuses WriteFailed) (s, t) (visited file from c).items (s', t)
-  page_stops role takes drops keeps refuses s s' t h =
-      subst (λ items. Stops (watches takes keeps) (fails takes drops keeps refuses WriteFailed) (s, t) items (s', t)) (sym (page_items role))
-      (found_stops takes drops keeps refuses (page_findings file leaf c) s s' t h)
+    pub page_moves : {kind : TreeKind} → tree_kind (role_of c) ≡ Some kind
+        → {S T : Type 0} (takes drops : S → Finding → S → Type 0) (keeps : T → SchemaRow → Taken → T → Type 0) (refuses : T → SchemaRow → T → Type 0)
+        (s s' : S) (t : T) → Moves takes s told s' → Moves (watches takes keeps) (s, t) (visited file from c).items (s', t)
+    page_moves role takes drops keeps refuses s s' t h =
+        subst (λ items. Moves (watches takes keeps) (s, t) items (s', t)) (sym (page_items role)) (found_moves takes drops keeps refuses told s s' t h)
+
+    pub page_stops : {kind : TreeKind} → tree_kind (role_of c) ≡ Some kind
+        → {S T : Type 0} (takes drops : S → Finding → S → Type 0) (keeps : T → SchemaRow → Taken → T → Type 0) (refuses : T → SchemaRow → T → Type 0)
+        (s s' : S) (t : T) → Stops takes drops s told s'
+        → Stops (watches takes keeps) (fails takes drops keeps refuses WriteFailed) (s, t) (visited file from c).items (s', t)
+    page_stops role takes drops keeps refuses s s' t h =
+        subst (λ items. Stops (watches takes keeps) (fails takes drops keeps refuses WriteFailed) (s, t) items (s', t)) (sym (page_items role))
+        (found_stops takes drops keeps refuses told s s' t h)
 
   -- and this is the point of the walk after it
   pub visited_at : {marks : List Mark} (tree : Tree) → AreMarksOf file (from.visits ++ (c ∷ [])) marks → tree.greatest ≡ from.state.greatest → tree.leaf

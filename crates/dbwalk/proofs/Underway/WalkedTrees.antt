@@ -35,19 +35,10 @@ use Rattle.dbwalk.specs.declared.steps.StackFrame.{StackFrame}
 use Rattle.dbmarks.specs.declared.marks.Mark.{Mark}
 use Rattle.dbwalk.specs.declared.state.Tree.{Tree}
 use Rattle.dbwalk.specs.declared.taker.Taken.{Taken}
+use Rattle.dbwalk.proofs.Trees.Bounds.{no_key_from, root_address, root_first}
 use Rattle.dbwalk.proofs.Trees.Stacking.{from_first}
 use Rattle.dbwalk.proofs.Underway.Handing.{found_handed, handed_found, no_memory, only_found}
 use Rattle.dbwalk.proofs.Underway.Underways.{under_visit, under_end}
-
--- What a page of a tree leads to, and where its root is.
-
-pub root_address : (a : Address) (k : ℕ) → length a ≡ 1 → start_of a ≡ k → a ≡ k ∷ []
-root_address [] k l s = absurd (none l)
-  where
-    none : ◌≡◌ {A = ℕ} 0 1 → ⊥
-    none e = omega arith
-root_address (x ∷ []) k l s = ap (λ y. y ∷ []) s
-root_address (x ∷ y ∷ a) k l s = absurd (omega arith)
 
 -- The root of a tree, and the end of the loop.
 
@@ -143,25 +134,33 @@ module _ {P : Type 0} {moves : P → Item → P → Type 0} {stops : RunError �
     {w : P} where
   -- the root is an undamaged interior page: the first frame
   pub tree_started : {levels : List (List ℕ)} {marks : List Mark} {tree : Tree} {x : P} {items : List StackFrame} (f : StackFrame) → items ≡ f ∷ [] → f.page
-      ≡ c.page → f.next ≡ 0 → IsNext W c → tree_kind (role_of c) ≡ Some tree.kind → length c.address ≡ 1
+      ≡ c.page → f.next ≡ 0 → f.up_to ≡ None → IsNext W c → tree_kind (role_of c) ≡ Some tree.kind → length c.address ≡ 1
       → {yes : Bool} → yes ≡ true → HasDone moves stops file (entered file (begin W) c (Ok yes)) (Ok yes) (marks, tree) w x
       × IsEntered file (begin W) c (Ok yes) levels → IsWalkingOn moves file W c w (items, levels) (marks, tree) x
-  tree_started {levels = levels} {marks = marks} {tree = tree} {x = x} f are page start next role one is entry =
+  tree_started {levels = levels} {marks = marks} {tree = tree} {x = x} f are page start bound next role one is entry =
       let first = subst (λ y. HasDone moves stops file (entered file (begin W) c (Ok y)) (Ok y) (marks, tree) w x × IsEntered file (begin W) c (Ok y) levels) is
       entry in
       let done = first.0 in
       let inside = first.1 refl in
       let none : Tree = record tree { greatest = None; leaf = None } in
       let all : errands_of (story_of file) c ++ [] ≡ left_over file tree.kind c (f ∷ []) = append-nil (errands_of (story_of file) c)
-      ∙ sym (from_first file c tree.kind inside.frame.view role inside.frame.viewed)
+      ∙ sym (from_first file c tree.kind inside.view role inside.viewed)
       ∙ ap (λ n. left_over file tree.kind c (record f { next = n } ∷ [])) (sym start) in
       subst (λ l. IsWalkingOn moves file W c w (l, levels) (marks, tree) x) (sym are) (record {
         now = advance file (begin W) (at_page c);
         under = subst (λ es. IsUnderway moves file (tree_walk file W c) w (advance file (begin W) (at_page c)) es (marks, tree) x) all
             (under_visit moves file (tree_walk file W c) w (begin W) (marks_of (geometry file) W, none) (marks, tree) w x c []
             (record { rest = refl; at = (refl, refl, refl); past = next; apart = ((λ e i. absurd i), tt); handed = refl }) inside.followed done.at done.handed);
+        root = root_first W c one next;
         frames_are = (
-          record { page = page; view = inside.frame.view; viewed = inside.frame.viewed; interior = inside.frame.interior; within = omega arith },
+          record {
+            page = page;
+            view = inside.view;
+            viewed = inside.viewed;
+            interior = inside.interior;
+            within = omega arith;
+            up_to = bound ∙ sym (no_key_from file c c one);
+          },
           tt,
         );
         calls = tt;

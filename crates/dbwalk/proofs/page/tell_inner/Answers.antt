@@ -1,4 +1,4 @@
-use Rattle.std.proofs.Common.{rules, ◌≡◌, ◌&&◌, ◌==◌, ◌++◌, length, ap, ◌∙◌, refl, sym, subst, arith}
+use Rattle.std.proofs.Common.{rules, ◌≡◌, ◌&&◌, ◌==◌, ◌++◌, length, ap, ◌∙◌, refl, subst, arith}
 use Rattle.std.specs.Option.{is_none, option_to_list}
 use Rattle.std.proofs.lemmas.Grind.{common_steps}
 use Rattle.std.proofs.lemmas.Result.{err_from_is_err_and}
@@ -17,7 +17,7 @@ returns-in_err-tell_found g c =
     let rest = cell_faults v ++ (freeblock_fault v ++ (coverage_fault v (length (cell_faults v ++ freeblock_fault v) == 0) ++ empty_fault v c.args.is_child)) in
     let whole : option_to_list c.fragment_fault.result ++ rest ≡ inner_faults v c.args.is_child = grind (arith, common_steps) in
     subst (λ L. IsReportedTo g.K.Sink.takes g.K.Sink.drops g.K.Sink.held c.from_residual.result c.args.sink.now L c.tell_found.new.sink)
-    (inner_told v c.args.number c.args.is_child c.requires.number cause c.cause_within-cause.ensures)
+    (inner_told c.args.place.now.rowids v c.args.place.now.page c.args.is_child c.requires.number cause c.cause_within-cause.ensures)
     (faults_stop (inner_cause cause) c.tell_found.result c.from_residual.result _ rest (inner_faults v c.args.is_child) whole c.in_err-tell_found.was p.1
     c.tell_found.ensures)
 
@@ -29,7 +29,7 @@ returns-in_err-are_cells_good g c =
     let rest = freeblock_fault v ++ (coverage_fault v (length (cell_faults v ++ freeblock_fault v) == 0) ++ empty_fault v c.args.is_child) in
     let whole : (option_to_list c.fragment_fault.result ++ cell_faults v) ++ rest ≡ inner_faults v c.args.is_child = grind (arith, common_steps) in
     subst (λ L. IsReportedTo g.K.Sink.takes g.K.Sink.drops g.K.Sink.held c.from_residual-in_err-are_cells_good.result c.args.sink.now L c.tell_cells.new.sink)
-    (inner_told v c.args.number c.args.is_child c.requires.number cause c.cause_within-cause.ensures)
+    (inner_told c.args.place.now.rowids v c.args.place.now.page c.args.is_child c.requires.number cause c.cause_within-cause.ensures)
     (faults_stop (inner_cause cause) c.tell_cells.result c.from_residual-in_err-are_cells_good.result _ rest (inner_faults v c.args.is_child) whole
     c.in_err-are_cells_good.was p.1
     (faults_then (inner_cause cause) c.tell_found.result c.tell_cells.result _ (cell_faults v) c.in_ok-tell_found.was c.tell_found.ensures
@@ -46,7 +46,7 @@ returns g c =
     c.freeblock_fault-freeblock.result c.coverage_fault-coverage.result c.empty_fault-empty.result (cell_faults v) refl
     c.fragment_fault.ensures c.freeblock_fault-freeblock.ensures c.coverage_fault-coverage.ensures c.empty_fault-empty.ensures
     (ap (λ x. x && c.is_none.result) good ∙ ap (λ x. (length (cell_faults v) == 0) && x) none))
-    ∙ inner_told v c.args.number c.args.is_child c.requires.number cause c.cause_within-cause.ensures)
+    ∙ inner_told c.args.place.now.rowids v c.args.place.now.page c.args.is_child c.requires.number cause c.cause_within-cause.ensures)
     (faults_then (inner_cause cause) c.tell_found.result c.tell_each.result _ _ c.in_ok-tell_found.was c.tell_found.ensures
     (faults_then (inner_cause cause) c.tell_cells.result c.tell_each.result (cell_faults v) _ c.in_ok-are_cells_good.was c.tell_cells.ensures.told
     c.tell_each.ensures))

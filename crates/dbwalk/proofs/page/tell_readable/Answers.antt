@@ -15,17 +15,18 @@ returns-then-are_none g c =
     c.unheld_fault-coverage.result c.empty_fault-empty.result [] (no_cell_faults v c.requires.cells)
     c.fragment_fault-fragments.ensures c.freeblock_fault-freeblock.ensures c.unheld_fault-coverage.ensures c.empty_fault-empty.ensures none in
     subst (λ fs. IsReportedTo {A = Unit {0}} {E = WriteFailed} g.K.Sink.takes g.K.Sink.drops g.K.Sink.held (Ok tt) c.args.sink.now
-    (told_by (view_cause v) fs) c.args.sink.now)
+    (told_by (view_cause c.args.place.now.rowids v) fs) c.args.sink.now)
     (sym (c.if-are_none.ensures refl) ∙ found) (search rules)
 
 pub returns : goal.returns
 returns g c =
     let v = c.args.view.now in
+    let place = c.args.place.now in
     let why = c.cause_within.result in
     let none : c.is_none.result ≡ is_none c.freeblock_fault-freeblock.result = search rules in
     subst (λ L. IsReportedTo g.K.Sink.takes g.K.Sink.drops g.K.Sink.held c.tell_each.result c.args.sink.now L c.tell_each.new.sink)
     (ap (told_by (inner_cause why)) (inner_found v c.args.is_child c.is_none.result c.fragment_fault-fragments.result c.freeblock_fault-freeblock.result
     c.unheld_fault-coverage.result c.empty_fault-empty.result [] (no_cell_faults v c.requires.cells)
     c.fragment_fault-fragments.ensures c.freeblock_fault-freeblock.ensures c.unheld_fault-coverage.ensures c.empty_fault-empty.ensures none)
-    ∙ inner_told v c.args.number c.args.is_child c.requires.number why c.cause_within.ensures)
+    ∙ inner_told place.rowids v place.page c.args.is_child c.requires.number why c.cause_within.ensures)
     c.tell_each.ensures

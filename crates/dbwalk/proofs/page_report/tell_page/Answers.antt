@@ -1,11 +1,17 @@
-use Rattle.std.proofs.Common.{rules, ◌+◌, sym, ap, ◌∙◌}
+use Rattle.std.proofs.Common.{rules, ℤ, Option, ◌+◌, sym, ap, ◌∙◌}
 use Rattle.std.proofs.lemmas.Result.{err_from_is_err_and}
 use Rattle.std.specs.Prelude.{slice_get}
 use Rattle.dbformat.specs.Head.{undamaged}
+use Rattle.dbtrace.specs.Progress.{key_value}
+use Rattle.dbtrace.specs.declared.RowidBounds.{RowidBounds}
 use Rattle.dbwalk.specs.Found.{damage_fault}
 use Rattle.dbwalk.specs.declared.page_report.PageFound.TheVariants.{Damaged, Interior, Leaf}
 use Rattle.dbwalk.proofs.Pages.PageVisits.{exit_damaged, exit_damaged_stop, exit_stop, exit_interior, exit_leaf, exit_leaf_stop}
 use Rattle.dbwalk.proofs.page_report.tell_page.Goals as goal
+
+-- the rowids of the page
+abbrev rowids_of : Option ℤ → Option ℤ → RowidBounds
+rowids_of above up_to = record { above = above; up_to = up_to }
 
 pub returns-in_err-keys-in-Ok-clause-told : goal.returns-in_err-keys-in-Ok-clause-told
 returns-in_err-keys-in-Ok-clause-told g c = λ file d from item shape candidate there.
@@ -15,7 +21,9 @@ returns-in_err-keys-in-Ok-clause-told g c = λ file d from item shape candidate 
     let u = ap (λ s. s.usable) (c.geometry-usable.ensures.value ∙ shape) in
     let b = there c.uses-uses.result.0.now (ap (slice_get c.args.bench.now.levels) (sym level) ∙ c.uses-uses.ensures.page) in
     exit_stop _ _ g.K.Sink.takes g.K.Sink.drops g.K.Sink.held file t.kind t.start t.path.items c.args.page from item d candidate
-    c.geometry-usable.result.usable u c.uses-uses.result.0.now b t.leaf c.as_slice.result.now c.as_slice.ensures.value (c.len-level.result + 1)
+    c.geometry-usable.result.usable u c.uses-uses.result.0.now b (rowids_of (key_value t.greatest) c.args.up_to) t.leaf c.as_slice.result.now
+    c.as_slice.ensures.value
+    (rowids_of c.key_value.result c.args.up_to) (ap (λ above. rowids_of above c.args.up_to) c.key_value.ensures) (c.len-level.result + 1)
     (ap (λ n. n + 1) level) c.args.sink.now
     c.in-Ok.view c.in-Ok.ensures.view c.in-Ok.ensures.of.0 c.in-Ok.ensures.faults c.tell_undamaged.result c.tell_undamaged.new.sink
     c.tell_undamaged.ensures.told
@@ -29,7 +37,9 @@ returns-in_err-tell_damaged-in-Err-clause-told g c = λ file d from item shape c
     let u = ap (λ s. s.usable) (c.geometry-usable.ensures.value ∙ shape) in
     let b = there c.uses-uses.result.0.now (ap (slice_get c.args.bench.now.levels) (sym level) ∙ c.uses-uses.ensures.page) in
     exit_damaged_stop _ _ g.K.Sink.takes g.K.Sink.drops g.K.Sink.held file t.kind t.start t.path.items c.args.page from item d candidate
-    c.geometry-usable.result.usable u c.uses-uses.result.0.now b t.leaf c.as_slice.result.now c.as_slice.ensures.value (c.len-level.result + 1)
+    c.geometry-usable.result.usable u c.uses-uses.result.0.now b (rowids_of (key_value t.greatest) c.args.up_to) t.leaf c.as_slice.result.now
+    c.as_slice.ensures.value
+    (rowids_of c.key_value.result c.args.up_to) (ap (λ above. rowids_of above c.args.up_to) c.key_value.ensures) (c.len-level.result + 1)
     (ap (λ n. n + 1) level) c.args.sink.now
     (damage_fault c.args.page c.uses-uses.result.0.now c.in-Err.damage) c.in-Err.ensures.view c.in-Err.ensures.faults c.tell_damaged.result
     c.tell_damaged.new.sink c.tell_damaged.ensures
@@ -42,7 +52,9 @@ returns-in-Err-clause-told g c = λ file d from item shape candidate there.
     let u = ap (λ s. s.usable) (c.geometry-usable.ensures.value ∙ shape) in
     let b = there c.uses-uses.result.0.now (ap (slice_get c.args.bench.now.levels) (sym level) ∙ c.uses-uses.ensures.page) in
     exit_damaged _ _ g.K.Sink.takes g.K.Sink.drops g.K.Sink.held file t.kind t.start t.path.items c.args.page from item d candidate
-    c.geometry-usable.result.usable u c.uses-uses.result.0.now b t.leaf c.as_slice.result.now c.as_slice.ensures.value (c.len-level.result + 1)
+    c.geometry-usable.result.usable u c.uses-uses.result.0.now b (rowids_of (key_value t.greatest) c.args.up_to) t.leaf c.as_slice.result.now
+    c.as_slice.ensures.value
+    (rowids_of c.key_value.result c.args.up_to) (ap (λ above. rowids_of above c.args.up_to) c.key_value.ensures) (c.len-level.result + 1)
     (ap (λ n. n + 1) level) c.args.sink.now
     (damage_fault c.args.page c.uses-uses.result.0.now c.in-Err.damage) c.in-Err.ensures.view c.in-Err.ensures.faults c.tell_damaged.result
     c.tell_damaged.new.sink c.tell_damaged.ensures
@@ -55,7 +67,9 @@ returns-then-is_interior-clause-told g c = λ file d from item shape candidate t
     let u = ap (λ s. s.usable) (c.geometry-usable.ensures.value ∙ shape) in
     let b = there c.uses-uses.result.0.now (ap (slice_get c.args.bench.now.levels) (sym level) ∙ c.uses-uses.ensures.page) in
     exit_interior _ _ g.K.Sink.takes g.K.Sink.drops g.K.Sink.held file t.kind t.start t.path.items c.args.page from item d candidate
-    c.geometry-usable.result.usable u c.uses-uses.result.0.now b t.leaf c.as_slice.result.now c.as_slice.ensures.value (c.len-level.result + 1)
+    c.geometry-usable.result.usable u c.uses-uses.result.0.now b (rowids_of (key_value t.greatest) c.args.up_to) t.leaf c.as_slice.result.now
+    c.as_slice.ensures.value
+    (rowids_of c.key_value.result c.args.up_to) (ap (λ above. rowids_of above c.args.up_to) c.key_value.ensures) (c.len-level.result + 1)
     (ap (λ n. n + 1) level) c.args.sink.now
     c.in-Ok.view c.in-Ok.ensures.view c.in-Ok.ensures.of.0 c.in-Ok.ensures.faults c.tell_undamaged.result c.tell_undamaged.new.sink
     c.tell_undamaged.ensures.told
@@ -69,7 +83,9 @@ returns-in_err-tell_depth-clause-told g c = λ file d from item shape candidate 
     let u = ap (λ s. s.usable) (c.geometry-usable.ensures.value ∙ shape) in
     let b = there c.uses-uses.result.0.now (ap (slice_get c.args.bench.now.levels) (sym level) ∙ c.uses-uses.ensures.page) in
     exit_leaf_stop _ _ g.K.Sink.takes g.K.Sink.drops g.K.Sink.held file t.kind t.start t.path.items c.args.page from item d candidate
-    c.geometry-usable.result.usable u c.uses-uses.result.0.now b t.leaf c.as_slice.result.now c.as_slice.ensures.value (c.len-level.result + 1)
+    c.geometry-usable.result.usable u c.uses-uses.result.0.now b (rowids_of (key_value t.greatest) c.args.up_to) t.leaf c.as_slice.result.now
+    c.as_slice.ensures.value
+    (rowids_of c.key_value.result c.args.up_to) (ap (λ above. rowids_of above c.args.up_to) c.key_value.ensures) (c.len-level.result + 1)
     (ap (λ n. n + 1) level) c.args.sink.now
     c.in-Ok.view c.in-Ok.ensures.view c.in-Ok.ensures.of.0 c.in-Ok.ensures.faults c.tell_undamaged.result c.tell_undamaged.new.sink
     c.tell_undamaged.ensures.told
@@ -83,7 +99,9 @@ returns-clause-told g c = λ file d from item shape candidate there.
     let u = ap (λ s. s.usable) (c.geometry-usable.ensures.value ∙ shape) in
     let b = there c.uses-uses.result.0.now (ap (slice_get c.args.bench.now.levels) (sym level) ∙ c.uses-uses.ensures.page) in
     exit_leaf _ _ g.K.Sink.takes g.K.Sink.drops g.K.Sink.held file t.kind t.start t.path.items c.args.page from item d candidate
-    c.geometry-usable.result.usable u c.uses-uses.result.0.now b t.leaf c.as_slice.result.now c.as_slice.ensures.value (c.len-level.result + 1)
+    c.geometry-usable.result.usable u c.uses-uses.result.0.now b (rowids_of (key_value t.greatest) c.args.up_to) t.leaf c.as_slice.result.now
+    c.as_slice.ensures.value
+    (rowids_of c.key_value.result c.args.up_to) (ap (λ above. rowids_of above c.args.up_to) c.key_value.ensures) (c.len-level.result + 1)
     (ap (λ n. n + 1) level) c.args.sink.now
     c.in-Ok.view c.in-Ok.ensures.view c.in-Ok.ensures.of.0 c.in-Ok.ensures.faults c.tell_undamaged.result c.tell_undamaged.new.sink
     c.tell_undamaged.ensures.told

@@ -22,7 +22,8 @@ use Rattle.dbwalk.proofs.Telling.Lefts.{tree_refusal}
 use Rattle.dbwalk.proofs.Chaining.Overflows.{page_read}
 use Rattle.dbmarks.proofs.Readings.{log_load, log_none, log_page, log_then}
 use Rattle.dbwalk.proofs.Pages.Levels.{geometry_kept, read_there}
-use Rattle.dbwalk.proofs.Underway.WalkedTrees.{root_address, candidate_as, root_next, tree_done, tree_refused, tree_unread}
+use Rattle.dbwalk.proofs.Trees.Bounds.{root_address}
+use Rattle.dbwalk.proofs.Underway.WalkedTrees.{candidate_as, root_next, tree_done, tree_refused, tree_unread}
 use Rattle.dbwalk.proofs.Underway.Walks.{with_memory, without_memory}
 use Rattle.dbwalk.proofs.tree.walk_tree.Goals as goal
 

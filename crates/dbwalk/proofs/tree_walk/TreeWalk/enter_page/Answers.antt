@@ -26,7 +26,7 @@ use Rattle.dbwalk.proofs.tree_walk.TreeWalk.enter_page.Goals as goal
 
 pub returns-in_err-enter-clause-log : goal.returns-in_err-enter-clause-log
 returns-in_err-enter-clause-log g c = log_none c.args.bench.now.geometry.page_size c.args.self.now.marks.now c.enter.new.marks
-    (g.S.Source.held c.args.self.now.source.now) c.in_err-enter.ensures.after_error.1 (λ file e coded from d candidate next at.
+    (g.S.Source.held c.args.self.now.source.now) c.in_err-enter.ensures.after_error.1 (λ file e coded from d candidate next at bound.
     let t = c.args.self.now.tree in
     let q = err_from_is_err_and c.from_residual.result c.from_residual.ensures.1 in
     let is = c.tree_step-step.ensures.step t.kind t.start t.path.items d (sym c.len-level.ensures.value) candidate in
@@ -44,7 +44,7 @@ returns-in_err-enter-clause-log g c = log_none c.args.bench.now.geometry.page_si
 
 pub returns-then-not-branch-clause-log : goal.returns-then-not-branch-clause-log
 returns-then-not-branch-clause-log g c = log_none c.args.bench.now.geometry.page_size c.args.self.now.marks.now c.enter.new.marks
-    (g.S.Source.held c.args.self.now.source.now) (c.in_ok-enter.ensures.unmarked c.if-not-branch.true) (λ file e coded from d candidate next at.
+    (g.S.Source.held c.args.self.now.source.now) (c.in_ok-enter.ensures.unmarked c.if-not-branch.true) (λ file e coded from d candidate next at bound.
     let t = c.args.self.now.tree in
     let is = c.tree_step-step.ensures.step t.kind t.start t.path.items d (sym c.len-level.ensures.value) candidate in
     let n = subst (λ b. Enters g.K.Sink.takes g.K.Sink.drops file from.visits d (Ok b) c.enter.new.marks c.args.self.now.sink.now c.enter.new.sink)
@@ -75,7 +75,7 @@ returns-in_err-load-clause-log g c =
     log_page (λ file. Unit {0}) size c.args.self.now.marks.now c.enter.new.marks step.result.page step.result.mark k.0 k.1 step.ensures.used
     (has_one {A = Unit {0}} {E = source_error.ReadFailed} (Err c.in_err-load.field-0.0) offset read.bytes c.load.ensures.told read.holds.0 tt
     (ap (λ n. range offset n ∷ []) read.size ∙ ap (λ p. page_range size p ∷ []) (sym step.ensures.page)) (λ file h. tt))
-    (λ file u e coded from d candidate next at.
+    (λ file u e coded from d candidate next at bound.
     let t = c.args.self.now.tree in
     let q = err_from_is_err_and c.from_residual-in_err-load.result c.from_residual-in_err-load.ensures.1 in
     let is = c.tree_step-step.ensures.step t.kind t.start t.path.items d (sym c.len-level.ensures.value) candidate in
@@ -126,7 +126,7 @@ returns-clause-log g c =
     (ap (λ n. range offset n ∷ []) change.size ∙ ap (λ p. page_range size p ∷ []) (sym step.ensures.page)) (λ file h. h))
     (λ file h. h))
     c.visit_page.ensures.log
-    (λ file h done e coded from d candidate next at.
+    (λ file h done e coded from d candidate next at bound.
     let t = c.args.self.now.tree in
     let is = c.tree_step-step.ensures.step t.kind t.start t.path.items d (sym c.len-level.ensures.value) candidate in
     let n = subst (λ b. Enters g.K.Sink.takes g.K.Sink.drops file from.visits d (Ok b) c.enter.new.marks c.args.self.now.sink.now c.enter.new.sink)
@@ -138,7 +138,7 @@ returns-clause-log g c =
     (entered file from d c.visit_page.result) c.visit_page.result (c.visit_page.new.self.marks.now, c.visit_page.new.self.tree)
     (s, c.args.self.now.taker.now) (c.visit_page.new.self.sink.now, c.visit_page.new.self.taker.now)
     × IsEntered file from d c.visit_page.result c.visit_page.new.bench.levels) (sym n.2)
-    (done (same ∙ e) coded from d c.args.from c.args.item candidate there next n.0 n.1 at.1 at.2))
+    (done (same ∙ e) coded from d c.args.from c.args.item candidate there next n.0 n.1 at.1 at.2 bound))
 
 pub returns-in_err-load-clause-walked : goal.returns-in_err-load-clause-walked
 returns-in_err-load-clause-walked g c =

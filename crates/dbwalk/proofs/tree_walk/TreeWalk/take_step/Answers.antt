@@ -75,7 +75,8 @@ pub returns-in-Nothing-clause-log : goal.returns-in-Nothing-clause-log
 returns-in-Nothing-clause-log g c = log_none c.args.bench.now.geometry.page_size c.args.self.now.marks.now c.args.self.now.marks.now
     (g.S.Source.held c.args.self.now.source.now) refl (λ file e coded W d before candidate walk.
     let here = next_here c.args.frames.now.items c.args.frame walk candidate (ap (λ s. s.usable) e) (next_at refl c.in-Nothing.is c.requires.step) in (
-      by_other (turned_empty c.args.frames.now.items c.args.frame walk candidate c.stepped.result c.stepped.ensures.page c.stepped.ensures.next here)
+      by_other (turned_empty c.args.frames.now.items c.args.frame walk candidate c.stepped.result c.stepped.ensures.page c.stepped.ensures.next
+          c.stepped.ensures.up_to here)
           c.push.ensures.items refl refl refl (λ n l. refl),
       tt,
     ))
@@ -92,6 +93,7 @@ returns-in_err-tell_key-in-Key-clause-log g c = log_none c.args.bench.now.geomet
     turn_failed _ (λ e. StopsAt _ (fails g.K.Sink.takes g.K.Sink.drops g.T.Taker.takes g.T.Taker.refuses) e before (tree_walk file W d).items
     (n.sink, c.args.self.now.taker.now)) c.from_residual.result WriteFailed (q.1 ∙ ap Err q.2)
     (stopped_key c.args.frames.now.items c.args.frame walk candidate c.stepped-in-Key.result c.stepped-in-Key.ensures.page c.stepped-in-Key.ensures.next
+    c.stepped-in-Key.ensures.up_to
     c.in-Key.key here (n.sink, c.args.self.now.taker.now) (fails g.K.Sink.takes g.K.Sink.drops g.T.Taker.takes g.T.Taker.refuses) WriteFailed
     (found_stops g.K.Sink.takes g.K.Sink.drops g.T.Taker.takes g.T.Taker.refuses
     (order_told false c.args.self.now.tree.greatest c.args.frame.page (c.args.frame.next / 3) c.in-Key.key) c.args.self.now.sink.now n.sink
@@ -120,7 +122,7 @@ returns-in_ok-tell_key-in-Key-clause-log g c = log_none c.args.bench.now.geometr
     (order_told false c.args.self.now.tree.greatest c.args.frame.page (c.args.frame.next / 3) c.in-Key.key) c.args.self.now.sink.now n.sink
     c.args.self.now.taker.now told in (
       by_other (turned_key c.args.frames.now.items c.args.frame walk candidate c.stepped-in-Key.result c.stepped-in-Key.ensures.page
-          c.stepped-in-Key.ensures.next c.in-Key.key here (n.sink, c.args.self.now.taker.now) n.self c.tell_key.ensures.others.1
+          c.stepped-in-Key.ensures.next c.stepped-in-Key.ensures.up_to c.in-Key.key here (n.sink, c.args.self.now.taker.now) n.self c.tell_key.ensures.others.1
           (c.tell_key.ensures.greatest ∙ ap (λ z. top_after c.args.self.now.tree.greatest c.args.frame.page (c.args.frame.next / 3) (Some z)) same)
           c.tell_key.ensures.others.2 moved)
           c.push-in-Key.ensures.items refl refl refl (λ n l. refl),
@@ -149,16 +151,19 @@ returns-in-Chain-clause-log g c = has_weaker _ _ c.walk_unfed.ensures.log (λ lo
     let n = c.walk_unfed.new in
     let r = c.walk_unfed.result in
     let is = chain_is c.args.frames.now.items c.args.frame walk candidate c.stepped-in-Chain.result c.stepped-in-Chain.ensures.page
-    c.stepped-in-Chain.ensures.next c.in-Chain.first c.in-Chain.left c.in-Chain.rowid here _ refl (c.as_slice.ensures.value ∙ c.requires.path) refl refl
+    c.stepped-in-Chain.ensures.next c.stepped-in-Chain.ensures.up_to c.in-Chain.first c.in-Chain.left c.in-Chain.rowid here _ refl (c.as_slice.ensures.value
+    ∙ c.requires.path) refl refl
     refl refl refl in
     let next = chain_next c.args.frames.now.items c.args.frame walk candidate c.stepped-in-Chain.result c.stepped-in-Chain.ensures.page
-    c.stepped-in-Chain.ensures.next c.in-Chain.first c.in-Chain.left c.in-Chain.rowid here in
+    c.stepped-in-Chain.ensures.next c.stepped-in-Chain.ensures.up_to c.in-Chain.first c.in-Chain.left c.in-Chain.rowid here in
     let done = aside_done g.K.Sink.takes g.K.Sink.drops g.T.Taker.takes g.T.Taker.refuses file walk.now
     (chained c.args.frames.now.items c.args.frame walk candidate c.stepped-in-Chain.result c.stepped-in-Chain.ensures.page c.stepped-in-Chain.ensures.next
+    c.stepped-in-Chain.ensures.up_to
     c.in-Chain.first c.in-Chain.left c.in-Chain.rowid here) refl r c.args.self.now.marks.now n.marks c.args.self.now.tree c.args.self.now.sink.now n.sink
     c.args.self.now.taker.now c.walk_unfed.ensures.only walk.under.at
     (h e walk.now.visits _ is next walk.under.at.0) in
     turned_chain c.args.frames.now.items c.args.frame walk candidate c.stepped-in-Chain.result c.stepped-in-Chain.ensures.page c.stepped-in-Chain.ensures.next
+    c.stepped-in-Chain.ensures.up_to
     c.in-Chain.first c.in-Chain.left c.in-Chain.rowid here (fails g.K.Sink.takes g.K.Sink.drops g.T.Taker.takes g.T.Taker.refuses) n.marks
     (n.sink, c.args.self.now.taker.now) c.push-in-Chain.ensures.items (ap (λ (p : Pages). p.levels) c.walk_unfed.ensures.bench) r done)
 

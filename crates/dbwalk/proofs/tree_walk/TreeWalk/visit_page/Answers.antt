@@ -20,25 +20,27 @@ use Rattle.dbwalk.proofs.tree_walk.TreeWalk.visit_page.Goals as goal
 pub returns-in_err-tell_page-clause-log : goal.returns-in_err-tell_page-clause-log
 returns-in_err-tell_page-clause-log g c = log_none c.args.bench.now.geometry.page_size c.args.self.now.marks.now c.args.self.now.marks.now
     (g.S.Source.held c.args.self.now.source.now) refl
-    (λ file e coded from d above item candidate there next followed m top first.
+    (λ file e coded from d above item candidate there next followed m top first bound.
     let q = err_from_is_err_and c.from_residual.result c.from_residual.ensures.1 in
     let told = c.in_err-tell_page.ensures.told file d above item e candidate there in
     entered_err _ _ file from d _ _ WriteFailed _ _ _ (q.1 ∙ ap Err q.2)
     (visit_stops _ _ file from d followed {A = Unit {0}} WriteFailed _ _ _
-    (page_stops file from d first (kind_is file c.args.self.now.tree.kind c.args.self.now.tree.start c.args.self.now.tree.path.items c.args.page above item
+    (page_stops file from d first top bound (kind_is file c.args.self.now.tree.kind c.args.self.now.tree.start c.args.self.now.tree.path.items c.args.page
+    above item
     d candidate) g.K.Sink.takes g.K.Sink.drops g.T.Taker.takes g.T.Taker.refuses _ _ c.args.self.now.taker.now told.0.items)))
 
 pub returns-in-Interior-clause-log : goal.returns-in-Interior-clause-log
 returns-in-Interior-clause-log g c = log_none c.args.bench.now.geometry.page_size c.args.self.now.marks.now c.args.self.now.marks.now
     (g.S.Source.held c.args.self.now.source.now) refl
-    (λ file e coded from d above item candidate there next followed m top first.
+    (λ file e coded from d above item candidate there next followed m top first bound.
     let told = c.in_ok-tell_page.ensures.told file d above item e candidate there in
     let found = subst (λ f. IsFound c.tell_page.new.bench.geometry.usable c.tell_page.new.tree.kind c.tell_page.new.bench.levels
     (length c.args.self.now.tree.path.items) c.args.page f) c.in-Interior.is c.in_ok-tell_page.ensures.open in (
       record {
         at = visited_at file from d first c.tell_page.new.tree m (c.tell_page.ensures.tree.2 ∙ top) told.1;
         handed =
-            page_moves file from d first (kind_is file c.args.self.now.tree.kind c.args.self.now.tree.start c.args.self.now.tree.path.items c.args.page above
+            page_moves file from d first top bound (kind_is file c.args.self.now.tree.kind c.args.self.now.tree.start c.args.self.now.tree.path.items
+            c.args.page above
             item d
             candidate) g.K.Sink.takes g.K.Sink.drops g.T.Taker.takes g.T.Taker.refuses _ _ c.args.self.now.taker.now told.0.items;
       },
@@ -49,7 +51,7 @@ returns-in-Interior-clause-log g c = log_none c.args.bench.now.geometry.page_siz
 pub returns-in-Damaged-clause-log : goal.returns-in-Damaged-clause-log
 returns-in-Damaged-clause-log g c = log_none c.args.bench.now.geometry.page_size c.args.self.now.marks.now c.args.self.now.marks.now
     (g.S.Source.held c.args.self.now.source.now) refl
-    (λ file e coded from d above item candidate there next followed m top first.
+    (λ file e coded from d above item candidate there next followed m top first bound.
     let told = c.in_ok-tell_page.ensures.told file d above item e candidate there in
     let found = subst (λ f. IsFound c.tell_page.new.bench.geometry.usable c.tell_page.new.tree.kind c.tell_page.new.bench.levels
     (length c.args.self.now.tree.path.items) c.args.page f) c.in-Damaged.is c.in_ok-tell_page.ensures.open in
@@ -59,13 +61,14 @@ returns-in-Damaged-clause-log g c = log_none c.args.bench.now.geometry.page_size
     in
     let at = visited_at file from d first c.tell_page.new.tree m (c.tell_page.ensures.tree.2 ∙ top) told.1 in
     entered_past _ _ file from d _ false _ _ _ (visit_alone _ _ file from d followed false _ _ _ none at
-    (page_moves file from d first (kind_is file c.args.self.now.tree.kind c.args.self.now.tree.start c.args.self.now.tree.path.items c.args.page above item
+    (page_moves file from d first top bound (kind_is file c.args.self.now.tree.kind c.args.self.now.tree.start c.args.self.now.tree.path.items c.args.page
+    above item
     d candidate) g.K.Sink.takes g.K.Sink.drops g.T.Taker.takes g.T.Taker.refuses _ _ c.args.self.now.taker.now told.0.items)))
 
 pub returns-in_err-walk_leaf-in-Leaf-clause-log : goal.returns-in_err-walk_leaf-in-Leaf-clause-log
 returns-in_err-walk_leaf-in-Leaf-clause-log g c = has_weaker _ _ c.in_err-walk_leaf-in-Leaf.ensures.log
     (λ log r. subst (λ n. Reads n c.args.self.now.marks.now c.walk_leaf.new.self.marks.now log) (ap (λ s. s.page_size) c.tell_page.ensures.bench.0) r)
-    (λ file h e coded from d above item candidate there next followed m top first.
+    (λ file h e coded from d above item candidate there next followed m top first bound.
     let same = c.pass_over.ensures.others in
     let tree = c.tell_page.ensures.tree in
     let told = c.in_ok-tell_page.ensures.told file d above item e candidate there in
@@ -80,13 +83,14 @@ returns-in_err-walk_leaf-in-Leaf-clause-log g c = has_weaker _ _ c.in_err-walk_l
     let q = err_from_is_err_and c.from_residual-in_err-walk_leaf-in-Leaf.result c.from_residual-in_err-walk_leaf-in-Leaf.ensures.1 in
     entered_err _ _ file from d _ _ c.in_err-walk_leaf-in-Leaf.field-0.0 _ _ _ (q.1 ∙ ap Err q.2)
     (visit_then _ _ file from d followed (Err c.in_err-walk_leaf-in-Leaf.field-0.0) _ _ (c.tell_page.new.sink, c.args.self.now.taker.now) _
-    (page_moves file from d first (kind_is file c.args.self.now.tree.kind c.args.self.now.tree.start c.args.self.now.tree.path.items c.args.page above item
+    (page_moves file from d first top bound (kind_is file c.args.self.now.tree.kind c.args.self.now.tree.start c.args.self.now.tree.path.items c.args.page
+    above item
     d candidate) g.K.Sink.takes g.K.Sink.drops g.T.Taker.takes g.T.Taker.refuses _ _ c.args.self.now.taker.now told.0.items) done))
 
 pub returns-in_ok-walk_leaf-in-Leaf-clause-log : goal.returns-in_ok-walk_leaf-in-Leaf-clause-log
 returns-in_ok-walk_leaf-in-Leaf-clause-log g c = has_weaker _ _ c.in_ok-walk_leaf-in-Leaf.ensures.log
     (λ log r. subst (λ n. Reads n c.args.self.now.marks.now c.walk_leaf.new.self.marks.now log) (ap (λ s. s.page_size) c.tell_page.ensures.bench.0) r)
-    (λ file h e coded from d above item candidate there next followed m top first.
+    (λ file h e coded from d above item candidate there next followed m top first bound.
     let same = c.pass_over.ensures.others in
     let tree = c.tell_page.ensures.tree in
     let told = c.in_ok-tell_page.ensures.told file d above item e candidate there in
@@ -100,13 +104,14 @@ returns-in_ok-walk_leaf-in-Leaf-clause-log g c = has_weaker _ _ c.in_ok-walk_lea
     found.leaf) found.leaf.leaf (visited_before file from d next) here in
     entered_past _ _ file from d _ c.in_ok-walk_leaf-in-Leaf.field-0 _ _ _
     (visit_then _ _ file from d followed (Ok c.in_ok-walk_leaf-in-Leaf.field-0) _ _ (c.tell_page.new.sink, c.args.self.now.taker.now) _
-    (page_moves file from d first (kind_is file c.args.self.now.tree.kind c.args.self.now.tree.start c.args.self.now.tree.path.items c.args.page above item
+    (page_moves file from d first top bound (kind_is file c.args.self.now.tree.kind c.args.self.now.tree.start c.args.self.now.tree.path.items c.args.page
+    above item
     d candidate) g.K.Sink.takes g.K.Sink.drops g.T.Taker.takes g.T.Taker.refuses _ _ c.args.self.now.taker.now told.0.items) done))
 
 pub returns-then-pass_over-clause-log : goal.returns-then-pass_over-clause-log
 returns-then-pass_over-clause-log g c = log_none c.args.bench.now.geometry.page_size c.args.self.now.marks.now c.args.self.now.marks.now
     (g.S.Source.held c.args.self.now.source.now) refl
-    (λ file e coded from d above item candidate there next followed m top first.
+    (λ file e coded from d above item candidate there next followed m top first bound.
     let n = c.tell_page.new.tree in
     let after = c.pass_over.new.self in
     let told = c.in_ok-tell_page.ensures.told file d above item e candidate there in
@@ -126,7 +131,8 @@ returns-then-pass_over-clause-log g c = log_none c.args.bench.now.geometry.page_
     (subst (λ a. AreRisingFrom c.args.page found.leaf.view 0 (count found.leaf.view) a after.greatest) here.1 rising)) c.args.self.now.marks.now after
     (c.tell_page.new.sink, c.args.self.now.taker.now) (m, refl, c.pass_over.ensures.others.2 ∙ here.2) in
     entered_past _ _ file from d _ tt _ _ _ (visit_then _ _ file from d followed (Ok tt) _ _ (c.tell_page.new.sink, c.args.self.now.taker.now) _
-    (page_moves file from d first (kind_is file c.args.self.now.tree.kind c.args.self.now.tree.start c.args.self.now.tree.path.items c.args.page above item
+    (page_moves file from d first top bound (kind_is file c.args.self.now.tree.kind c.args.self.now.tree.start c.args.self.now.tree.path.items c.args.page
+    above item
     d candidate) g.K.Sink.takes g.K.Sink.drops g.T.Taker.takes g.T.Taker.refuses _ _ c.args.self.now.taker.now told.0.items) done))
 
 pub returns-in_err-walk_leaf-in-Leaf-clause-walked : goal.returns-in_err-walk_leaf-in-Leaf-clause-walked

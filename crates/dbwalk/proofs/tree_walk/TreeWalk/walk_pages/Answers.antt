@@ -1,4 +1,4 @@
-use Rattle.std.proofs.Common.{rules, ◌≡◌, ◌<◌, ◌++◌, [], ◌∷◌, length, Some, Err, refl, sym, ap, subst, arith, ◌∙◌}
+use Rattle.std.proofs.Common.{rules, ◌≡◌, ◌<◌, ◌++◌, [], ◌∷◌, length, Some, None, Err, refl, sym, ap, subst, arith, ◌∙◌}
 use Rattle.std.specs.Prelude.{option_to_list}
 use Rattle.std.proofs.lemmas.Result.{err_from_is_err_and}
 use Rattle.dbformat.specs.File.{page_bytes}
@@ -7,6 +7,7 @@ use Rattle.dbwalk.specs.Walking.{IsCandidate, IsOpen, AreOpen, path_of, cost}
 use Rattle.dbsource.proofs.Logs.{has_weaker}
 use Rattle.dbmarks.proofs.Readings.{log_then}
 use Rattle.dbwalk.specs.Steps.{HasNext}
+use Rattle.dbwalk.proofs.Trees.Bounds.{no_key_up_to}
 use Rattle.dbwalk.proofs.Trees.Frames.{ends_past, next_at, path_last}
 use Rattle.dbtrace.specs.Walk.{begin}
 use Rattle.dbwalk.proofs.Pages.PageVisits.{kind_is}
@@ -29,7 +30,7 @@ returns-in_err-visit_page-clause-log g c = has_weaker _ _ c.in_err-visit_page.en
     (subst (λ l. IsCandidate c.args.self.now.tree.kind c.args.self.now.tree.start l c.args.page 0 c.args.self.now.tree.start d) (sym c.requires.fresh.2)
     candidate)
     (subst (λ l. HasPageAt c.args.bench.now.levels (length l) (page_bytes file c.args.page)) (sym c.requires.fresh.2) there) next followed m c.requires.fresh.0
-    c.requires.fresh.1 in
+    c.requires.fresh.1 (no_key_up_to file (W ++ (d ∷ [])) d candidate.depth) in
     let q = err_from_is_err_and c.from_residual.result c.from_residual.ensures.1 in
     stopped_as (q.1 ∙ ap Err q.2) entry.0.handed)
 
@@ -39,32 +40,33 @@ returns-then-not-branch-clause-log g c = has_weaker _ _ c.in_ok-visit_page.ensur
     (subst (λ l. IsCandidate c.args.self.now.tree.kind c.args.self.now.tree.start l c.args.page 0 c.args.self.now.tree.start d) (sym c.requires.fresh.2)
     candidate)
     (subst (λ l. HasPageAt c.args.bench.now.levels (length l) (page_bytes file c.args.page)) (sym c.requires.fresh.2) there) next followed m c.requires.fresh.0
-    c.requires.fresh.1 in
+    c.requires.fresh.1 (no_key_up_to file (W ++ (d ∷ [])) d candidate.depth) in
     entered_done (begin W) d tt c.if-not-branch.true entry.0)
 
 pub loop-frame-init : goal.loop-frame-init
 loop-frame-init g c =
     let n = c.visit_page.new in
-    let items = c.push.ensures.items ∙ ap (λ l. l ++ (record { page = c.args.page; next = 0 } ∷ [])) c.new-frames.ensures in
+    let items = c.push.ensures.items ∙ ap (λ l. l ++ (record { page = c.args.page; next = 0; up_to = None } ∷ [])) c.new-frames.ensures in
     record {
       walked = walked_as_ok g.S.Source.held g.K.Sink.held g.T.Taker.refusals c.in_ok-visit_page.ensures.walked;
       few = (let l = ap length items in omega arith);
       opened = subst (λ l. AreOpen n.bench.geometry.usable n.self.tree.kind n.bench.levels 0 l) (sym items) (
-        subst (λ l. IsOpen n.bench.geometry.usable n.self.tree.kind n.bench.levels (length l) (record { page = c.args.page; next = 0 })) c.requires.fresh.2
+        subst (λ l. IsOpen n.bench.geometry.usable n.self.tree.kind n.bench.levels (length l) c.args.page 0) c.requires.fresh.2
             (c.in_ok-visit_page.ensures.«open» (search rules)),
         tt,
       );
-      path = path_last c.push.new.self.items [] (record { page = c.args.page; next = 0 }) n.self.tree.path.items items
+      path = path_last c.push.new.self.items [] (record { page = c.args.page; next = 0; up_to = None }) n.self.tree.path.items items
           (ap (λ p. p.items) c.visit_page.ensures.path ∙ c.requires.fresh.2);
       log = has_weaker _ _ c.in_ok-visit_page.ensures.log (λ log r. r) (λ file h e coded W d candidate there followed next m.
           let entry = h e coded (begin W) d 0 c.args.self.now.tree.start
           (subst (λ l. IsCandidate c.args.self.now.tree.kind c.args.self.now.tree.start l c.args.page 0 c.args.self.now.tree.start d)
           (sym c.requires.fresh.2) candidate)
           (subst (λ l. HasPageAt c.args.bench.now.levels (length l) (page_bytes file c.args.page)) (sym c.requires.fresh.2) there) next followed m
-          c.requires.fresh.0 c.requires.fresh.1 in
+          c.requires.fresh.0 c.requires.fresh.1 (no_key_up_to file (W ++ (d ∷ [])) d candidate.depth) in
           let role = kind_is file c.args.self.now.tree.kind c.args.self.now.tree.start [] c.args.page 0 c.args.self.now.tree.start d candidate
           ∙ ap Some (sym c.visit_page.ensures.walked.kind) in
-          tree_started W d (record { page = c.args.page; next = 0 }) items (sym candidate.page) refl next role candidate.depth c.if-not-branch.false entry);
+          tree_started W d (record { page = c.args.page; next = 0; up_to = None }) items (sym candidate.page) refl refl next role candidate.depth
+          c.if-not-branch.false entry);
     }
 
 pub take_step-requires : goal.take_step-requires
@@ -75,7 +77,7 @@ take_step-requires g c =
     let popped = c.pop.ensures.items ∙ ap (λ o. c.pop.new.self.items ++ option_to_list o) c.in-Some.is in
     let few : length c.pop.new.self.items < 20 = (let l = c.in-Some.ensures.len in let m = inv.few in omega arith) in
     let opened : AreOpen bench.geometry.usable c.loop-frame.self.tree.kind bench.levels 0 (c.pop.new.self.items ++ (at.result.0 ∷ [])) =
-    open_past c.pop.new.self.items c.in-Some.frame at.result.0 c.len.ensures.value at.ensures.page at.ensures.empty
+    open_past c.pop.new.self.items c.in-Some.frame at.result.0 c.len.ensures.value at.ensures.page at.ensures.up_to at.ensures.empty
     (subst (λ l. AreOpen bench.geometry.usable c.loop-frame.self.tree.kind bench.levels 0 l) popped inv.opened) in
     let path : c.loop-frame.self.tree.path.items ≡ path_of c.pop.new.self.items = inv.path c.pop.new.self.items c.in-Some.frame popped in
     let step : HasNext bench.geometry.usable c.loop-frame.self.tree.kind bench.levels (length c.pop.new.self.items) at.result.0.page at.result.0.next
@@ -110,7 +112,7 @@ loop-frame-preserved g c =
           (walking_past c.pop.new.self.items (ap (λ x. x.usable) (inv.walked.shape ∙ e))
           (candidate_as t.kind s.self.tree.kind t.start s.self.tree.start [] [] c.args.page d.page 0 t.start s.self.tree.start d inv.walked.kind
           inv.walked.start refl candidate.page inv.walked.start candidate) c.in-Some.frame c.step_of-next.result.0 c.len.ensures.value
-          c.step_of-next.ensures.page c.step_of-next.ensures.empty
+          c.step_of-next.ensures.page c.step_of-next.ensures.up_to c.step_of-next.ensures.empty
           (by_other (walking e coded W d candidate there followed next m) (sym popped) refl refl refl (λ n l. refl)))).0);
     }
 
@@ -129,7 +131,7 @@ returns-in_err-take_step-clause-log g c =
     (walking_past c.pop.new.self.items (ap (λ x. x.usable) (inv.walked.shape ∙ e))
     (candidate_as t.kind s.self.tree.kind t.start s.self.tree.start [] [] c.args.page d.page 0 t.start s.self.tree.start d inv.walked.kind inv.walked.start
     refl candidate.page inv.walked.start candidate) c.in-Some.frame c.step_of-next.result.0 c.len.ensures.value c.step_of-next.ensures.page
-    c.step_of-next.ensures.empty
+    c.step_of-next.ensures.up_to c.step_of-next.ensures.empty
     (by_other (walking e coded W d candidate there followed next m) (sym popped) refl refl refl (λ n l. refl))) in
     stopped_as (q.1 ∙ ap Err q.2) stopped.1)
 
