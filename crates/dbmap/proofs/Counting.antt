@@ -25,18 +25,17 @@ use Rattle.dbscan.specs.Placed.{faults_of, told_faults}
 use Rattle.dbscan.proofs.AllTold.{all_told}
 use Rattle.dbentries.specs.Lists.{HasListed, Held, ListsAll}
 use Rattle.dbentries.proofs.Heard.{never_stops}
-use Rattle.dbmap.specs.FaultNotes.{AreNoted}
+use Rattle.dbmap.specs.KeptFaults.{AreNoted, HasFaults, HearsNone}
 use Rattle.dbmap.specs.Faults.{coded}
 use Rattle.dbowner.specs.Trees.{AreTrees}
 use Rattle.dbowner.proofs.Trees.{all_noted}
-use Rattle.dbmap.specs.KeptFaults.{HasFaults, HearsNone}
-use Rattle.dbmap.specs.MapPictures.{map_picture}
+use Rattle.dbmap.specs.Pictures.{map_picture}
 use Rattle.dbmap.specs.Maps.{PutsMap}
-use Rattle.dbmap.specs.MapReporter.{Hears, LeavesMap}
+use Rattle.dbmap.specs.MapRuns.{Hears, LeavesMap}
 use Rattle.dbmap.specs.declared.map_reporter.MapReporter.{MapReporter}
 use Rattle.dbmap.specs.declared.draw_state.DrawState.{DrawState}
 use Rattle.dbmap.proofs.MapAnswers.{nothing_begun}
-use Rattle.dbmap.proofs.Heard.{HasNotedFaults, all_heard, codes_told, some_untouched}
+use Rattle.dbmap.proofs.Heard.{all_heard, codes_told, HasNotedFaults, some_untouched}
 
 -- the pages and codes of faults that were reported
 coded_told : (ts : List Reported) → codes_told ts ≡ map coded (faults_of ts)
@@ -73,6 +72,13 @@ module _ {A O : Type 0} (file : List ℕ) (V : List Reference) (survey : Survey 
           (coded_told (told_faults file V) ∙ ap (map coded) (all_told file V)) all.notes;
       listing = listed;
     }
+
+    -- what was put then is the picture, in any relation to what the Out held
+    pub map_put : (held : O → OutState) (P : Option (List ℕ) → List ℕ → Type 0) (text : List ℕ) → text ≡ map_picture file V t.name.now
+        → P (held t.out.now).bytes text → P (held s.out.now).bytes (map_picture file V s.name.now)
+    map_put held P text e h =
+        subst (λ (o : O). P (held o).bytes (map_picture file V s.name.now)) map_untouched
+        (subst (λ (name : List ℕ). P (held t.out.now).bytes (map_picture file V name)) (ap (λ n. n.now) all.name) (subst (P (held t.out.now).bytes) e h))
 
     -- after a failed read nothing has been put
     pub map_unput : (held : O → OutState) → Keeps (held s.out.now).bytes (held t.out.now).bytes

@@ -17,10 +17,9 @@ use Rattle.dbentries.specs.Lists.{HasListed, Held}
 use Rattle.dbentries.proofs.Heard.{file_begun, file_heard}
 use Rattle.dbentries.proofs.ListedFaults.{one_listed}
 use Rattle.dbowner.specs.Trees.{row_noted}
-use Rattle.dbmap.specs.FaultNotes.{AreNoted}
+use Rattle.dbmap.specs.KeptFaults.{AreNoted, HearsNone}
 use Rattle.dbmap.specs.Faults.{coded}
-use Rattle.dbmap.specs.KeptFaults.{HearsNone}
-use Rattle.dbmap.specs.MapReporter.{Adds, Hears, Notes}
+use Rattle.dbmap.specs.MapRuns.{Adds, Hears, Notes}
 use Rattle.dbmap.specs.declared.draw_state.DrawState.{DrawState}
 use Rattle.dbmap.specs.declared.map_reporter.MapReporter.{MapReporter}
 
@@ -40,6 +39,7 @@ module _ {A O : Type 0} where
     pub listing : HasListed 100 ts now.kept.now.listing
     pub trees : now.kept.now.state.trees.known ≡ fold row_noted first.kept.now.state.trees.known rs
     pub out : now.out.now ≡ first.out.now
+    pub name : now.name ≡ first.name
 
   abbrev listing : MapReporter A O → Held
   listing s = s.kept.now.listing
@@ -52,6 +52,7 @@ module _ {A O : Type 0} where
     listing = one_listed 100 ts x (listing s) (listing t) most h.listing a.kept.listing;
     trees = ap (λ (w : DrawState A). w.trees.known) a.kept.state ∙ h.trees;
     out = a.out ∙ h.out;
+    name = a.name ∙ h.name;
   }
 
   one_noted : (pages : ℕ) (first : MapReporter A O) (r : StatRow) (ts : List Reported) (rs : List StatRow) (s t : MapReporter A O)
@@ -62,12 +63,13 @@ module _ {A O : Type 0} where
     listing = subst (HasListed 100 ts) (sym a.listing) h.listing;
     trees = a.trees ∙ ap (λ k. row_noted k r) h.trees ∙ sym (fold-append row_noted first.kept.now.state.trees.known rs (r ∷ []));
     out = a.out ∙ h.out;
+    name = a.name ∙ h.name;
   }
 
 module _ {A O : Type 0} (file : List ℕ) (V : List Reference) (survey : Survey file V) (first now : MapReporter A O)
     (none : first.faults ≡ 0) (empty : HearsNone (geometry file).pages first.kept.now) where
   nothing_noted : HasNotedFaults (geometry file).pages first [] [] first
-  nothing_noted = record { count = none; notes = empty.notes; listing = empty.listing.none; trees = refl; out = refl }
+  nothing_noted = record { count = none; notes = empty.notes; listing = empty.listing.none; trees = refl; out = refl; name = refl }
 
   -- all of it
   pub all_heard : Moves Hears first (run_notices file V) now → HasNotedFaults (geometry file).pages first (told_faults file V) (stat_rows file V) now

@@ -1,17 +1,10 @@
 pub mod Counting
-pub mod Drawing
 pub mod FaultBits
 pub mod FirstMost
 pub mod Heard
-pub mod Largest
-pub mod LegendLines
 pub mod MapAnswers
 pub mod Pictured
-pub mod Ranks
 pub mod Runs
-pub mod SameName
 pub mod Shares
 pub mod SquareSteps
 pub mod Steps
-pub mod Tallying
-pub mod Trees

@@ -1,11 +1,13 @@
 -- What is left to draw, by what is drawn next.
 use Rattle.std.proofs.Common.{◌≡◌, ℕ, suc, ◌+◌, ◌-◌, ◌*◌, ◌<◌, ◌≤◌, min, Bool, ◌&&◌, not, List, [], ◌∷◌, ◌++◌, length, drop, get_or, add-one, drop-cons, ap}
-use Rattle.std.proofs.Common.{◌∙◌, arith}
-use Rattle.std.specs.List.{flat_map}
+use Rattle.std.proofs.Common.{◌∙◌, append-nil, arith, sym}
+use Rattle.std.specs.List.{flat_map, range_with_len}
 use Rattle.std.proofs.lemmas.List.{drop_all}
+use Rattle.std.proofs.lemmas.List.Concat.{flat_map-append}
+use Rattle.dbsurvey.proofs.Ranges.{range_push}
 use Rattle.dbformat.specs.declared.FaultCode.{FaultCode}
 use Rattle.dbformat.specs.declared.Geometry.{Geometry}
-use Rattle.dbmap.specs.OwnerShares.{has_pages}
+use Rattle.dbmap.specs.Owners.{has_pages}
 use Rattle.dbmap.specs.Faults.{code_if}
 use Rattle.dbmap.specs.Legends.{line_text, lines_from}
 use Rattle.dbmap.specs.Runs.{band_text, bands_from, owner_text, owners_from}
@@ -56,3 +58,21 @@ next_code known all i none h =
 
 pub no_code : (known : FaultCode → Bool) (all : List FaultCode) (i : ℕ) → length all ≤ i → flat_map (code_if known) (drop i all) ≡ []
 no_code known all i h = ap (flat_map (code_if known)) (drop_all i all h)
+
+-- texts of numbers that follow one another, and one more
+pub flat_next : {X : Type 0} (f : ℕ → List X) (first n i : ℕ) → first + n ≡ i
+    → flat_map f (range_with_len first n) ++ f i ≡ flat_map f (range_with_len first (n + 1))
+flat_next f first n i e =
+    ap (λ j. flat_map f (range_with_len first n) ++ f j) (sym e)
+    ∙ sym (ap (flat_map f) (range_push first n) ∙ flat_map-append f (range_with_len first n) ((first + n) ∷ [])
+    ∙ ap (λ l. flat_map f (range_with_len first n) ++ l) (append-nil (f (first + n))))
+
+-- the same from one number to another
+pub flat_none : {X : Type 0} (f : ℕ → List X) (first : ℕ) → [] ≡ flat_map f (range_with_len first (first - first))
+flat_none f first = let none : 0 ≡ first - first = omega arith in ap (λ n. flat_map f (range_with_len first n)) none
+
+pub flat_to : {X : Type 0} (f : ℕ → List X) (first i : ℕ) → first ≤ i
+    → flat_map f (range_with_len first (i - first)) ++ f i ≡ flat_map f (range_with_len first (i + 1 - first))
+flat_to f first i l =
+    let next : i - first + 1 ≡ i + 1 - first = omega arith in
+    flat_next f first (i - first) i (omega arith) ∙ ap (λ n. flat_map f (range_with_len first n)) next

@@ -1,26 +1,26 @@
 -- How the squares of a picture are laid out.
-use Rattle.std.specs.Prelude.{ℕ, zero, suc, ◌+◌, ◌*◌, ◌/◌, ◌%◌, ◌-◌, min, max, Bool, ◌&&◌, nat_le, ◌==◌, if◌then◌else◌}
+use Rattle.std.specs.Prelude.{ℕ, zero, suc, ◌+◌, ◌*◌, ◌/◌, ◌%◌, ◌-◌, min, max, Bool, ◌&&◌, nat_le, nat_lt, ◌==◌, if◌then◌else◌}
 use Rattle.std.specs.Int.{div_ceil}
 use Rattle.dbformat.specs.Lines.{counted}
-use Rattle.dbmap.specs.Shares.{capped_pages}
+use Rattle.dbmap.specs.Owners.{capped_pages}
 use Rattle.dbmap.specs.declared.grid.Grid.{Grid}
 use Rattle.dbmap.specs.declared.grid.Width.{Width}
-use Rattle.dbmap.specs.declared.grid.Width.TheVariants.{Narrow, Medium, Wide}
+use Rattle.dbmap.specs.declared.grid.Width.TheVariants.{Medium, Narrow, Wide}
 
--- the smallest power of two of pages, from this one on, with which a file of so many pages has at most 16384 squares; it is doubled so often at most
-abbrev pub least_run : ℕ → ℕ → ℕ → ℕ
-least_run pages run zero = run
-least_run pages run (suc n) = if nat_le (div_ceil pages run) 16384 then run else least_run pages (2 * run) n
+-- how many pages a square covers after n steps, each of which doubles it while the file has more than 16384 squares
+unfoldable pub run_after : ℕ → ℕ → ℕ
+run_after pages zero = 1
+run_after pages (suc n) = if nat_lt 16384 (div_ceil pages (run_after pages n)) then run_after pages n * 2 else run_after pages n
 
--- how many pages a square covers: a file has fewer than 2 ^ 32
-unfoldable pub run_for : ℕ → ℕ
-run_for pages = least_run pages 1 18
+-- the smallest power of two of pages that keeps a file within 16384 squares: it has fewer than 2 ^ 32 pages
+abbrev pub run_for : ℕ → ℕ
+run_for pages = run_after pages 18
 
 -- the width of the rows, by how many squares there are
 abbrev pub width_of : ℕ → Width
 width_of squares = if nat_le squares 512 then Narrow else (if nat_le squares 2048 then Medium else Wide)
 
--- the grid of a file of so many pages whose header states so many
+-- the grid of a file of `pages` pages whose header states `stated`
 abbrev pub grid_of : ℕ → ℕ → Grid
 grid_of pages stated = record {
   pages = pages;
@@ -34,7 +34,7 @@ grid_of pages stated = record {
 abbrev pub square_of : ℕ → ℕ → ℕ
 square_of run p = (p - 1) / max run 1
 
--- whether page p, of so many, is one of a square
+-- whether page p of a file of `pages` pages is one of a square
 abbrev pub is_of_square : ℕ → ℕ → ℕ → Bool
 is_of_square pages index p = nat_le 1 p && nat_le p pages && (square_of (run_for pages) p == index)
 

@@ -1,24 +1,30 @@
--- The legend of a picture, line by line: what it is of, how many pages that are, and how they are drawn.
+-- The legend of a picture: which lines it has, how many pages each is of, and how they are drawn. There is a line for each of the largest
+-- trees, and then one for all other trees, for the freelist, for pages of fixed use, for pages that are nobody's, for pages with each frame, and
+-- for pages that the header states and the file does not have; each only where it has a page.
 use Rattle.std.specs.Prelude.{ℕ, ◌+◌, ◌-◌, ◌*◌, Bool, true, false, List, [], ◌∷◌, ◌++◌, length, Option, Some, None, codes, decimal, ◌==◌, if◌then◌else◌}
-use Rattle.std.specs.List.{concat}
+use Rattle.std.specs.Prelude.{get_or}
+use Rattle.std.specs.List.{concat, flat_map, range_with_len}
 use Rattle.dbformat.specs.declared.Geometry.{Geometry}
 use Rattle.dbxml.specs.Pieces.{tenths_text}
-use Rattle.dbmap.specs.Colours.{shade_letter}
+use Rattle.dbmap.specs.Marks.{shade_letter}
 use Rattle.dbmap.specs.Runs.{name_text}
 use Rattle.dbmap.specs.Sizes.{size_tenths, size_unit, tenths_of_percent}
 use Rattle.dbmap.specs.declared.owner_shares.Share.{Share}
-use Rattle.dbmap.specs.declared.grid.Grid.{Grid}
 use Rattle.dbmap.specs.declared.legend.Label.{Label}
-use Rattle.dbmap.specs.declared.legend.Label.TheVariants.{Fixed, Freelist, Nobody, Others, Strong, Tree, Weak}
+use Rattle.dbmap.specs.declared.legend.Label.TheVariants.{Fixed, Freelist, Missing, Nobody, Others, Strong, Tree, Weak}
 use Rattle.dbmap.specs.declared.legend.LegendLine.{LegendLine}
+use Rattle.dbformat.specs.Address.{freelist_start}
+use Rattle.dbformat.specs.SchemaRow.{SchemaRow}
+use Rattle.dbscan.specs.Roots.{root_page}
+use Rattle.dbmap.specs.Tallies.{others, PagesTallied, share_at, tree_count}
 
 -- some pages, none of which is an overflow page
 abbrev pub no_overflow : ℕ → Share
 no_overflow pages = record { pages = pages; overflow = 0 }
 
 -- how many pixels the legend takes, with the room around it
-abbrev pub height : List LegendLine → ℕ → ℕ
-height lines missing = (length lines + (if missing == 0 then 0 else 1)) * 20 + 40
+abbrev pub height : List LegendLine → ℕ
+height lines = length lines * 20 + 40
 
 -- a text in two parts in a column, which ends at x
 abbrev pub right_text : ℕ → ℕ → List ℕ → List ℕ → List ℕ
@@ -46,9 +52,10 @@ share_text share page_size y =
     number_text 580 y share.pages
     ++ (overflow_text share.overflow y ++ right_text 790 y (tenths_text (size_tenths share.pages page_size)) (size_unit share.pages page_size))
 
--- how many of all pages a line is of
-unfoldable pub percent_text : ℕ → ℕ → ℕ → List ℕ
-percent_text pages all y = right_text 860 y (tenths_text (tenths_of_percent pages all)) [] ++ codes "\n"
+-- how many of all pages a line is of, where these are in the file
+abbrev pub percent_text : Label → ℕ → ℕ → ℕ → List ℕ
+percent_text Missing pages all y = []
+percent_text label pages all y = right_text 860 y (tenths_text (tenths_of_percent pages all)) []
 
 -- a square of the legend, in the colour of the owner with a number, or in the shade of overflow pages
 abbrev pub box_text : ℕ → ℕ → ℕ → Bool → List ℕ
@@ -65,6 +72,7 @@ label_owner Fixed = Some 14
 label_owner Nobody = Some 15
 label_owner Strong = None
 label_owner Weak = None
+label_owner Missing = Some 16
 
 -- the shade of an owner's overflow pages, if there are any
 abbrev pub shade_text : ℕ → ℕ → ℕ → List ℕ
@@ -89,53 +97,61 @@ swatch_by None label share y = legend_frame_text label y
 abbrev pub swatch_text : Label → Share → ℕ → List ℕ
 swatch_text label share y = swatch_by (label_owner label) label share y
 
--- what begins the text of a line
-abbrev pub label_front : ℕ → List ℕ
-label_front y = concat (codes "<text x=\"108\" y=\"" ∷ decimal y ∷ codes "\">" ∷ [])
+-- the name of a tree and its root page, or how many other trees there are
+abbrev pub label_subject : List (List ℕ) → Label → List ℕ
+label_subject names (Tree rank root) = concat (name_text names rank 35 ∷ codes " (root page " ∷ decimal root ∷ [])
+label_subject names (Others count) = concat (decimal count ∷ [])
+label_subject names _ = []
 
--- how many other trees there are
-abbrev pub other_trees_text : ℕ → List ℕ
-other_trees_text count = decimal count ++ (if count == 1 then codes " other tree</text>" else codes " other trees</text>")
-
--- the name of a tree, and its root page
-abbrev pub named_tree_text : List (List ℕ) → ℕ → ℕ → List ℕ
-named_tree_text names rank root = concat (name_text names rank 35 ∷ codes " (root page " ∷ decimal root ∷ codes ")</text>" ∷ [])
+-- what comes after that
+abbrev pub label_words : Label → List ℕ
+label_words (Tree rank root) = codes ")"
+label_words (Others count) = if count == 1 then codes " other tree" else codes " other trees"
+label_words Freelist = codes "freelist"
+label_words Fixed = codes "pointer map and lock-byte page"
+label_words Nobody = codes "in no tree, overflow chain or freelist"
+label_words Strong = codes "of the first 100 injuries of explain, of their causes, or named by them"
+label_words Weak = codes "other pages with a fault"
+label_words Missing = codes "stated in the header, not in the file"
 
 -- what a line is of
-abbrev pub label_words : List (List ℕ) → Label → List ℕ
-label_words names (Tree rank root) = named_tree_text names rank root
-label_words names (Others count) = other_trees_text count
-label_words names Freelist = codes "freelist</text>"
-label_words names Fixed = codes "pointer map and lock-byte page</text>"
-label_words names Nobody = codes "in no tree, overflow chain or freelist</text>"
-label_words names Strong = codes "of the first 100 injuries of explain, of their causes, or named by them</text>"
-label_words names Weak = codes "other pages with a fault</text>"
-
 unfoldable pub label_text : List (List ℕ) → Label → ℕ → List ℕ
-label_text names label y = label_front y ++ label_words names label
+label_text names label y =
+    concat (codes "<text x=\"108\" y=\"" ∷ decimal y ∷ codes "\">" ∷ [])
+    ++ (label_subject names label ++ concat (label_words label ∷ codes "</text>" ∷ []))
 
--- a line, so far down
+-- a line, at this height
 unfoldable pub line_text : List (List ℕ) → Geometry → LegendLine → ℕ → List ℕ
 line_text names g line y =
     swatch_text line.label line.share y
-    ++ (label_text names line.label y ++ (share_text line.share g.page_size y ++ percent_text line.share.pages g.pages y))
+    ++ (label_text names line.label y ++ (share_text line.share g.page_size y ++ (percent_text line.label line.share.pages g.pages y ++ codes "\n")))
 
 -- lines, each below the one before it
 abbrev pub lines_from : List (List ℕ) → Geometry → ℕ → List LegendLine → List ℕ
 lines_from names g at [] = []
 lines_from names g at (line ∷ lines) = line_text names g line (at * 20) ++ lines_from names g (at + 1) lines
 
--- the line of pages that the header states and the file does not have, if there are any
-unfoldable pub missing_legend_line : ℕ → Geometry → ℕ → List ℕ
-missing_legend_line missing g y =
-    box_text 72 (y - 10) 16 false
-    ++ (label_front y ++ (codes "stated in the header, not in the file</text>" ++ (share_text (no_overflow missing) g.page_size y ++ codes "\n")))
-
-abbrev pub missing_legend_text : ℕ → Geometry → ℕ → List ℕ
-missing_legend_text missing g y = if missing == 0 then [] else missing_legend_line missing g y
-
 -- the legend
-unfoldable pub legend_text : List LegendLine → List (List ℕ) → Geometry → Grid → ℕ → List ℕ
-legend_text lines names g grid bottom =
-    columns_text bottom
-    ++ (lines_from names g 2 lines ++ (missing_legend_text (grid.stated - grid.pages) g ((length lines + 2) * 20) ++ codes "</g>\n"))
+unfoldable pub legend_text : List LegendLine → List (List ℕ) → Geometry → ℕ → List ℕ
+legend_text lines names g bottom = columns_text bottom ++ (lines_from names g 2 lines ++ codes "</g>\n")
+
+-- a line, if there is a page of it
+abbrev pub line_if : Label → Share → List LegendLine
+line_if label share = if share.pages == 0 then [] else record { label = label; share = share } ∷ []
+
+-- that of the tree of this rank
+abbrev pub tree_line : List SchemaRow → List Share → List ℕ → ℕ → List LegendLine
+tree_line rows starts largest rank = line_if (Tree rank (root_page rows (get_or largest rank 0))) (share_at starts (get_or largest rank 0))
+
+-- those of the first `count` of the largest trees
+unfoldable pub tree_lines : List SchemaRow → List Share → List ℕ → ℕ → List LegendLine
+tree_lines rows starts largest count = flat_map (tree_line rows starts largest) (range_with_len 0 count)
+
+-- The legend's lines, by the rows of the schema, what each start has, the largest trees, and how many pages have the strong frame, how many the
+-- weak one, and how many are missing.
+unfoldable pub legend_lines : List SchemaRow → PagesTallied → List ℕ → ℕ → ℕ → ℕ → List LegendLine
+legend_lines rows t largest strong weak missing =
+    tree_lines rows t.starts largest (length largest)
+    ++ line_if (Others (others t.starts largest (tree_count rows)).0) (others t.starts largest (tree_count rows)).1
+    ++ line_if Freelist (share_at t.starts freelist_start) ++ line_if Fixed (no_overflow t.fixed) ++ line_if Nobody (no_overflow t.nobody)
+    ++ line_if Strong (no_overflow strong) ++ line_if Weak (no_overflow weak) ++ line_if Missing (no_overflow missing)

@@ -1,6 +1,12 @@
 -- Whose the pages of a file are, as a picture tells them apart: of one of the largest trees, of another tree, of the freelist, of fixed
--- use, or nobody's.
-use Rattle.std.specs.Prelude.{ℕ, ◌+◌, min, Bool, true, false, List, [], ◌∷◌, map, Option, Some, None, ◌==◌, if◌then◌else◌}
+-- use, or nobody's; and how many of some pages each owner has, and how many of these are overflow pages.
+use Rattle.std.specs.Prelude.{ℕ, ◌/◌, min, Bool, not, nat_lt, get_or, ◌==◌, true, false, List, Option, Some, None, position, zero, suc, ◌+◌, replicate}
+use Rattle.std.specs.Prelude.{slice_set, if◌then◌else◌}
+use Rattle.dbmap.specs.declared.owner_shares.OwnerShares.{OwnerShares}
+use Rattle.dbmap.specs.declared.owner_shares.Owner.{Owner}
+use Rattle.dbmap.specs.declared.owner_shares.Owner.TheVariants.{Fixed, Freelist, Nobody, Tree}
+use Rattle.dbmap.specs.declared.owner_shares.Share.{Share}
+use Rattle.std.specs.Option.{option_map_or}
 use Rattle.dbformat.specs.Reference.{Reference}
 use Rattle.dbformat.specs.Survey.{Survey}
 use Rattle.dbmarks.specs.Marking.{AreMarksOf}
@@ -8,13 +14,30 @@ use Rattle.dbmarks.specs.declared.marks.Mark.{Mark}
 use Rattle.dbowner.specs.Trees.{AreTrees}
 use Rattle.dbowner.specs.declared.place.Place.{Place}
 use Rattle.dbowner.specs.declared.place.Place.TheVariants as place
-use Rattle.dbmap.specs.declared.owner_shares.Owner.{Owner}
 use Rattle.dbmap.specs.declared.owner_shares.Owner.TheVariants as owner
-use Rattle.dbmap.specs.declared.tally.RankedTree.{RankedTree}
 
--- the starts of some trees
-abbrev pub tree_starts : List RankedTree → List ℕ
-tree_starts trees = map (λ (t : RankedTree). t.start) trees
+-- no pages
+abbrev pub no_share : Share
+no_share = record { pages = 0; overflow = 0 }
+
+-- the pages of the owner with a number
+abbrev pub share_of : OwnerShares → ℕ → Share
+share_of c number = get_or c.shares number no_share
+
+-- whether that owner has one of the pages
+abbrev pub has_pages : OwnerShares → ℕ → Bool
+has_pages c number = not ((share_of c number).pages == 0)
+
+-- whether most of some pages are overflow pages
+abbrev pub is_shaded : Share → Bool
+is_shaded s = nat_lt (s.pages / 2) s.overflow
+
+-- the number of an owner: the twelve largest trees by their ranks, all others, the freelist, pages of fixed use, and nobody
+abbrev pub owner_number : Owner → ℕ
+owner_number (Tree rank) = min rank 12
+owner_number Freelist = 13
+owner_number Fixed = 14
+owner_number Nobody = 15
 
 -- whether a page that is this is an overflow page
 abbrev pub is_overflow : Place → Bool
@@ -22,14 +45,10 @@ is_overflow (place.OverflowOf from) = true
 is_overflow (place.OverflowAfter from) = true
 is_overflow _ = false
 
--- the rank of start k among the largest trees, the first of which has this rank; all others have rank 12
-abbrev pub rank_from : ℕ → List ℕ → ℕ → ℕ
-rank_from rank [] k = 12
-rank_from rank (j ∷ js) k = if j == k then min rank 12 else rank_from (rank + 1) js k
-
+-- the rank of start k among the largest trees; all others have rank 12
 abbrev pub rank_of : List ℕ → Option ℕ → ℕ
 rank_of largest None = 12
-rank_of largest (Some k) = rank_from 0 largest k
+rank_of largest (Some k) = option_map_or (λ rank. min rank 12) (position (λ j. j == k) largest) 12
 
 -- whose a page is that is this and belongs to this start
 abbrev pub owner_by : List ℕ → Place → Option ℕ → Owner
@@ -53,3 +72,30 @@ pub record IsOf (marked : List Mark) (known : List ℕ) (file : List ℕ) (V : L
 -- what is known stays right
 abbrev pub StaysOf : List Mark → List ℕ → List ℕ → Type 0
 StaysOf marked old new = (file : List ℕ) (V : List Reference) → IsOf marked old file V → IsOf marked new file V
+
+-- a number of pages as it is counted: it stops at the greatest number of 32 bits, which no file reaches
+abbrev pub capped_pages : ℕ → ℕ
+capped_pages n = min n 4294967295
+
+-- one page more
+abbrev pub one_page : Bool → Share → Share
+one_page over s = record { pages = capped_pages (s.pages + 1); overflow = capped_pages (s.overflow + (if over then 1 else 0)) }
+
+-- those of two together
+abbrev pub share_sum : Share → Share → Share
+share_sum s t = record { pages = capped_pages (s.pages + t.pages); overflow = capped_pages (s.overflow + t.overflow) }
+
+-- no owner has a page
+abbrev pub no_shares : OwnerShares
+no_shares = record { shares = replicate 16 no_share }
+
+-- one page more of an owner
+abbrev pub owner_counted : Owner → Bool → OwnerShares → OwnerShares
+owner_counted owner over c = record { shares = slice_set c.shares (owner_number owner) (one_page over (share_of c (owner_number owner))) }
+
+-- what each owner has of `count` pages from one on, by the largest trees, and by what each page is and the start that it belongs to
+unfoldable pub shares_by : List ℕ → (ℕ → Place) → (ℕ → Option ℕ) → ℕ → ℕ → OwnerShares
+shares_by largest place start first zero = no_shares
+shares_by largest place start first (suc n) =
+    owner_counted (owner_by largest (place (first + n)) (start (first + n))) (is_overflow (place (first + n)))
+    (shares_by largest place start first n)

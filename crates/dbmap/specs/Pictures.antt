@@ -1,16 +1,28 @@
--- The picture as a whole.
-use Rattle.std.specs.Prelude.{ℕ, zero, suc, ◌+◌, ◌-◌, ◌/◌, ◌%◌, ◌||◌, nat_lt, List, [], ◌∷◌, ◌++◌, codes, decimal, ◌==◌, if◌then◌else◌}
-use Rattle.std.specs.List.{concat}
+-- The picture of a file.
+use Rattle.std.specs.Prelude.{ℕ, ◌+◌, ◌/◌, ◌%◌, ◌||◌, nat_lt, List, [], ◌∷◌, ◌++◌, codes, decimal, ◌==◌, if◌then◌else◌, ◌-◌, length, map, take}
+use Rattle.std.specs.List.{concat, flat_map, range_with_len}
 use Rattle.dbformat.specs.declared.Geometry.{Geometry}
 use Rattle.dbxml.specs.Pieces.{shown_text, tenths_text}
-use Rattle.dbmap.specs.Colours.{other_colours, overflow_colours, tree_colours}
-use Rattle.dbmap.specs.Grids.{page_of_row, rows, side, top_of}
-use Rattle.dbmap.specs.Legends.{height, legend_text}
+use Rattle.dbmap.specs.Marks.{other_colours, overflow_colours, tree_colours}
+use Rattle.dbmap.specs.Grids.{grid_of, page_of_row, rows, side, top_of}
+use Rattle.dbmap.specs.Legends.{height, legend_lines, legend_text}
 use Rattle.dbmap.specs.Sizes.{size_tenths, size_unit}
 use Rattle.dbmap.specs.Squares.{Drawn, rows_text}
 use Rattle.dbmap.specs.declared.grid.Grid.{Grid}
 use Rattle.dbmap.specs.declared.legend.LegendLine.{LegendLine}
 use Rattle.dbmap.specs.declared.picture.Heading.{Heading}
+use Rattle.dbformat.specs.File.{geometry}
+use Rattle.dbformat.specs.Header.{is_size_valid, stated_pages}
+use Rattle.dbformat.specs.Lines.{counted}
+use Rattle.dbformat.specs.Reference.{Reference}
+use Rattle.dbformat.specs.Report.{faults}
+use Rattle.dbformat.specs.Starts.{start_at}
+use Rattle.dbowner.specs.Owners.{place_of}
+use Rattle.dbowner.specs.Texts.{tree_text}
+use Rattle.dbscan.specs.Roots.{listed_rows}
+use Rattle.dbxml.specs.Names.{short_text, shown_file}
+use Rattle.dbmap.specs.Faults.{is_faulty, is_strong, square_faults, strong_pages, weak_pages}
+use Rattle.dbmap.specs.Tallies.{largest_of, tally_of}
 
 -- what begins the picture: its size, its accessible name, the hatching, and a white background
 unfoldable pub head_text : List ℕ → ℕ → List ℕ
@@ -61,17 +73,42 @@ page_of_row_text g row =
 abbrev pub row_label_text : Grid → ℕ → List ℕ
 row_label_text g row = if nat_lt 10 (side g) || (row % 2 == 0) then page_of_row_text g row else []
 
--- those of `count` rows from one on
-abbrev pub names_from : Grid → ℕ → ℕ → List ℕ
-names_from g row zero = []
-names_from g row (suc count) = row_label_text g row ++ names_from g (row + 1) count
-
 unfoldable pub row_names : Grid → List ℕ
-row_names g = codes "<g font-size=\"10\" fill=\"#666666\" text-anchor=\"end\">\n" ++ (names_from g 0 (rows g) ++ codes "</g>\n")
+row_names g = codes "<g font-size=\"10\" fill=\"#666666\" text-anchor=\"end\">\n" ++ (flat_map (row_label_text g) (range_with_len 0 (rows g)) ++ codes "</g>\n")
 
 -- the picture, by what is said above the squares, what these are drawn by, and the lines of the legend
 unfoldable pub picture_text : Heading → Drawn → List LegendLine → List ℕ
 picture_text h g lines =
-    head_text h.file (top_of g.grid (rows g.grid) + height lines (g.grid.stated - g.grid.pages))
+    head_text h.file (top_of g.grid (rows g.grid) + height lines)
     ++ (heading_text h g.grid.run ++ (row_names g.grid ++ (rows_text g
-    ++ (legend_text lines g.names h.geometry g.grid (top_of g.grid (rows g.grid)) ++ codes "</svg>\n"))))
+    ++ (legend_text lines g.names h.geometry (top_of g.grid (rows g.grid)) ++ codes "</svg>\n"))))
+
+-- the number of pages that a header states, where it counts
+abbrev pub stated_of : List ℕ → ℕ
+stated_of header = if is_size_valid header then stated_pages header else 0
+
+-- what is said above the squares: the name of the file, its sizes, and how many faults it has
+abbrev pub heading_of : List ℕ → List Reference → List ℕ → Heading
+heading_of file V name = record { file = shown_file name; geometry = geometry file; faults = counted (length (faults file V)) }
+
+-- what the squares are drawn by: a page is what its visit says, and belongs to the start of it
+abbrev pub drawn_of : List ℕ → List Reference → Drawn
+drawn_of file V = record {
+  grid = grid_of (geometry file).pages (stated_of (take 100 file));
+  shape = geometry file;
+  place = place_of file V;
+  start = start_at V;
+  largest = largest_of file V;
+  names = map (λ start. short_text (tree_text file V start)) (largest_of file V);
+  tree = λ start. short_text (tree_text file V start);
+  faults = square_faults file V;
+}
+
+-- the lines of the legend
+abbrev pub legend_of : List ℕ → List Reference → List LegendLine
+legend_of file V = legend_lines (listed_rows file V) (tally_of file V) (largest_of file V) (strong_pages (is_strong file V) (geometry file).pages)
+    (weak_pages (is_faulty file V) (is_strong file V) (geometry file).pages) (stated_of (take 100 file) - (geometry file).pages)
+
+-- The picture of a file with survey V, under a name.
+unfoldable pub map_picture : List ℕ → List Reference → List ℕ → List ℕ
+map_picture file V name = picture_text (heading_of file V name) (drawn_of file V) (legend_of file V)

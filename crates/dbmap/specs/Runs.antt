@@ -1,19 +1,18 @@
 -- The square of a run of pages, by its pages, how many of them each owner has, and its faults.
-use Rattle.std.specs.Prelude.{ℕ, zero, suc, ◌+◌, ◌-◌, Bool, true, false, ◌&&◌, not, nat_lt, List, [], ◌∷◌, ◌++◌, get_or, replicate, slice_get, codes, decimal, ◌==◌, if◌then◌else◌}
+use Rattle.std.specs.Prelude.{ℕ, zero, suc, ◌+◌, ◌-◌, Bool, true, false, ◌&&◌, not, nat_lt, List, [], ◌∷◌, ◌++◌, get_or, replicate, slice_get, codes, decimal}
+use Rattle.std.specs.Prelude.{◌==◌, if◌then◌else◌}
 use Rattle.std.specs.Option.{option_map_or}
 use Rattle.std.specs.List.{concat}
 use Rattle.dbxml.specs.Pieces.{shown_text}
-use Rattle.dbmap.specs.OwnerShares.{has_pages, is_shaded, share_of}
+use Rattle.dbmap.specs.Owners.{capped_pages, has_pages, is_shaded, share_of}
 use Rattle.dbmap.specs.Bands.{bands_of, next_owner}
-use Rattle.dbmap.specs.Colours.{shade_letter}
-use Rattle.dbmap.specs.Faults.{ShownFaults, faults_text, frame_of}
-use Rattle.dbmap.specs.Marks.{tail}
-use Rattle.dbmap.specs.Shares.{capped_pages}
+use Rattle.dbmap.specs.Marks.{extent, run_pages_text, shade_letter, stroke}
+use Rattle.dbmap.specs.Faults.{faults_text, frame_of, ShownFaults}
 use Rattle.dbmap.specs.declared.bands.Bands.{Bands}
 use Rattle.dbmap.specs.declared.owner_shares.OwnerShares.{OwnerShares}
 use Rattle.dbmap.specs.declared.frame.Frame.{Frame}
 use Rattle.dbmap.specs.declared.frame.Frame.TheVariants as frame
-use Rattle.dbmap.specs.declared.frame.Frame.TheVariants.{Weak, Strong}
+use Rattle.dbmap.specs.declared.frame.Frame.TheVariants.{Strong, Weak}
 use Rattle.dbmap.specs.declared.grid.Width.{Width}
 use Rattle.dbmap.specs.declared.run.RunSquare.{RunSquare}
 
@@ -48,16 +47,16 @@ owners_from c names is_first number (suc count) =
 -- the title after its first word
 unfoldable pub title_text : RunSquare → List (List ℕ) → ShownFaults → List ℕ
 title_text r names f =
-    concat (codes "s " ∷ decimal r.first ∷ codes " to " ∷ decimal r.last ∷ [])
-    ++ (owners_from r.shares names true 0 16 ++ faults_text f)
+    run_pages_text r.first r.last ++ (owners_from r.shares names true 0 16 ++ faults_text f)
 
 -- the square of pages that all have the owner with this number
 unfoldable pub plain_text : RunSquare → Width → List (List ℕ) → ShownFaults → ℕ → List ℕ
 plain_text r width names f owner =
-    concat (codes "<rect class=\"" ∷ shade_letter (is_shaded (share_of r.shares owner)) ∷ decimal owner ∷ codes "\" x=\"" ∷ decimal r.x ∷ tail width (frame_of f) ∷ [])
+    concat (codes "<rect class=\"" ∷ shade_letter (is_shaded (share_of r.shares owner)) ∷ decimal owner ∷ codes "\" x=\"" ∷ decimal r.x ∷ extent width (frame_of f)
+    ∷ stroke width (frame_of f) ∷ codes "><title>page" ∷ [])
     ++ (title_text r names f ++ codes "</title></rect>\n")
 
--- the band of an owner, so high and so far below, if it has one
+-- the band of an owner, of this height and from this line on, if it has one
 abbrev pub band_text : RunSquare → ℕ → ℕ → ℕ → List ℕ
 band_text r number top height =
     if height == 0 then []

@@ -1,24 +1,57 @@
--- The squares of a picture, row by row.
-use Rattle.std.specs.Prelude.{ℕ, ◌-◌, List, [], ◌∷◌, ◌++◌, Option, None, codes, decimal, ◌==◌, if◌then◌else◌}
-use Rattle.std.specs.List.{concat, flat_map, range_with_len}
+-- The squares of a picture, row by row, and the outlines of pages that the header states and the file does not have.
+use Rattle.std.specs.Prelude.{ℕ, ◌+◌, List, [], ◌∷◌, ◌++◌, codes, decimal, ◌-◌, nat_lt, ◌==◌, if◌then◌else◌, Option, None}
 use Rattle.std.specs.Option.{option_map_or}
+use Rattle.std.specs.List.{concat, flat_map, range_with_len}
+use Rattle.dbowner.specs.Texts.{place_from, place_front, place_tree, place_words}
+use Rattle.dbowner.specs.declared.place.Place.{Place}
+use Rattle.dbxml.specs.Pieces.{shown_text}
+use Rattle.dbmap.specs.Marks.{extent, inset, outline_tail, run_pages_text, shade_letter, stroke}
+use Rattle.dbmap.specs.Faults.{faults_text, frame_of, ShownFaults}
+use Rattle.dbmap.specs.Owners.{capped_pages, is_overflow, owner_by, owner_number, shares_by}
+use Rattle.dbmap.specs.declared.grid.Width.{Width}
+use Rattle.dbmap.specs.declared.page.PageSquare.{PageSquare}
+use Rattle.dbmap.specs.Grids.{missing_of, outlines_of_row, rows, run_of, squares_of_row, top_of, x_of}
+use Rattle.dbmap.specs.declared.grid.Grid.{Grid}
 use Rattle.dbformat.specs.FixedPages.{fixed_use}
 use Rattle.dbformat.specs.declared.Fixed.{Fixed}
 use Rattle.dbformat.specs.declared.Geometry.{Geometry}
-use Rattle.dbowner.specs.Texts.{place_tree}
-use Rattle.dbowner.specs.declared.place.Place.{Place}
 use Rattle.dbowner.specs.declared.place.Place.TheVariants as place
-use Rattle.dbmap.specs.Faults.{ShownFaults}
-use Rattle.dbmap.specs.Grids.{rows, run_of, squares_of_row, top_of, x_of}
-use Rattle.dbmap.specs.Outlines.{outlines_text}
-use Rattle.dbmap.specs.OwnerShares.{owner_number}
-use Rattle.dbmap.specs.Owners.{owner_by}
-use Rattle.dbmap.specs.Pages.{page_text}
 use Rattle.dbmap.specs.Runs.{run_text}
-use Rattle.dbmap.specs.Shares.{shares_by}
-use Rattle.dbmap.specs.declared.grid.Grid.{Grid}
-use Rattle.dbmap.specs.declared.page.PageSquare.{PageSquare}
 use Rattle.dbmap.specs.declared.run.RunSquare.{RunSquare}
+
+-- the page that a page is reached from, where it is no root
+abbrev pub from_text : Place → List ℕ
+from_text place = option_map_or decimal (place_from place) []
+
+-- its title: the number of the page, what comes before its tree, the tree, what it is there, and its faults
+unfoldable pub page_text : PageSquare → Width → List ℕ → ShownFaults → List ℕ
+page_text s width tree f =
+    concat (codes "<rect class=\"" ∷ shade_letter (is_overflow s.place) ∷ decimal s.owner ∷ codes "\" x=\"" ∷ decimal (s.x + inset width (frame_of f))
+    ∷ extent width (frame_of f) ∷ stroke width (frame_of f) ∷ codes "><title>page " ∷ decimal s.page ∷ codes ": "
+    ∷ place_front s.fixed s.place ∷ shown_text tree 72 ∷ place_words s.place ∷ from_text s.place ∷ [])
+    ++ (faults_text f ++ codes "</title></rect>\n")
+
+-- which pages one is of
+abbrev pub outline_pages : Grid → ℕ → List ℕ
+outline_pages g place =
+    if g.run == 1 then codes " " ++ decimal (missing_of g place).0 else run_pages_text (missing_of g place).0 (missing_of g place).1
+
+abbrev pub outline_text : Grid → ℕ → List ℕ
+outline_text g place =
+    concat (codes "<rect x=\"" ∷ decimal (x_of g place) ∷ outline_tail g.width ∷ [])
+    ++ (outline_pages g place ++ codes ": not in the file</title></rect>\n")
+
+-- those from a place to another, in their group, if there are any
+abbrev pub outlines_between : Grid → ℕ × ℕ → List ℕ
+outlines_between g p =
+    if nat_lt p.0 p.1
+    then codes "<g transform=\"translate(.5,.5)\" fill=\"#FFFFFF\" stroke=\"#AAAAAA\">\n"
+    ++ (flat_map (outline_text g) (range_with_len p.0 (p.1 - p.0)) ++ codes "</g>\n")
+    else []
+
+-- those of a row
+abbrev pub outlines_text : Grid → ℕ → List ℕ
+outlines_text g row = outlines_between g (outlines_of_row g row)
 
 -- What squares are drawn by: where they are, the sizes of the file, what each page is, the start that it belongs to, the starts of the largest
 -- trees and their names by rank, the names of all trees by start, and what is shown of the faults of each square.
@@ -65,7 +98,8 @@ run_square g index = record {
   x = x_of g.grid index;
   first = (run_of g.grid index g.grid.pages).0;
   last = (run_of g.grid index g.grid.pages).1;
-  shares = shares_by g.largest g.place g.start (run_of g.grid index g.grid.pages).0 (run_of g.grid index g.grid.pages).1;
+  shares = shares_by g.largest g.place g.start (run_of g.grid index g.grid.pages).0
+      (capped_pages ((run_of g.grid index g.grid.pages).1 + 1) - (run_of g.grid index g.grid.pages).0);
 }
 
 abbrev pub run_square_text : Drawn → ℕ → List ℕ
@@ -76,9 +110,13 @@ run_square_text g index = run_text (run_square g index) g.grid.width g.names (g.
 abbrev pub square_text : Drawn → ℕ → List ℕ
 square_text g index = if g.grid.run == 1 then page_square_text g index else run_square_text g index
 
--- so many from one on
-unfoldable pub squares_text : Drawn → ℕ → ℕ → List ℕ
-squares_text g first count = flat_map (square_text g) (range_with_len first count)
+-- those from one to another
+unfoldable pub squares_from : Drawn → ℕ → ℕ → List ℕ
+squares_from g first end = flat_map (square_text g) (range_with_len first (end - first))
+
+-- those of a row
+abbrev pub squares_text : Drawn → ℕ → List ℕ
+squares_text g row = squares_from g (squares_of_row g.grid row).0 (squares_of_row g.grid row).1
 
 -- what a row begins with
 abbrev pub row_front_text : Grid → ℕ → List ℕ
@@ -87,9 +125,7 @@ row_front_text g row = concat (codes "<g transform=\"translate(" ∷ decimal 72 
 -- a row: its squares, and the outlines of missing pages
 unfoldable pub row_text : Drawn → ℕ → List ℕ
 row_text g row =
-    row_front_text g.grid row
-    ++ (squares_text g (squares_of_row g.grid row).0 ((squares_of_row g.grid row).1 - (squares_of_row g.grid row).0)
-    ++ (outlines_text g.grid row ++ codes "</g>\n"))
+    row_front_text g.grid row ++ (squares_text g row ++ (outlines_text g.grid row ++ codes "</g>\n"))
 
 unfoldable pub rows_text : Drawn → List ℕ
 rows_text g = flat_map (row_text g) (range_with_len 0 (rows g.grid))

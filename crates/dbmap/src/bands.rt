@@ -13,8 +13,8 @@ pub(crate) struct Bands {
     heights: [u32; OWNERS],
 }
 
-// What an owner of `pages` of a square's `all` pages claims that has so many bands: what its pages are worth beyond them, where a band is
-// worth a sixth of all pages. An owner without a band claims more than any that has one.
+// What an owner claims that has `pages` of a square's `all` pages and `height` bands: what its pages are worth beyond these bands, where a
+// band is worth a sixth of all pages. An owner without a band claims more than any that has one.
 fn claim(pages: u32, height: u32, all: u32) -> u64
     ensures { result ≡ claim pages height all }
 {
@@ -71,7 +71,7 @@ impl Bands {
         next
     }
 
-    /// Divides a square of so many pages: each band goes to the owner that claims most.
+    /// Divides a square of `all` pages: each band goes to the owner that claims most.
     pub(crate) fn divide(shares: &OwnerShares, all: u32) -> Bands
         ensures { result ≡ bands_of shares.now all }
     {

@@ -1,7 +1,7 @@
 // The colours of the picture. They were searched for by computation, so that any two differ for normal sight and for that of
 // deuteranopes and protanopes: tests/colours.py says by how much.
 ghost use Rattle.std.specs.Prelude.{◌≡◌};
-ghost use Rattle.dbmap.specs.Colours.{shade_letter};
+ghost use Rattle.dbmap.specs.Marks.{shade_letter};
 
 /// The colours of trees by their ranks, and of all others.
 pub(crate) const TREES: &str =

@@ -1,7 +1,7 @@
 // What changes from one square to the next.
 ghost use Rattle.std.specs.Prelude.{◌≡◌, [], None};
 ghost use Rattle.std.specs.Option.{option_map_or};
-ghost use Rattle.dbmap.specs.TreeTexts.{HoldsTreeName, shown_tree};
+ghost use Rattle.dbmap.specs.Drawings.{HoldsTreeName, shown_tree};
 
 use crate::tree_text::shown_tree;
 use dbowner::{PageTrees, TreeNames};

@@ -1,6 +1,6 @@
 // The markup of squares, by their size and their frame.
 ghost use Rattle.std.specs.Prelude.{◌≡◌, ◌≤◌};
-ghost use Rattle.dbmap.specs.Marks.{inset, outline_tail, tail};
+ghost use Rattle.dbmap.specs.Marks.{extent, inset, outline_tail, stroke};
 
 use crate::grid::Width;
 
@@ -26,32 +26,27 @@ pub(crate) fn inset(width: Width, frame: Frame) -> u32
     }
 }
 
-/// The markup of a square after its x coordinate. With a weak frame the square is painted over the inner half of the stroke.
-pub(crate) fn tail(width: Width, frame: Frame) -> &'static str
-    ensures { result.now ≡ tail width frame }
+/// The markup of the size of a square, after its x coordinate.
+pub(crate) fn extent(width: Width, frame: Frame) -> &'static str
+    ensures { result.now ≡ extent width frame }
 {
     match (width, frame) {
-        (Width::Narrow, Frame::None) => "\" width=\"27\" height=\"27\"><title>page",
-        (Width::Medium, Frame::None) => "\" width=\"13\" height=\"13\"><title>page",
-        (Width::Wide, Frame::None) => "\" width=\"6\" height=\"6\"><title>page",
-        (Width::Narrow, Frame::Weak) => {
-            "\" width=\"27\" height=\"27\" stroke=\"#BE0700\" stroke-width=\"2\" paint-order=\"stroke\"><title>page"
-        }
-        (Width::Medium, Frame::Weak) => {
-            "\" width=\"13\" height=\"13\" stroke=\"#BE0700\" stroke-width=\"2\" paint-order=\"stroke\"><title>page"
-        }
-        (Width::Wide, Frame::Weak) => {
-            "\" width=\"6\" height=\"6\" stroke=\"#BE0700\" stroke-width=\"2\" paint-order=\"stroke\"><title>page"
-        }
-        (Width::Narrow, Frame::Strong) => {
-            "\" y=\"1\" width=\"25\" height=\"25\" stroke=\"#BE0700\" stroke-width=\"4\"><title>page"
-        }
-        (Width::Medium, Frame::Strong) => {
-            "\" width=\"13\" height=\"13\" stroke=\"#BE0700\" stroke-width=\"2\"><title>page"
-        }
-        (Width::Wide, Frame::Strong) => {
-            "\" width=\"6\" height=\"6\" stroke=\"#BE0700\" stroke-width=\"2\"><title>page"
-        }
+        (Width::Narrow, Frame::Strong) => "\" y=\"1\" width=\"25\" height=\"25\"",
+        (Width::Narrow, _) => "\" width=\"27\" height=\"27\"",
+        (Width::Medium, _) => "\" width=\"13\" height=\"13\"",
+        (Width::Wide, _) => "\" width=\"6\" height=\"6\"",
+    }
+}
+
+/// The markup of its frame, after that. With a weak frame the square is painted over the inner half of the stroke.
+pub(crate) fn stroke(width: Width, frame: Frame) -> &'static str
+    ensures { result.now ≡ stroke width frame }
+{
+    match (frame, width) {
+        (Frame::None, _) => "",
+        (Frame::Weak, _) => " stroke=\"#BE0700\" stroke-width=\"2\" paint-order=\"stroke\"",
+        (Frame::Strong, Width::Narrow) => " stroke=\"#BE0700\" stroke-width=\"4\"",
+        (Frame::Strong, _) => " stroke=\"#BE0700\" stroke-width=\"2\"",
     }
 }
 

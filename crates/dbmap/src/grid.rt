@@ -38,14 +38,27 @@ fn width_of(squares: u32) -> Width
     }
 }
 
+// The smallest power of two of pages that keeps the squares of a file within [`MOST_SQUARES`]: it has fewer than 2^32 pages.
+fn run_for(pages: u32) -> u32
+    ensures run { result ≡ grids.run_for pages }
+    ensures some { 1 ≤ result }
+{
+    let mut run = 1u32;
+    for _ in 0..18u32 {
+        if pages.div_ceil(run) > MOST_SQUARES {
+            run *= 2;
+        }
+    }
+    run
+}
+
 impl Grid {
-    /// The grid of a file of `pages` pages whose header states `stated`. Each square covers the smallest power
-    /// of two of pages that keeps the squares of the file within [`MOST_SQUARES`].
+    /// The grid of a file of `pages` pages whose header states `stated`.
     pub(crate) fn new(pages: u32, stated: u32) -> Grid
         ensures { result ≡ grids.grid_of pages stated }
     {
-        let run = pages.div_ceil(MOST_SQUARES).next_power_of_two();
-        let squares = pages.div_ceil(run.max(1));
+        let run = run_for(pages);
+        let squares = pages.div_ceil(run);
         Grid {
             pages,
             stated,

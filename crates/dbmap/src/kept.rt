@@ -6,10 +6,8 @@ ghost use Rattle.dbformat.specs.Reference.{Reference};
 ghost use Rattle.dbformat.specs.declared.FaultCode.{FaultCode};
 ghost use Rattle.dbentries.specs.Listed.{listed_entries};
 ghost use Rattle.dbentries.specs.Lists.{ListsAll};
-ghost use Rattle.dbmap.specs.FaultNotes.{AreNoted, is_marked_faulty, is_marked_framed};
-ghost use Rattle.dbmap.specs.Faults.{is_weak};
-ghost use Rattle.dbmap.specs.FramedPages.{first_faults, framed};
-ghost use Rattle.dbmap.specs.KeptFaults.{HasNoted, HearsNone};
+ghost use Rattle.dbmap.specs.KeptFaults.{AreNoted, HasNoted, HearsNone, is_marked_faulty, is_marked_framed};
+ghost use Rattle.dbmap.specs.Faults.{first_faults, framed, is_weak};
 
 use crate::draw_state::DrawState;
 use crate::fault_notes::FaultNotes;
@@ -37,7 +35,7 @@ pub(crate) struct KeptFaults<A: Allocator = Global> {
 }
 
 impl<A: Allocator + Copy> KeptFaults<A> {
-    // What is kept of a file of this shape before its run. Each part is one growth, but for the notes, which are two.
+    // What is kept of a file of this shape before its run. Each part is one growth, but for the notes, which are three.
     pub(crate) fn new_in(alloc: A, geometry: &Geometry) -> Result<KeptFaults<A>, AllocError>
         requires { IsInRange geometry.now }
         ensures { IfOk result (HearsNone geometry.now.pages) }

@@ -1,11 +1,10 @@
 // The names of the largest trees.
 ghost use Rattle.std.specs.Prelude.{◌≡◌, ◌≤◌, length, map};
-ghost use Rattle.dbmap.specs.TreeTexts.{shown_tree};
+ghost use Rattle.dbmap.specs.Drawings.{shown_tree};
 ghost use Rattle.dbxml.specs.Pieces.{piece_text};
-ghost use Rattle.dbmap.specs.Owners.{tree_starts};
 ghost use Rattle.dbmap.specs.Runs.{name_text};
 
-use crate::tally::{COLOURED, RankedTree};
+use crate::tally::COLOURED;
 use crate::tree_text::shown_tree;
 use arrayvec::ArrayVec;
 use dbowner::TreeNames;
@@ -20,15 +19,15 @@ pub(crate) struct Labels {
 
 impl Labels {
     /// The names of these trees.
-    pub(crate) fn new<A: Allocator>(names: &TreeNames<'_, A>, largest: &[RankedTree]) -> Labels
+    pub(crate) fn new<A: Allocator>(names: &TreeNames<'_, A>, largest: &[u32]) -> Labels
         requires { length largest.now ≤ 12 }
-        ensures { result.names.items ≡ map (shown_tree names.now.encoding names.now.roots.now.rows) (tree_starts largest.now) }
+        ensures { result.names.items ≡ map (shown_tree names.now.encoding names.now.roots.now.rows) largest.now }
     {
         let mut labels = Labels {
             names: ArrayVec::new(),
         };
-        for tree in largest {
-            let _ = labels.names.try_push(shown_tree(names, tree.start));
+        for start in largest {
+            let _ = labels.names.try_push(shown_tree(names, *start));
         }
         labels
     }

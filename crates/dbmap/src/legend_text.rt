@@ -1,18 +1,18 @@
 // The texts of the legend: its columns, and a line for each owner of pages.
 ghost use Rattle.std.specs.Prelude.{◌≡◌, ◌≤◌, [], length};
 ghost use Rattle.dbxml.specs.Pieces.{piece_text};
-ghost use Rattle.dbmap.specs.Canvas.{Draws};
+ghost use Rattle.dblines.specs.Writing.{Wrote};
 ghost use Rattle.dbmap.specs.Legends as legends;
 ghost use Rattle.dbmap.specs.Sizes.{tenths_of_percent};
 
-use crate::canvas::Canvas;
 use crate::colours::{MISSING, shade_letter};
 use crate::labels::Labels;
-use crate::legend::{LINE, Label, LegendLine, NAME_WIDTH, no_overflow};
+use crate::legend::{LINE, Label, LegendLine, NAME_WIDTH};
 use crate::owner_shares::Share;
 use crate::size::size;
+use dblines::Writer;
 use dbsource::{Geometry, Out};
-use dbxml::Piece;
+use dbxml::{Piece, WritePieces};
 
 // Where the columns of numbers end.
 const PAGES: u32 = 580;
@@ -25,75 +25,51 @@ const SHARE: u32 = 860;
 
 /// Draws the lines.
 pub(crate) fn draw_lines<O: Out>(
-    canvas: &mut Canvas<'_, O>,
+    writer: &mut Writer<'_, O>,
     labels: &Labels,
     geometry: Geometry,
     lines: &[LegendLine],
 )
-    requires { length lines.now ≤ 18 }
-    ensures { Draws O.held canvas.old (legends.lines_from labels.now.names.items geometry 2 lines.now) canvas.new }
+    requires { length lines.now ≤ 19 }
+    ensures { Wrote O.held writer.old (legends.lines_from labels.now.names.items geometry 2 lines.now) writer.new }
 {
     for (index, line) in lines.iter().enumerate() {
-        draw_line(canvas, labels, geometry, line, (index as u32 + 2) * LINE);
+        draw_line(writer, labels, geometry, line, (index as u32 + 2) * LINE);
     }
 }
 
 // Draws a line: its swatch, what it is of, and the numbers.
 fn draw_line<O: Out>(
-    canvas: &mut Canvas<'_, O>,
+    writer: &mut Writer<'_, O>,
     labels: &Labels,
     geometry: Geometry,
     line: &LegendLine,
     y: u32,
 )
-    ensures { Draws O.held canvas.old (legends.line_text labels.now.names.items geometry line.now y) canvas.new }
+    ensures { Wrote O.held writer.old (legends.line_text labels.now.names.items geometry line.now y) writer.new }
 {
-    draw_swatch(canvas, line.label, line.share, y);
-    draw_label(canvas, labels, line.label, y);
-    draw_share(canvas, line.share, geometry, y);
-    draw_percent(canvas, line.share.pages, geometry.pages, y);
-}
-
-/// Draws the line of the pages that the header states and the file does not have, if there are any.
-pub(crate) fn draw_missing<O: Out>(
-    canvas: &mut Canvas<'_, O>,
-    missing: u32,
-    geometry: Geometry,
-    y: u32,
-)
-    ensures { Draws O.held canvas.old (legends.missing_legend_text missing geometry y) canvas.new }
-{
-    if missing != 0 {
-        draw_some_missing(canvas, missing, geometry, y);
-    }
-}
-
-// Draws that line.
-fn draw_some_missing<O: Out>(canvas: &mut Canvas<'_, O>, missing: u32, geometry: Geometry, y: u32)
-    ensures { Draws O.held canvas.old (legends.missing_legend_line missing geometry y) canvas.new }
-{
-    draw_box(canvas, 72, y.saturating_sub(10), MISSING, false);
-    draw_label_front(canvas, y);
-    canvas.draw(&[Piece::Markup("stated in the header, not in the file</text>")]);
-    draw_share(canvas, no_overflow(missing), geometry, y);
-    canvas.draw(&[Piece::Markup("\n")]);
+    draw_swatch(writer, line.label, line.share, y);
+    draw_label(writer, labels, line.label, y);
+    draw_share(writer, line.share, geometry, y);
+    draw_percent(writer, line, geometry.pages, y);
+    writer.write_all(&[Piece::Markup("\n")]);
 }
 
 // Draws two texts, one after the other, so that they end at x.
 fn draw_right<'p, O: Out>(
-    canvas: &mut Canvas<'_, O>,
+    writer: &mut Writer<'_, O>,
     x: u32,
     y: u32,
     text: Piece<'p>,
     end: Piece<'p>,
 )
-    ensures { Draws O.held canvas.old (legends.right_text x y (piece_text text.entry) (piece_text end.entry)) canvas.new }
+    ensures { Wrote O.held writer.old (legends.right_text x y (piece_text text.entry) (piece_text end.entry)) writer.new }
 {
-    canvas.draw(&[
+    writer.write_all(&[
         Piece::Markup("<text x=\""),
-        Piece::Number(u64::from(x)),
+        Piece::Number(x as u64),
         Piece::Markup("\" y=\""),
-        Piece::Number(u64::from(y)),
+        Piece::Number(y as u64),
         Piece::Markup("\" text-anchor=\"end\">"),
         text,
         end,
@@ -102,67 +78,66 @@ fn draw_right<'p, O: Out>(
 }
 
 // Draws a number in a column.
-fn draw_number<O: Out>(canvas: &mut Canvas<'_, O>, x: u32, y: u32, number: u32)
-    ensures { Draws O.held canvas.old (legends.number_text x y number) canvas.new }
+fn draw_number<O: Out>(writer: &mut Writer<'_, O>, x: u32, y: u32, number: u32)
+    ensures { Wrote O.held writer.old (legends.number_text x y number) writer.new }
 {
-    draw_right(
-        canvas,
-        x,
-        y,
-        Piece::Number(u64::from(number)),
-        Piece::Markup(""),
-    );
+    let number = Piece::Number(number as u64);
+    draw_right(writer, x, y, number, Piece::Markup(""));
 }
 
 // Draws the heading of a column.
-fn draw_column<O: Out>(canvas: &mut Canvas<'_, O>, x: u32, name: &'static str)
-    ensures { Draws O.held canvas.old (legends.right_text x 20 name.now []) canvas.new }
+fn draw_column<O: Out>(writer: &mut Writer<'_, O>, x: u32, name: &'static str)
+    ensures { Wrote O.held writer.old (legends.right_text x 20 name.now []) writer.new }
 {
-    draw_right(canvas, x, LINE, Piece::Markup(name), Piece::Markup(""));
+    draw_right(writer, x, LINE, Piece::Markup(name), Piece::Markup(""));
 }
 
 /// Begins the legend, and draws the headings of its columns.
-pub(crate) fn draw_columns<O: Out>(canvas: &mut Canvas<'_, O>, bottom: u64)
-    ensures { Draws O.held canvas.old (legends.columns_text bottom) canvas.new }
+pub(crate) fn draw_columns<O: Out>(writer: &mut Writer<'_, O>, bottom: u64)
+    ensures { Wrote O.held writer.old (legends.columns_text bottom) writer.new }
 {
-    canvas.draw(&[
+    writer.write_all(&[
         Piece::Markup("<g transform=\"translate(0 "),
         Piece::Number(bottom),
         Piece::Markup(")\">\n<g fill=\"#666666\">"),
     ]);
-    draw_column(canvas, PAGES, "pages");
-    draw_column(canvas, OVERFLOW, "of them overflow");
-    draw_column(canvas, SIZE, "size");
-    draw_column(canvas, SHARE, "%");
-    canvas.draw(&[Piece::Markup("</g>\n")]);
+    draw_column(writer, PAGES, "pages");
+    draw_column(writer, OVERFLOW, "of them overflow");
+    draw_column(writer, SIZE, "size");
+    draw_column(writer, SHARE, "%");
+    writer.write_all(&[Piece::Markup("</g>\n")]);
 }
 
 // Draws the number of pages of a line, of overflow pages among them, and the size of all.
-fn draw_share<O: Out>(canvas: &mut Canvas<'_, O>, share: Share, geometry: Geometry, y: u32)
-    ensures { Draws O.held canvas.old (legends.share_text share geometry.page_size y) canvas.new }
+fn draw_share<O: Out>(writer: &mut Writer<'_, O>, share: Share, geometry: Geometry, y: u32)
+    ensures { Wrote O.held writer.old (legends.share_text share geometry.page_size y) writer.new }
 {
-    draw_number(canvas, PAGES, y, share.pages);
-    draw_overflow(canvas, share.overflow, y);
+    draw_number(writer, PAGES, y, share.pages);
+    draw_overflow(writer, share.overflow, y);
     let (tenths, unit) = size(share.pages, geometry.page_size);
-    draw_right(canvas, SIZE, y, Piece::Tenths(tenths), Piece::Markup(unit));
+    draw_right(writer, SIZE, y, Piece::Tenths(tenths), Piece::Markup(unit));
 }
 
 // Draws the number of overflow pages, if there are any.
-fn draw_overflow<O: Out>(canvas: &mut Canvas<'_, O>, pages: u32, y: u32)
-    ensures { Draws O.held canvas.old (legends.overflow_text pages y) canvas.new }
+fn draw_overflow<O: Out>(writer: &mut Writer<'_, O>, pages: u32, y: u32)
+    ensures { Wrote O.held writer.old (legends.overflow_text pages y) writer.new }
 {
     if pages != 0 {
-        draw_number(canvas, OVERFLOW, y, pages);
+        draw_number(writer, OVERFLOW, y, pages);
     }
 }
 
-// Draws the share of all pages that a line has.
-fn draw_percent<O: Out>(canvas: &mut Canvas<'_, O>, pages: u32, all: u32, y: u32)
-    ensures { Draws O.held canvas.old (legends.percent_text pages all y) canvas.new }
+// Draws the share of all pages that a line has; missing pages are none of them.
+fn draw_percent<O: Out>(writer: &mut Writer<'_, O>, line: &LegendLine, all: u32, y: u32)
+    ensures { Wrote O.held writer.old (legends.percent_text line.now.label line.now.share.pages all y) writer.new }
 {
-    let tenths = Piece::Tenths(tenths_of_percent(pages, all));
-    draw_right(canvas, SHARE, y, tenths, Piece::Markup(""));
-    canvas.draw(&[Piece::Markup("\n")]);
+    match line.label {
+        Label::Missing => {}
+        _ => {
+            let tenths = Piece::Tenths(tenths_of_percent(line.share.pages, all));
+            draw_right(writer, SHARE, y, tenths, Piece::Markup(""));
+        }
+    }
 }
 
 // A share of all pages, in tenths of a per cent.
@@ -174,17 +149,17 @@ fn tenths_of_percent(pages: u32, all: u32) -> u64
 }
 
 // Draws a square of the legend, in the colour of the owner with a number, or in the shade of overflow pages.
-fn draw_box<O: Out>(canvas: &mut Canvas<'_, O>, x: u32, y: u32, owner: usize, is_overflow: bool)
-    ensures { Draws O.held canvas.old (legends.box_text x y owner is_overflow) canvas.new }
+fn draw_box<O: Out>(writer: &mut Writer<'_, O>, x: u32, y: u32, owner: usize, is_overflow: bool)
+    ensures { Wrote O.held writer.old (legends.box_text x y owner is_overflow) writer.new }
 {
-    canvas.draw(&[
+    writer.write_all(&[
         Piece::Markup("<rect class=\""),
         Piece::Markup(shade_letter(is_overflow)),
         Piece::Number(owner as u64),
         Piece::Markup("\" x=\""),
-        Piece::Number(u64::from(x)),
+        Piece::Number(x as u64),
         Piece::Markup("\" y=\""),
-        Piece::Number(u64::from(y)),
+        Piece::Number(y as u64),
         Piece::Markup("\" width=\"12\" height=\"12\" stroke=\"#888888\" stroke-width=\".5\"/>"),
     ]);
 }
@@ -199,29 +174,30 @@ fn owner_of(label: Label) -> Option<usize>
         Label::Freelist => Some(13),
         Label::Fixed => Some(14),
         Label::Nobody => Some(15),
+        Label::Missing => Some(MISSING),
         Label::Strong | Label::Weak => None,
     }
 }
 
 // Draws the colour of a line, or its frame.
-fn draw_swatch<O: Out>(canvas: &mut Canvas<'_, O>, label: Label, share: Share, y: u32)
-    ensures { Draws O.held canvas.old (legends.swatch_text label share y) canvas.new }
+fn draw_swatch<O: Out>(writer: &mut Writer<'_, O>, label: Label, share: Share, y: u32)
+    ensures { Wrote O.held writer.old (legends.swatch_text label share y) writer.new }
 {
     match owner_of(label) {
         Some(owner) => {
-            draw_shade(canvas, owner, share.overflow, y);
-            draw_box(canvas, 72, y.saturating_sub(10), owner, false);
+            draw_shade(writer, owner, share.overflow, y);
+            draw_box(writer, 72, y.saturating_sub(10), owner, false);
         }
-        None => draw_frame(canvas, label, y),
+        None => draw_frame(writer, label, y),
     }
 }
 
 // Draws the shade of an owner's overflow pages, if there are any.
-fn draw_shade<O: Out>(canvas: &mut Canvas<'_, O>, owner: usize, overflow: u32, y: u32)
-    ensures { Draws O.held canvas.old (legends.shade_text owner overflow y) canvas.new }
+fn draw_shade<O: Out>(writer: &mut Writer<'_, O>, owner: usize, overflow: u32, y: u32)
+    ensures { Wrote O.held writer.old (legends.shade_text owner overflow y) writer.new }
 {
     if overflow != 0 {
-        draw_box(canvas, 88, y.saturating_sub(10), owner, true);
+        draw_box(writer, 88, y.saturating_sub(10), owner, true);
     }
 }
 
@@ -236,12 +212,12 @@ fn frame_end(label: Label) -> &'static str
 }
 
 // Draws the frame of a line.
-fn draw_frame<O: Out>(canvas: &mut Canvas<'_, O>, label: Label, y: u32)
-    ensures { Draws O.held canvas.old (legends.legend_frame_text label y) canvas.new }
+fn draw_frame<O: Out>(writer: &mut Writer<'_, O>, label: Label, y: u32)
+    ensures { Wrote O.held writer.old (legends.legend_frame_text label y) writer.new }
 {
-    canvas.draw(&[
+    writer.write_all(&[
         Piece::Markup("<rect x=\"73\" y=\""),
-        Piece::Number(u64::from(y.saturating_sub(9))),
+        Piece::Number(y.saturating_sub(9) as u64),
         Piece::Markup(
             "\" width=\"10\" height=\"10\" fill=\"#FFFFFF\" stroke=\"#BE0700\" stroke-width=\"",
         ),
@@ -249,57 +225,47 @@ fn draw_frame<O: Out>(canvas: &mut Canvas<'_, O>, label: Label, y: u32)
     ]);
 }
 
-// Begins the text of a line.
-fn draw_label_front<O: Out>(canvas: &mut Canvas<'_, O>, y: u32)
-    ensures { Draws O.held canvas.old (legends.label_front y) canvas.new }
+// Draws the text of a line: what it is of.
+fn draw_label<O: Out>(writer: &mut Writer<'_, O>, labels: &Labels, label: Label, y: u32)
+    ensures { Wrote O.held writer.old (legends.label_text labels.now.names.items label y) writer.new }
 {
-    canvas.draw(&[
+    writer.write_all(&[
         Piece::Markup("<text x=\"108\" y=\""),
-        Piece::Number(u64::from(y)),
+        Piece::Number(y as u64),
         Piece::Markup("\">"),
     ]);
+    draw_subject(writer, labels, label);
+    writer.write_all(&[Piece::Markup(words(label)), Piece::Markup("</text>")]);
 }
 
-// Draws the text of a line: what it is of.
-fn draw_label<O: Out>(canvas: &mut Canvas<'_, O>, labels: &Labels, label: Label, y: u32)
-    ensures { Draws O.held canvas.old (legends.label_text labels.now.names.items label y) canvas.new }
+// Draws the name of a tree and its root page, or how many other trees there are.
+fn draw_subject<O: Out>(writer: &mut Writer<'_, O>, labels: &Labels, label: Label)
+    ensures { Wrote O.held writer.old (legends.label_subject labels.now.names.items label) writer.new }
 {
-    draw_label_front(canvas, y);
     match label {
-        Label::Tree(rank, root) => draw_tree(canvas, labels, rank, root),
-        Label::Others(count) => draw_others(canvas, count),
-        Label::Freelist => canvas.draw(&[Piece::Markup("freelist</text>")]),
-        Label::Fixed => canvas.draw(&[Piece::Markup("pointer map and lock-byte page</text>")]),
-        Label::Nobody => canvas.draw(&[Piece::Markup(
-            "in no tree, overflow chain or freelist</text>",
-        )]),
-        Label::Strong => canvas.draw(&[Piece::Markup(
-            "of the first 100 injuries of explain, of their causes, or named by them</text>",
-        )]),
-        Label::Weak => canvas.draw(&[Piece::Markup("other pages with a fault</text>")]),
+        Label::Tree(rank, root) => writer.write_all(&[
+            labels.piece(rank, NAME_WIDTH),
+            Piece::Markup(" (root page "),
+            Piece::Number(root as u64),
+        ]),
+        Label::Others(count) => writer.write_all(&[Piece::Number(count as u64)]),
+        _ => {}
     }
 }
 
-// Draws the number of the other trees.
-fn draw_others<O: Out>(canvas: &mut Canvas<'_, O>, count: u32)
-    ensures { Draws O.held canvas.old (legends.other_trees_text count) canvas.new }
+// What comes after that.
+fn words(label: Label) -> &'static str
+    ensures { result.now ≡ legends.label_words label }
 {
-    let trees = if count == 1 {
-        " other tree</text>"
-    } else {
-        " other trees</text>"
-    };
-    canvas.draw(&[Piece::Number(u64::from(count)), Piece::Markup(trees)]);
-}
-
-// Draws the name of a tree, and its root page.
-fn draw_tree<O: Out>(canvas: &mut Canvas<'_, O>, labels: &Labels, rank: usize, root: u32)
-    ensures { Draws O.held canvas.old (legends.named_tree_text labels.now.names.items rank root) canvas.new }
-{
-    canvas.draw(&[
-        labels.piece(rank, NAME_WIDTH),
-        Piece::Markup(" (root page "),
-        Piece::Number(u64::from(root)),
-        Piece::Markup(")</text>"),
-    ]);
+    match label {
+        Label::Tree(_, _) => ")",
+        Label::Others(1) => " other tree",
+        Label::Others(_) => " other trees",
+        Label::Freelist => "freelist",
+        Label::Fixed => "pointer map and lock-byte page",
+        Label::Nobody => "in no tree, overflow chain or freelist",
+        Label::Strong => "of the first 100 injuries of explain, of their causes, or named by them",
+        Label::Weak => "other pages with a fault",
+        Label::Missing => "stated in the header, not in the file",
+    }
 }

@@ -22,8 +22,6 @@
 #![tactic(auto)]
 
 mod bands;
-mod bits;
-mod canvas;
 mod colours;
 mod draw_state;
 mod fault_notes;
@@ -32,7 +30,6 @@ mod frame;
 mod grid;
 mod kept;
 mod labels;
-mod layout;
 mod legend;
 mod legend_text;
 mod listed;

@@ -1,8 +1,8 @@
 // The pages of the entries that are listed, and of their causes.
 ghost use Rattle.std.specs.Prelude.{◌≡◌, ℕ, ◌++◌, List};
 ghost use Rattle.dbformat.specs.declared.FaultCode.{FaultCode};
-ghost use Rattle.dbmap.specs.FramedPages.{cause_page, fault_value_page, framed, framed_of, leading, page_of_value};
-ghost use Rattle.dbmap.specs.FaultNotes.{AreNoted};
+ghost use Rattle.dbmap.specs.Faults.{cause_page, fault_value_page, framed, framed_of, leading, page_of_value};
+ghost use Rattle.dbmap.specs.KeptFaults.{AreNoted};
 
 use crate::fault_notes::FaultNotes;
 use dbentries::{Cause, Entry, Reported};

@@ -1,8 +1,7 @@
 // The reporter of a map.
 ghost use Rattle.std.specs.Prelude.{◌≡◌};
-ghost use Rattle.dbformat.specs.Report.{verdict_of};
 ghost use Rattle.dbwalk.specs.Rows.{row_of};
-ghost use Rattle.dbmap.specs.MapReporter.{Adds, Notes, map_held};
+ghost use Rattle.dbmap.specs.MapRuns.{Adds, Notes, map_held};
 
 use crate::kept::KeptFaults;
 use crate::maps::put_map;
@@ -60,18 +59,11 @@ impl<'a, A: Allocator, O: Out> MapReporter<'a, A, O> {
     {
         self.kept.state.trees.note(row);
     }
-
-    // What was found.
-    fn verdict(&self) -> Verdict
-        ensures { result ≡ verdict_of self.now.faults }
-    {
-        Verdict::of(self.faults)
-    }
 }
 
 impl<A: Allocator, O: Out> Reporter for MapReporter<'_, A, O> {
     ghost use Rattle.dbscan.specs.Notices.{CutsNever};
-    ghost use Rattle.dbmap.specs.MapReporter.{Hears, map_held};
+    ghost use Rattle.dbmap.specs.MapRuns.{Hears, map_held};
 
     ghost hears = { Hears };
 
@@ -98,7 +90,7 @@ impl<A: Allocator, O: Out> Reporter for MapReporter<'_, A, O> {
 }
 
 impl<A: Allocator, O: Out> Finish<Desk<A>> for MapReporter<'_, A, O> {
-    ghost use Rattle.dbmap.specs.MapReporter.{LeavesMap};
+    ghost use Rattle.dbmap.specs.MapRuns.{LeavesMap};
 
     ghost leaves = { LeavesMap O.held };
 
@@ -109,6 +101,6 @@ impl<A: Allocator, O: Out> Finish<Desk<A>> for MapReporter<'_, A, O> {
     ) -> Result<Verdict, RunError> {
         self.kept.listing.look_at_lost(desk, source)?;
         put_map(self.name, desk, self.kept, self.faults, self.out)?;
-        Ok(self.verdict())
+        Ok(Verdict::of(self.faults))
     }
 }

@@ -3,19 +3,18 @@ ghost use Rattle.std.specs.Prelude.{◌≡◌};
 ghost use Rattle.dbscan.specs.DeskSizes.{DeskFitsInMemory};
 ghost use Rattle.dbreport.specs.Runs.{FailsOnce, IsUntouched};
 ghost use Rattle.dbmap.specs.Drawings.{PutsPicture};
-ghost use Rattle.dbmap.specs.MapPictures.{stated_of};
+ghost use Rattle.dbmap.specs.Pictures.{stated_of};
 ghost use Rattle.dbmap.specs.Maps.{HasMap, ToldFilesAreDrawn};
 
-use crate::canvas::Canvas;
 use crate::grid::Grid;
 use crate::kept::KeptFaults;
 use crate::labels::Labels;
-use crate::layout::Layout;
 use crate::legend::Legend;
 use crate::map_reporter::MapReporter;
 use crate::picture::{Heading, draw_picture};
 use crate::squares::Squares;
 use dbformat::Verdict;
+use dblines::Writer;
 use dbowner::TreeNames;
 use dbreport::{Job, run_job};
 use dbscan::{Desk, run_over};
@@ -51,18 +50,23 @@ pub(crate) fn put_map<A: Allocator, O: Out>(
     kept.note_listed();
     kept.state.begin();
     kept.tally.count(desk.marks(), &kept.state.trees);
-    let largest = kept.tally.largest();
+    let largest = kept.tally.largest(desk.roots().len() + 1);
     let names = TreeNames {
         encoding: desk.header().encoding(),
         roots: desk.roots(),
     };
     let geometry = desk.geometry();
-    let layout = Layout {
-        grid: Grid::new(geometry.pages, stated_pages(desk.header())),
-        labels: Labels::new(&names, largest.as_slice()),
-    };
+    let grid = Grid::new(geometry.pages, stated_pages(desk.header()));
+    let labels = Labels::new(&names, largest.as_slice());
     let (strong, weak) = kept.framed(geometry.pages);
-    let legend = Legend::new(&kept.tally, largest.as_slice(), desk.roots(), strong, weak);
+    let legend = Legend::new(
+        &kept.tally,
+        largest.as_slice(),
+        desk.roots(),
+        strong,
+        weak,
+        grid.missing(),
+    );
     let heading = Heading {
         file: shown_file(name),
         geometry,
@@ -74,17 +78,12 @@ pub(crate) fn put_map<A: Allocator, O: Out>(
         names,
         notes: &kept.notes,
         largest,
+        grid,
+        labels,
     };
-    let mut canvas = Canvas::new(out);
-    draw_picture(
-        &mut canvas,
-        &heading,
-        &squares,
-        &layout,
-        &mut kept.state,
-        &legend,
-    );
-    canvas.end()
+    let mut writer = Writer::new(out);
+    draw_picture(&mut writer, &heading, &squares, &mut kept.state, &legend);
+    writer.end()
 }
 
 // The job of `map`: the name of the file, and the Out that its picture goes to.
@@ -96,7 +95,7 @@ struct MapJob<'a, O> {
 
 impl<A: Allocator + Copy, O: Out> Job<A, Desk<A>> for MapJob<'_, O> {
     ghost use Rattle.dbreport.specs.OneOut.{EndsOne, FailsAtWrite, LeavesOne};
-    ghost use Rattle.dbmap.specs.MapJobs.{HasRoom, Says, out_of};
+    ghost use Rattle.dbmap.specs.MapRuns.{HasRoom, Says, out_of};
 
     type Kept = KeptFaults<A>;
 
@@ -147,7 +146,7 @@ pub fn map_in<A: Allocator + Copy, S: Source, O: Out>(
 /// refers, once, for what it looks like.
 ///
 /// It keeps, beside what a check does, a number of four bytes and two bits for each page, eight bytes for each square, the counts of
-/// 65538 starts, and 100 entries of faults. Each of these is one growth, before the first page is read.
+/// 65538 starts, and 100 entries of faults. Each of these is one growth, and the two bits are two, before the first page is read.
 ///
 /// # Errors
 ///

@@ -1,8 +1,6 @@
 // Whose the pages of a square are.
-ghost use Rattle.std.specs.Prelude.{◌≡◌, ◌≤◌, ◌<◌, ◌==◌, ℕ, length, if◌then◌else◌};
-ghost use Rattle.dbmap.specs.OwnerShares.{has_pages, is_shaded, no_share, owner_number, share_of};
-ghost use Rattle.dbmap.specs.Owners.{is_overflow};
-ghost use Rattle.dbmap.specs.Shares.{share_sum, one_page};
+ghost use Rattle.std.specs.Prelude.{◌≡◌, ◌≤◌, ◌<◌};
+ghost use Rattle.dbmap.specs.Owners.{has_pages, is_overflow, is_shaded, no_shares, one_page, owner_counted, owner_number, share_of, share_sum};
 
 use dbowner::Place;
 
@@ -83,8 +81,7 @@ pub(crate) struct OwnerShares {
 impl OwnerShares {
     /// Shares of no page.
     pub(crate) fn new() -> OwnerShares
-        ensures none { (number : ℕ) → number < 16 → share_of result number ≡ no_share }
-        ensures many { length result.shares ≡ 16 }
+        ensures { result ≡ no_shares }
     {
         OwnerShares {
             shares: [Share::default(); OWNERS],
@@ -93,9 +90,7 @@ impl OwnerShares {
 
     /// Counts a page.
     pub(crate) fn add(&mut self, owner: Owner, is_overflow: bool)
-        ensures counted { (number : ℕ) → number < 16
-            → share_of self.new number ≡ (if owner_number owner == number then one_page is_overflow (share_of self.old number) else share_of self.old number) }
-        ensures many { length self.old.shares ≡ 16 → length self.new.shares ≡ 16 }
+        ensures { self.new ≡ owner_counted owner is_overflow self.old }
     {
         let share = &mut self.shares[owner.number()];
         share.add(is_overflow);

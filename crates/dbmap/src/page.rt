@@ -1,21 +1,21 @@
 // The square of a page.
 ghost use Rattle.std.specs.Prelude.{◌≡◌, ◌≤◌};
+ghost use Rattle.dblines.specs.Writing.{Wrote};
 ghost use Rattle.dbxml.specs.Pieces.{piece_text};
-ghost use Rattle.dbmap.specs.Canvas.{Draws};
 ghost use Rattle.dbmap.specs.Faults.{shown};
-ghost use Rattle.dbmap.specs.Pages.{from_text, page_text};
+ghost use Rattle.dbmap.specs.Squares.{from_text, page_text};
 
-use crate::canvas::Canvas;
 use crate::colours::shade_letter;
 use crate::faults::SquareFaults;
-use crate::frame::{inset, tail};
+use crate::frame::{extent, inset, stroke};
 use crate::grid::Width;
 use crate::owner_shares::is_overflow;
 use crate::squares::NAME_WIDTH;
 use dbformat::Fixed;
+use dblines::Writer;
 use dbowner::{Place, place_from, place_front, place_words};
 use dbsource::Out;
-use dbxml::{Piece, Shown};
+use dbxml::{Piece, Shown, WritePieces};
 
 /// The square of a page.
 #[derive(Clone, Copy)]
@@ -35,7 +35,7 @@ fn from_piece(place: Place) -> Piece<'static>
     ensures { piece_text result ≡ from_text place }
 {
     match place_from(place) {
-        Some(from) => Piece::Number(u64::from(from)),
+        Some(from) => Piece::Number(from as u64),
         None => Piece::Markup(""),
     }
 }
@@ -45,31 +45,32 @@ impl PageSquare {
     /// tree, the tree, the page that it is reached from, and the codes of its faults.
     pub(crate) fn draw<O: Out>(
         &self,
-        canvas: &mut Canvas<'_, O>,
+        writer: &mut Writer<'_, O>,
         width: Width,
         tree: &Shown,
         faults: SquareFaults,
     )
         requires { self.now.x ≤ 3556 }
-        ensures { Draws O.held canvas.old (page_text self.now width tree.now (shown faults.bits)) canvas.new }
+        ensures { Wrote O.held writer.old (page_text self.now width tree.now (shown faults.bits)) writer.new }
     {
         let frame = faults.frame();
-        canvas.draw(&[
+        writer.write_all(&[
             Piece::Markup("<rect class=\""),
             Piece::Markup(shade_letter(is_overflow(self.place))),
             Piece::Number(self.owner as u64),
             Piece::Markup("\" x=\""),
-            Piece::Number(u64::from(self.x + inset(width, frame))),
-            Piece::Markup(tail(width, frame)),
-            Piece::Markup(" "),
-            Piece::Number(u64::from(self.page)),
+            Piece::Number((self.x + inset(width, frame)) as u64),
+            Piece::Markup(extent(width, frame)),
+            Piece::Markup(stroke(width, frame)),
+            Piece::Markup("><title>page "),
+            Piece::Number(self.page as u64),
             Piece::Markup(": "),
             Piece::Markup(place_front(self.fixed, self.place)),
             Piece::Shown(tree, NAME_WIDTH),
             Piece::Markup(place_words(self.place)),
             from_piece(self.place),
         ]);
-        faults.draw(canvas);
-        canvas.draw(&[Piece::Markup("</title></rect>\n")]);
+        faults.draw(writer);
+        writer.write_all(&[Piece::Markup("</title></rect>\n")]);
     }
 }

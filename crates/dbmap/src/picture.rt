@@ -1,21 +1,20 @@
 // The picture as a whole.
 ghost use Rattle.std.specs.Prelude.{◌≡◌};
-ghost use Rattle.dbmap.specs.Canvas.{Draws};
-ghost use Rattle.dbmap.specs.Drawings.{DrawsAs, drawn_from};
+ghost use Rattle.std.specs.List.{flat_map, range_with_len};
+ghost use Rattle.dblines.specs.Writing.{Wrote};
+ghost use Rattle.dbmap.specs.Drawings.{drawn_from, DrawsAs, HoldsTreeName};
 ghost use Rattle.dbmap.specs.Pictures as pictures;
 ghost use Rattle.dbmap.specs.Pictures.{picture_text};
-ghost use Rattle.dbmap.specs.TreeTexts.{HoldsTreeName};
 
-use crate::canvas::Canvas;
 use crate::colours::{OTHERS, OVERFLOW, TREES};
 use crate::draw_state::DrawState;
 use crate::grid::Grid;
-use crate::layout::Layout;
 use crate::legend::Legend;
 use crate::size::size;
 use crate::squares::{NAME_WIDTH, Squares};
+use dblines::Writer;
 use dbsource::{Geometry, Out};
-use dbxml::{Piece, Shown};
+use dbxml::{Piece, Shown, WritePieces};
 use std::alloc::Allocator;
 
 /// Where each row begins; its first page is written before it.
@@ -34,10 +33,10 @@ pub(crate) struct Heading {
 
 // Draws what begins the picture: its size, its accessible name, the hatching, and a white background.
 #[tactic(auto, unfolding(crate::specs::Pictures::head_text))]
-fn draw_head<O: Out>(canvas: &mut Canvas<'_, O>, file: &Shown, height: u64)
-    ensures { Draws O.held canvas.old (pictures.head_text file.now height) canvas.new }
+fn draw_head<O: Out>(writer: &mut Writer<'_, O>, file: &Shown, height: u64)
+    ensures { Wrote O.held writer.old (pictures.head_text file.now height) writer.new }
 {
-    canvas.draw(&[
+    writer.write_all(&[
         Piece::Markup("<svg xmlns=\"http://www.w3.org/2000/svg\" width=\""),
         Piece::Number(WIDTH),
         Piece::Markup("\" height=\""),
@@ -64,13 +63,13 @@ fn draw_head<O: Out>(canvas: &mut Canvas<'_, O>, file: &Shown, height: u64)
 }
 
 // Draws how many faults there are.
-fn draw_faults<O: Out>(canvas: &mut Canvas<'_, O>, faults: u64)
-    ensures { Draws O.held canvas.old (pictures.fault_count_text faults) canvas.new }
+fn draw_faults<O: Out>(writer: &mut Writer<'_, O>, faults: u64)
+    ensures { Wrote O.held writer.old (pictures.fault_count_text faults) writer.new }
 {
     match faults {
-        0 => canvas.draw(&[Piece::Markup("no fault")]),
-        1 => canvas.draw(&[Piece::Markup("1 fault")]),
-        _ => canvas.draw(&[Piece::Number(faults), Piece::Markup(" faults")]),
+        0 => writer.write_all(&[Piece::Markup("no fault")]),
+        1 => writer.write_all(&[Piece::Markup("1 fault")]),
+        _ => writer.write_all(&[Piece::Number(faults), Piece::Markup(" faults")]),
     }
 }
 
@@ -86,14 +85,14 @@ fn pages_word(pages: u32) -> &'static str
 }
 
 // Draws how many pages there are, and of which size.
-fn draw_size<O: Out>(canvas: &mut Canvas<'_, O>, geometry: Geometry)
-    ensures { Draws O.held canvas.old (pictures.size_text geometry) canvas.new }
+fn draw_size<O: Out>(writer: &mut Writer<'_, O>, geometry: Geometry)
+    ensures { Wrote O.held writer.old (pictures.size_text geometry) writer.new }
 {
     let (tenths, unit) = size(geometry.pages, geometry.page_size);
-    canvas.draw(&[
-        Piece::Number(u64::from(geometry.pages)),
+    writer.write_all(&[
+        Piece::Number(geometry.pages as u64),
         Piece::Markup(pages_word(geometry.pages)),
-        Piece::Number(u64::from(geometry.page_size)),
+        Piece::Number(geometry.page_size as u64),
         Piece::Markup(" bytes ("),
         Piece::Tenths(tenths),
         Piece::Markup(unit),
@@ -102,50 +101,52 @@ fn draw_size<O: Out>(canvas: &mut Canvas<'_, O>, geometry: Geometry)
 }
 
 // Draws how many pages a square covers.
-fn draw_unit<O: Out>(canvas: &mut Canvas<'_, O>, run: u32)
-    ensures { Draws O.held canvas.old (pictures.unit_text run) canvas.new }
+fn draw_unit<O: Out>(writer: &mut Writer<'_, O>, run: u32)
+    ensures { Wrote O.held writer.old (pictures.unit_text run) writer.new }
 {
     if run == 1 {
-        canvas.draw(&[Piece::Markup("; a square is a page, in the order of the file</text>\n")]);
+        writer.write_all(&[Piece::Markup(
+            "; a square is a page, in the order of the file</text>\n",
+        )]);
     } else {
-        canvas.draw(&[
+        writer.write_all(&[
             Piece::Markup("; a square is "),
-            Piece::Number(u64::from(run)),
+            Piece::Number(run as u64),
             Piece::Markup(" pages, in the order of the file</text>\n"),
         ]);
     }
 }
 
 // Draws the two lines above the squares.
-fn draw_heading<O: Out>(canvas: &mut Canvas<'_, O>, heading: &Heading, run: u32)
-    ensures { Draws O.held canvas.old (pictures.heading_text heading.now run) canvas.new }
+fn draw_heading<O: Out>(writer: &mut Writer<'_, O>, heading: &Heading, run: u32)
+    ensures { Wrote O.held writer.old (pictures.heading_text heading.now run) writer.new }
 {
-    canvas.draw(&[
+    writer.write_all(&[
         Piece::Markup("<text x=\"20\" y=\"26\" font-size=\"16\" font-weight=\"bold\">"),
         Piece::Shown(&heading.file, NAME_WIDTH),
         Piece::Markup("</text>\n<text x=\"20\" y=\"46\" fill=\"#444444\">"),
     ]);
-    draw_size(canvas, heading.geometry);
-    draw_faults(canvas, heading.faults);
-    draw_unit(canvas, run);
+    draw_size(writer, heading.geometry);
+    draw_faults(writer, heading.faults);
+    draw_unit(writer, run);
 }
 
 // Draws the first page of a row before it; where rows are narrow, of each second one.
-fn draw_row_name<O: Out>(canvas: &mut Canvas<'_, O>, grid: &Grid, row: u32)
-    ensures { Draws O.held canvas.old (pictures.row_label_text grid.now row) canvas.new }
+fn draw_row_name<O: Out>(writer: &mut Writer<'_, O>, grid: &Grid, row: u32)
+    ensures { Wrote O.held writer.old (pictures.row_label_text grid.now row) writer.new }
 {
     if grid.side() > 10 || row % 2 == 0 {
-        draw_page_of_row(canvas, grid, row);
+        draw_page_of_row(writer, grid, row);
     }
 }
 
 // Draws the first page of a row.
-fn draw_page_of_row<O: Out>(canvas: &mut Canvas<'_, O>, grid: &Grid, row: u32)
-    ensures { Draws O.held canvas.old (pictures.page_of_row_text grid.now row) canvas.new }
+fn draw_page_of_row<O: Out>(writer: &mut Writer<'_, O>, grid: &Grid, row: u32)
+    ensures { Wrote O.held writer.old (pictures.page_of_row_text grid.now row) writer.new }
 {
-    canvas.draw(&[
+    writer.write_all(&[
         Piece::Markup("<text x=\"64\" y=\""),
-        Piece::Number(grid.top_of(row) + u64::from(grid.side() / 2 + 3)),
+        Piece::Number(grid.top_of(row) + (grid.side() / 2 + 3) as u64),
         Piece::Markup("\">"),
         Piece::Number(grid.page_of_row(row)),
         Piece::Markup("</text>\n"),
@@ -153,43 +154,44 @@ fn draw_page_of_row<O: Out>(canvas: &mut Canvas<'_, O>, grid: &Grid, row: u32)
 }
 
 // Draws the first pages of the first `rows` rows.
-fn draw_names<O: Out>(canvas: &mut Canvas<'_, O>, grid: &Grid, rows: u32)
-    ensures { Draws O.held canvas.old (pictures.names_from grid.now 0 rows) canvas.new }
+fn draw_names<O: Out>(writer: &mut Writer<'_, O>, grid: &Grid, rows: u32)
+    ensures { Wrote O.held writer.old (flat_map (pictures.row_label_text grid.now) (range_with_len 0 rows)) writer.new }
 {
     for row in 0..rows {
-        draw_row_name(canvas, grid, row);
+        draw_row_name(writer, grid, row);
     }
 }
 
 // Draws the first pages of all rows.
-fn draw_row_names<O: Out>(canvas: &mut Canvas<'_, O>, grid: &Grid)
-    ensures { Draws O.held canvas.old (pictures.row_names grid.now) canvas.new }
+fn draw_row_names<O: Out>(writer: &mut Writer<'_, O>, grid: &Grid)
+    ensures { Wrote O.held writer.old (pictures.row_names grid.now) writer.new }
 {
-    canvas.draw(&[Piece::Markup("<g font-size=\"10\" fill=\"#666666\" text-anchor=\"end\">\n")]);
-    draw_names(canvas, grid, grid.rows());
-    canvas.draw(&[Piece::Markup("</g>\n")]);
+    writer.write_all(&[Piece::Markup(
+        "<g font-size=\"10\" fill=\"#666666\" text-anchor=\"end\">\n",
+    )]);
+    draw_names(writer, grid, grid.rows());
+    writer.write_all(&[Piece::Markup("</g>\n")]);
 }
 
 /// Draws the picture.
 pub(crate) fn draw_picture<A: Allocator, O: Out>(
-    canvas: &mut Canvas<'_, O>,
+    writer: &mut Writer<'_, O>,
     heading: &Heading,
     squares: &Squares<'_, A>,
-    layout: &Layout,
     state: &mut DrawState<A>,
     legend: &Legend,
 )
     requires { HoldsTreeName squares.now.names state.old }
-    ensures { DrawsAs O.held squares.now.marks.now state.old.trees.known (drawn_from squares.now layout.now)
-        (λ g. picture_text heading.now g legend.now.lines.items) canvas.old canvas.new }
+    ensures { DrawsAs O.held squares.now.marks.now state.old.trees.known (drawn_from squares.now)
+        (λ g. picture_text heading.now g legend.now.lines.items) writer.old writer.new }
 {
-    let grid = &layout.grid;
+    let grid = &squares.grid;
     let bottom = grid.top_of(grid.rows());
-    let height = u64::from(legend.height(grid.missing()));
-    draw_head(canvas, &heading.file, bottom + height);
-    draw_heading(canvas, heading, grid.run);
-    draw_row_names(canvas, grid);
-    squares.draw(canvas, layout, state);
-    legend.draw(canvas, heading.geometry, layout, bottom);
-    canvas.draw(&[Piece::Markup("</svg>\n")]);
+    let height = u64::from(legend.height());
+    draw_head(writer, &heading.file, bottom + height);
+    draw_heading(writer, heading, grid.run);
+    draw_row_names(writer, grid);
+    squares.draw(writer, state);
+    legend.draw(writer, heading.geometry, &squares.labels, bottom);
+    writer.write_all(&[Piece::Markup("</svg>\n")]);
 }

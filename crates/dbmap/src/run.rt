@@ -1,21 +1,22 @@
 // The square of a run of pages.
 ghost use Rattle.std.specs.Prelude.{◌≡◌, ◌<◌, ◌&&◌, not, true};
-ghost use Rattle.dbmap.specs.Canvas.{Draws};
+ghost use Rattle.dblines.specs.Writing.{Wrote};
 ghost use Rattle.dbmap.specs.Faults.{frame_of, shown};
-ghost use Rattle.dbmap.specs.Runs.{band_frame, band_text, bands_from, frame_above, frame_below, mixed_text, run_pages, run_text};
-ghost use Rattle.dbmap.specs.Runs.{owner_mark, owner_text, owners_from, plain_text, title_text, words};
+ghost use Rattle.dbmap.specs.Marks.{run_pages_text};
+ghost use Rattle.dbmap.specs.Runs.{band_frame, band_text, bands_from, frame_above, frame_below, mixed_text, owner_mark, owner_text, owners_from, plain_text};
+ghost use Rattle.dbmap.specs.Runs.{run_pages, run_text, title_text, words};
 
 use crate::bands::Bands;
-use crate::canvas::Canvas;
 use crate::colours::shade_letter;
 use crate::faults::SquareFaults;
-use crate::frame::{BAND_FRAME, Frame, tail};
+use crate::frame::{BAND_FRAME, Frame, extent, stroke};
 use crate::grid::Width;
 use crate::labels::Labels;
 use crate::owner_shares::{OWNERS, OwnerShares};
 use crate::squares::NAME_WIDTH;
+use dblines::Writer;
 use dbsource::Out;
-use dbxml::Piece;
+use dbxml::{Piece, WritePieces};
 
 /// The square of a run of pages, the first to the last.
 #[derive(Clone, Copy)]
@@ -38,153 +39,151 @@ impl RunSquare {
     /// Draws it: in one fill where all its pages have one owner, and else in bands.
     pub(crate) fn draw<O: Out>(
         &self,
-        canvas: &mut Canvas<'_, O>,
+        writer: &mut Writer<'_, O>,
         width: Width,
         labels: &Labels,
         faults: SquareFaults,
     )
-        ensures { Draws O.held canvas.old (run_text self.now width labels.now.names.items (shown faults.bits)) canvas.new }
+        ensures { Wrote O.held writer.old (run_text self.now width labels.now.names.items (shown faults.bits)) writer.new }
     {
         let all = self.pages();
         let first = Bands::none().next(&self.shares, all);
         if self.shares.share(first).pages == all {
-            self.draw_plain(canvas, width, labels, faults, first);
+            self.draw_plain(writer, width, labels, faults, first);
         } else {
-            self.draw_mixed(canvas, labels, faults, &Bands::divide(&self.shares, all));
+            self.draw_mixed(writer, labels, faults, &Bands::divide(&self.shares, all));
         }
     }
 
     // Draws the square of pages that all have the owner with this number.
     fn draw_plain<O: Out>(
         &self,
-        canvas: &mut Canvas<'_, O>,
+        writer: &mut Writer<'_, O>,
         width: Width,
         labels: &Labels,
         faults: SquareFaults,
         owner: usize,
     )
         requires { owner < 16 }
-        ensures { Draws O.held canvas.old (plain_text self.now width labels.now.names.items (shown faults.bits) owner) canvas.new }
+        ensures { Wrote O.held writer.old (plain_text self.now width labels.now.names.items (shown faults.bits) owner) writer.new }
     {
-        canvas.draw(&[
+        let frame = faults.frame();
+        writer.write_all(&[
             Piece::Markup("<rect class=\""),
             Piece::Markup(shade_letter(self.shares.share(owner).is_overflow())),
             Piece::Number(owner as u64),
             Piece::Markup("\" x=\""),
-            Piece::Number(u64::from(self.x)),
-            Piece::Markup(tail(width, faults.frame())),
+            Piece::Number(self.x as u64),
+            Piece::Markup(extent(width, frame)),
+            Piece::Markup(stroke(width, frame)),
+            Piece::Markup("><title>page"),
         ]);
-        self.draw_title(canvas, labels, faults);
-        canvas.draw(&[Piece::Markup("</title></rect>\n")]);
+        self.draw_title(writer, labels, faults);
+        writer.write_all(&[Piece::Markup("</title></rect>\n")]);
     }
 
     // Draws the square of pages of several owners, divided in bands.
     fn draw_mixed<O: Out>(
         &self,
-        canvas: &mut Canvas<'_, O>,
+        writer: &mut Writer<'_, O>,
         labels: &Labels,
         faults: SquareFaults,
         bands: &Bands,
     )
-        ensures { Draws O.held canvas.old (mixed_text self.now labels.now.names.items (shown faults.bits) bands.now) canvas.new }
+        ensures { Wrote O.held writer.old (mixed_text self.now labels.now.names.items (shown faults.bits) bands.now) writer.new }
     {
         let frame = faults.frame();
-        canvas.draw(&[Piece::Markup("<g><title>page")]);
-        self.draw_title(canvas, labels, faults);
-        canvas.draw(&[Piece::Markup("</title>")]);
-        self.draw_frame_below(canvas, frame);
-        self.draw_bands(canvas, bands);
-        self.draw_frame_above(canvas, frame);
-        canvas.draw(&[Piece::Markup("</g>\n")]);
+        writer.write_all(&[Piece::Markup("<g><title>page")]);
+        self.draw_title(writer, labels, faults);
+        writer.write_all(&[Piece::Markup("</title>")]);
+        self.draw_frame_below(writer, frame);
+        self.draw_bands(writer, bands);
+        self.draw_frame_above(writer, frame);
+        writer.write_all(&[Piece::Markup("</g>\n")]);
     }
 
     // Draws the frame of a square in bands.
-    fn draw_frame<O: Out>(&self, canvas: &mut Canvas<'_, O>)
-        ensures { Draws O.held canvas.old (band_frame self.now.x) canvas.new }
+    fn draw_frame<O: Out>(&self, writer: &mut Writer<'_, O>)
+        ensures { Wrote O.held writer.old (band_frame self.now.x) writer.new }
     {
-        canvas.draw(&[
+        writer.write_all(&[
             Piece::Markup(BAND_FRAME),
-            Piece::Number(u64::from(self.x)),
+            Piece::Number(self.x as u64),
             Piece::Markup("\" fill=\"none\"/>"),
         ]);
     }
 
     // Draws what lies below the bands: a weak frame, so that they cover its inner half.
-    fn draw_frame_below<O: Out>(&self, canvas: &mut Canvas<'_, O>, frame: Frame)
-        ensures { Draws O.held canvas.old (frame_below frame self.now.x) canvas.new }
+    fn draw_frame_below<O: Out>(&self, writer: &mut Writer<'_, O>, frame: Frame)
+        ensures { Wrote O.held writer.old (frame_below frame self.now.x) writer.new }
     {
         match frame {
-            Frame::Weak => self.draw_frame(canvas),
+            Frame::Weak => self.draw_frame(writer),
             Frame::None | Frame::Strong => {}
         }
     }
 
     // Draws what lies above them: a strong frame.
-    fn draw_frame_above<O: Out>(&self, canvas: &mut Canvas<'_, O>, frame: Frame)
-        ensures { Draws O.held canvas.old (frame_above frame self.now.x) canvas.new }
+    fn draw_frame_above<O: Out>(&self, writer: &mut Writer<'_, O>, frame: Frame)
+        ensures { Wrote O.held writer.old (frame_above frame self.now.x) writer.new }
     {
         match frame {
-            Frame::Strong => self.draw_frame(canvas),
+            Frame::Strong => self.draw_frame(writer),
             Frame::None | Frame::Weak => {}
         }
     }
 
     // Draws its bands, each owner's below those before it.
-    fn draw_bands<O: Out>(&self, canvas: &mut Canvas<'_, O>, bands: &Bands)
-        ensures { Draws O.held canvas.old (bands_from self.now bands.now 0 16 0) canvas.new }
+    fn draw_bands<O: Out>(&self, writer: &mut Writer<'_, O>, bands: &Bands)
+        ensures { Wrote O.held writer.old (bands_from self.now bands.now 0 16 0) writer.new }
     {
         let mut top = 0u32;
         for number in 0..OWNERS {
             let height = bands.height(number);
-            self.draw_band(canvas, number, top, height);
+            self.draw_band(writer, number, top, height);
             top = top.saturating_add(height);
         }
     }
 
     // Draws the band of an owner, if it has one.
-    fn draw_band<O: Out>(&self, canvas: &mut Canvas<'_, O>, number: usize, top: u32, height: u32)
+    fn draw_band<O: Out>(&self, writer: &mut Writer<'_, O>, number: usize, top: u32, height: u32)
         requires { number < 16 }
-        ensures { Draws O.held canvas.old (band_text self.now number top height) canvas.new }
+        ensures { Wrote O.held writer.old (band_text self.now number top height) writer.new }
     {
         if height == 0 {
             return;
         }
         let is_overflow = self.shares.share(number).is_overflow();
-        canvas.draw(&[
+        writer.write_all(&[
             Piece::Markup("<rect class=\""),
             Piece::Markup(shade_letter(is_overflow)),
             Piece::Number(number as u64),
             Piece::Markup("\" x=\""),
-            Piece::Number(u64::from(self.x)),
+            Piece::Number(self.x as u64),
             Piece::Markup("\" y=\""),
-            Piece::Number(u64::from(top)),
+            Piece::Number(top as u64),
             Piece::Markup("\" width=\"6\" height=\""),
-            Piece::Number(u64::from(height)),
+            Piece::Number(height as u64),
             Piece::Markup("\"/>"),
         ]);
     }
 
     // Draws the title after its first word: its pages, the number of each owner's, and the codes of their faults.
-    fn draw_title<O: Out>(&self, canvas: &mut Canvas<'_, O>, labels: &Labels, faults: SquareFaults)
-        ensures { Draws O.held canvas.old (title_text self.now labels.now.names.items (shown faults.bits)) canvas.new }
+    fn draw_title<O: Out>(&self, writer: &mut Writer<'_, O>, labels: &Labels, faults: SquareFaults)
+        ensures { Wrote O.held writer.old (title_text self.now labels.now.names.items (shown faults.bits)) writer.new }
     {
-        canvas.draw(&[
-            Piece::Markup("s "),
-            Piece::Number(u64::from(self.first)),
-            Piece::Markup(" to "),
-            Piece::Number(u64::from(self.last)),
-        ]);
-        self.draw_owners(canvas, labels);
-        faults.draw(canvas);
+        draw_run_pages(writer, self.first, self.last);
+        self.draw_owners(writer, labels);
+        faults.draw(writer);
     }
 
     // Draws the number of each owner's pages.
-    fn draw_owners<O: Out>(&self, canvas: &mut Canvas<'_, O>, labels: &Labels)
-        ensures { Draws O.held canvas.old (owners_from self.now.shares labels.now.names.items true 0 16) canvas.new }
+    fn draw_owners<O: Out>(&self, writer: &mut Writer<'_, O>, labels: &Labels)
+        ensures { Wrote O.held writer.old (owners_from self.now.shares labels.now.names.items true 0 16) writer.new }
     {
         let mut is_first = true;
         for number in 0..OWNERS {
-            self.draw_owner(canvas, labels, is_first, number);
+            self.draw_owner(writer, labels, is_first, number);
             is_first = is_still_first(is_first, self.shares.has(number));
         }
     }
@@ -192,24 +191,36 @@ impl RunSquare {
     // Draws the number of an owner's pages, and who it is, if it has any.
     fn draw_owner<O: Out>(
         &self,
-        canvas: &mut Canvas<'_, O>,
+        writer: &mut Writer<'_, O>,
         labels: &Labels,
         is_first: bool,
         number: usize,
     )
         requires { number < 16 }
-        ensures { Draws O.held canvas.old (owner_text self.now.shares labels.now.names.items is_first number) canvas.new }
+        ensures { Wrote O.held writer.old (owner_text self.now.shares labels.now.names.items is_first number) writer.new }
     {
         if !self.shares.has(number) {
             return;
         }
-        canvas.draw(&[
+        writer.write_all(&[
             Piece::Markup(owner_mark(is_first)),
-            Piece::Number(u64::from(self.shares.share(number).pages)),
+            Piece::Number(self.shares.share(number).pages as u64),
             Piece::Markup(words(number)),
             labels.piece(number, NAME_WIDTH),
         ]);
     }
+}
+
+/// Draws the pages of a run, after the word.
+pub(crate) fn draw_run_pages<O: Out>(writer: &mut Writer<'_, O>, first: u32, last: u32)
+    ensures { Wrote O.held writer.old (run_pages_text first last) writer.new }
+{
+    writer.write_all(&[
+        Piece::Markup("s "),
+        Piece::Number(first as u64),
+        Piece::Markup(" to "),
+        Piece::Number(last as u64),
+    ]);
 }
 
 // Whether no owner has had a page, where none had before one that has or not.

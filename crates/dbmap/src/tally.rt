@@ -1,15 +1,12 @@
 // How many pages each tree has.
-ghost use Rattle.std.specs.Prelude.{◌≡◌, ◌≤◌, ℕ, List, map, replicate, vec_len};
+ghost use Rattle.std.specs.Prelude.{◌≡◌, ◌==◌, ◌≤◌, ℕ, List, position, replicate, vec_len};
 ghost use Rattle.dbformat.specs.Reference.{Reference};
-ghost use Rattle.dbmap.specs.OwnerShares.{no_share};
-ghost use Rattle.dbmap.specs.LegendLines.{other_trees, others_share};
-ghost use Rattle.dbmap.specs.Owners.{IsOf, rank_of, tree_starts};
-ghost use Rattle.dbmap.specs.Tallies.{IsNone, IsPageTallyOf, largest_trees, left_pages, next_tree, page_counted, pages_at, share_at};
-ghost use Rattle.dbmap.specs.Tallies.{start_counted, tree_at, used_counted};
+ghost use Rattle.dbmap.specs.Owners.{IsOf, no_share, rank_of};
+ghost use Rattle.dbmap.specs.Tallies.{largest_trees, left_pages, next_start, none_tallied, others, page_counted, pages_at, share_at, start_counted, tally_of};
+ghost use Rattle.dbmap.specs.Tallies.{used_counted};
 
 use crate::owner_shares::{Share, is_overflow};
 use arrayvec::ArrayVec;
-use dbformat::FREELIST_START;
 use dbowner::{PageTrees, Place, place_of};
 use dbscan::STARTS;
 use dbwalk::Marks;
@@ -19,19 +16,10 @@ use std::marker::Model;
 /// How many trees have a colour of their own.
 pub(crate) const COLOURED: usize = 12;
 
-/// A tree, by its start.
-#[derive(Clone, Copy, Default)]
-pub(crate) struct RankedTree {
-    pub(crate) start: u32,
-    pub(crate) share: Share,
-}
-
 /// How many pages each start has, how many have a fixed use, and how many are nobody's.
 #[derive(Drop)]
 pub struct PageTally<A: Allocator = Global> {
     starts: Vec<Share, A>,
-    // One more than the greatest start of a tree that has a page.
-    trees: u32,
     fixed: u32,
     nobody: u32,
 }
@@ -64,11 +52,11 @@ impl<A: Allocator> PageTally<A> {
     /// # Errors
     ///
     /// [`AllocError`] where the growth was refused.
+    #[tactic(auto, unfolding(crate::specs::Tallies::start_count))]
     pub(crate) fn new_in(alloc: A) -> Result<PageTally<A>, AllocError> {
         let starts = Vec::from_elem(alloc, Share::default(), STARTS)?;
         Ok(PageTally {
             starts,
-            trees: 0,
             fixed: 0,
             nobody: 0,
         })
@@ -76,17 +64,16 @@ impl<A: Allocator> PageTally<A> {
 
     // Sets all counts to 0.
     fn clear(&mut self)
-        ensures { IsNone self.new }
+        ensures { self.new ≡ none_tallied }
     {
         zero(&mut self.starts);
-        self.trees = 0;
         self.fixed = 0;
         self.nobody = 0;
     }
 
     /// Counts all pages, and none that was counted before.
     pub(crate) fn count<B: Allocator>(&mut self, marks: &Marks<B>, trees: &PageTrees<B>)
-        ensures { (file : List ℕ) (V : List Reference) → IsOf marks.now trees.now.known file V → IsPageTallyOf file V self.new }
+        ensures { (file : List ℕ) (V : List Reference) → IsOf marks.now trees.now.known file V → self.new ≡ tally_of file V }
     {
         self.clear();
         for index in 0..marks.pages() {
@@ -121,13 +108,10 @@ impl<A: Allocator> PageTally<A> {
         ensures { self.new ≡ start_counted start is_overflow self.old }
     {
         let index = start as usize;
-        if index < STARTS {
+        if index < self.starts.len() {
             let mut share = self.starts[index];
             share.add(is_overflow);
             self.starts[index] = share;
-        }
-        if start < FREELIST_START {
-            self.trees = self.trees.max(start + 1);
         }
     }
 
@@ -155,19 +139,9 @@ impl<A: Allocator> PageTally<A> {
         self.nobody
     }
 
-    // The tree of a start.
-    fn tree(&self, start: u32) -> RankedTree
-        ensures { result ≡ tree_at self.now.starts start }
-    {
-        RankedTree {
-            start,
-            share: self.share(start),
-        }
-    }
-
-    // How many pages a tree has that is not among some, and else 0.
-    fn left(&self, taken: &[RankedTree], start: u32) -> u32
-        ensures { result ≡ left_pages (pages_at self.now.starts) (tree_starts taken.now) start }
+    // How many pages a start has that is not among some, and else 0.
+    fn left(&self, taken: &[u32], start: u32) -> u32
+        ensures { result ≡ left_pages (pages_at self.now.starts) taken.now start }
     {
         if rank_of(taken, Some(start)) == COLOURED {
             self.share(start).pages
@@ -176,55 +150,46 @@ impl<A: Allocator> PageTally<A> {
         }
     }
 
-    // Of the trees that are not among some, the one with the most pages; of several the one with the least start.
-    fn next(&self, taken: &[RankedTree]) -> Option<RankedTree>
-        ensures { result ≡ next_tree self.now.starts (tree_starts taken.now) self.now.trees }
+    // Of the first `trees` starts that are not among some, the one with the most pages; of several the least.
+    fn next(&self, taken: &[u32], trees: u32) -> u32
+        ensures { result ≡ next_start (pages_at self.now.starts) trees taken.now }
     {
         let mut next = 0;
         let mut most = self.left(taken, 0);
-        for start in 0..self.trees {
+        for start in 0..trees {
             let pages = self.left(taken, start);
             if pages > most {
                 next = start;
                 most = pages;
             }
         }
-        if most == 0 {
-            None
-        } else {
-            Some(self.tree(next))
-        }
+        next
     }
 
-    /// The largest trees, by how many pages they have, and then by their starts.
-    pub(crate) fn largest(&self) -> ArrayVec<RankedTree, COLOURED>
-        ensures largest { tree_starts result.items ≡ largest_trees (pages_at self.now.starts) self.now.trees 12 }
-        ensures shares { result.items ≡ map (tree_at self.now.starts) (tree_starts result.items) }
+    /// The starts of the largest trees, by how many pages they have, and then by their starts. Trees have the first `trees` starts.
+    pub(crate) fn largest(&self, trees: u32) -> ArrayVec<u32, COLOURED>
+        ensures { result.items ≡ largest_trees (pages_at self.now.starts) trees 12 }
     {
         let mut largest = ArrayVec::new();
         for _ in 0..COLOURED {
-            match self.next(largest.as_slice()) {
-                Some(tree) => {
-                    let _ = largest.try_push(tree);
-                }
-                None => {}
+            let next = self.next(largest.as_slice(), trees);
+            if self.left(largest.as_slice(), next) != 0 {
+                largest.push(next);
             }
         }
         largest
     }
 
-    /// How many trees there are beside some, and what they have.
-    pub(crate) fn others(&self, largest: &[RankedTree]) -> (u32, Share)
-        ensures trees { result.0 ≡ other_trees (share_at self.now.starts) (tree_starts largest.now) self.now.trees }
-        ensures share { result.1 ≡ others_share (share_at self.now.starts) (tree_starts largest.now) self.now.trees }
+    /// How many trees with pages there are beside the largest, and what they have.
+    pub(crate) fn others(&self, largest: &[u32], trees: u32) -> (u32, Share)
+        ensures { result ≡ others self.now.starts largest.now trees }
     {
         let mut count = 0u32;
         let mut all = Share::default();
-        for start in 0..self.trees {
-            let share = self.share(start);
-            if share.pages != 0 && rank_of(largest, Some(start)) == COLOURED {
+        for start in 0..trees {
+            if self.left(largest, start) != 0 {
                 count = count.saturating_add(1);
-                all.join(share);
+                all.join(self.share(start));
             }
         }
         (count, all)
@@ -232,14 +197,22 @@ impl<A: Allocator> PageTally<A> {
 }
 
 /// The rank of a start among the largest trees, or that of all others.
-pub(crate) fn rank_of(largest: &[RankedTree], start: Option<u32>) -> usize
-    ensures rank { result ≡ rank_of (tree_starts largest.now) start }
+pub(crate) fn rank_of(largest: &[u32], start: Option<u32>) -> usize
+    ensures rank { result ≡ rank_of largest.now start }
     ensures most { result ≤ 12 }
 {
-    for (rank, tree) in largest.iter().enumerate() {
-        if Some(tree.start) == start && rank < COLOURED {
-            return rank;
-        }
+    match start {
+        Some(start) => match place_among(largest, start) {
+            Some(rank) => rank.min(COLOURED),
+            None => COLOURED,
+        },
+        None => COLOURED,
     }
-    COLOURED
+}
+
+// The place of a start among some.
+fn place_among(starts: &[u32], start: u32) -> Option<usize>
+    ensures { result ≡ position (λ other. other == start) starts.now }
+{
+    starts.iter().position(|other| *other == start)
 }

@@ -1,6 +1,6 @@
 // The text of a tree, as a picture shows it.
 ghost use Rattle.std.specs.Prelude.{◌≡◌};
-ghost use Rattle.dbmap.specs.TreeTexts.{shown_tree};
+ghost use Rattle.dbmap.specs.Drawings.{shown_tree};
 
 use dbowner::TreeNames;
 use dbxml::{KeptBytes, Shown};

@@ -3,7 +3,9 @@
 //!
 //! ```
 //! let name = shown_file("a & b.db");
-//! put_all(out, &[Piece::Markup("<title>"), Piece::Shown(&name, 40), Piece::Markup("</title>")])?;
+//! let mut writer = Writer::new(out);
+//! writer.write_all(&[Piece::Markup("<title>"), Piece::Shown(&name, 40), Piece::Markup("</title>")]);
+//! writer.end()?;
 //! ```
 #![tactic(auto)]
 
@@ -12,7 +14,8 @@ mod pieces;
 mod shown;
 mod xml;
 
+pub use dblines::Writer;
 pub use dbsource::{Out, WriteFailed};
 pub use kept_bytes::KeptBytes;
-pub use pieces::{Piece, put_all};
+pub use pieces::{Piece, WritePieces};
 pub use shown::{Shown, shown_file};

@@ -1,11 +1,13 @@
 // What an XML text is put together of.
 ghost use Rattle.std.specs.Prelude.{◌≡◌, [], decimal, OnOk};
+ghost use Rattle.dblines.specs.Writing.{Wrote};
 ghost use Rattle.dbsource.specs.Outs.{Puts};
 ghost use Rattle.dbxml.specs.Pieces.{piece_text, pieces_text, tenths_text};
 ghost use Rattle.dbxml.specs.Puts.{Takes};
 
 use crate::shown::{Shown, put_shown};
 use arrayvec::ArrayVec;
+use dblines::Writer;
 use dbsource::{Out, WriteFailed};
 use itoa::Buffer;
 
@@ -90,12 +92,24 @@ fn add_piece<O: Out>(
     }
 }
 
-/// Puts some pieces, one after another, many at a time.
-///
-/// # Errors
-///
-/// [`WriteFailed`] where the Out failed: it took a beginning of their texts.
-pub fn put_all<O: Out>(out: &mut O, pieces: &[Piece<'_>]) -> Result<(), WriteFailed>
+/// A writer of pieces.
+pub trait WritePieces {
+    /// Writes some pieces, one after another, many at a time.
+    fn write_all(&mut self, pieces: &[Piece<'_>]);
+}
+
+impl<O: Out> WritePieces for Writer<'_, O> {
+    fn write_all(&mut self, pieces: &[Piece<'_>])
+        ensures { Wrote O.held self.old (pieces_text pieces.now) self.new }
+    {
+        if !self.has_failed {
+            self.has_failed = put_all(self.out, pieces).is_err();
+        }
+    }
+}
+
+// Puts some pieces. Where the Out fails, it takes a beginning of their texts.
+fn put_all<O: Out>(out: &mut O, pieces: &[Piece<'_>]) -> Result<(), WriteFailed>
     ensures { Puts result (O.held out.old) (O.held out.new) (pieces_text pieces.now) }
 {
     let mut waiting = ArrayVec::new();

@@ -104,11 +104,13 @@ const TALLY: usize = TREES + 65538 * 8;
 // 8 bytes for each of 7 squares. The heap gives units of 16 bytes.
 const SQUARES: usize = TALLY + 64;
 
-// And two bits a page.
-const MARKED: usize = SQUARES + 16;
+// And a bit a page for those with a fault, and one for those with the strong frame.
+const FAULTY: usize = SQUARES + 16;
+
+const FRAMED: usize = FAULTY + 16;
 
 // 264 bytes for each of 100 entries.
-const ENTRIES: usize = MARKED + 100 * 264;
+const ENTRIES: usize = FRAMED + 100 * 264;
 
 // No bits for pages that are zeros: one word of them.
 const ZEROS: usize = ENTRIES + 16;
@@ -127,7 +129,8 @@ fn each_growth_is_refused(rt: HostRuntime) -> Result<(), Fail> {
         TREES,
         TALLY,
         SQUARES,
-        MARKED,
+        FAULTY,
+        FRAMED,
         ENTRIES,
         ZEROS,
         ROOTS,

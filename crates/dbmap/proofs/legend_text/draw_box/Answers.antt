@@ -1,4 +1,4 @@
 use Rattle.dbmap.proofs.legend_text.draw_box.Goals as goal
 
 pub returns : goal.returns
-returns g c = rw (c.shade_letter.ensures, c.from.ensures, c.from-2.ensures) at c.draw.ensures
+returns g c = rw (c.shade_letter.ensures) at c.write_all.ensures

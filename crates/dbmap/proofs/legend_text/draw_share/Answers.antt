@@ -1,9 +1,9 @@
 use Rattle.dbmap.specs.Legends.{share_text}
-use Rattle.dbmap.proofs.Drawing.{draws_then}
+use Rattle.dblines.proofs.Writing.{wrote_then}
 use Rattle.dbmap.proofs.legend_text.draw_share.Goals as goal
 
 pub returns : goal.returns
 unfolding share_text
 returns g c =
     let size = rw (c.size-tenths.ensures.tenths, c.size-tenths.ensures.unit) at c.draw_right.ensures in
-    draws_then c.draw_number.ensures (draws_then c.draw_overflow.ensures size)
+    wrote_then c.draw_number.ensures (wrote_then c.draw_overflow.ensures size)

@@ -1,8 +1,8 @@
 use Rattle.std.proofs.Common.{◌≡◌, ℕ, ◌+◌, ◌<◌, ◌++◌, [], ◌∷◌, List, length, take, get_or, refl, sym, ap, subst, ◌∙◌, append_assoc}
 use Rattle.std.proofs.lemmas.List.{take_all, take_more}
 use Rattle.dbentries.specs.declared.entry.Entry.{Entry}
-use Rattle.dbmap.specs.FramedPages.{framed, framed_of, leading}
-use Rattle.dbmap.specs.FaultNotes.{AreNoted}
+use Rattle.dbmap.specs.Faults.{framed, framed_of, leading}
+use Rattle.dbmap.specs.KeptFaults.{AreNoted}
 use Rattle.dbmap.proofs.listed.note_listed.Goals as goal
 
 framed_push : (xs : List Entry) (e : Entry) → framed (leading xs) ++ framed_of e.first ≡ framed (leading (xs ++ e ∷ []))

@@ -1,7 +1,7 @@
 use Rattle.std.proofs.Common.{ℕ, ◌++◌, List, take}
 use Rattle.dbformat.specs.declared.FaultCode.{FaultCode}
-use Rattle.dbmap.specs.FramedPages.{framed, leading}
-use Rattle.dbmap.specs.FaultNotes.{AreNoted}
+use Rattle.dbmap.specs.Faults.{framed, leading}
+use Rattle.dbmap.specs.KeptFaults.{AreNoted}
 use Rattle.dbmap.proofs.listed.note_listed.Given as goal
 
 abbrev pub invariant-loop-entry : goal.invariant-loop-entry

@@ -1,5 +1,5 @@
 use Rattle.std.proofs.Common.{◌≡◌, ℕ, ◌++◌, [], ◌∷◌, List, ap₂, subst, ◌∙◌, append_assoc}
-use Rattle.dbmap.specs.FaultNotes.{AreNoted}
+use Rattle.dbmap.specs.KeptFaults.{AreNoted}
 use Rattle.dbmap.proofs.listed.note_pages.Goals as goal
 
 three : (ps : List ℕ) (a b d : ℕ) → ((ps ++ a ∷ []) ++ b ∷ []) ++ d ∷ [] ≡ ps ++ a ∷ b ∷ d ∷ []

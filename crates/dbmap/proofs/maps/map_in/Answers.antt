@@ -2,7 +2,7 @@ use Rattle.std.proofs.Common.{rules, ◌≡◌}
 use Rattle.dbreport.specs.OneOut.{FailsAtWrite}
 use Rattle.dbreport.proofs.NotBegun.{no_failure}
 use Rattle.dbreport.proofs.OneOut.{one_ended, one_read, one_untouched}
-use Rattle.dbmap.specs.MapJobs.{Says, out_of}
+use Rattle.dbmap.specs.MapRuns.{out_of, Says}
 use Rattle.dbmap.proofs.MapAnswers.{no_map}
 use Rattle.dbmap.proofs.maps.map_in.Goals as goal
 

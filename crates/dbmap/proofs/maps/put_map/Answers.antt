@@ -1,34 +1,27 @@
-use Rattle.std.proofs.Common.{rules, ◌≡◌, ℕ, List, map, sym, ap, ap₂, subst, ◌∙◌, arith}
-use Rattle.dbsurvey.specs.Address.{IsIn}
-use Rattle.dbformat.specs.Address.{freelist_start}
+use Rattle.std.proofs.Common.{rules, ◌≡◌, ℕ, ◌+◌, ◌-◌, List, length, map, take, sym, ap, ap₂, subst, ◌∙◌, arith}
 use Rattle.dbformat.specs.File.{geometry}
 use Rattle.dbformat.specs.FixedPages.{geometry_of}
 use Rattle.dbformat.specs.Header.{encoding}
 use Rattle.dbformat.specs.Starts.{start_at}
 use Rattle.dbformat.specs.declared.Geometry.{Geometry}
 use Rattle.dbowner.proofs.PageMarks.{place_is}
-use Rattle.dbscan.specs.Roots.{Listed}
+use Rattle.dbscan.specs.Roots.{Listed, listed_rows}
 use Rattle.dbsource.specs.HeaderBytes.{HeaderBytes}
 use Rattle.dbowner.specs.Texts.{tree_of_row}
 use Rattle.dbowner.specs.Trees.{AreTrees, Trees}
 use Rattle.dbxml.specs.Names.{short_text}
-use Rattle.dbmap.specs.TreeTexts.{shown_tree}
-use Rattle.dbmap.specs.Drawings.{marked_place}
-use Rattle.dbmap.specs.FaultNotes.{AreNoted, is_marked_faulty, is_marked_framed}
+use Rattle.dbmap.specs.Drawings.{marked_place, shown_tree}
+use Rattle.dbmap.specs.KeptFaults.{AreNoted, is_marked_faulty, is_marked_framed}
 use Rattle.dbmap.specs.Faults.{coded_faults, framed_pages, strong_pages, weak_pages}
 use Rattle.dbmap.specs.Grids.{grid_of}
-use Rattle.dbmap.specs.LegendLines.{legend_lines}
-use Rattle.dbmap.specs.MapPictures.{map_picture, stated_of}
-use Rattle.dbmap.specs.Owners.{IsOf, tree_starts}
-use Rattle.dbmap.specs.Pictures.{picture_text}
-use Rattle.dbmap.specs.Tallies.{largest_of, pages_at}
+use Rattle.dbmap.specs.Legends.{legend_lines}
+use Rattle.dbmap.specs.Pictures.{map_picture, picture_text, stated_of}
+use Rattle.dbmap.specs.Owners.{IsOf}
+use Rattle.dbmap.specs.Tallies.{largest_of, largest_trees, pages_at, PagesTallied, tally_of, tree_count}
 use Rattle.dbmap.specs.declared.draw_state.DrawState.{DrawState}
-use Rattle.dbmap.specs.declared.tally.RankedTree.{RankedTree}
-use Rattle.dbmap.proofs.Drawing.{put_drawn}
-use Rattle.dbmap.proofs.Largest.{largest_within}
-use Rattle.dbmap.proofs.LegendLines.{legend_is}
-use Rattle.dbmap.proofs.Pictured.{known_trees, shown_is, strong_is, weak_is}
-use Rattle.dbmap.proofs.Tallying.{largest_are}
+use Rattle.dbmap.specs.declared.grid.Grid.{Grid}
+use Rattle.dblines.proofs.Writing.{put_written}
+use Rattle.dbmap.proofs.Pictured.{known_trees, strong_is, weak_is}
 use Rattle.dbmap.proofs.maps.put_map.Goals as goal
 
 pub returns : goal.returns
@@ -36,7 +29,7 @@ unfolding map_picture
 returns g c =
     let drawn = c.draw_picture.ensures.draws in
     let same = drawn.same_out in
-    let k : c.out-1.given.0 ≡ c.draw_picture.new.canvas.out.now = search (rules, same) in
+    let k : c.out-1.given.0 ≡ c.draw_picture.new.writer.out.now = search (rules, same) in
     record {
       text = c.draw_picture.ensures.text;
       is = λ file V desk has found.
@@ -49,24 +42,26 @@ returns g c =
           let notes = c.note_listed.new.self.notes in
           let noted : AreNoted (geometry file).pages (coded_faults file V) (framed_pages file V) notes =
           c.note_listed.ensures.noted (geometry file).pages (coded_faults file V) 100 file V has.listing has.notes in
-          let starts = tree_starts c.largest-largest.result.items in
-          let largest : starts ≡ largest_of file V = c.largest-largest.ensures.largest ∙ largest_are file V c.count.new.self tally in
-          let grid = c.new.ensures ∙ ap₂ grid_of (ap (λ (s : Geometry). s.pages) shape)
+          let largest : c.largest-largest.result.items ≡ largest_of file V = c.largest-largest.ensures
+          ∙ ap₂ (λ (t : PagesTallied) n. largest_trees (pages_at t.starts) n 12) tally
+          (ap (λ n. n + 1) c.len.ensures.count ∙ ap tree_count (ap (λ (l : Listed). l.rows) c.roots.ensures ∙ desk.rows)) in
+          let grid = c.new-grid.ensures ∙ ap₂ grid_of (ap (λ (s : Geometry). s.pages) shape)
           (c.stated_pages.ensures ∙ ap (λ (h : HeaderBytes). stated_of h.bytes) c.header-2.ensures.value ∙ ap stated_of desk.header.begins) in
           let shorten : (ℕ → List ℕ) → ℕ → List ℕ = λ names start. short_text (names start) in
           let tree = ap shorten (ap₂ tree_of_row (c.encoding.ensures ∙ ap (λ (h : HeaderBytes). encoding h.bytes) c.header.ensures.value)
-          (ap (λ (l : Listed). l.rows) c.roots.ensures) ∙ known_trees file V c.args.desk.now.header c.args.desk.now.roots.rows desk.header desk.rows) in
-          let names = c.new-2.ensures ∙ ap (λ (ts : List RankedTree). map (shown_tree c.encoding.result c.roots.result.now.rows) (tree_starts ts))
-          c.as_slice.ensures.value ∙ ap₂ map tree largest in
+          (ap (λ (l : Listed). l.rows) c.roots-2.ensures) ∙ known_trees file V c.args.desk.now.header c.args.desk.now.roots.rows desk.header desk.rows) in
+          let names = c.new-labels.ensures ∙ ap (map (shown_tree c.encoding.result c.roots-2.result.now.rows)) c.as_slice.ensures.value
+          ∙ ap₂ map tree largest in
           let fixed = ap (λ (h : HeaderBytes). geometry_of h.bytes h.file_len) c.header-3.ensures.value ∙ desk.header.shape in
           let marks = c.marks-2.ensures ∙ desk.marks in
-          let lines = (rw c.as_slice-2.ensures.value at c.new-legend.ensures)
-          ∙ legend_is file V c.count.new.self c.roots-2.result.now.rows starts c.framed-strong.result.0 c.framed-strong.result.1 tally
-          (λ k i. largest_within (pages_at c.count.new.self.starts) c.count.new.self.trees freelist_start 12 k (omega (arith, tally.all.few))
-          (subst (IsIn k) c.largest-largest.ensures.largest i))
-          (ap (λ (l : Listed). l.rows) c.roots-2.ensures ∙ desk.rows)
-          ∙ ap (λ ks. legend_lines file V ks c.framed-strong.result.0 c.framed-strong.result.1) largest
-          ∙ ap₂ (legend_lines file V (largest_of file V))
+          let lines = c.new-legend.ensures
+          ∙ ap₂ (λ (t : PagesTallied) ks. legend_lines c.roots-3.result.now.rows t ks c.framed-strong.result.0 c.framed-strong.result.1 c.missing.result) tally
+          (c.as_slice-2.ensures.value ∙ largest)
+          ∙ ap (λ rows. legend_lines rows (tally_of file V) (largest_of file V) c.framed-strong.result.0 c.framed-strong.result.1 c.missing.result)
+          (ap (λ (l : Listed). l.rows) c.roots-3.ensures ∙ desk.rows)
+          ∙ ap (legend_lines (listed_rows file V) (tally_of file V) (largest_of file V) c.framed-strong.result.0 c.framed-strong.result.1)
+          (c.missing.ensures ∙ ap (λ (g : Grid). g.stated - g.pages) grid)
+          ∙ ap₂ (λ s w. legend_lines (listed_rows file V) (tally_of file V) (largest_of file V) s w (stated_of (take 100 file) - (geometry file).pages))
           (c.framed-strong.ensures.strong ∙ ap (strong_pages (is_marked_framed notes)) (ap (λ (s : Geometry). s.pages) shape) ∙ strong_is file V notes noted)
           (c.framed-strong.ensures.weak ∙ ap (weak_pages (is_marked_faulty notes) (is_marked_framed notes)) (ap (λ (s : Geometry). s.pages) shape)
           ∙ weak_is file V notes noted) in
@@ -80,8 +75,9 @@ returns g c =
             largest = largest i;
             names = names i;
             tree = tree i;
-            faults = λ index. shown_is file V notes noted index i;
+            faults = λ index. noted.squares index i;
           })
           (lines i));
-      puts = rw k (put_drawn c.end.result _ _ _ _ _ c.new-canvas.ensures.fresh c.end.ensures (rw (ap g.O.Out.held c.new-canvas.ensures.out) at drawn.drawn));
+      puts = rw k (put_written c.end.result _ _ _ _ _ c.new-writer.ensures.fresh c.end.ensures
+          (rw (ap g.O.Out.held c.new-writer.ensures.out) at drawn.written));
     }

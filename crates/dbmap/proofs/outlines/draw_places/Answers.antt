@@ -1,20 +1,19 @@
-use Rattle.std.proofs.Common.{◌≡◌, suc, ◌+◌, ◌-◌, ap, arith}
-use Rattle.dbmap.specs.Outlines.{outline_text, outlines_from}
-use Rattle.dbmap.proofs.Drawing.{drawn_all, drawn_more, drawn_none}
+use Rattle.std.proofs.Common.{◌≡◌, ◌-◌, ap, arith}
+use Rattle.std.specs.List.{flat_map, range_with_len}
+use Rattle.dblines.proofs.Writing.{wrote_as, wrote_nothing, wrote_then}
+use Rattle.dbmap.specs.Squares.{outline_text}
+use Rattle.dbmap.proofs.Steps.{flat_none, flat_to}
 use Rattle.dbmap.proofs.outlines.draw_places.Goals as goal
 
 pub loop-place-init : goal.loop-place-init
-loop-place-init g c = drawn_none c.args.canvas.now _
+loop-place-init g c = wrote_as (flat_none (outline_text c.args.grid.now) c.args.first) (wrote_nothing c.args.writer.now)
 
 pub loop-place-preserved : goal.loop-place-preserved
 loop-place-preserved g c =
-    let grid = c.args.grid.now in
-    let place = c.loop-place.place in
-    let e : c.args.end - place ≡ suc (c.args.end - (place + 1)) = omega arith in
-    drawn_more (outline_text grid place) (outlines_from grid (place + 1) (c.args.end - (place + 1))) c.loop-place.invariant c.draw_outline.ensures
-    (ap (outlines_from grid place) e)
+    wrote_as (flat_to (outline_text c.args.grid.now) c.args.first c.loop-place.place (omega (arith, c.loop-place.auto.place)))
+    (wrote_then c.loop-place.invariant c.draw_outline.ensures)
 
 pub returns : goal.returns
 returns g c =
-    let e : c.args.end - c.loop-place.place ≡ 0 = omega arith in
-    drawn_all c.loop-place.invariant (ap (outlines_from c.args.grid.now c.loop-place.place) e)
+    let end : c.loop-place.place ≡ c.args.end = omega arith in
+    wrote_as (ap (λ n. flat_map (outline_text c.args.grid.now) (range_with_len c.args.first (n - c.args.first))) end) c.loop-place.invariant

@@ -1,7 +1,7 @@
 use Rattle.dbmap.specs.Pictures.{heading_text}
-use Rattle.dbmap.proofs.Drawing.{draws_then}
+use Rattle.dblines.proofs.Writing.{wrote_then}
 use Rattle.dbmap.proofs.picture.draw_heading.Goals as goal
 
 pub returns : goal.returns
 unfolding heading_text
-returns g c = draws_then c.draw.ensures (draws_then c.draw_size.ensures (draws_then c.draw_faults.ensures c.draw_unit.ensures))
+returns g c = wrote_then c.write_all.ensures (wrote_then c.draw_size.ensures (wrote_then c.draw_faults.ensures c.draw_unit.ensures))

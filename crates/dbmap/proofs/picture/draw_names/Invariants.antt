@@ -1,7 +1,7 @@
-use Rattle.std.proofs.Common.{◌-◌}
-use Rattle.dbmap.specs.Pictures.{names_from}
-use Rattle.dbmap.proofs.Drawing.{HasDrawn}
+use Rattle.std.specs.List.{flat_map, range_with_len}
+use Rattle.dblines.specs.Writing.{Wrote}
+use Rattle.dbmap.specs.Pictures.{row_label_text}
 use Rattle.dbmap.proofs.picture.draw_names.Given as goal
 
 abbrev pub invariant-loop-row : goal.invariant-loop-row
-invariant-loop-row g l = HasDrawn g.O.Out.held l.initial.canvas l.canvas (names_from l.grid l.row (l.rows - l.row)) (names_from l.grid 0 l.rows)
+invariant-loop-row g l = Wrote g.O.Out.held l.initial.writer (flat_map (row_label_text l.grid) (range_with_len 0 l.row)) l.writer

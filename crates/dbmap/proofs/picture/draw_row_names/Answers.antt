@@ -1,9 +1,9 @@
 use Rattle.dbmap.specs.Pictures.{row_names}
-use Rattle.dbmap.proofs.Drawing.{draws_then}
+use Rattle.dblines.proofs.Writing.{wrote_then}
 use Rattle.dbmap.proofs.picture.draw_row_names.Goals as goal
 
 pub returns : goal.returns
 unfolding row_names
 returns g c =
     let names = rw c.rows.ensures at c.draw_names.ensures in
-    draws_then c.draw.ensures (draws_then names c.draw-2.ensures)
+    wrote_then c.write_all.ensures (wrote_then names c.write_all-2.ensures)

@@ -1,5 +1,5 @@
 use Rattle.std.proofs.Common.{◌≡◌, take, replicate, vec_len}
-use Rattle.dbmap.specs.OwnerShares.{no_share}
+use Rattle.dbmap.specs.Owners.{no_share}
 use Rattle.dbmap.proofs.tally.zero.Given as goal
 
 abbrev pub invariant-loop-index : goal.invariant-loop-index

@@ -2,7 +2,7 @@ use Rattle.std.proofs.Common.{◌≡◌, ℕ, ◌+◌, suc, List, length, get_or
 use Rattle.std.specs.Prelude.{replicate}
 use Rattle.std.proofs.Math.ListN.{length-set}
 use Rattle.dbmap.specs.Bands.{given, next_owner, one_band}
-use Rattle.dbmap.specs.Shares.{capped_pages}
+use Rattle.dbmap.specs.Owners.{capped_pages}
 use Rattle.dbmap.specs.declared.owner_shares.OwnerShares.{OwnerShares}
 use Rattle.dbmap.proofs.bands.Bands.divide.Goals as goal
 

@@ -2,7 +2,7 @@ use Rattle.std.proofs.Common.{◌≡◌, sym, ap, ◌∙◌, arith}
 use Rattle.dbmap.specs.Bands.{claims, first_most}
 use Rattle.dbmap.proofs.FirstMost.{most_before, most_here, none_first}
 use Rattle.dbmap.proofs.bands.Bands.next.Goals as goal
-use Rattle.dbmap.proofs.bands.Bands.next.Goals.{then-claim-most, else-claim-most}
+use Rattle.dbmap.proofs.bands.Bands.next.Goals.{else-claim-most, then-claim-most}
 
 pub loop-number-init : goal.loop-number-init
 loop-number-init c = record {

@@ -1,9 +1,8 @@
-use Rattle.std.proofs.Common.{◌+◌, ◌*◌, ap, ◌∙◌, arith}
-use Rattle.dbmap.specs.Bits.{bit_set}
-use Rattle.dbmap.specs.Grids.{square_of}
+use Rattle.std.proofs.Common.{ap, ◌∙◌, arith, refl, set}
+use Rattle.dbmap.specs.KeptFaults.{joined_at}
 use Rattle.dbmap.proofs.FaultBits.{framed_more, not_framed}
 use Rattle.dbmap.proofs.fault_notes.FaultNotes.frame.Goals as goal
-use Rattle.dbmap.proofs.fault_notes.FaultNotes.frame.Goals.{then-page-eq0-via-then-page-eq0, then-page-eq0-via-else-page-eq0+then-page-self}
+use Rattle.dbmap.proofs.fault_notes.FaultNotes.frame.Goals.{then-page-eq0-via-else-page-eq0+then-page-self, then-page-eq0-via-then-page-eq0}
 
 pub returns-then-page-eq0 : goal.returns-then-page-eq0
 returns-then-page-eq0 g c = λ count fs framed h. elim c.then-page-eq0.branch [
@@ -15,8 +14,7 @@ returns-then-page-eq0 g c = λ count fs framed h. elim c.then-page-eq0.branch [
 pub returns : goal.returns
 returns g c = λ count fs framed h.
     let n = c.args.self.now in
-    let some = c.if-page-eq0.false in
+    let words = n.squares.items in
     let pages = h.pages in
-    let first = c.first_bit-first.ensures ∙ ap (λ r. square_of r c.args.page * 64) h.run in
-    framed_more count n c.args.page fs framed h (omega (arith, some)) (omega (arith, pages, c.if-page-self.false)) c.set.new.self c.set-2.new.self
-    (c.set.ensures ∙ ap (λ b. bit_set (b + 63) n.squares.words.items) first) c.set-2.ensures
+    framed_more count n c.args.page fs framed h (omega (arith, c.if-page-eq0.false)) (omega (arith, pages, c.if-page-self.false)) _ c.framed.result
+    (c.join_at.ensures ∙ ap (λ i. set words i (joined_at words i c.framed.result)) c.square_of-square.ensures) c.framed.ensures refl refl c.set.ensures refl

@@ -1,9 +1,8 @@
-use Rattle.std.proofs.Common.{◌+◌, ◌*◌, ap, ap₂, ◌∙◌, arith}
-use Rattle.dbmap.specs.Bits.{bit_set}
-use Rattle.dbmap.specs.Grids.{square_of}
+use Rattle.std.proofs.Common.{ap, ◌∙◌, arith, refl, set}
+use Rattle.dbmap.specs.KeptFaults.{joined_at}
 use Rattle.dbmap.proofs.FaultBits.{not_noted, noted}
 use Rattle.dbmap.proofs.fault_notes.FaultNotes.note.Goals as goal
-use Rattle.dbmap.proofs.fault_notes.FaultNotes.note.Goals.{then-page-eq0-via-then-page-eq0, then-page-eq0-via-else-page-eq0+then-page-self}
+use Rattle.dbmap.proofs.fault_notes.FaultNotes.note.Goals.{then-page-eq0-via-else-page-eq0+then-page-self, then-page-eq0-via-then-page-eq0}
 
 pub returns-then-page-eq0 : goal.returns-then-page-eq0
 returns-then-page-eq0 g c = λ count fs framed h. elim c.then-page-eq0.branch [
@@ -15,9 +14,7 @@ returns-then-page-eq0 g c = λ count fs framed h. elim c.then-page-eq0.branch [
 pub returns : goal.returns
 returns g c = λ count fs framed h.
     let n = c.args.self.now in
-    let some = c.if-page-eq0.false in
+    let words = n.squares.items in
     let pages = h.pages in
-    let first = c.first_bit-first.ensures ∙ ap (λ r. square_of r c.args.page * 64) h.run in
-    noted count n c.args.page fs framed h (omega (arith, some)) (omega (arith, pages, c.if-page-self.false)) c.set-2.new.self c.set-3.new.self c.args.code
-    (c.set-2.ensures ∙ ap₂ bit_set (ap (λ b. b + 62) first) (c.set.ensures ∙ ap₂ (λ b i. bit_set (b + i) n.squares.words.items) first c.index.ensures.index))
-    c.set-3.ensures
+    noted count n c.args.page fs framed h (omega (arith, c.if-page-eq0.false)) (omega (arith, pages, c.if-page-self.false)) _ c.of.result
+    (c.join_at.ensures ∙ ap (λ i. set words i (joined_at words i c.of.result)) c.square_of-square.ensures) c.args.code c.of.ensures refl refl c.set.ensures refl

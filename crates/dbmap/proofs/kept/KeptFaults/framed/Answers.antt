@@ -1,10 +1,10 @@
 use Rattle.std.proofs.Common.{◌≡◌, ℕ, ◌+◌, Bool, true, false, cond, not, ◌&&◌, count_by, sym, ap, ap₂, ◌∙◌, arith}
 use Rattle.std.specs.List.{range_with_len}
 use Rattle.dbsurvey.proofs.Ranges.{count_push}
-use Rattle.dbmap.specs.FaultNotes.{is_marked_faulty, is_marked_framed}
+use Rattle.dbmap.specs.KeptFaults.{is_marked_faulty, is_marked_framed}
 use Rattle.dbmap.specs.Faults.{is_weak}
 use Rattle.dbmap.proofs.kept.KeptFaults.framed.Goals as goal
-use Rattle.dbmap.proofs.kept.KeptFaults.framed.Goals.{then-is_framed, else-is_framed+then-is_faulty, else-is_framed+else-is_faulty}
+use Rattle.dbmap.proofs.kept.KeptFaults.framed.Goals.{else-is_framed+else-is_faulty, else-is_framed+then-is_faulty, then-is_framed}
 
 -- one page more, which passes a test or not
 counted : (test : ℕ → Bool) (i : ℕ) (b : Bool) {old new : ℕ} → old ≡ count_by test (range_with_len 1 i) → test (i + 1) ≡ b → new ≡ old + cond b 1 0

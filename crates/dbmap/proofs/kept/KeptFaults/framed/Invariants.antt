@@ -1,7 +1,7 @@
 use Rattle.std.proofs.Common.{◌≡◌, ◌≤◌}
 use Rattle.std.specs.Prelude.{count_by}
 use Rattle.std.specs.List.{range_with_len}
-use Rattle.dbmap.specs.FaultNotes.{is_marked_faulty, is_marked_framed}
+use Rattle.dbmap.specs.KeptFaults.{is_marked_faulty, is_marked_framed}
 use Rattle.dbmap.specs.Faults.{is_weak}
 use Rattle.dbmap.proofs.kept.KeptFaults.framed.Given as goal
 

@@ -1,12 +1,12 @@
 use Rattle.std.proofs.Common.{◌≡◌, List, [], ◌∷◌, map, take, refl, ap, ap₂, subst, ◌∙◌}
 use Rattle.dbtrace.specs.declared.Reported.{Reported}
-use Rattle.dbentries.specs.Kept.{lone_entry, kept_of}
+use Rattle.dbentries.specs.Kept.{kept_of, lone_entry}
 use Rattle.dbentries.specs.Listing as listing
 use Rattle.dbentries.proofs.Noting.{first_kept}
 use Rattle.dbentries.specs.Listed.{listed_entries, listed_faults}
 use Rattle.dbentries.proofs.ListedFaults as kept
-use Rattle.dbmap.specs.FramedPages.{first_faults, framed, leading}
-use Rattle.dbmap.specs.FaultNotes.{AreNoted}
+use Rattle.dbmap.specs.Faults.{first_faults, framed, leading}
+use Rattle.dbmap.specs.KeptFaults.{AreNoted}
 use Rattle.dbmap.proofs.kept.KeptFaults.note_listed.Goals as goal
 
 leading_kept : (es : List listing.Entry) → leading (map kept_of es) ≡ first_faults es

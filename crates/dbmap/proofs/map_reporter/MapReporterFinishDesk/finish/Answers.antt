@@ -1,15 +1,12 @@
-use Rattle.std.proofs.Common.{Ok, Err, ap, inl, inr, refl, subst, ◌∙◌}
+use Rattle.std.proofs.Common.{Ok, Err, ap, inl, inr, refl, ◌∙◌}
 use Rattle.std.proofs.lemmas.Result.{err_from_is_err_and}
+use Rattle.std.specs.Io.KnownBytes.{Appends}
+use Rattle.dbsource.specs.Outs.{Begins}
 use Rattle.dbsource.specs.declared.error.RunError.TheVariants.{ReadFailed, WriteFailed}
 use Rattle.dbsource.proofs.Logs.{asks_weaker}
 use Rattle.dbwalk.specs.Telling.{one_out}
-use Rattle.dbscan.specs.Notices.{run_notices}
-use Rattle.std.specs.Io.KnownBytes.{Appends}
-use Rattle.dbsource.specs.Outs.{Begins}
 use Rattle.dbentries.proofs.Desks.{desk_kept, looked_keeps}
-use Rattle.dbmap.specs.MapPictures.{map_picture}
-use Rattle.dbmap.proofs.Counting.{map_counts, map_finds, map_keeps, map_lists, map_unput, map_untouched}
-use Rattle.dbmap.proofs.Pictured.{named}
+use Rattle.dbmap.proofs.Counting.{map_counts, map_finds, map_keeps, map_lists, map_put, map_unput}
 use Rattle.dbmap.proofs.map_reporter.MapReporterFinishDesk.finish.Goals as goal
 
 pub returns-in_err-look_at_lost : goal.returns-in_err-look_at_lost
@@ -27,21 +24,15 @@ returns-in_err-put_map g c =
     let q = err_from_is_err_and c.from_residual-in_err-put_map.result c.from_residual-in_err-put_map.ensures.1 in
     let look = c.in_ok-look_at_lost.ensures in
     let put = c.in_err-put_map.ensures in
-    let held = g.O.Out.held in
     rw q.1 (rw q.2 (record {
       asks = asks_weaker _ _ (Err WriteFailed) (λ n. refl) look.asks (λ log l. l) (λ file way V first heard none empty.
           let s = heard.desk.survey in
           let here = desk_kept c.args.desk.now c.look_at_lost.new.desk file V look.desk heard.desk in
           let listed = way 100 V heard.desk (map_lists file V s first c.args.self.now none empty heard.heard) in (
             tt,
-            subst (λ (o : g.row.O.Denot). Begins (held o).bytes (held c.put_map.new.out).bytes (map_picture file V first.name.now))
-                (map_untouched file V s first c.args.self.now none empty heard.heard)
-                (named (λ name. Begins (held c.args.self.now.out.now).bytes (held c.put_map.new.out).bytes (map_picture file V name)) (run_notices file V) first
-                c.args.self.now heard.heard
-                (subst (Begins (held c.args.self.now.out.now).bytes (held c.put_map.new.out).bytes)
+            map_put file V s first c.args.self.now none empty heard.heard g.O.Out.held (λ old. Begins old (g.O.Out.held c.put_map.new.out).bytes) put.text
                 (put.is file V here (map_keeps file V s first c.args.self.now none empty heard.heard c.look_at_lost.new.self listed)
-                (map_counts file V s first c.args.self.now none empty heard.heard))
-                put.puts.held)),
+                (map_counts file V s first c.args.self.now none empty heard.heard)) put.puts.held,
           ));
       keeps = looked_keeps look.desk (record { lent = refl; failures = inl (put.puts.count, refl) }) (inr refl);
     }))
@@ -49,21 +40,15 @@ returns-in_err-put_map g c =
 pub returns : goal.returns
 returns g c =
     let look = c.in_ok-look_at_lost.ensures in
-    let put = c.in_ok-put_map.ensures in
-    let held = g.O.Out.held in record {
-      asks = asks_weaker _ _ (Ok c.verdict.result) (λ n. refl) look.asks (λ log l. l) (λ file way V first heard none empty.
+    let put = c.in_ok-put_map.ensures in record {
+      asks = asks_weaker _ _ (Ok c.of.result) (λ n. refl) look.asks (λ log l. l) (λ file way V first heard none empty.
           let s = heard.desk.survey in
           let here = desk_kept c.args.desk.now c.look_at_lost.new.desk file V look.desk heard.desk in
           let listed = way 100 V heard.desk (map_lists file V s first c.args.self.now none empty heard.heard) in (
-            c.verdict.ensures ∙ map_finds file V s first c.args.self.now none empty heard.heard,
-            subst (λ (o : g.row.O.Denot). Appends (held o).bytes (held c.put_map.new.out).bytes (map_picture file V first.name.now))
-                (map_untouched file V s first c.args.self.now none empty heard.heard)
-                (named (λ name. Appends (held c.args.self.now.out.now).bytes (held c.put_map.new.out).bytes (map_picture file V name)) (run_notices file V)
-                first c.args.self.now heard.heard
-                (subst (Appends (held c.args.self.now.out.now).bytes (held c.put_map.new.out).bytes)
+            c.of.ensures.count ∙ map_finds file V s first c.args.self.now none empty heard.heard,
+            map_put file V s first c.args.self.now none empty heard.heard g.O.Out.held (λ old. Appends old (g.O.Out.held c.put_map.new.out).bytes) put.text
                 (put.is file V here (map_keeps file V s first c.args.self.now none empty heard.heard c.look_at_lost.new.self listed)
-                (map_counts file V s first c.args.self.now none empty heard.heard))
-                put.puts.held)),
+                (map_counts file V s first c.args.self.now none empty heard.heard)) put.puts.held,
           ));
       keeps = looked_keeps look.desk (ap (one_out c.args.self.now.out.ghost_name) put.puts.count) tt;
     }

@@ -7,7 +7,7 @@ use Rattle.dbscan.proofs.AfterHeader.{after_weaker}
 use Rattle.dbscan.proofs.Tellers.{first}
 use Rattle.dbreport.proofs.ReporterStates.{lent_same, one_failed}
 use Rattle.dbmap.specs.KeptFaults.{HearsNone}
-use Rattle.dbmap.specs.MapPictures.{map_picture}
+use Rattle.dbmap.specs.Pictures.{map_picture}
 use Rattle.dbmap.specs.Maps.{PutsMap}
 use Rattle.dbmap.proofs.Counting.{map_left}
 use Rattle.dbmap.proofs.MapAnswers.{map_of}

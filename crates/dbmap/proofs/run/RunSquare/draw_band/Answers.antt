@@ -1,5 +1,5 @@
 use Rattle.std.proofs.Common.{ap, ◌∙◌}
-use Rattle.dbmap.specs.OwnerShares.{is_shaded}
+use Rattle.dbmap.specs.Owners.{is_shaded}
 use Rattle.dbmap.proofs.FaultBits.{unequal}
 use Rattle.dbmap.proofs.run.RunSquare.draw_band.Goals as goal
 
@@ -7,4 +7,4 @@ pub returns : goal.returns
 returns g c =
     let some = unequal c.args.height 0 c.if-height-eq0.false in
     let shaded = c.is_overflow-is_overflow.ensures ∙ ap is_shaded c.share.ensures in
-    rw some (rw (c.shade_letter.ensures, shaded, c.from.ensures, c.from-2.ensures, c.from-3.ensures) at c.draw.ensures)
+    rw some (rw (c.shade_letter.ensures, shaded) at c.write_all.ensures)

@@ -1,5 +1,5 @@
 use Rattle.dbmap.specs.Runs.{mixed_text}
-use Rattle.dbmap.proofs.Drawing.{draws_then}
+use Rattle.dblines.proofs.Writing.{wrote_then}
 use Rattle.dbmap.proofs.run.RunSquare.draw_mixed.Goals as goal
 
 pub returns : goal.returns
@@ -7,5 +7,5 @@ unfolding mixed_text
 returns g c =
     let below = rw c.frame-frame.ensures at c.draw_frame_below.ensures in
     let above = rw c.frame-frame.ensures at c.draw_frame_above.ensures in
-    draws_then c.draw.ensures (draws_then c.draw_title.ensures (draws_then c.draw-2.ensures
-    (draws_then below (draws_then c.draw_bands.ensures (draws_then above c.draw-3.ensures)))))
+    wrote_then c.write_all.ensures (wrote_then c.draw_title.ensures (wrote_then c.write_all-2.ensures
+    (wrote_then below (wrote_then c.draw_bands.ensures (wrote_then above c.write_all-3.ensures)))))

@@ -1,46 +1,55 @@
-use Rattle.std.proofs.Common.{◌≡◌, ◌+◌, [], ◌∷◌, ◌++◌, length, map, sym, ap, ◌∙◌, arith, length-append}
-use Rattle.dbmap.specs.Owners.{tree_starts}
-use Rattle.dbmap.specs.Tallies.{next_tree, one_tree_more, pages_at, tree_at}
-use Rattle.dbmap.proofs.Largest.{found_none, found_one, next_count, no_trees}
-use Rattle.dbmap.proofs.Trees.{on_ok, starts_push, trees_push}
+use Rattle.std.proofs.Common.{◌≡◌, ℕ, suc, ◌+◌, List, [], ◌∷◌, ◌++◌, length, cond, refl, sym, ap, ap₂, ◌∙◌, arith, length-append}
+use Rattle.std.specs.Prelude.{◌==◌}
+use Rattle.dbmap.specs.Tallies.{largest_trees, left_pages, next_start, one_tree_more, pages_at}
+use Rattle.dbmap.proofs.FaultBits.{unequal}
 use Rattle.dbmap.proofs.tally.PageTally.largest.Goals as goal
-use Rattle.dbmap.proofs.tally.PageTally.largest.Goals.{in-Some, in-None}
+use Rattle.dbmap.proofs.tally.PageTally.largest.Goals.{else-left-ne0, then-left-ne0}
+
+module _ (pages : ℕ → ℕ) (n : ℕ) where
+  none_yet : [] ≡ largest_trees pages n 0
+  unfolding largest_trees
+  none_yet = refl
+
+  one_more : (count : ℕ) → one_tree_more pages n (largest_trees pages n count) ≡ largest_trees pages n (count + 1)
+  unfolding largest_trees
+  one_more count = let next : suc count ≡ count + 1 = omega arith in ap (largest_trees pages n) next
+
+  module _ (taken : List ℕ) (left : ℕ) (e : left ≡ left_pages pages taken (next_start pages n taken)) where
+    found : (left ≡ 0 → ⊥) → taken ++ next_start pages n taken ∷ [] ≡ one_tree_more pages n taken
+    found some =
+        ap (λ b. cond b taken (taken ++ next_start pages n taken ∷ [])) (sym (unequal left 0 some))
+        ∙ ap (λ m. cond (m == 0) taken (taken ++ next_start pages n taken ∷ [])) e
+
+    not_found : left ≡ 0 → taken ≡ one_tree_more pages n taken
+    not_found none = ap (λ m. cond (m == 0) taken (taken ++ next_start pages n taken ∷ [])) (sym none ∙ e)
 
 pub loop-init : goal.loop-init
-loop-init g c =
-    let none = c.new-largest.ensures in
-    record {
-      starts = ap tree_starts none ∙ no_trees (pages_at c.args.self.now.starts) c.args.self.now.trees;
-      shares = none ∙ ap (λ xs. map (tree_at c.args.self.now.starts) (tree_starts xs)) (sym none);
-      few = omega (arith, ap length none);
-    }
+loop-init g c = record {
+  starts = c.new-largest.ensures ∙ none_yet (pages_at c.args.self.now.starts) c.args.trees;
+  few = omega (arith, ap length c.new-largest.ensures);
+}
 
 pub loop-preserved : goal.loop-preserved
 loop-preserved g c =
-    let s = c.args.self.now in
+    let pages = pages_at c.args.self.now.starts in
+    let n = c.args.trees in
     let ts = c.loop.largest.items in
     let at = c.loop.invariant in
-    let more = ap (one_tree_more (pages_at s.starts) s.trees) at.starts ∙ sym (next_count (pages_at s.starts) s.trees c.loop.counter) in
-    let next = c.next.ensures ∙ ap (λ xs. next_tree s.starts (tree_starts xs) s.trees) c.as_slice.ensures.value in
-    elim c.match-next.branch [
-      | in-Some w ↦ (
-          let t = w.in-Some.tree in
-          let found = found_one s.starts (tree_starts ts) s.trees t (sym next ∙ w.in-Some.is) in
-          let pushed : c.match-next.largest.items ≡ ts ++ t ∷ [] =
-          ap (λ l. l.items) w.largest-is ∙ on_ok w.try_push.result (w.try_push.ensures.variant.1 (omega (arith, at.few, c.loop-test.true)))
-          w.try_push.ensures.ok in
-          let many : length c.match-next.largest.items ≡ length ts + 1 = ap length pushed ∙ length-append ts (t ∷ []) in
+    let next : c.next-next.result ≡ next_start pages n ts = c.next-next.ensures ∙ ap (next_start pages n) c.as_slice.ensures.value in
+    let left : c.left.result ≡ left_pages pages ts (next_start pages n ts) = c.left.ensures ∙ ap₂ (left_pages pages) c.as_slice-in-loop.ensures.value next in
+    let more = ap (one_tree_more pages n) at.starts ∙ one_more pages n c.loop.counter in
+    elim c.if-left-ne0.branch [
+      | then-left-ne0 w ↦ (
+          let pushed : c.if-left-ne0.largest.items ≡ ts ++ c.next-next.result ∷ [] = ap (λ l. l.items) w.largest-is ∙ w.push.ensures.items in
+          let many : length c.if-left-ne0.largest.items ≡ length ts + 1 = ap length pushed ∙ length-append ts (c.next-next.result ∷ []) in
           record {
-            starts = ap tree_starts pushed ∙ starts_push ts t ∙ sym found.0 ∙ more;
-            shares = trees_push s.starts ts t pushed at.shares found.1;
+            starts = pushed ∙ ap (λ k. ts ++ k ∷ []) next ∙ found pages n ts c.left.result left w.if-left-ne0.true ∙ more;
             few = omega (arith, many, at.few);
           })
-      | in-None w ↦ (
+      | else-left-ne0 w ↦ (
           let same = ap (λ l. l.items) w.largest-is in
-          let none = found_none s.starts (tree_starts ts) s.trees (sym next ∙ w.in-None.is) in
           record {
-            starts = ap tree_starts same ∙ sym none ∙ more;
-            shares = same ∙ at.shares ∙ ap (λ xs. map (tree_at s.starts) (tree_starts xs)) (sym same);
+            starts = same ∙ not_found pages n ts c.left.result left w.if-left-ne0.false ∙ more;
             few = omega (arith, ap length same, at.few);
           })
     ]

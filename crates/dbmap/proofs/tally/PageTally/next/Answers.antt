@@ -1,21 +1,20 @@
 use Rattle.std.proofs.Common.{◌≡◌, sym, ap, ◌∙◌, arith}
 use Rattle.dbmap.specs.Bands.{first_most}
-use Rattle.dbmap.specs.Owners.{tree_starts}
 use Rattle.dbmap.specs.Tallies.{left_pages, pages_at}
 use Rattle.dbmap.proofs.FirstMost.{most_before, most_here, none_first}
 use Rattle.dbmap.proofs.tally.PageTally.next.Goals as goal
-use Rattle.dbmap.proofs.tally.PageTally.next.Goals.{then-pages-most, else-pages-most}
+use Rattle.dbmap.proofs.tally.PageTally.next.Goals.{else-pages-most, then-pages-most}
 
 pub loop-start-init : goal.loop-start-init
 loop-start-init g c = record {
-  next = sym (none_first (left_pages (pages_at c.args.self.now.starts) (tree_starts c.args.taken.now)));
+  next = sym (none_first (left_pages (pages_at c.args.self.now.starts) c.args.taken.now));
   most =
       c.left-most.ensures;
 }
 
 pub loop-start-preserved : goal.loop-start-preserved
 loop-start-preserved g c =
-    let much = left_pages (pages_at c.args.self.now.starts) (tree_starts c.args.taken.now) in
+    let much = left_pages (pages_at c.args.self.now.starts) c.args.taken.now in
     let n = c.loop-start.start in
     let at = c.loop-start.invariant in
     let so : much (first_most much n) ≡ c.loop-start.most = ap much (sym at.next) ∙ sym at.most in

@@ -1,34 +1,51 @@
-use Rattle.std.proofs.Common.{◌+◌, ap, ap₂, ◌∙◌, sym}
-use Rattle.dbmap.specs.Owners.{tree_starts}
-use Rattle.dbmap.specs.Shares.{capped_pages, share_sum}
-use Rattle.dbmap.specs.Tallies.{share_at}
-use Rattle.dbmap.proofs.LegendLines.{other_empty, other_more, other_ranked, other_same, other_yes}
+use Rattle.std.proofs.Common.{◌≡◌, ℕ, suc, ◌+◌, List, cond, refl, sym, ap, ap₂, ◌∙◌, arith}
+use Rattle.std.specs.Prelude.{◌==◌}
+use Rattle.dbmap.specs.Owners.{capped_pages, no_share, share_sum}
+use Rattle.dbmap.specs.Tallies.{left_pages, other_counted, others, pages_at, share_at}
+use Rattle.dbmap.specs.declared.owner_shares.Share.{Share}
+use Rattle.dbmap.proofs.FaultBits.{unequal}
 use Rattle.dbmap.proofs.tally.PageTally.others.Goals as goal
-use Rattle.dbmap.proofs.tally.PageTally.others.Goals.{then-share-ne0+then-rank_of-eq-COLOURED, else-share-ne0}
-use Rattle.dbmap.proofs.tally.PageTally.others.Goals.{else-share-ne0-via-then-share-ne0+else-rank_of-eq-COLOURED, else-share-ne0-via-else-share-ne0}
+use Rattle.dbmap.proofs.tally.PageTally.others.Goals.{else-left-ne0, then-left-ne0}
+
+module _ (starts : List Share) (largest : List ℕ) where
+  none_yet : (0, no_share) ≡ others starts largest 0
+  unfolding others
+  none_yet = refl
+
+  one_more : (k : ℕ) → other_counted starts largest k (others starts largest k) ≡ others starts largest (k + 1)
+  unfolding others
+  one_more k = let next : suc k ≡ k + 1 = omega arith in ap (others starts largest) next
+
+  counted : (k left : ℕ) (s : ℕ × Share) → left ≡ left_pages (pages_at starts) largest k → (left ≡ 0 → ⊥)
+      → (capped_pages (s.0 + 1), share_sum s.1 (share_at starts k)) ≡ other_counted starts largest k s
+  counted k left s e some =
+      ap (λ b. cond b s (capped_pages (s.0 + 1), share_sum s.1 (share_at starts k))) (sym (unequal left 0 some))
+      ∙ ap (λ n. cond (n == 0) s (capped_pages (s.0 + 1), share_sum s.1 (share_at starts k))) e
+
+  passed : (k left : ℕ) (s : ℕ × Share) → left ≡ left_pages (pages_at starts) largest k → left ≡ 0 → s ≡ other_counted starts largest k s
+  passed k left s e none = ap (λ n. cond (n == 0) s (capped_pages (s.0 + 1), share_sum s.1 (share_at starts k))) (sym none ∙ e)
+
+pub loop-start-init : goal.loop-start-init
+loop-start-init g c =
+    let none = c.default-all.ensures in
+    (λ i. (0, record { pages = none.0 i; overflow = none.1 i })) ∙ none_yet c.args.self.now.starts c.args.largest.now
 
 pub loop-start-preserved : goal.loop-start-preserved
 loop-start-preserved g c =
-    let share = share_at c.args.self.now.starts in
-    let largest = tree_starts c.args.largest.now in
+    let starts = c.args.self.now.starts in
+    let largest = c.args.largest.now in
     let k = c.loop-start.start in
-    let at = c.loop-start.invariant in
-    elim c.if-share-ne0.branch [
-      | then-share-ne0+then-rank_of-eq-COLOURED w ↦
-          (let yes = other_yes share largest k c.share-share.ensures w.if-share-ne0.true (sym w.rank_of.ensures.rank ∙ w.if-rank_of-eq-COLOURED.true) in
-          let more = other_more share largest k yes in
-          record {
-            trees = w.count-is ∙ w.saturating_add-count.ensures ∙ ap (λ n. capped_pages (n + 1)) at.trees ∙ sym more.0;
-            share = w.all-is ∙ w.join.ensures ∙ ap₂ share_sum at.share c.share-share.ensures ∙ sym more.1;
-          })
-      | else-share-ne0 w ↦ elim w.else-share-ne0.branch [
-        | else-share-ne0-via-then-share-ne0+else-rank_of-eq-COLOURED v ↦
-            (let no = other_ranked share largest k c.share-share.ensures (λ e. v.if-rank_of-eq-COLOURED.false (v.rank_of.ensures.rank ∙ e)) in
-            let same = other_same share largest k no in
-            record { trees = w.count-is ∙ at.trees ∙ sym same.0; share = w.all-is ∙ at.share ∙ sym same.1 })
-        | else-share-ne0-via-else-share-ne0 v ↦
-            (let no = other_empty share largest k c.share-share.ensures v.if-share-ne0.false in
-            let same = other_same share largest k no in
-            record { trees = w.count-is ∙ at.trees ∙ sym same.0; share = w.all-is ∙ at.share ∙ sym same.1 })
-      ]
+    let more = ap (other_counted starts largest k) c.loop-start.invariant ∙ one_more starts largest k in
+    let s : ℕ × Share = (c.loop-start.count, c.loop-start.all) in
+    elim c.if-left-ne0.branch [
+      | then-left-ne0 w ↦ ap₂ (λ (n : ℕ) (t : Share). let u : ℕ × Share = (n, t) in u) (w.count-is ∙ w.saturating_add-count.ensures)
+          (w.all-is ∙ w.join.ensures ∙ ap (share_sum c.loop-start.all) w.share.ensures)
+          ∙ counted starts largest k c.left.result s c.left.ensures w.if-left-ne0.true ∙ more
+      | else-left-ne0 w ↦ ap₂ (λ (n : ℕ) (t : Share). let u : ℕ × Share = (n, t) in u) w.count-is w.all-is
+          ∙ passed starts largest k c.left.result s c.left.ensures w.if-left-ne0.false ∙ more
     ]
+
+pub returns : goal.returns
+returns g c =
+    let end : c.loop-start.start ≡ c.args.trees = omega arith in
+    c.loop-start.invariant ∙ ap (others c.args.self.now.starts c.args.largest.now) end

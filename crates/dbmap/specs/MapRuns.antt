@@ -1,4 +1,4 @@
--- The reporter of a map: what a fault makes of it, and what it answers at the end.
+-- The reporter and the job of `map`: what a fault makes of the reporter, what it answers at the end, and what the job says of a run over a file.
 use Rattle.std.specs.Prelude.{◌≡◌, ℕ, ◌+◌, List, Result, IfOk}
 use Rattle.dbformat.specs.File.{geometry}
 use Rattle.dbformat.specs.Lines.{counted}
@@ -9,14 +9,18 @@ use Rattle.dbformat.specs.declared.Verdict.{Verdict}
 use Rattle.dbtrace.specs.declared.Reported.{Reported}
 use Rattle.dbsource.specs.Outs.{OutState}
 use Rattle.dbsource.specs.declared.error.RunError.{RunError}
-use Rattle.dbwalk.specs.Telling.{SinkState, one_out}
+use Rattle.dbwalk.specs.Telling.{one_out, SinkState}
 use Rattle.dbscan.specs.Notices.{Notice}
 use Rattle.dbentries.specs.Reported.{HearsReported}
 use Rattle.dbowner.specs.Trees.{row_noted}
-use Rattle.dbmap.specs.KeptFaults.{HearsNone, HasNoted}
-use Rattle.dbmap.specs.MapPictures.{map_picture}
-use Rattle.dbmap.specs.Maps.{PutsMap}
+use Rattle.dbmap.specs.KeptFaults.{HasNoted, HearsNone}
+use Rattle.dbmap.specs.Pictures.{map_picture}
+use Rattle.dbmap.specs.Maps.{IsMapOf, PutsMap}
 use Rattle.dbmap.specs.declared.map_reporter.MapReporter.{MapReporter}
+use Rattle.std.specs.Borrow.{MutBor}
+use Rattle.dbformat.specs.declared.Geometry.{Geometry}
+use Rattle.dbmap.specs.declared.kept.KeptFaults.{KeptFaults}
+use Rattle.dbmap.specs.declared.maps.MapJob.{MapJob}
 
 module _ {A O : Type 0} where
   -- a fault is counted and kept, and nothing is put
@@ -48,3 +52,14 @@ abbrev pub LeavesMap : {A O : Type 0} → (O → OutState) → List ℕ → List
 LeavesMap held file V r s t =
     s.faults ≡ 0 → HearsNone (geometry file).pages s.kept.now
     → IfOk r (λ v. v ≡ verdict (faults file V)) × PutsMap r (held s.out.now).bytes (held t.out.now).bytes (map_picture file V s.name.now)
+
+-- no fault is known of the file yet, and there is room for its pages
+abbrev pub HasRoom : {A O : Type 0} → Geometry → MapJob O → KeptFaults A → Type 0
+HasRoom g job kept = HearsNone g.pages kept
+
+abbrev pub out_of : {O : Type 0} → MapJob O → MutBor O
+out_of job = job.out
+
+-- what a run leaves of a file, under the job's name
+abbrev pub Says : {O : Type 0} → MapJob O → List ℕ → Result Verdict RunError → OutState → OutState → Type 0
+Says job file r old new = IsMapOf job.name.now file r old.bytes new.bytes

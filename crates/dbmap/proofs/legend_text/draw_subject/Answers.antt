@@ -1,0 +1,4 @@
+use Rattle.dbmap.proofs.legend_text.draw_subject.Goals as goal
+
+pub returns-in-Tree : goal.returns-in-Tree
+returns-in-Tree g c = rw c.in-Tree.is (rw c.piece.ensures at c.write_all.ensures)
