@@ -1,6 +1,6 @@
 use Rattle.std.proofs.Common.{◌+◌, drop}
 use Rattle.dbmap.specs.Legends.{lines_from}
-use Rattle.dblines.proofs.Writing.{written_all, written_more, written_none}
+use Rattle.dbmap.proofs.Rests.{written_all, written_more, written_none}
 use Rattle.dbmap.proofs.Steps.{next_line, no_line}
 use Rattle.dbmap.proofs.legend_text.draw_lines.Goals as goal
 

@@ -1,6 +1,6 @@
 use Rattle.std.proofs.Common.{◌+◌, drop}
 use Rattle.dbmap.specs.Legends.{lines_from}
-use Rattle.dblines.proofs.Writing.{HasWritten}
+use Rattle.dbmap.proofs.Rests.{HasWritten}
 use Rattle.dbmap.proofs.legend_text.draw_lines.Given as goal
 
 abbrev pub invariant-loop-index : goal.invariant-loop-index

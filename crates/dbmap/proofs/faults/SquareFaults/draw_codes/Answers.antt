@@ -3,7 +3,7 @@ use Rattle.std.specs.List.{flat_map}
 use Rattle.dbformat.specs.declared.FaultCode.{FaultCode}
 use Rattle.dblines.specs.Writing.{Wrote}
 use Rattle.dbmap.specs.Faults.{code_if, shown}
-use Rattle.dblines.proofs.Writing.{written_all, written_more, written_none}
+use Rattle.dbmap.proofs.Rests.{written_all, written_more, written_none}
 use Rattle.dbmap.proofs.Steps.{next_code, no_code}
 use Rattle.dbmap.proofs.faults.SquareFaults.draw_codes.Goals as goal
 

@@ -1,7 +1,7 @@
 use Rattle.std.proofs.Common.{drop}
 use Rattle.std.specs.List.{flat_map}
 use Rattle.dbmap.specs.Faults.{code_if, shown}
-use Rattle.dblines.proofs.Writing.{HasWritten}
+use Rattle.dbmap.proofs.Rests.{HasWritten}
 use Rattle.dbmap.proofs.faults.SquareFaults.draw_codes.Given as goal
 
 abbrev pub invariant-loop-code : goal.invariant-loop-code

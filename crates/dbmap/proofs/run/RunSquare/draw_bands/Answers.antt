@@ -1,6 +1,6 @@
 use Rattle.std.proofs.Common.{◌≡◌, ◌+◌, ◌-◌, min, get_or, arith}
 use Rattle.dbmap.specs.Runs.{band_text, bands_from}
-use Rattle.dblines.proofs.Writing.{written_all, written_more, written_none}
+use Rattle.dbmap.proofs.Rests.{written_all, written_more, written_none}
 use Rattle.dbmap.proofs.Steps.{next_band, no_band}
 use Rattle.dbmap.proofs.run.RunSquare.draw_bands.Goals as goal
 

@@ -1,6 +1,6 @@
 use Rattle.std.proofs.Common.{◌-◌}
 use Rattle.dbmap.specs.Runs.{bands_from}
-use Rattle.dblines.proofs.Writing.{HasWritten}
+use Rattle.dbmap.proofs.Rests.{HasWritten}
 use Rattle.dbmap.proofs.run.RunSquare.draw_bands.Given as goal
 
 abbrev pub invariant-loop-number : goal.invariant-loop-number

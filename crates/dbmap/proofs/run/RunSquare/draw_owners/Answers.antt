@@ -1,7 +1,7 @@
 use Rattle.std.proofs.Common.{◌+◌, ◌-◌, ◌&&◌, not}
 use Rattle.dbmap.specs.Owners.{has_pages}
 use Rattle.dbmap.specs.Runs.{owner_text, owners_from}
-use Rattle.dblines.proofs.Writing.{written_all, written_more, written_none}
+use Rattle.dbmap.proofs.Rests.{written_all, written_more, written_none}
 use Rattle.dbmap.proofs.Steps.{next_owner, no_owner}
 use Rattle.dbmap.proofs.run.RunSquare.draw_owners.Goals as goal
 

@@ -1,6 +1,6 @@
 use Rattle.std.proofs.Common.{◌-◌, true}
 use Rattle.dbmap.specs.Runs.{owners_from}
-use Rattle.dblines.proofs.Writing.{HasWritten}
+use Rattle.dbmap.proofs.Rests.{HasWritten}
 use Rattle.dbmap.proofs.run.RunSquare.draw_owners.Given as goal
 
 abbrev pub invariant-loop-number : goal.invariant-loop-number
