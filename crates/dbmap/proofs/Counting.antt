@@ -33,7 +33,6 @@ use Rattle.dbmap.specs.Pictures.{map_picture}
 use Rattle.dbmap.specs.Maps.{PutsMap}
 use Rattle.dbmap.specs.MapRuns.{Hears, LeavesMap}
 use Rattle.dbmap.specs.declared.map_reporter.MapReporter.{MapReporter}
-use Rattle.dbmap.specs.declared.draw_state.DrawState.{DrawState}
 use Rattle.dbmap.proofs.MapAnswers.{nothing_begun}
 use Rattle.dbmap.proofs.Heard.{all_heard, codes_told, HasNotedFaults, some_untouched}
 

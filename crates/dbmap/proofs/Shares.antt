@@ -1,5 +1,5 @@
 -- What each owner has of some pages, page by page.
-use Rattle.std.proofs.Common.{◌≡◌, ℕ, suc, ◌+◌, ◌-◌, ◌≤◌, List, Option, refl, ap, ap₂, ◌∙◌, arith}
+use Rattle.std.proofs.Common.{◌≡◌, ℕ, suc, ◌+◌, ◌-◌, ◌≤◌, List, Option, ap, ◌∙◌, arith}
 use Rattle.dbowner.specs.declared.place.Place.{Place}
 use Rattle.dbmap.specs.Owners.{is_overflow, no_shares, owner_by, owner_counted, shares_by}
 

@@ -1,5 +1,5 @@
 -- What is drawn by what is remembered, one thing after another.
-use Rattle.std.proofs.Common.{◌≡◌, ℕ, List, [], ◌++◌, Option, ap₂, ◌∙◌}
+use Rattle.std.proofs.Common.{◌≡◌, ℕ, List, [], ◌++◌, ap₂, ◌∙◌}
 use Rattle.dbformat.specs.Reference.{Reference}
 use Rattle.dbmarks.specs.declared.marks.Mark.{Mark}
 use Rattle.dbsource.specs.Outs.{OutState}

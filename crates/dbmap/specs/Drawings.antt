@@ -1,5 +1,5 @@
 -- What is drawn by what is remembered of a file: where the marks are those of its visits, it is what its survey says.
-use Rattle.std.specs.Prelude.{◌≡◌, ℕ, List, [], Option, None, Result, length}
+use Rattle.std.specs.Prelude.{◌≡◌, ℕ, List, [], None, Result, length}
 use Rattle.std.specs.Option.{option_map_or}
 use Rattle.dbformat.specs.SchemaRow.{SchemaRow}
 use Rattle.dbformat.specs.declared.Encoding.{Encoding}

@@ -1,6 +1,6 @@
 -- What is kept of a file: what each square shows of the faults that were reported, a bit for each page that has one, and for each that has the
 -- strong frame; the faults that lead; and the starts of its pages.
-use Rattle.std.specs.Prelude.{◌≡◌, ℕ, ◌≤◌, ◌<◌, Bool, List, length, slice_index_or, ◌==◌, [], ◌∷◌, ◌++◌, Option}
+use Rattle.std.specs.Prelude.{◌≡◌, ℕ, ◌≤◌, ◌<◌, Bool, List, length, slice_index_or, ◌==◌, [], ◌∷◌, ◌++◌}
 use Rattle.std.specs.Int.{div_ceil}
 use Rattle.std.specs.Int.RustNames.{bit_or}
 use Rattle.std.specs.List.{list_any}

@@ -11,7 +11,7 @@ use Rattle.dbformat.specs.File.{geometry}
 use Rattle.dbformat.specs.FixedPages.{is_page, is_fixed, fixed_use}
 use Rattle.dbformat.specs.Reference.{Role, root, child, first_overflow, later_overflow, trunk, free_leaf, Reference, role_of, from_of, is_on_freelist}
 use Rattle.dbformat.specs.Survey.{Survey}
-use Rattle.dbformat.proofs.Visited.{allowed, visit_is}
+use Rattle.dbformat.proofs.Visited.{allowed}
 use Rattle.dbmarks.specs.declared.marks.Mark.{Mark}
 use Rattle.dbmarks.specs.declared.marks.Mark.TheVariants.{Unmarked, Fixed}
 use Rattle.dbmarks.specs.Marking.{role_mark, visit_mark, mark_of, marks_of, page_mark}

@@ -5,7 +5,7 @@ use Rattle.std.specs.Prelude.{filter, filter_map, ◌==◌}
 use Rattle.std.specs.List.{cons_option}
 use Rattle.std.proofs.lemmas.Bool.{cases_Bool, ne_eqb}
 use Rattle.std.proofs.lemmas.List.{map-append}
-use Rattle.std.proofs.lemmas.List.Elements.{filter-append, filter_map-append}
+use Rattle.std.proofs.lemmas.List.Elements.{filter-append}
 use Rattle.dbsurvey.specs.Address.{Address, IsIn}
 use Rattle.dbsurvey.specs.Survey.{Link, IsRising, IsPart, named_at, children}
 use Rattle.dbsurvey.specs.Traverse.{is_followed, part_of}

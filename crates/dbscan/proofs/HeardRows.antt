@@ -15,7 +15,7 @@ use Rattle.dbformat.specs.Reference.{Way, Reference, trunk}
 use Rattle.dbformat.specs.Rows.{stat_rows}
 use Rattle.dbformat.specs.Schema.{start}
 use Rattle.dbformat.specs.SchemaRow.{SchemaRow}
-use Rattle.dbformat.specs.Story.{Event, own_visit, start_errands}
+use Rattle.dbformat.specs.Story.{Event, own_visit}
 use Rattle.dbformat.specs.Survey.{Survey, rules_of}
 use Rattle.dbformat.specs.declared.Fault.{Fault}
 use Rattle.dbformat.proofs.Theory.{are_rules}

@@ -14,7 +14,6 @@ use Rattle.dbsurvey.specs.Story.{Told, Follow, errands_at, telling_of}
 use Rattle.dbsurvey.proofs.Parting.{visits_of}
 use Rattle.dbsurvey.proofs.Starting.{survey_from_first}
 use Rattle.dbformat.specs.Address.{start_of, schema_start}
-use Rattle.dbformat.specs.Cell.{count}
 use Rattle.dbformat.specs.EndFaults.{has_cell, has_rows}
 use Rattle.dbformat.specs.File.{geometry}
 use Rattle.dbformat.specs.Head.{View, is_interior}

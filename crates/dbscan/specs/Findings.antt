@@ -1,5 +1,5 @@
 -- Which findings are rows, and which show that the schema has one.
-use Rattle.std.specs.Prelude.{Bool, true, false, not, ◌&&◌, ◌==◌, List, filter_map, Option, Some, None}
+use Rattle.std.specs.Prelude.{Bool, false, not, ◌&&◌, ◌==◌, List, filter_map, Option, Some, None}
 use Rattle.dbformat.specs.Address.{schema_start}
 use Rattle.dbformat.specs.Head.{is_interior}
 use Rattle.dbformat.specs.Rows.{StatRow}

@@ -1,4 +1,4 @@
-use Rattle.std.proofs.Common.{◌≡◌, ◌≤◌, [], ◌∷◌, ◌++◌, sym, ap, subst, ◌∙◌}
+use Rattle.std.proofs.Common.{◌≤◌, [], ◌∷◌, ◌++◌, sym, ap, subst, ◌∙◌}
 use Rattle.dbentries.specs.Listing.{rank}
 use Rattle.dbentries.specs.Lists.{Held}
 use Rattle.dbentries.specs.Store.{AreEntriesOf, Stored}

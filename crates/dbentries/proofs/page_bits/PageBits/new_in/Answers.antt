@@ -1,4 +1,4 @@
-use Rattle.std.proofs.Common.{◌+◌, ◌/◌, ap, ◌∙◌}
+use Rattle.std.proofs.Common.{ap, ◌∙◌}
 use Rattle.dbentries.specs.Bits.{has_bit}
 use Rattle.dbentries.proofs.Bits.{none_set}
 use Rattle.dbentries.proofs.page_bits.PageBits.new_in.Goals as goal

@@ -1,4 +1,4 @@
-use Rattle.std.proofs.Common.{◌≡◌, ℕ, ◌+◌, ◌≤◌, List, ◌++◌, [], length, get_or, refl, ap, ap₂, ◌∙◌, arith}
+use Rattle.std.proofs.Common.{◌≡◌, ℕ, ◌+◌, List, ◌++◌, [], length, refl, ap, ap₂, ◌∙◌, arith}
 use Rattle.dbformat.specs.SchemaRow.{SchemaRow}
 use Rattle.dbmap.specs.Legends.{legend_lines, line_if, no_overflow, tree_line, tree_lines}
 use Rattle.dbmap.specs.Tallies.{others}

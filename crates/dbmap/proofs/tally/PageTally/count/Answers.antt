@@ -1,4 +1,4 @@
-use Rattle.std.proofs.Common.{◌≡◌, ℕ, suc, ◌+◌, List, length, refl, sym, ap, ap₂, ◌∙◌, arith}
+use Rattle.std.proofs.Common.{◌≡◌, ℕ, suc, ◌+◌, List, length, refl, ap, ap₂, ◌∙◌, arith}
 use Rattle.dbformat.specs.File.{geometry}
 use Rattle.dbformat.specs.Reference.{Reference}
 use Rattle.dbformat.specs.Starts.{start_at}
