@@ -118,23 +118,6 @@ module _ (file : List ℕ) (V : List Reference) (s : Survey file V) where
       let long : length (u.address ++ step.0 ∷ []) ≡ length u.address + 1 = length-append u.address (step.0 ∷ []) in
       (ap start_of step.1 ∙ start_of-step u.address step.0 (has_address file V s u i), ap length step.1 ∙ long)
 
-  -- what a visit is at a start, or else which page it is of
-  pub start_or_below : (r : Reference) → IsIn r V → ((k : ℕ) × (r.address ≡ k ∷ []) × IsAtStart k (role_of r))
-      ⊎ ((u : Reference) × IsIn u V × IsIn r (children (rules_of file) u))
-  start_or_below r i = elim ((s.exact r).0 i).0 [
-    | inl j ↦ (let k = named_at-from [] (starts file V) r j in inl
-        (k.0.step, ap (λ r. r.address) k.2, subst (IsAtStart k.0.step) (sym (ap role_of k.2)) (each_start file V k.0 k.1)))
-    | inr w ↦ inr w
-  ]
-
-  -- a root is a start that is not the freelist's
-  pub root_start_is : (r : Reference) → IsIn r V → is_root (role_of r) ≡ true → (k : ℕ) × (r.address ≡ k ∷ []) × (k < freelist_start)
-  root_start_is r i h = elim (start_or_below r i) [
-    | inl (k, e, inl t) ↦ absurd (let f : is_root trunk ≡ true = sym (ap is_root t.0) ∙ h in cc)
-    | inl (k, e, inr t) ↦ (k, e, t.1)
-    | inr w ↦ absurd (both_ways (is_root (role_of r)) (child_leads file w.0 r w.2).0 h)
-  ]
-
   -- what is on the freelist is below its start
   pub on_freelist : (r : Reference) → IsIn r V → is_on_freelist (role_of r) ≡ true → start_of r.address ≡ freelist_start
   on_freelist = each_visit (λ r. is_on_freelist (role_of r) ≡ true → start_of r.address ≡ freelist_start)

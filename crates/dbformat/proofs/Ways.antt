@@ -74,9 +74,3 @@ of_role (first_overflow left) p usable page l h = of_overflow p usable left page
 of_role (later_overflow left) p usable page l h = of_overflow p usable left page l h
 of_role trunk p usable page l h = of_trunk p usable page l h
 of_role free_leaf p usable page l h = absurd h
-
-pub child_from : (file : List ℕ) (t u : Reference) → IsIn u (children (rules_of file) t) → from_of u ≡ t.page
-unfolding rules_of
-child_from file t u i =
-    let m = named_at-from t.address (role_links (role_of t) t.page (usable_size file) (page_bytes file t.page)) u i in
-    ap from_of m.2 ∙ of_role (role_of t) t.page (usable_size file) (page_bytes file t.page) m.0 m.1

@@ -100,9 +100,6 @@ joined : (words : List SquareFaults) (square index : ℕ) (x : SquareFaults) →
     → shown_at (set words square (joined_at words square x)) index ≡ cond (square == index) (both (shown_at words index) (shown x.bits)) (shown_at words index)
 joined words square index x room = by_case (square == index) refl
   where
-    with : SquareFaults
-    with = joined_at words square x
-
     by_case : (b : Bool) → (square == index) ≡ b
         → shown_at (set words square (joined_at words square x)) index ≡ cond b (both (shown_at words index) (shown x.bits)) (shown_at words index)
     by_case true e =
