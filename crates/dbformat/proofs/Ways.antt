@@ -1,22 +1,18 @@
 -- Each reference that a page makes says that it is from this page.
-use Rattle.std.proofs.Common.{◌≡◌, ℕ, ◌-◌, inl, inr, Bool, true, false, cond, List, [], ◌∷◌, ◌++◌, map, Option, Some, None, ap, ◌∙◌}
+use Rattle.std.proofs.Common.{◌≡◌, ℕ, ◌-◌, inl, inr, Bool, true, false, cond, List, [], ◌∷◌, ◌++◌, map, Option, Some, None, ap}
 use Rattle.std.specs.Prelude.{flat_map, option_map, option_to_list, nat_le, nat_lt, ◌==◌}
 use Rattle.std.specs.List.{enumerate_from}
 use Rattle.dbsurvey.specs.Address.{IsIn}
-use Rattle.dbsurvey.specs.Survey.{Link, children}
+use Rattle.dbsurvey.specs.Survey.{Link}
 use Rattle.dbsurvey.proofs.Order.{IsIn-cases}
 use Rattle.dbsurvey.proofs.Ordering.{IsIn-from_map, IsIn-from_flat_map}
-use Rattle.dbsurvey.proofs.Composing.{named_at-from}
-use Rattle.dbformat.specs.Header.{usable_size}
-use Rattle.dbformat.specs.File.{page_bytes}
 use Rattle.dbformat.specs.Payload.{overflow_next}
 use Rattle.dbformat.specs.Head.{View, undamaged}
 use Rattle.dbformat.specs.Cell.{Cell, cells, overflow_size, right_child, count}
 use Rattle.dbformat.specs.Address.{overflow_step, child_step}
-use Rattle.dbformat.specs.Reference.{Role, root, child, first_overflow, later_overflow, trunk, free_leaf, Way, Reference, role_of, from_of, link, cell_links}
+use Rattle.dbformat.specs.Reference.{Role, root, child, first_overflow, later_overflow, trunk, free_leaf, Way, link, cell_links}
 use Rattle.dbformat.specs.Reference.{right_links, page_links, overflow_links, trunk_links, role_links, leaf_link, next_trunk, trunk_next, leaf_count}
 use Rattle.dbformat.specs.Reference.{most_leaves, free_leaves}
-use Rattle.dbformat.specs.Survey.{rules_of}
 use Rattle.dbformat.specs.declared.TreeKind.{TreeKind}
 
 abbrev IsFrom : ℕ → Link Way → Type 0
