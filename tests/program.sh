@@ -103,6 +103,11 @@ expect 0 "$tree" '' stat "$data/empty.db" --aggregate --no-progress --all
 for command in check explain map stat; do
     expect 4 '' $'dbck: note: --all: No such file or directory\n'"$unread" "$command" -- --all
 done
+cp "$data/empty.db" "$work/-x"
+cd "$work" || exit
+expect 0 $'ok\n' '' check -- -x
+expect 0 "$picture"$' -x</title>\n*</svg>\n' '' map --no-progress -- -x
+cd - > /dev/null || exit
 
 # changed NAME OFFSET BYTES: makes NAME.db, the empty database with these bytes at an offset.
 changed() {
@@ -144,6 +149,7 @@ summary+=$'    1 in the whole file\n    0 of 1 table and 1 of 1 index without a 
 expect 0 $'ok\n' '' explain "$data/whole.db"
 expect 1 "$twice$twice_below$unused$unused_below$summary" '' explain "$data/two-owners.db"
 expect 1 "$twice$twice_below"$'more 1\n'"$summary" '' explain --limit 1 "$data/two-owners.db"
+expect 1 "$twice$twice_below$unused$unused_below$summary" '' explain --no-progress "$data/two-owners.db" --limit=10000
 expect 1 $'H10 page 1 item 0 value 3: freelist count differs from the header\n    header: 99\n1 fault\n    1 H10 freelist count differs from the header\n    1 in the whole file\n    1 of 1 table and 0 of 0 indexes without a fault\n' '' \
     explain "$data/view-last.db"
 
@@ -190,15 +196,18 @@ if command -v python3 > "$work/out"; then
     while IFS='|' read -r number limit name; do
         run explain --limit "$limit" "$work/small/$number.db"
         count "explain --limit $limit $name" cmp -s "$work/small/$number.text" "$work/out"
-        count "the status of $name" ended $([ "$(< "$work/out")" = ok ]; echo $?) '*' ''
+        count "the status of $name" ended $([ "$(< "$work/small/$number.text")" = ok ]; echo $?) '*' ''
     done < "$work/list"
     tests/small/make.py tests/small/map.txt "$work/small" > "$work/list"
     while IFS='|' read -r number _ name; do
         run map "$work/small/$number.db"
         count "map $name" has_lines "$work/small/$number.text"
+        if [ "$name" = 'kinds 40000: 1 28 00009c40' ]; then
+            count 'a title for each of 10000 squares, and one for the picture' [ "$(grep -o '</title>' "$work/out" | wc -l)" = 10001 ]
+        fi
     done < "$work/list"
 else
-    leave_out $((2 * $(grep -c '^== ' tests/small/explain.txt) + $(grep -c '^== ' tests/small/map.txt))) python3
+    leave_out $((2 * $(grep -c '^== ' tests/small/explain.txt) + $(grep -c '^== ' tests/small/map.txt) + 1)) python3
 fi
 
 # Pictures, with the name of the file and no line of a fault.
@@ -206,6 +215,7 @@ expect 0 "$picture"$' whole.db</title>\n*, no fault; *</svg>\n' '' map "$data/wh
 expect 1 "$picture"$' two-owners.db</title>\n*, 2 faults; *<title>page 8: in no tree, *, with N01</title>*</svg>\n' '' map "$data/two-owners.db"
 cp "$data/empty.db" "$work/<b>&.db"
 expect 0 "$picture"$' &lt;b&gt;&amp;.db</title>\n*</svg>\n' '' map "$work/<b>&.db"
+count 'the label of a picture' grep -qF ' role="img" aria-label="Pages of &lt;b&gt;&amp;.db">' "$work/out"
 
 if command -v xmllint > "$work/out" && command -v python3 > "$work/out"; then
     count 'pictures are XML' tests/pictures.sh "$dbck" "$data"/*.db "$work/<b>&.db" tests/sqlite/*.db
@@ -397,9 +407,15 @@ least_memory() {
     echo "$high"
 }
 
-# What a command takes more of a file of 2^20 pages and one than of 2^16 and one: for each eight pages no more than is said of them, 32
-# bytes, for `explain` and `map` 66, and 3/4 MiB, which is less than a byte a page. Then of 2^24 pages and one, which is run beside all
-# that follows, and looked at in the end.
+# room BYTES PAGES LEAST: the address space in KiB for a file of so many pages: 7 MiB for the program, its buffers and counts, and BYTES for
+# each eight pages; and at most 3/4 MiB, which is less than a byte a page, more than BYTES say beyond the LEAST for 2^16 pages and one.
+room() {
+    local whole=$((7 * 1024 + $1 * $2 / 8 / 1024)) more=$(($3 + $1 * ($2 - 65537) / 8 / 1024 + 768))
+    echo $((whole < more ? whole : more))
+}
+
+# What a command takes of a file of 2^20 pages and one: for each eight pages no more than is said of them, 32 bytes, for `explain` and
+# `map` 66. Then of 2^24 pages and one, which is run beside all that follows, and looked at in the end.
 for pages in 65537 1048577 16777217; do
     cp "$data/empty.db" "$work/pages-$pages.db"
     truncate -s $((512 * pages)) "$work/pages-$pages.db" 2> "$work/why" || break
@@ -411,11 +427,11 @@ if [ ! -s "$work/why" ]; then
         # shellcheck disable=SC2086
         least=$(least_memory $words "$work/pages-65537.db")
         # shellcheck disable=SC2086
-        (ulimit -v $((least + bytes * 983040 / 8 / 1024 + 768)) && run $words "$work/pages-1048577.db" && exit "$status")
+        (ulimit -v "$(room "$bytes" 1048577 "$least")" && run $words "$work/pages-1048577.db" && exit "$status")
         count "$words of 1048577 pages in $bytes bytes for each eight" [ $? = 1 ]
         [ "$bytes" = 66 ] || continue
         # shellcheck disable=SC2086
-        (ulimit -v $((least + bytes * 16711680 / 8 / 1024 + 768)) && exec "$dbck" $words "$work/pages-16777217.db" > "$work/last.${words%% *}" 2>&1) &
+        (ulimit -v "$(room "$bytes" 16777217 "$least")" && exec "$dbck" $words "$work/pages-16777217.db" > "$work/last.${words%% *}" 2>&1) &
         started+=($!)
     done
 else
@@ -445,8 +461,8 @@ for words in 'stat --all' 'stat --all --aggregate'; do
 done
 rm "$work/sparse.db"
 
-# in_one_log FILE WORDS..: whether rows and faults of a run stand in one log in their order, as it is written by `> log 2>&1`: the fault of
-# each page without a type after its row, or, where the rows are of trees, before it, and those of pages that are not in use at the end.
+# in_one_log FILE WORDS..: whether rows and faults of a run are in one log in their order, as `> log 2>&1` writes it: the fault of each
+# page without a type after its row, and those of pages that are not in use at the end.
 in_one_log() {
     "$dbck" "${@:2}" "$1" > "$work/log" 2>&1
     status=$?
@@ -546,7 +562,9 @@ cp tests/program.sh "$work/text.db"
 echo log > "$work/text.db-wal"
 expect 3 '' "dbck: note: $work/text.db-wal is not read, and may hold changes; *dbck: note: $work/text.db is not checked"$'\n'"dbck: note: $work/text.db begins with *"$'\ndbck: E2 *' check "$work/text.db"
 rm "$work"/text.db-wal
-printf 'sevenby' >> "$work/noted.db"
+printf 's' >> "$work/noted.db"
+expect 0 $'ok\n' $'dbck: note: 1 byte after page 1 is not read\n' check "$work/noted.db"
+printf 'evenby' >> "$work/noted.db"
 expect 0 $'ok\n' $'dbck: note: 7 bytes after page 1 are not read\n' check "$work/noted.db"
 expect 0 "$page" $'dbck: note: 7 bytes after page 1 are not read\n' stat "$work/noted.db"
 # A whole page more than its header states.
