@@ -1,6 +1,7 @@
 -- What the reporter of a map has counted and kept, by what it heard.
-use Rattle.std.proofs.Common.{◌≡◌, ℕ, List, [], ◌∷◌, length, map, Option, Result, Err, inl, inr, refl, sym, ap, subst, ◌∙◌}
-use Rattle.std.specs.Prelude.{IfOk}
+use Rattle.std.proofs.Common.{◌≡◌, ℕ, List, [], ◌∷◌, ◌++◌, length, Option, Result, Err, inl, inr, refl, sym, ap, subst, ◌∙◌}
+use Rattle.std.specs.Borrow.{MutBor}
+use Rattle.std.specs.Prelude.{flat_map, IfOk}
 use Rattle.std.specs.Io.KnownBytes.{Keeps}
 use Rattle.std.proofs.lemmas.List.{length-map}
 use Rattle.dbsurvey.specs.Moves.{Moves}
@@ -10,7 +11,6 @@ use Rattle.dbformat.specs.Reference.{Reference}
 use Rattle.dbformat.specs.Report.{faults, verdict, verdict_of}
 use Rattle.dbformat.specs.Rows.{stat_rows}
 use Rattle.dbformat.specs.Survey.{Survey}
-use Rattle.dbformat.specs.declared.FaultCode.{FaultCode}
 use Rattle.dbformat.specs.declared.Verdict.{Verdict}
 use Rattle.dbformat.proofs.Verdicts.{verdict_counted}
 use Rattle.dbtrace.specs.declared.Reported.{Reported}
@@ -26,7 +26,8 @@ use Rattle.dbscan.proofs.AllTold.{all_told}
 use Rattle.dbentries.specs.Lists.{HasListed, Held, ListsAll}
 use Rattle.dbentries.proofs.Heard.{never_stops}
 use Rattle.dbmap.specs.KeptFaults.{AreNoted, HasFaults, HearsNone}
-use Rattle.dbmap.specs.Faults.{coded}
+use Rattle.dbmap.specs.Faults.{fault_signs}
+use Rattle.dbmap.specs.declared.faults.Sign.{Sign}
 use Rattle.dbowner.specs.Trees.{AreTrees}
 use Rattle.dbowner.proofs.Trees.{all_noted}
 use Rattle.dbmap.specs.Pictures.{map_picture}
@@ -34,12 +35,12 @@ use Rattle.dbmap.specs.Maps.{PutsMap}
 use Rattle.dbmap.specs.MapRuns.{Hears, LeavesMap}
 use Rattle.dbmap.specs.declared.map_reporter.MapReporter.{MapReporter}
 use Rattle.dbmap.proofs.MapAnswers.{nothing_begun}
-use Rattle.dbmap.proofs.Heard.{all_heard, codes_told, HasNotedFaults, some_untouched}
+use Rattle.dbmap.proofs.Heard.{all_heard, HasNotedFaults, signs_told, some_untouched}
 
--- the pages and codes of faults that were reported
-coded_told : (ts : List Reported) → codes_told ts ≡ map coded (faults_of ts)
-coded_told [] = refl
-coded_told (t ∷ ts) = ap (λ l. coded t.fault ∷ l) (coded_told ts)
+-- the signs of faults that were reported
+signs_are : (ts : List Reported) → signs_told ts ≡ flat_map fault_signs (faults_of ts)
+signs_are [] = refl
+signs_are (t ∷ ts) = ap (λ l. fault_signs t.fault ++ l) (signs_are ts)
 
 module _ {A O : Type 0} (file : List ℕ) (V : List Reference) (survey : Survey file V) (s t : MapReporter A O) (none : s.faults ≡ 0)
     (empty : HearsNone (geometry file).pages s.kept.now) where
@@ -54,9 +55,6 @@ module _ {A O : Type 0} (file : List ℕ) (V : List Reference) (survey : Survey 
     pub map_counts : t.faults ≡ counted (length (faults file V))
     map_counts = all.count ∙ ap counted as_many
 
-    pub map_untouched : t.out.now ≡ s.out.now
-    map_untouched = all.out
-
     pub map_finds : verdict_of t.faults ≡ verdict (faults file V)
     map_finds = ap verdict_of map_counts ∙ verdict_counted (faults file V)
 
@@ -66,9 +64,9 @@ module _ {A O : Type 0} (file : List ℕ) (V : List Reference) (survey : Survey 
     -- with the lost pages
     pub map_keeps : (l : Held) → ListsAll 100 file V l → HasFaults file V (record t.kept.now { listing = l })
     map_keeps l listed = record {
-      trees = subst (AreTrees V) (sym all.trees) (all_noted file V s.kept.now.state.trees.known survey empty.room);
-      notes = subst (λ (fs : List (ℕ × FaultCode)). AreNoted (geometry file).pages fs [] t.kept.now.notes)
-          (coded_told (told_faults file V) ∙ ap (map coded) (all_told file V)) all.notes;
+      trees = subst (AreTrees V) (sym all.trees) (all_noted file V s.kept.now.trees.known survey empty.room);
+      notes = subst (λ (l : List (ℕ × Sign)). AreNoted (geometry file).pages l t.kept.now.notes)
+          (signs_are (told_faults file V) ∙ ap (flat_map fault_signs) (all_told file V)) all.notes;
       listing = listed;
     }
 
@@ -76,14 +74,14 @@ module _ {A O : Type 0} (file : List ℕ) (V : List Reference) (survey : Survey 
     pub map_put : (held : O → OutState) (P : Option (List ℕ) → List ℕ → Type 0) (text : List ℕ) → text ≡ map_picture file V t.name.now
         → P (held t.out.now).bytes text → P (held s.out.now).bytes (map_picture file V s.name.now)
     map_put held P text e h =
-        subst (λ (o : O). P (held o).bytes (map_picture file V s.name.now)) map_untouched
+        subst (λ (o : MutBor O). P (held o.now).bytes (map_picture file V s.name.now)) all.out
         (subst (λ (name : List ℕ). P (held t.out.now).bytes (map_picture file V name)) (ap (λ n. n.now) all.name) (subst (P (held t.out.now).bytes) e h))
 
     -- after a failed read nothing has been put
     pub map_unput : (held : O → OutState) → Keeps (held s.out.now).bytes (held t.out.now).bytes
-    map_unput held = subst (λ (o : O). Keeps (held s.out.now).bytes (held o).bytes) (sym map_untouched) (keeps_same (held s.out.now).bytes)
+    map_unput held = subst (λ (o : MutBor O). Keeps (held s.out.now).bytes (held o.now).bytes) (sym all.out) (keeps_same (held s.out.now).bytes)
 
-  stopped : (e : RunError) → StopsBy Hears CutsNever e s (run_notices file V) t → t.out.now ≡ s.out.now
+  stopped : (e : RunError) → StopsBy Hears CutsNever e s (run_notices file V) t → t.out ≡ s.out
   stopped (Refused r) h = some_untouched file V survey s t none empty h
   stopped ReadFailed h = some_untouched file V survey s t none empty h
   stopped OutOfMemory h = some_untouched file V survey s t none empty h
@@ -102,7 +100,7 @@ module _ {A O : Type 0} (file : List ℕ) (V : List Reference) (survey : Survey 
   map_left held r (inl h) = h none empty
   map_left held r (inr (e, is, k)) =
       let kept : Keeps (held s.out.now).bytes (held t.out.now).bytes =
-      subst (λ (o : O). Keeps (held s.out.now).bytes (held o).bytes) (sym (stopped e k)) (keeps_same (held s.out.now).bytes) in
+      subst (λ (o : MutBor O). Keeps (held s.out.now).bytes (held o.now).bytes) (sym (stopped e k)) (keeps_same (held s.out.now).bytes) in
       subst (λ (r : Result Verdict RunError). IfOk r (λ v. v ≡ verdict (faults file V))
       × PutsMap r (held s.out.now).bytes (held t.out.now).bytes (map_picture file V s.name.now)) (sym is)
       (tt, unbegun e (held s.out.now).bytes (held t.out.now).bytes kept)

@@ -1,6 +1,6 @@
 -- What a reporter keeps that has heard all of a file, or a beginning of it.
-use Rattle.std.proofs.Common.{◌≡◌, ℕ, ◌≤◌, List, [], ◌∷◌, ◌++◌, length, map, refl, sym, ap, subst, ◌∙◌, arith, length-append}
-use Rattle.std.specs.Prelude.{fold}
+use Rattle.std.proofs.Common.{◌≡◌, ℕ, ◌≤◌, List, [], ◌∷◌, ◌++◌, length, refl, sym, ap, subst, ◌∙◌, arith, length-append}
+use Rattle.std.specs.Prelude.{flat_map, fold}
 use Rattle.std.proofs.lemmas.List.Sums.{fold-append}
 use Rattle.dbsurvey.specs.Moves.{Moves, MovesBySome}
 use Rattle.dbformat.specs.File.{geometry}
@@ -8,7 +8,6 @@ use Rattle.dbformat.specs.Lines.{counted}
 use Rattle.dbformat.specs.Reference.{Reference}
 use Rattle.dbformat.specs.Rows.{StatRow, stat_rows}
 use Rattle.dbformat.specs.Survey.{Survey}
-use Rattle.dbformat.specs.declared.FaultCode.{FaultCode}
 use Rattle.dbtrace.specs.declared.Reported.{Reported}
 use Rattle.dbentries.specs.Listing.{rank}
 use Rattle.dbscan.specs.Notices.{run_notices}
@@ -16,29 +15,29 @@ use Rattle.dbscan.specs.Placed.{told_faults}
 use Rattle.dbentries.specs.Lists.{HasListed, Held}
 use Rattle.dbentries.proofs.Heard.{file_begun, file_heard}
 use Rattle.dbentries.proofs.ListedFaults.{one_listed}
-use Rattle.dbowner.specs.Trees.{row_noted}
+use Rattle.dbowner.specs.Trees.{row_noted, Trees}
 use Rattle.dbmap.specs.KeptFaults.{AreNoted, HearsNone}
-use Rattle.dbmap.specs.Faults.{coded}
+use Rattle.dbmap.specs.Faults.{fault_signs}
 use Rattle.dbmap.specs.MapRuns.{Adds, Hears, Notes}
-use Rattle.dbmap.specs.declared.draw_state.DrawState.{DrawState}
+use Rattle.dbmap.specs.declared.faults.Sign.{Sign}
 use Rattle.dbmap.specs.declared.map_reporter.MapReporter.{MapReporter}
 
--- the pages and codes of some faults
-abbrev pub codes_told : List Reported → List (ℕ × FaultCode)
-codes_told ts = map (λ (t : Reported). coded t.fault) ts
+-- the signs of the pages of some faults
+abbrev pub signs_told : List Reported → List (ℕ × Sign)
+signs_told ts = flat_map (λ (t : Reported). fault_signs t.fault) ts
 
-told_more : (ts : List Reported) (x : Reported) → codes_told ts ++ coded x.fault ∷ [] ≡ codes_told (ts ++ x ∷ [])
+told_more : (ts : List Reported) (x : Reported) → signs_told ts ++ fault_signs x.fault ≡ signs_told (ts ++ x ∷ [])
 told_more [] x = refl
-told_more (t ∷ ts) x = ap (λ l. coded t.fault ∷ l) (told_more ts x)
+told_more (t ∷ ts) x = ap (λ l. fault_signs t.fault ++ l) (told_more ts x)
 
 module _ {A O : Type 0} where
   -- These faults were counted, noted and listed, and the starts of these rows noted; nothing else changed.
   pub record HasNotedFaults (pages : ℕ) (first : MapReporter A O) (ts : List Reported) (rs : List StatRow) (now : MapReporter A O) : Type 0 where
     pub count : now.faults ≡ counted (length ts)
-    pub notes : AreNoted pages (codes_told ts) [] now.kept.now.notes
+    pub notes : AreNoted pages (signs_told ts) now.kept.now.notes
     pub listing : HasListed 100 ts now.kept.now.listing
-    pub trees : now.kept.now.state.trees.known ≡ fold row_noted first.kept.now.state.trees.known rs
-    pub out : now.out.now ≡ first.out.now
+    pub trees : now.kept.now.trees.known ≡ fold row_noted first.kept.now.trees.known rs
+    pub out : now.out ≡ first.out
     pub name : now.name ≡ first.name
 
   abbrev listing : MapReporter A O → Held
@@ -48,9 +47,9 @@ module _ {A O : Type 0} where
       → (listing s).entries.part ≤ rank x.part → HasNotedFaults pages first ts rs s → Adds x s t → HasNotedFaults pages first (ts ++ x ∷ []) rs t
   one_heard pages first x ts rs s t most h a = record {
     count = let e = a.count in let n = h.count in let l = length-append ts (x ∷ []) in omega (arith, e, n, l);
-    notes = subst (λ (l : List (ℕ × FaultCode)). AreNoted pages l [] t.kept.now.notes) (told_more ts x) (a.kept.notes pages (codes_told ts) [] h.notes);
-    listing = one_listed 100 ts x (listing s) (listing t) most h.listing a.kept.listing;
-    trees = ap (λ (w : DrawState A). w.trees.known) a.kept.state ∙ h.trees;
+    notes = subst (λ (l : List (ℕ × Sign)). AreNoted pages l t.kept.now.notes) (told_more ts x) (a.notes pages (signs_told ts) h.notes);
+    listing = one_listed 100 ts x (listing s) (listing t) most h.listing a.listing;
+    trees = ap (λ (w : Trees). w.known) a.trees ∙ h.trees;
     out = a.out ∙ h.out;
     name = a.name ∙ h.name;
   }
@@ -59,9 +58,9 @@ module _ {A O : Type 0} where
       → HasNotedFaults pages first ts rs s → Notes r s t → HasNotedFaults pages first ts (rs ++ r ∷ []) t
   one_noted pages first r ts rs s t h a = record {
     count = a.count ∙ h.count;
-    notes = subst (AreNoted pages (codes_told ts) []) (sym a.notes) h.notes;
+    notes = subst (AreNoted pages (signs_told ts)) (sym a.notes) h.notes;
     listing = subst (HasListed 100 ts) (sym a.listing) h.listing;
-    trees = a.trees ∙ ap (λ k. row_noted k r) h.trees ∙ sym (fold-append row_noted first.kept.now.state.trees.known rs (r ∷ []));
+    trees = a.trees ∙ ap (λ k. row_noted k r) h.trees ∙ sym (fold-append row_noted first.kept.now.trees.known rs (r ∷ []));
     out = a.out ∙ h.out;
     name = a.name ∙ h.name;
   }
@@ -73,10 +72,10 @@ module _ {A O : Type 0} (file : List ℕ) (V : List Reference) (survey : Survey 
 
   -- all of it
   pub all_heard : Moves Hears first (run_notices file V) now → HasNotedFaults (geometry file).pages first (told_faults file V) (stat_rows file V) now
-  all_heard m = file_heard Adds Notes listing (λ x s t a. a.kept.listing) (λ r s t a. a.listing) (HasNotedFaults (geometry file).pages first)
+  all_heard m = file_heard Adds Notes listing (λ x s t a. a.listing) (λ r s t a. a.listing) (HasNotedFaults (geometry file).pages first)
       (one_heard (geometry file).pages first) (one_noted (geometry file).pages first) file V survey first now empty.listing.part nothing_noted m
 
   -- nothing is put, where only some of it was heard
-  pub some_untouched : MovesBySome Hears first (run_notices file V) now → now.out.now ≡ first.out.now
-  some_untouched m = (file_begun Adds Notes listing (λ x s t a. a.kept.listing) (λ r s t a. a.listing) (HasNotedFaults (geometry file).pages first)
+  pub some_untouched : MovesBySome Hears first (run_notices file V) now → now.out ≡ first.out
+  some_untouched m = (file_begun Adds Notes listing (λ x s t a. a.listing) (λ r s t a. a.listing) (HasNotedFaults (geometry file).pages first)
       (one_heard (geometry file).pages first) (one_noted (geometry file).pages first) file V survey first now empty.listing.part nothing_noted m).3.out

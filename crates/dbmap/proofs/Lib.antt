@@ -4,8 +4,6 @@ pub mod FirstMost
 pub mod Heard
 pub mod MapAnswers
 pub mod Pictured
-pub mod Rests
 pub mod Runs
 pub mod Shares
-pub mod SquareSteps
 pub mod Steps

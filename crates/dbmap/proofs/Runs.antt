@@ -1,18 +1,9 @@
 -- How many pages a square covers.
-use Rattle.std.proofs.Common.{◌≡◌, ℕ, zero, suc, ◌+◌, ◌-◌, ◌*◌, ◌/◌, ◌<◌, ◌≤◌, Bool, true, false, cond, max, nat_lt, refl, sym, ap, subst, arith}
+use Rattle.std.proofs.Common.{◌≡◌, ℕ, zero, suc, ◌-◌, ◌*◌, ◌/◌, ◌<◌, ◌≤◌, Bool, true, false, cond, max, nat_lt, sym, subst, arith}
 use Rattle.std.specs.Int.{div_ceil}
 use Rattle.std.proofs.lemmas.Grind.{div_ceil_times}
 use Rattle.std.proofs.Math.Nat.{lt_of_mul-lt-mul_left, mul_comm}
 use Rattle.dbmap.specs.Grids.{run_after, run_for}
-
-pub first_run : (pages : ℕ) → 1 ≡ run_after pages 0
-unfolding run_after
-first_run pages = refl
-
--- one doubling more, or none
-pub next_run : (pages n : ℕ) → run_after pages (n + 1) ≡ cond (nat_lt 16384 (div_ceil pages (run_after pages n))) (run_after pages n * 2) (run_after pages n)
-unfolding run_after
-next_run pages n = let next : n + 1 ≡ suc n = omega arith in ap (run_after pages) next
 
 -- it covers one at least
 pub run_some : (pages n : ℕ) → 1 ≤ run_after pages n

@@ -1,78 +1,40 @@
--- What is left to draw, by what is drawn next.
-use Rattle.std.proofs.Common.{◌≡◌, ℕ, suc, ◌+◌, ◌-◌, ◌*◌, ◌<◌, ◌≤◌, min, Bool, ◌&&◌, not, List, [], ◌∷◌, ◌++◌, length, drop, get_or, add-one, drop-cons, ap}
-use Rattle.std.proofs.Common.{◌∙◌, append-nil, arith, sym}
+-- The texts of numbers that follow one another, and one more.
+use Rattle.std.proofs.Common.{◌≡◌, ℕ, ◌+◌, List, [], ◌∷◌, ◌++◌, ap, ◌∙◌, append-nil, sym}
 use Rattle.std.specs.List.{flat_map, range_with_len}
-use Rattle.std.proofs.lemmas.List.{drop_all}
 use Rattle.std.proofs.lemmas.List.Concat.{flat_map-append}
 use Rattle.dbsurvey.proofs.Ranges.{range_push}
-use Rattle.dbformat.specs.declared.FaultCode.{FaultCode}
-use Rattle.dbformat.specs.declared.Geometry.{Geometry}
-use Rattle.dbmap.specs.Owners.{has_pages}
-use Rattle.dbmap.specs.Faults.{code_if}
-use Rattle.dbmap.specs.Legends.{line_text, lines_from}
-use Rattle.dbmap.specs.Runs.{band_text, bands_from, owner_text, owners_from}
-use Rattle.dbmap.specs.declared.bands.Bands.{Bands}
-use Rattle.dbmap.specs.declared.owner_shares.OwnerShares.{OwnerShares}
-use Rattle.dbmap.specs.declared.legend.LegendLine.{LegendLine}
-use Rattle.dbmap.specs.declared.run.RunSquare.{RunSquare}
+use Rattle.dbformat.specs.Reference.{Reference}
+use Rattle.dbsource.specs.Outs.{OutState}
+use Rattle.dblines.specs.Writing.{Wrote, WroteOf}
+use Rattle.dblines.specs.declared.writer.Writer.{Writer}
+use Rattle.dblines.proofs.Writing.{of_all, of_as, of_then, wrote_as, wrote_nothing, wrote_then}
 
--- one fewer is left
-pub one_less : (n m : ℕ) → n < m → m - n ≡ suc (m - (n + 1))
-one_less n m h = omega arith
+module _ {X : Type 0} (f : ℕ → List X) (first : ℕ) where
+  flat_none : {n : ℕ} → n ≡ 0 → [] ≡ flat_map f (range_with_len first n)
+  flat_none e = ap (λ n. flat_map f (range_with_len first n)) (sym e)
 
-pub next_owner : (c : OwnerShares) (names : List (List ℕ)) (f : Bool) (number : ℕ) → number < 16
-    → owners_from c names f number (16 - number) ≡ owner_text c names f number
-    ++ owners_from c names (f && not (has_pages c number)) (number + 1) (16 - (number + 1))
-unfolding owners_from
-next_owner c names f number h = ap (owners_from c names f number) (one_less number 16 h)
+  pub flat_more : (n i : ℕ) {m : ℕ} → first + n ≡ i → n + 1 ≡ m → flat_map f (range_with_len first n) ++ f i ≡ flat_map f (range_with_len first m)
+  flat_more n i at next =
+      ap (λ j. flat_map f (range_with_len first n) ++ f j) (sym at)
+      ∙ sym (ap (flat_map f) (range_push first n) ∙ flat_map-append f (range_with_len first n) ((first + n) ∷ [])
+      ∙ ap (λ l. flat_map f (range_with_len first n) ++ l) (append-nil (f (first + n))))
+      ∙ ap (λ n. flat_map f (range_with_len first n)) next
 
-pub no_owner : (c : OwnerShares) (names : List (List ℕ)) (f : Bool) (number : ℕ) → 16 ≤ number → owners_from c names f number (16 - number) ≡ []
-unfolding owners_from
-no_owner c names f number h = let e : 16 - number ≡ 0 = omega arith in ap (owners_from c names f number) e
+-- as they are written
+module _ {O : Type 0} {held : O → OutState} (f : ℕ → List ℕ) (first : ℕ) where
+  pub range_none : {n : ℕ} (s : Writer O) → n ≡ 0 → Wrote held s (flat_map f (range_with_len first n)) s
+  range_none s e = wrote_as (flat_none f first e) (wrote_nothing s)
 
-pub next_band : (r : RunSquare) (b : Bands) (number top : ℕ) → number < 16
-    → bands_from r b number (16 - number) top
-    ≡ band_text r number top (get_or b.heights number 0) ++ bands_from r b (number + 1) (16 - (number + 1)) (min (top + get_or b.heights number 0) 4294967295)
-unfolding bands_from
-next_band r b number top h = ap (λ n. bands_from r b number n top) (one_less number 16 h)
+  pub range_more : {s m t : Writer O} (n i : ℕ) {k : ℕ} → Wrote held s (flat_map f (range_with_len first n)) m → Wrote held m (f i) t
+      → first + n ≡ i → n + 1 ≡ k → Wrote held s (flat_map f (range_with_len first k)) t
+  range_more n i h one at next = wrote_as (flat_more f first n i at next) (wrote_then h one)
 
-pub no_band : (r : RunSquare) (b : Bands) (number top : ℕ) → 16 ≤ number → bands_from r b number (16 - number) top ≡ []
-unfolding bands_from
-no_band r b number top h = let e : 16 - number ≡ 0 = omega arith in ap (λ n. bands_from r b number n top) e
+-- and where they are of a file
+module _ {O : Type 0} {held : O → OutState} {Known : List ℕ → List Reference → Type 0} (f : List ℕ → List Reference → ℕ → List ℕ) (first : ℕ) where
+  pub of_range_none : {n : ℕ} (s : Writer O) → n ≡ 0 → WroteOf held s Known (λ file V. flat_map (f file V) (range_with_len first n)) s
+  of_range_none s e = of_as (λ file V k. flat_none (f file V) first e) (of_all (wrote_nothing s))
 
-pub next_line : (names : List (List ℕ)) (g : Geometry) (lines : List LegendLine) (i : ℕ) (none : LegendLine) → i < length lines
-    → lines_from names g (i + 2) (drop i lines) ≡ line_text names g (get_or lines i none) ((i + 2) * 20) ++ lines_from names g (i + 1 + 2) (drop (i + 1) lines)
-next_line names g lines i none h =
-    let cut : drop i lines ≡ get_or lines i none ∷ drop (i + 1) lines = rw add-one (drop-cons lines i none h) in
-    let more : i + 2 + 1 ≡ i + 1 + 2 = omega arith in
-    ap (lines_from names g (i + 2)) cut ∙ ap (λ n. line_text names g (get_or lines i none) ((i + 2) * 20) ++ lines_from names g n (drop (i + 1) lines)) more
-
-pub no_line : (names : List (List ℕ)) (g : Geometry) (lines : List LegendLine) (i : ℕ) → length lines ≤ i → lines_from names g (i + 2) (drop i lines) ≡ []
-no_line names g lines i h = ap (lines_from names g (i + 2)) (drop_all i lines h)
-
-pub next_code : (known : FaultCode → Bool) (all : List FaultCode) (i : ℕ) (none : FaultCode) → i < length all
-    → flat_map (code_if known) (drop i all) ≡ code_if known (get_or all i none) ++ flat_map (code_if known) (drop (i + 1) all)
-next_code known all i none h =
-    let cut : drop i all ≡ get_or all i none ∷ drop (i + 1) all = rw add-one (drop-cons all i none h) in
-    ap (flat_map (code_if known)) cut
-
-pub no_code : (known : FaultCode → Bool) (all : List FaultCode) (i : ℕ) → length all ≤ i → flat_map (code_if known) (drop i all) ≡ []
-no_code known all i h = ap (flat_map (code_if known)) (drop_all i all h)
-
--- texts of numbers that follow one another, and one more
-pub flat_next : {X : Type 0} (f : ℕ → List X) (first n i : ℕ) → first + n ≡ i
-    → flat_map f (range_with_len first n) ++ f i ≡ flat_map f (range_with_len first (n + 1))
-flat_next f first n i e =
-    ap (λ j. flat_map f (range_with_len first n) ++ f j) (sym e)
-    ∙ sym (ap (flat_map f) (range_push first n) ∙ flat_map-append f (range_with_len first n) ((first + n) ∷ [])
-    ∙ ap (λ l. flat_map f (range_with_len first n) ++ l) (append-nil (f (first + n))))
-
--- the same from one number to another
-pub flat_none : {X : Type 0} (f : ℕ → List X) (first : ℕ) → [] ≡ flat_map f (range_with_len first (first - first))
-flat_none f first = let none : 0 ≡ first - first = omega arith in ap (λ n. flat_map f (range_with_len first n)) none
-
-pub flat_to : {X : Type 0} (f : ℕ → List X) (first i : ℕ) → first ≤ i
-    → flat_map f (range_with_len first (i - first)) ++ f i ≡ flat_map f (range_with_len first (i + 1 - first))
-flat_to f first i l =
-    let next : i - first + 1 ≡ i + 1 - first = omega arith in
-    flat_next f first (i - first) i (omega arith) ∙ ap (λ n. flat_map f (range_with_len first n)) next
+  pub of_range_more : {s m t : Writer O} (n i : ℕ) {k : ℕ} → WroteOf held s Known (λ file V. flat_map (f file V) (range_with_len first n)) m
+      → WroteOf held m Known (λ file V. f file V i) t → first + n ≡ i → n + 1 ≡ k
+      → WroteOf held s Known (λ file V. flat_map (f file V) (range_with_len first k)) t
+  of_range_more n i h one at next = of_as (λ file V o. flat_more (f file V) first n i at next) (of_then h one)

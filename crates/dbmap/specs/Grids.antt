@@ -44,35 +44,25 @@ columns_of Narrow = 32
 columns_of Medium = 64
 columns_of Wide = 128
 
-abbrev pub grid_columns : Grid → ℕ
-grid_columns g = columns_of g.width
-
 -- how many pixels a square takes with the room after it
 abbrev pub side_of : Width → ℕ
 side_of Narrow = 28
 side_of Medium = 14
 side_of Wide = 7
 
-abbrev pub side : Grid → ℕ
-side g = side_of g.width
-
 -- how many squares and outlines there are: an outline at least where pages are missing, and no more rows of outlines alone than the file
 -- has rows
 abbrev pub places : Grid → ℕ
-places g = max (min (div_ceil g.stated (max g.run 1)) (div_ceil g.squares (grid_columns g) * 2 * grid_columns g))
+places g = max (min (div_ceil g.stated (max g.run 1)) (div_ceil g.squares (columns_of g.width) * 2 * columns_of g.width))
     (capped_pages (g.squares + (if g.stated - g.pages == 0 then 0 else 1)))
 
 -- how many rows there are
 abbrev pub rows : Grid → ℕ
-rows g = div_ceil (places g) (grid_columns g)
+rows g = div_ceil (places g) (columns_of g.width)
 
--- the squares of a row, the first and the one after the last
-abbrev pub squares_of_row : Grid → ℕ → ℕ × ℕ
-squares_of_row g row = (min (row * grid_columns g) g.squares, min ((row + 1) * grid_columns g) g.squares)
-
--- the outlines of a row, the first and the one after the last
-abbrev pub outlines_of_row : Grid → ℕ → ℕ × ℕ
-outlines_of_row g row = (max (min (row * grid_columns g) (places g)) g.squares, min ((row + 1) * grid_columns g) (places g))
+-- the places of a row among `most` places, the first and the one after the last
+abbrev pub places_of : Grid → ℕ → ℕ → ℕ × ℕ
+places_of g row most = (min (row * columns_of g.width) most, min ((row + 1) * columns_of g.width) most)
 
 -- the first and the last page of a place, in a file of `pages` pages
 abbrev pub run_of : Grid → ℕ → ℕ → ℕ × ℕ
@@ -85,11 +75,11 @@ missing_of g place =
 
 -- where a square begins in its row, and where a row begins, in pixels
 abbrev pub x_of : Grid → ℕ → ℕ
-x_of g place = (place % grid_columns g) * side g
+x_of g place = (place % columns_of g.width) * side_of g.width
 
 abbrev pub top_of : Grid → ℕ → ℕ
-top_of g row = 64 + row * side g
+top_of g row = 64 + row * side_of g.width
 
 -- the first page of a row
 abbrev pub page_of_row : Grid → ℕ → ℕ
-page_of_row g row = counted (counted (row * grid_columns g * g.run) + 1)
+page_of_row g row = counted (counted (row * columns_of g.width * g.run) + 1)

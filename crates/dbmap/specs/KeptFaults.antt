@@ -1,69 +1,57 @@
 -- What is kept of a file: what each square shows of the faults that were reported, a bit for each page that has one, and for each that has the
 -- strong frame; the faults that lead; and the starts of its pages.
-use Rattle.std.specs.Prelude.{◌≡◌, ℕ, ◌≤◌, ◌<◌, Bool, List, length, slice_index_or, ◌==◌, [], ◌∷◌, ◌++◌}
+use Rattle.std.specs.Prelude.{◌≡◌, ℕ, ◌≤◌, ◌<◌, Bool, List, length, slice_index_or, ◌==◌, [], flat_map, if◌then◌else◌}
 use Rattle.std.specs.Int.{div_ceil}
-use Rattle.std.specs.Int.RustNames.{bit_or}
-use Rattle.std.specs.List.{list_any}
-use Rattle.dbformat.specs.declared.FaultCode.{FaultCode}
-use Rattle.dbentries.specs.Bits.{has_bit, HasPageBit}
-use Rattle.dbmap.specs.Faults.{coded, coded_faults, shown, ShownFaults, square_shows}
-use Rattle.dbmap.specs.Grids.{run_for}
-use Rattle.dbmap.specs.declared.fault_notes.FaultNotes.{FaultNotes}
-use Rattle.dbmap.specs.declared.faults.SquareFaults.{SquareFaults}
 use Rattle.dbformat.specs.File.{geometry}
 use Rattle.dbformat.specs.Reference.{Reference}
-use Rattle.dbtrace.specs.declared.Reported.{Reported}
-use Rattle.dbentries.specs.Lists.{IsUnused, ListsAll, ListsFault}
+use Rattle.dbformat.specs.Report.{faults}
+use Rattle.dbentries.specs.Bits.{bit_set, has_bit, HasPageBit}
+use Rattle.dbentries.specs.Lists.{IsUnused, ListsAll}
 use Rattle.dbowner.specs.Trees.{AreTrees}
+use Rattle.dbmap.specs.Faults.{fault_signs, shown, shows, sign_added}
+use Rattle.dbmap.specs.Grids.{is_of_square, run_for}
+use Rattle.dbmap.specs.declared.fault_notes.FaultNotes.{FaultNotes}
+use Rattle.dbmap.specs.declared.faults.Sign.{Sign}
+use Rattle.dbmap.specs.declared.faults.Sign.TheVariants.{Faulty, Framed}
+use Rattle.dbmap.specs.declared.faults.SquareFaults.{SquareFaults}
 use Rattle.dbmap.specs.declared.kept.KeptFaults.{KeptFaults}
 
--- whether a page has a fault, and whether it has the strong frame
-abbrev pub is_marked_faulty : {A : Type 0} → FaultNotes A → ℕ → Bool
-is_marked_faulty n p = has_bit n.faulty p
-
-abbrev pub is_marked_framed : {A : Type 0} → FaultNotes A → ℕ → Bool
-is_marked_framed n p = has_bit n.framed p
-
 -- what a square shows: nothing, where there is none with this number
-abbrev pub no_faults : SquareFaults
-no_faults = record { bits = 0 }
+abbrev pub square_at : List SquareFaults → ℕ → SquareFaults
+square_at squares index = slice_index_or squares index (record { bits = 0 })
 
-abbrev pub shown_at : List SquareFaults → ℕ → ShownFaults
-shown_at squares index = shown (slice_index_or squares index no_faults).bits
+abbrev pub noted_at : {A : Type 0} → FaultNotes A → ℕ → Sign → Bool
+noted_at n index = shown (square_at n.squares.items index).bits
 
-abbrev pub noted_at : {A : Type 0} → FaultNotes A → ℕ → ShownFaults
-noted_at n index = shown_at n.squares.items index
+-- that square with one sign more, and bits of pages with that of one more, or not
+abbrev pub added_at : List SquareFaults → ℕ → Sign → SquareFaults
+added_at squares index sign = sign_added sign (square_at squares index)
 
--- that square, where it shows these too
-abbrev pub joined_at : List SquareFaults → ℕ → SquareFaults → SquareFaults
-joined_at squares index faults = record { bits = bit_or (slice_index_or squares index no_faults).bits faults.bits }
+abbrev pub bits_if : Bool → ℕ → List ℕ → List ℕ
+bits_if is_set p bits = if is_set then bit_set p bits else bits
 
--- These faults of a file of `count` pages were noted, each as its page and its code, and these pages as those that have the strong frame.
-pub record AreNoted {A : Type 0} (count : ℕ) (fs : List (ℕ × FaultCode)) (ps : List ℕ) (n : FaultNotes A) : Type 0 where
+-- The bits of the pages of a file of `count` pages that have a sign.
+pub record AreBits (count : ℕ) (signs : List (ℕ × Sign)) (sign : Sign) (bits : List ℕ) : Type 0 where
+  pub room : HasPageBit bits count
+  pub are : (p : ℕ) → 1 ≤ p → p ≤ count → has_bit bits p ≡ shows signs (λ q. q == p) sign
+
+-- These signs of the pages of a file of `count` pages were noted, each with its page.
+pub record AreNoted {A : Type 0} (count : ℕ) (signs : List (ℕ × Sign)) (n : FaultNotes A) : Type 0 where
   pub pages : n.pages ≡ count
   pub run : n.run ≡ run_for count
   pub room : length n.squares.items ≡ div_ceil count (run_for count)
-  pub faulty_room : HasPageBit n.faulty count
-  pub framed_room : HasPageBit n.framed count
-  pub squares : (index : ℕ) → noted_at n index ≡ square_shows count fs ps index
-  pub faulty : (p : ℕ) → 1 ≤ p → p ≤ count → is_marked_faulty n p ≡ list_any (λ f. f.0 == p) fs
-  pub framed : (p : ℕ) → 1 ≤ p → p ≤ count → is_marked_framed n p ≡ list_any (λ q. q == p) ps
+  pub squares : (index : ℕ) → noted_at n index ≡ shows signs (is_of_square count index)
+  pub faulty : AreBits count signs Faulty n.faulty
+  pub framed : AreBits count signs Framed n.framed
 
 -- No fault was reported of a file of this number of pages. There is room for 100 entries, and for the starts of the pages.
 pub record HearsNone {A : Type 0} (count : ℕ) (k : KeptFaults A) : Type 0 where
-  pub room : count < length k.state.trees.known
-  pub notes : AreNoted count [] [] k.notes
+  pub room : count < length k.trees.known
+  pub notes : AreNoted count [] k.notes
   pub listing : IsUnused 100 k.listing
-
--- a fault was noted at its page, and listed
-pub record HasNoted {A : Type 0} (x : Reported) (k l : KeptFaults A) : Type 0 where
-  pub notes : (count : ℕ) (fs : List (ℕ × FaultCode)) (framed : List ℕ) → AreNoted count fs framed k.notes
-      → AreNoted count (fs ++ coded x.fault ∷ []) framed l.notes
-  pub listing : ListsFault x k.listing l.listing
-  pub state : l.state ≡ k.state
 
 -- All faults of a file were noted at their pages, and are listed, and the start of each page was noted; no strong frame is noted yet.
 pub record HasFaults {A : Type 0} (file : List ℕ) (V : List Reference) (k : KeptFaults A) : Type 0 where
-  pub trees : AreTrees V k.state.trees.known
-  pub notes : AreNoted (geometry file).pages (coded_faults file V) [] k.notes
+  pub trees : AreTrees V k.trees.known
+  pub notes : AreNoted (geometry file).pages (flat_map fault_signs (faults file V)) k.notes
   pub listing : ListsAll 100 file V k.listing

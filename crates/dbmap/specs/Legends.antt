@@ -2,7 +2,8 @@
 -- trees, and then one for all other trees, for the freelist, for pages of fixed use, for pages that are nobody's, for pages with each frame, and
 -- for pages that the header states and the file does not have; each only where it has a page.
 use Rattle.std.specs.Prelude.{ℕ, ◌+◌, ◌-◌, ◌*◌, Bool, true, false, List, [], ◌∷◌, ◌++◌, length, Option, Some, None, codes, decimal, ◌==◌, if◌then◌else◌}
-use Rattle.std.specs.Prelude.{get_or}
+use Rattle.std.specs.Prelude.{get_or, slice_index_or}
+use Rattle.std.specs.Option.{option_map_or}
 use Rattle.std.specs.List.{concat, flat_map, range_with_len}
 use Rattle.dbformat.specs.declared.Geometry.{Geometry}
 use Rattle.dbxml.specs.Pieces.{tenths_text}
@@ -31,10 +32,6 @@ abbrev pub right_text : ℕ → ℕ → List ℕ → List ℕ → List ℕ
 right_text x y text end =
     concat (codes "<text x=\"" ∷ decimal x ∷ codes "\" y=\"" ∷ decimal y ∷ codes "\" text-anchor=\"end\">" ∷ text ∷ end ∷ codes "</text>" ∷ [])
 
--- a number in a column
-abbrev pub number_text : ℕ → ℕ → ℕ → List ℕ
-number_text x y number = right_text x y (decimal number) []
-
 -- what begins the legend, and what the columns are
 unfoldable pub columns_text : ℕ → List ℕ
 columns_text bottom =
@@ -44,12 +41,12 @@ columns_text bottom =
 
 -- how many overflow pages a line is of, if any
 abbrev pub overflow_text : ℕ → ℕ → List ℕ
-overflow_text pages y = if pages == 0 then [] else number_text 710 y pages
+overflow_text pages y = if pages == 0 then [] else right_text 710 y (decimal pages) []
 
 -- how many pages a line is of, and their size
 unfoldable pub share_text : Share → ℕ → ℕ → List ℕ
 share_text share page_size y =
-    number_text 580 y share.pages
+    right_text 580 y (decimal share.pages) []
     ++ (overflow_text share.overflow y ++ right_text 790 y (tenths_text (size_tenths share.pages page_size)) (size_unit share.pages page_size))
 
 -- how many of all pages a line is of, where these are in the file
@@ -90,12 +87,9 @@ legend_frame_text label y =
     ∷ codes "\" width=\"10\" height=\"10\" fill=\"#FFFFFF\" stroke=\"#BE0700\" stroke-width=\"" ∷ frame_end label ∷ [])
 
 -- the colours of an owner, or that frame
-abbrev pub swatch_by : Option ℕ → Label → Share → ℕ → List ℕ
-swatch_by (Some owner) label share y = shade_text owner share.overflow y ++ box_text 72 (y - 10) owner false
-swatch_by None label share y = legend_frame_text label y
-
 abbrev pub swatch_text : Label → Share → ℕ → List ℕ
-swatch_text label share y = swatch_by (label_owner label) label share y
+swatch_text label share y =
+    option_map_or (λ owner. shade_text owner share.overflow y ++ box_text 72 (y - 10) owner false) (label_owner label) (legend_frame_text label y)
 
 -- the name of a tree and its root page, or how many other trees there are
 abbrev pub label_subject : List (List ℕ) → Label → List ℕ
@@ -127,13 +121,16 @@ line_text names g line y =
     ++ (label_text names line.label y ++ (share_text line.share g.page_size y ++ (percent_text line.label line.share.pages g.pages y ++ codes "\n")))
 
 -- lines, each below the one before it
-abbrev pub lines_from : List (List ℕ) → Geometry → ℕ → List LegendLine → List ℕ
-lines_from names g at [] = []
-lines_from names g at (line ∷ lines) = line_text names g line (at * 20) ++ lines_from names g (at + 1) lines
+abbrev pub no_line : LegendLine
+no_line = record { label = Nobody; share = no_overflow 0 }
+
+abbrev pub lines_text : List (List ℕ) → Geometry → List LegendLine → List ℕ
+lines_text names g lines =
+    flat_map (λ i. line_text names g (slice_index_or lines i no_line) ((i + 2) * 20)) (range_with_len 0 (length lines))
 
 -- the legend
 unfoldable pub legend_text : List LegendLine → List (List ℕ) → Geometry → ℕ → List ℕ
-legend_text lines names g bottom = columns_text bottom ++ (lines_from names g 2 lines ++ codes "</g>\n")
+legend_text lines names g bottom = columns_text bottom ++ (lines_text names g lines ++ codes "</g>\n")
 
 -- a line, if there is a page of it
 abbrev pub line_if : Label → Share → List LegendLine
@@ -143,15 +140,11 @@ line_if label share = if share.pages == 0 then [] else record { label = label; s
 abbrev pub tree_line : List SchemaRow → List Share → List ℕ → ℕ → List LegendLine
 tree_line rows starts largest rank = line_if (Tree rank (root_page rows (get_or largest rank 0))) (share_at starts (get_or largest rank 0))
 
--- those of the first `count` of the largest trees
-unfoldable pub tree_lines : List SchemaRow → List Share → List ℕ → ℕ → List LegendLine
-tree_lines rows starts largest count = flat_map (tree_line rows starts largest) (range_with_len 0 count)
-
 -- The legend's lines, by the rows of the schema, what each start has, the largest trees, and how many pages have the strong frame, how many the
 -- weak one, and how many are missing.
 unfoldable pub legend_lines : List SchemaRow → PagesTallied → List ℕ → ℕ → ℕ → ℕ → List LegendLine
 legend_lines rows t largest strong weak missing =
-    tree_lines rows t.starts largest (length largest)
+    flat_map (tree_line rows t.starts largest) (range_with_len 0 (length largest))
     ++ line_if (Others (others t.starts largest (tree_count rows)).0) (others t.starts largest (tree_count rows)).1
     ++ line_if Freelist (share_at t.starts freelist_start) ++ line_if Fixed (no_overflow t.fixed) ++ line_if Nobody (no_overflow t.nobody)
     ++ line_if Strong (no_overflow strong) ++ line_if Weak (no_overflow weak) ++ line_if Missing (no_overflow missing)

@@ -1,5 +1,5 @@
 -- The reporter and the job of `map`: what a fault makes of the reporter, what it answers at the end, and what the job says of a run over a file.
-use Rattle.std.specs.Prelude.{◌≡◌, ℕ, ◌+◌, List, Result, IfOk}
+use Rattle.std.specs.Prelude.{◌≡◌, ℕ, ◌+◌, List, ◌++◌, Result, IfOk}
 use Rattle.dbformat.specs.File.{geometry}
 use Rattle.dbformat.specs.Lines.{counted}
 use Rattle.dbformat.specs.Reference.{Reference}
@@ -13,7 +13,10 @@ use Rattle.dbwalk.specs.Telling.{one_out, SinkState}
 use Rattle.dbscan.specs.Notices.{Notice}
 use Rattle.dbentries.specs.Reported.{HearsReported}
 use Rattle.dbowner.specs.Trees.{row_noted}
-use Rattle.dbmap.specs.KeptFaults.{HasNoted, HearsNone}
+use Rattle.dbentries.specs.Lists.{ListsFault}
+use Rattle.dbmap.specs.Faults.{fault_signs}
+use Rattle.dbmap.specs.KeptFaults.{AreNoted, HearsNone}
+use Rattle.dbmap.specs.declared.faults.Sign.{Sign}
 use Rattle.dbmap.specs.Pictures.{map_picture}
 use Rattle.dbmap.specs.Maps.{IsMapOf, PutsMap}
 use Rattle.dbmap.specs.declared.map_reporter.MapReporter.{MapReporter}
@@ -23,20 +26,22 @@ use Rattle.dbmap.specs.declared.kept.KeptFaults.{KeptFaults}
 use Rattle.dbmap.specs.declared.maps.MapJob.{MapJob}
 
 module _ {A O : Type 0} where
-  -- a fault is counted and kept, and nothing is put
+  -- a fault is counted, noted at its page, and listed, and nothing is put
   pub record Adds (x : Reported) (s t : MapReporter A O) : Type 0 where
     pub count : t.faults ≡ counted (s.faults + 1)
-    pub kept : HasNoted x s.kept.now t.kept.now
-    pub out : t.out.now ≡ s.out.now
+    pub notes : (count : ℕ) (signs : List (ℕ × Sign)) → AreNoted count signs s.kept.now.notes → AreNoted count (signs ++ fault_signs x.fault) t.kept.now.notes
+    pub listing : ListsFault x s.kept.now.listing t.kept.now.listing
+    pub trees : t.kept.now.trees ≡ s.kept.now.trees
+    pub out : t.out ≡ s.out
     pub name : t.name ≡ s.name
 
   -- the start of the page of a row is noted
   pub record Notes (r : StatRow) (s t : MapReporter A O) : Type 0 where
-    pub trees : t.kept.now.state.trees.known ≡ row_noted s.kept.now.state.trees.known r
+    pub trees : t.kept.now.trees.known ≡ row_noted s.kept.now.trees.known r
     pub notes : t.kept.now.notes ≡ s.kept.now.notes
     pub listing : t.kept.now.listing ≡ s.kept.now.listing
     pub count : t.faults ≡ s.faults
-    pub out : t.out.now ≡ s.out.now
+    pub out : t.out ≡ s.out
     pub name : t.name ≡ s.name
 
   -- a notice was taken: a fault was added, or a row noted, and nothing else changes it

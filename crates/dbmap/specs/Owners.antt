@@ -3,8 +3,6 @@
 use Rattle.std.specs.Prelude.{ℕ, ◌/◌, min, Bool, not, nat_lt, get_or, ◌==◌, true, false, List, Option, Some, None, position, zero, suc, ◌+◌, replicate}
 use Rattle.std.specs.Prelude.{slice_set, if◌then◌else◌}
 use Rattle.dbmap.specs.declared.owner_shares.OwnerShares.{OwnerShares}
-use Rattle.dbmap.specs.declared.owner_shares.Owner.{Owner}
-use Rattle.dbmap.specs.declared.owner_shares.Owner.TheVariants.{Fixed, Freelist, Nobody, Tree}
 use Rattle.dbmap.specs.declared.owner_shares.Share.{Share}
 use Rattle.std.specs.Option.{option_map_or}
 use Rattle.dbformat.specs.Reference.{Reference}
@@ -14,7 +12,6 @@ use Rattle.dbmarks.specs.declared.marks.Mark.{Mark}
 use Rattle.dbowner.specs.Trees.{AreTrees}
 use Rattle.dbowner.specs.declared.place.Place.{Place}
 use Rattle.dbowner.specs.declared.place.Place.TheVariants as place
-use Rattle.dbmap.specs.declared.owner_shares.Owner.TheVariants as owner
 
 -- no pages
 abbrev pub no_share : Share
@@ -32,13 +29,6 @@ has_pages c number = not ((share_of c number).pages == 0)
 abbrev pub is_shaded : Share → Bool
 is_shaded s = nat_lt (s.pages / 2) s.overflow
 
--- the number of an owner: the twelve largest trees by their ranks, all others, the freelist, pages of fixed use, and nobody
-abbrev pub owner_number : Owner → ℕ
-owner_number (Tree rank) = min rank 12
-owner_number Freelist = 13
-owner_number Fixed = 14
-owner_number Nobody = 15
-
 -- whether a page that is this is an overflow page
 abbrev pub is_overflow : Place → Bool
 is_overflow (place.OverflowOf from) = true
@@ -50,16 +40,14 @@ abbrev pub rank_of : List ℕ → Option ℕ → ℕ
 rank_of largest None = 12
 rank_of largest (Some k) = option_map_or (λ rank. min rank 12) (position (λ j. j == k) largest) 12
 
--- whose a page is that is this and belongs to this start
-abbrev pub owner_by : List ℕ → Place → Option ℕ → Owner
-owner_by largest place.Root start = owner.Tree (rank_of largest start)
-owner_by largest (place.ChildOf from) start = owner.Tree (rank_of largest start)
-owner_by largest (place.OverflowOf from) start = owner.Tree (rank_of largest start)
-owner_by largest (place.OverflowAfter from) start = owner.Tree (rank_of largest start)
-owner_by largest place.Trunk start = owner.Freelist
-owner_by largest place.FreeLeaf start = owner.Freelist
-owner_by largest place.Fixed start = owner.Fixed
-owner_by largest place.Nowhere start = owner.Nobody
+-- the number of the owner of a page that is this and belongs to this start: the twelve largest trees by their ranks, all others, the freelist, fixed
+-- use, and nobody
+abbrev pub owner_by : List ℕ → Place → Option ℕ → ℕ
+owner_by largest place.Trunk start = 13
+owner_by largest place.FreeLeaf start = 13
+owner_by largest place.Fixed start = 14
+owner_by largest place.Nowhere start = 15
+owner_by largest _ start = rank_of largest start
 
 -- ---- what is remembered of a file
 
@@ -68,10 +56,6 @@ pub record IsOf (marked : List Mark) (known : List ℕ) (file : List ℕ) (V : L
   pub survey : Survey file V
   pub marks : AreMarksOf file V marked
   pub trees : AreTrees V known
-
--- what is known stays right
-abbrev pub StaysOf : List Mark → List ℕ → List ℕ → Type 0
-StaysOf marked old new = (file : List ℕ) (V : List Reference) → IsOf marked old file V → IsOf marked new file V
 
 -- a number of pages as it is counted: it stops at the greatest number of 32 bits, which no file reaches
 abbrev pub capped_pages : ℕ → ℕ
@@ -90,8 +74,8 @@ abbrev pub no_shares : OwnerShares
 no_shares = record { shares = replicate 16 no_share }
 
 -- one page more of an owner
-abbrev pub owner_counted : Owner → Bool → OwnerShares → OwnerShares
-owner_counted owner over c = record { shares = slice_set c.shares (owner_number owner) (one_page over (share_of c (owner_number owner))) }
+abbrev pub owner_counted : ℕ → Bool → OwnerShares → OwnerShares
+owner_counted owner over c = record { shares = slice_set c.shares owner (one_page over (share_of c owner)) }
 
 -- what each owner has of `count` pages from one on, by the largest trees, and by what each page is and the start that it belongs to
 unfoldable pub shares_by : List ℕ → (ℕ → Place) → (ℕ → Option ℕ) → ℕ → ℕ → OwnerShares

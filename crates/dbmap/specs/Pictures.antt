@@ -1,10 +1,10 @@
 -- The picture of a file.
-use Rattle.std.specs.Prelude.{ℕ, ◌+◌, ◌/◌, ◌%◌, ◌||◌, nat_lt, List, [], ◌∷◌, ◌++◌, codes, decimal, ◌==◌, if◌then◌else◌, ◌-◌, length, map, take}
+use Rattle.std.specs.Prelude.{ℕ, ◌+◌, ◌/◌, ◌%◌, ◌||◌, nat_lt, List, [], ◌∷◌, ◌++◌, codes, decimal, ◌==◌, if◌then◌else◌, ◌-◌, length, map, take, count_by}
 use Rattle.std.specs.List.{concat, flat_map, range_with_len}
 use Rattle.dbformat.specs.declared.Geometry.{Geometry}
 use Rattle.dbxml.specs.Pieces.{shown_text, tenths_text}
 use Rattle.dbmap.specs.Marks.{other_colours, overflow_colours, tree_colours}
-use Rattle.dbmap.specs.Grids.{grid_of, page_of_row, rows, side, top_of}
+use Rattle.dbmap.specs.Grids.{grid_of, page_of_row, rows, side_of, top_of}
 use Rattle.dbmap.specs.Legends.{height, legend_lines, legend_text}
 use Rattle.dbmap.specs.Sizes.{size_tenths, size_unit}
 use Rattle.dbmap.specs.Squares.{Drawn, rows_text}
@@ -21,7 +21,8 @@ use Rattle.dbowner.specs.Owners.{place_of}
 use Rattle.dbowner.specs.Texts.{tree_text}
 use Rattle.dbscan.specs.Roots.{listed_rows}
 use Rattle.dbxml.specs.Names.{short_text, shown_file}
-use Rattle.dbmap.specs.Faults.{is_faulty, is_strong, square_faults, strong_pages, weak_pages}
+use Rattle.dbmap.specs.Faults.{is_weak, page_shows, square_faults}
+use Rattle.dbmap.specs.declared.faults.Sign.TheVariants.{Faulty, Framed}
 use Rattle.dbmap.specs.Tallies.{largest_of, tally_of}
 
 -- what begins the picture: its size, its accessible name, the hatching, and a white background
@@ -66,12 +67,12 @@ heading_text h run =
 -- the first page of a row
 abbrev pub page_of_row_text : Grid → ℕ → List ℕ
 page_of_row_text g row =
-    concat (codes "<text x=\"64\" y=\"" ∷ decimal (top_of g row + (side g / 2 + 3)) ∷ codes "\">" ∷ decimal (page_of_row g row)
+    concat (codes "<text x=\"64\" y=\"" ∷ decimal (top_of g row + (side_of g.width / 2 + 3)) ∷ codes "\">" ∷ decimal (page_of_row g row)
     ∷ codes "</text>\n" ∷ [])
 
 -- that before it; where rows are narrow, before each second one
 abbrev pub row_label_text : Grid → ℕ → List ℕ
-row_label_text g row = if nat_lt 10 (side g) || (row % 2 == 0) then page_of_row_text g row else []
+row_label_text g row = if nat_lt 10 (side_of g.width) || (row % 2 == 0) then page_of_row_text g row else []
 
 unfoldable pub row_names : Grid → List ℕ
 row_names g = codes "<g font-size=\"10\" fill=\"#666666\" text-anchor=\"end\">\n" ++ (flat_map (row_label_text g) (range_with_len 0 (rows g)) ++ codes "</g>\n")
@@ -106,8 +107,10 @@ drawn_of file V = record {
 
 -- the lines of the legend
 abbrev pub legend_of : List ℕ → List Reference → List LegendLine
-legend_of file V = legend_lines (listed_rows file V) (tally_of file V) (largest_of file V) (strong_pages (is_strong file V) (geometry file).pages)
-    (weak_pages (is_faulty file V) (is_strong file V) (geometry file).pages) (stated_of (take 100 file) - (geometry file).pages)
+legend_of file V = legend_lines (listed_rows file V) (tally_of file V) (largest_of file V)
+    (count_by (page_shows file V Framed) (range_with_len 1 (geometry file).pages))
+    (count_by (is_weak (page_shows file V Faulty) (page_shows file V Framed)) (range_with_len 1 (geometry file).pages))
+    (stated_of (take 100 file) - (geometry file).pages)
 
 -- The picture of a file with survey V, under a name.
 unfoldable pub map_picture : List ℕ → List Reference → List ℕ → List ℕ

@@ -1,18 +1,19 @@
 -- The square of a run of pages, by its pages, how many of them each owner has, and its faults.
-use Rattle.std.specs.Prelude.{ℕ, zero, suc, ◌+◌, ◌-◌, Bool, true, false, ◌&&◌, not, nat_lt, List, [], ◌∷◌, ◌++◌, get_or, replicate, slice_get, codes, decimal}
+use Rattle.std.specs.Prelude.{ℕ, ◌+◌, ◌-◌, Bool, true, false, not, nat_lt, List, [], ◌∷◌, ◌++◌, get_or, replicate, slice_get, codes, decimal}
 use Rattle.std.specs.Prelude.{◌==◌, if◌then◌else◌}
 use Rattle.std.specs.Option.{option_map_or}
-use Rattle.std.specs.List.{concat}
+use Rattle.std.specs.List.{concat, flat_map, list_any, range_with_len, sum_by}
 use Rattle.dbxml.specs.Pieces.{shown_text}
 use Rattle.dbmap.specs.Owners.{capped_pages, has_pages, is_shaded, share_of}
 use Rattle.dbmap.specs.Bands.{bands_of, next_owner}
 use Rattle.dbmap.specs.Marks.{extent, run_pages_text, shade_letter, stroke}
-use Rattle.dbmap.specs.Faults.{faults_text, frame_of, ShownFaults}
+use Rattle.dbmap.specs.Faults.{faults_text, frame_of}
 use Rattle.dbmap.specs.declared.bands.Bands.{Bands}
 use Rattle.dbmap.specs.declared.owner_shares.OwnerShares.{OwnerShares}
 use Rattle.dbmap.specs.declared.frame.Frame.{Frame}
 use Rattle.dbmap.specs.declared.frame.Frame.TheVariants as frame
 use Rattle.dbmap.specs.declared.frame.Frame.TheVariants.{Strong, Weak}
+use Rattle.dbmap.specs.declared.faults.Sign.{Sign}
 use Rattle.dbmap.specs.declared.grid.Width.{Width}
 use Rattle.dbmap.specs.declared.run.RunSquare.{RunSquare}
 
@@ -38,19 +39,21 @@ owner_text c names is_first number =
     then concat (owner_mark is_first ∷ decimal (share_of c number).pages ∷ words number ∷ name_text names number 72 ∷ [])
     else []
 
--- the same of `count` owners from a number on
-unfoldable pub owners_from : OwnerShares → List (List ℕ) → Bool → ℕ → ℕ → List ℕ
-owners_from c names is_first number zero = []
-owners_from c names is_first number (suc count) =
-    owner_text c names is_first number ++ owners_from c names (is_first && not (has_pages c number)) (number + 1) count
+-- whether no owner before this one has a page
+abbrev pub is_first : OwnerShares → ℕ → Bool
+is_first c number = not (list_any (has_pages c) (range_with_len 0 number))
+
+-- the same of all owners
+abbrev pub owners_text : OwnerShares → List (List ℕ) → List ℕ
+owners_text c names = flat_map (λ number. owner_text c names (is_first c number) number) (range_with_len 0 16)
 
 -- the title after its first word
-unfoldable pub title_text : RunSquare → List (List ℕ) → ShownFaults → List ℕ
+unfoldable pub title_text : RunSquare → List (List ℕ) → (Sign → Bool) → List ℕ
 title_text r names f =
-    run_pages_text r.first r.last ++ (owners_from r.shares names true 0 16 ++ faults_text f)
+    run_pages_text r.first r.last ++ (owners_text r.shares names ++ faults_text f)
 
 -- the square of pages that all have the owner with this number
-unfoldable pub plain_text : RunSquare → Width → List (List ℕ) → ShownFaults → ℕ → List ℕ
+unfoldable pub plain_text : RunSquare → Width → List (List ℕ) → (Sign → Bool) → ℕ → List ℕ
 plain_text r width names f owner =
     concat (codes "<rect class=\"" ∷ shade_letter (is_shaded (share_of r.shares owner)) ∷ decimal owner ∷ codes "\" x=\"" ∷ decimal r.x ∷ extent width (frame_of f)
     ∷ stroke width (frame_of f) ∷ codes "><title>page" ∷ [])
@@ -63,12 +66,12 @@ band_text r number top height =
     else concat (codes "<rect class=\"" ∷ shade_letter (is_shaded (share_of r.shares number)) ∷ decimal number ∷ codes "\" x=\"" ∷ decimal r.x
     ∷ codes "\" y=\"" ∷ decimal top ∷ codes "\" width=\"6\" height=\"" ∷ decimal height ∷ codes "\"/>" ∷ [])
 
--- the bands of `count` owners from a number on, each below those before it
-unfoldable pub bands_from : RunSquare → Bands → ℕ → ℕ → ℕ → List ℕ
-bands_from r bands number zero top = []
-bands_from r bands number (suc count) top =
-    band_text r number top (get_or bands.heights number 0)
-    ++ bands_from r bands (number + 1) count (capped_pages (top + get_or bands.heights number 0))
+-- the bands, each below those before it
+abbrev pub band_top : Bands → ℕ → ℕ
+band_top bands number = capped_pages (sum_by (λ owner. get_or bands.heights owner 0) (range_with_len 0 number))
+
+abbrev pub bands_text : RunSquare → Bands → List ℕ
+bands_text r bands = flat_map (λ number. band_text r number (band_top bands number) (get_or bands.heights number 0)) (range_with_len 0 16)
 
 -- the frame of a square in bands that begins there
 abbrev pub band_frame : ℕ → List ℕ
@@ -87,10 +90,10 @@ frame_above Strong x = band_frame x
 frame_above frame.None x = []
 
 -- the square of pages of several owners, divided in bands
-unfoldable pub mixed_text : RunSquare → List (List ℕ) → ShownFaults → Bands → List ℕ
+unfoldable pub mixed_text : RunSquare → List (List ℕ) → (Sign → Bool) → Bands → List ℕ
 mixed_text r names f bands =
     codes "<g><title>page" ++ (title_text r names f ++ (codes "</title>" ++ (frame_below (frame_of f) r.x
-    ++ (bands_from r bands 0 16 0 ++ (frame_above (frame_of f) r.x ++ codes "</g>\n")))))
+    ++ (bands_text r bands ++ (frame_above (frame_of f) r.x ++ codes "</g>\n")))))
 
 -- how many pages it has
 abbrev pub run_pages : RunSquare → ℕ
@@ -101,7 +104,7 @@ abbrev pub first_owner : RunSquare → ℕ
 first_owner r = next_owner r.shares (run_pages r) (replicate 16 0)
 
 -- the square of a run of pages: in one fill where all of them have one owner, and else in bands
-unfoldable pub run_text : RunSquare → Width → List (List ℕ) → ShownFaults → List ℕ
+unfoldable pub run_text : RunSquare → Width → List (List ℕ) → (Sign → Bool) → List ℕ
 run_text r width names f =
     if (share_of r.shares (first_owner r)).pages == run_pages r then plain_text r width names f (first_owner r)
     else mixed_text r names f (bands_of r.shares (run_pages r))

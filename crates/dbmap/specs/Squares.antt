@@ -1,16 +1,17 @@
 -- The squares of a picture, row by row, and the outlines of pages that the header states and the file does not have.
-use Rattle.std.specs.Prelude.{ℕ, ◌+◌, List, [], ◌∷◌, ◌++◌, codes, decimal, ◌-◌, nat_lt, ◌==◌, if◌then◌else◌, Option, None}
+use Rattle.std.specs.Prelude.{ℕ, ◌+◌, Bool, List, [], ◌∷◌, ◌++◌, codes, decimal, ◌-◌, max, nat_lt, ◌==◌, if◌then◌else◌, Option, None}
 use Rattle.std.specs.Option.{option_map_or}
 use Rattle.std.specs.List.{concat, flat_map, range_with_len}
 use Rattle.dbowner.specs.Texts.{place_from, place_front, place_tree, place_words}
 use Rattle.dbowner.specs.declared.place.Place.{Place}
 use Rattle.dbxml.specs.Pieces.{shown_text}
 use Rattle.dbmap.specs.Marks.{extent, inset, outline_tail, run_pages_text, shade_letter, stroke}
-use Rattle.dbmap.specs.Faults.{faults_text, frame_of, ShownFaults}
-use Rattle.dbmap.specs.Owners.{capped_pages, is_overflow, owner_by, owner_number, shares_by}
+use Rattle.dbmap.specs.Faults.{faults_text, frame_of}
+use Rattle.dbmap.specs.Owners.{capped_pages, is_overflow, owner_by, shares_by}
+use Rattle.dbmap.specs.declared.faults.Sign.{Sign}
 use Rattle.dbmap.specs.declared.grid.Width.{Width}
 use Rattle.dbmap.specs.declared.page.PageSquare.{PageSquare}
-use Rattle.dbmap.specs.Grids.{missing_of, outlines_of_row, rows, run_of, squares_of_row, top_of, x_of}
+use Rattle.dbmap.specs.Grids.{missing_of, places, places_of, rows, run_of, top_of, x_of}
 use Rattle.dbmap.specs.declared.grid.Grid.{Grid}
 use Rattle.dbformat.specs.FixedPages.{fixed_use}
 use Rattle.dbformat.specs.declared.Fixed.{Fixed}
@@ -24,7 +25,7 @@ abbrev pub from_text : Place → List ℕ
 from_text place = option_map_or decimal (place_from place) []
 
 -- its title: the number of the page, what comes before its tree, the tree, what it is there, and its faults
-unfoldable pub page_text : PageSquare → Width → List ℕ → ShownFaults → List ℕ
+unfoldable pub page_text : PageSquare → Width → List ℕ → (Sign → Bool) → List ℕ
 page_text s width tree f =
     concat (codes "<rect class=\"" ∷ shade_letter (is_overflow s.place) ∷ decimal s.owner ∷ codes "\" x=\"" ∷ decimal (s.x + inset width (frame_of f))
     ∷ extent width (frame_of f) ∷ stroke width (frame_of f) ∷ codes "><title>page " ∷ decimal s.page ∷ codes ": "
@@ -42,16 +43,16 @@ outline_text g place =
     ++ (outline_pages g place ++ codes ": not in the file</title></rect>\n")
 
 -- those from a place to another, in their group, if there are any
-abbrev pub outlines_between : Grid → ℕ × ℕ → List ℕ
-outlines_between g p =
-    if nat_lt p.0 p.1
+abbrev pub outlines_between : Grid → ℕ → ℕ → List ℕ
+outlines_between g first end =
+    if nat_lt first end
     then codes "<g transform=\"translate(.5,.5)\" fill=\"#FFFFFF\" stroke=\"#AAAAAA\">\n"
-    ++ (flat_map (outline_text g) (range_with_len p.0 (p.1 - p.0)) ++ codes "</g>\n")
+    ++ (flat_map (outline_text g) (range_with_len first (end - first)) ++ codes "</g>\n")
     else []
 
--- those of a row
+-- those of a row, which come after all squares
 abbrev pub outlines_text : Grid → ℕ → List ℕ
-outlines_text g row = outlines_between g (outlines_of_row g row)
+outlines_text g row = outlines_between g (max (places_of g row (places g)).0 g.squares) (places_of g row (places g)).1
 
 -- What squares are drawn by: where they are, the sizes of the file, what each page is, the start that it belongs to, the starts of the largest
 -- trees and their names by rank, the names of all trees by start, and what is shown of the faults of each square.
@@ -63,7 +64,7 @@ pub record Drawn : Type 0 where
   pub largest : List ℕ
   pub names : List (List ℕ)
   pub tree : ℕ → List ℕ
-  pub faults : ℕ → ShownFaults
+  pub faults : ℕ → Sign → Bool
 
 -- the fixed use of a page that is this
 abbrev pub fixed_in : Geometry → Place → ℕ → Option Fixed
@@ -79,7 +80,7 @@ abbrev pub page_square : Drawn → ℕ → PageSquare
 page_square g index = record {
   x = x_of g.grid index;
   page = page_at g index;
-  owner = owner_number (owner_by g.largest (g.place (page_at g index)) (g.start (page_at g index)));
+  owner = owner_by g.largest (g.place (page_at g index)) (g.start (page_at g index));
   place = g.place (page_at g index);
   fixed = fixed_in g.shape (g.place (page_at g index)) (page_at g index);
 }
@@ -110,22 +111,17 @@ run_square_text g index = run_text (run_square g index) g.grid.width g.names (g.
 abbrev pub square_text : Drawn → ℕ → List ℕ
 square_text g index = if g.grid.run == 1 then page_square_text g index else run_square_text g index
 
--- those from one to another
-unfoldable pub squares_from : Drawn → ℕ → ℕ → List ℕ
-squares_from g first end = flat_map (square_text g) (range_with_len first (end - first))
+-- those from a place to another, and those of a row
+abbrev pub squares_between : Drawn → ℕ × ℕ → List ℕ
+squares_between g p = flat_map (square_text g) (range_with_len p.0 (p.1 - p.0))
 
--- those of a row
 abbrev pub squares_text : Drawn → ℕ → List ℕ
-squares_text g row = squares_from g (squares_of_row g.grid row).0 (squares_of_row g.grid row).1
-
--- what a row begins with
-abbrev pub row_front_text : Grid → ℕ → List ℕ
-row_front_text g row = concat (codes "<g transform=\"translate(" ∷ decimal 72 ∷ codes "," ∷ decimal (top_of g row) ∷ codes ")\">\n" ∷ [])
+squares_text g row = squares_between g (places_of g.grid row g.grid.squares)
 
 -- a row: its squares, and the outlines of missing pages
 unfoldable pub row_text : Drawn → ℕ → List ℕ
 row_text g row =
-    row_front_text g.grid row ++ (squares_text g row ++ (outlines_text g.grid row ++ codes "</g>\n"))
+    concat (codes "<g transform=\"translate(" ∷ decimal 72 ∷ codes "," ∷ decimal (top_of g.grid row) ∷ codes ")\">\n" ∷ []) ++ (squares_text g row ++ (outlines_text g.grid row ++ codes "</g>\n"))
 
 unfoldable pub rows_text : Drawn → List ℕ
 rows_text g = flat_map (row_text g) (range_with_len 0 (rows g.grid))

@@ -50,15 +50,11 @@ none_tallied = record { starts = replicate start_count no_share; fixed = 0; nobo
 abbrev pub start_counted : ℕ → Bool → PagesTallied → PagesTallied
 start_counted k over t = record t { starts = slice_set t.starts k (one_page over (share_at t.starts k)) }
 
--- one more page that has no fixed use, an overflow page or not, by its start
-abbrev pub used_counted : Option ℕ → Bool → PagesTallied → PagesTallied
-used_counted None over t = record t { nobody = capped_pages (t.nobody + 1) }
-used_counted (Some k) over t = start_counted k over t
-
 -- one more page that is this and belongs to this start
 abbrev pub page_counted : Place → Option ℕ → PagesTallied → PagesTallied
 page_counted place.Fixed start t = record t { fixed = capped_pages (t.fixed + 1) }
-page_counted at start t = used_counted start (is_overflow at) t
+page_counted at (Some k) t = start_counted k (is_overflow at) t
+page_counted at None t = record t { nobody = capped_pages (t.nobody + 1) }
 
 -- the tally of the first n pages of a file, each counted as what it is and where it belongs
 unfoldable pub tally_to : List ℕ → List Reference → ℕ → PagesTallied

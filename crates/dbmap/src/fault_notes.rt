@@ -1,14 +1,15 @@
 // Which squares and pages have a fault, and which are framed.
-ghost use Rattle.std.specs.Prelude.{◌≡◌, ℕ, [], ◌∷◌, ◌++◌, List, IfOk, slice_set};
-ghost use Rattle.dbformat.specs.declared.FaultCode.{FaultCode};
-ghost use Rattle.dbmap.specs.KeptFaults.{AreNoted, is_marked_faulty, is_marked_framed, joined_at, noted_at};
-ghost use Rattle.dbmap.specs.Faults.{shown};
+ghost use Rattle.std.specs.Prelude.{◌≡◌, ℕ, [], ◌∷◌, ◌++◌, List, IfOk, count_by, slice_set};
+ghost use Rattle.std.specs.List.{range_with_len};
+ghost use Rattle.dbentries.specs.Bits.{has_bit};
+ghost use Rattle.dbmap.specs.declared.faults.Sign.{Sign};
+ghost use Rattle.dbmap.specs.KeptFaults.{AreNoted, added_at, bits_if, noted_at};
+ghost use Rattle.dbmap.specs.Faults.{is_weak, shown};
 ghost use Rattle.dbmap.specs.Grids.{square_of};
 
-use crate::faults::SquareFaults;
+use crate::faults::{Sign, SquareFaults};
 use crate::grid::Grid;
 use dbentries::PageBits;
-use dbformat::FaultCode;
 use std::alloc::{AllocError, Allocator, Global};
 
 /// What is noted of faults: what each square shows of them, and of each page whether it has a fault, and whether it has the strong frame.
@@ -29,7 +30,7 @@ impl<A: Allocator + Copy> FaultNotes<A> {
     ///
     /// [`AllocError`] where a growth was refused.
     pub(crate) fn new_in(alloc: A, pages: u32) -> Result<FaultNotes<A>, AllocError>
-        ensures { IfOk result (AreNoted pages [] []) }
+        ensures { IfOk result (AreNoted pages []) }
     {
         let grid = Grid::new(pages, 0);
         let squares = Vec::from_elem(alloc, SquareFaults::default(), grid.squares as usize)?;
@@ -53,33 +54,20 @@ impl<A: Allocator> FaultNotes<A> {
         (page.saturating_sub(1) / self.run.max(1)) as usize
     }
 
-    /// Notes a fault of a page; one of a number that no page has is not noted.
-    pub(crate) fn note(&mut self, page: u32, code: FaultCode)
-        ensures { (count : ℕ) (fs : List (ℕ × FaultCode)) (framed : List ℕ) → AreNoted count fs framed self.old
-            → AreNoted count (fs ++ (page, code) ∷ []) framed self.new }
+    /// Notes that a page has a sign, if there is one with this number.
+    pub(crate) fn note(&mut self, page: u32, sign: Sign)
+        ensures { (count : ℕ) (signs : List (ℕ × Sign)) → AreNoted count signs self.old → AreNoted count (signs ++ (page, sign) ∷ []) self.new }
     {
         if page == 0 || page > self.pages {
             return;
         }
         let square = self.square_of(page);
-        join_at(&mut self.squares, square, SquareFaults::of(code));
-        self.faulty.set(page);
+        add_at(&mut self.squares, square, sign);
+        set_if(&mut self.faulty, page, sign.is(Sign::Faulty));
+        set_if(&mut self.framed, page, sign.is(Sign::Framed));
     }
 
-    /// Notes that a page has the strong frame, if there is one with this number.
-    pub(crate) fn frame(&mut self, page: u32)
-        ensures { (count : ℕ) (fs : List (ℕ × FaultCode)) (framed : List ℕ) → AreNoted count fs framed self.old
-            → AreNoted count fs (framed ++ page ∷ []) self.new }
-    {
-        if page == 0 || page > self.pages {
-            return;
-        }
-        let square = self.square_of(page);
-        join_at(&mut self.squares, square, SquareFaults::framed());
-        self.framed.set(page);
-    }
-
-    /// What is shown of the faults of a square's pages.
+    /// What a square shows.
     pub(crate) fn of_square(&self, index: u32) -> SquareFaults
         ensures { shown result.bits ≡ noted_at self.now index }
     {
@@ -89,26 +77,38 @@ impl<A: Allocator> FaultNotes<A> {
         }
     }
 
-    /// Whether a page has a fault.
-    pub(crate) fn is_faulty(&self, page: u32) -> bool
-        ensures { result ≡ is_marked_faulty self.now page }
+    /// How many pages have the strong frame, and how many the weak one.
+    pub(crate) fn framed(&self) -> (u32, u32)
+        ensures strong { result.0 ≡ count_by (has_bit self.now.framed) (range_with_len 1 self.now.pages) }
+        ensures weak { result.1 ≡ count_by (is_weak (has_bit self.now.faulty) (has_bit self.now.framed)) (range_with_len 1 self.now.pages) }
     {
-        self.faulty.has(page)
-    }
-
-    /// Whether a page has the strong frame.
-    pub(crate) fn is_framed(&self, page: u32) -> bool
-        ensures { result ≡ is_marked_framed self.now page }
-    {
-        self.framed.has(page)
+        let mut strong = 0u32;
+        let mut weak = 0u32;
+        for index in 0..self.pages {
+            if self.framed.has(index + 1) {
+                strong += 1;
+            } else if self.faulty.has(index + 1) {
+                weak += 1;
+            }
+        }
+        (strong, weak)
     }
 }
 
-// Adds to what a square shows, if there is one with this number.
-fn join_at<A: Allocator>(squares: &mut Vec<SquareFaults, A>, index: usize, faults: SquareFaults)
-    ensures { squares.new.items ≡ slice_set squares.old.items index (joined_at squares.old.items index faults) }
+// Adds a sign to what a square shows, if there is one with this number.
+fn add_at<A: Allocator>(squares: &mut Vec<SquareFaults, A>, index: usize, sign: Sign)
+    ensures { squares.new.items ≡ slice_set squares.old.items index (added_at squares.old.items index sign) }
 {
     if index < squares.len() {
-        squares[index].bits |= faults.bits;
+        squares[index].add(sign);
+    }
+}
+
+// Sets the bit of a page, or does not.
+fn set_if<A: Allocator>(bits: &mut PageBits<A>, page: u32, is_set: bool)
+    ensures { bits.new ≡ bits_if is_set page bits.old }
+{
+    if is_set {
+        bits.set(page);
     }
 }

@@ -1,10 +1,9 @@
-// What is shown of the faults of a square's pages.
+// What pages, and their squares, show of faults.
 ghost use Rattle.std.specs.Prelude.{◌≡◌, ◌<◌, ◌==◌};
-ghost use Rattle.std.specs.Int.{bit_at};
 ghost use Rattle.std.specs.List.{flat_map};
 ghost use Rattle.dbformat.specs.Codes.{all_codes};
 ghost use Rattle.dblines.specs.Writing.{Wrote};
-ghost use Rattle.dbmap.specs.Faults.{code_if, faults_text, frame_of, shown, shown_code, shown_frame};
+ghost use Rattle.dbmap.specs.Faults.{code_if, faults_text, frame_of, shown, sign_added, sign_bit};
 
 use crate::frame::Frame;
 use dbformat::FaultCode;
@@ -12,50 +11,66 @@ use dblines::{Writer, code_text};
 use dbsource::Out;
 use dbxml::{Piece, WritePieces};
 
-// The bit of a square that has a page with a fault: those below it are of the codes.
-const FAULTY: usize = 62;
+/// What a page may show of faults.
+#[derive(Clone, Copy)]
+pub(crate) enum Sign {
+    /// A fault with this code.
+    Code(FaultCode),
+    /// A fault.
+    Faulty,
+    /// The strong frame.
+    Framed,
+}
 
-// The bit of a square that has a page with the strong frame.
-const FRAMED: usize = 63;
+impl Sign {
+    // Its bit.
+    fn bit(self) -> usize
+        ensures bit { result ≡ sign_bit self }
+        ensures within { result < 64 }
+    {
+        match self {
+            Sign::Code(code) => code.index(),
+            Sign::Faulty => 62,
+            Sign::Framed => 63,
+        }
+    }
 
-/// What is shown of the faults of a square's pages: a bit for each code that one of them has, and the two above.
+    /// Whether it is another.
+    pub(crate) fn is(self, other: Sign) -> bool
+        ensures { result ≡ (sign_bit self == sign_bit other) }
+    {
+        self.bit() == other.bit()
+    }
+}
+
+/// What a square shows of faults: a bit for each sign that one of its pages has.
 #[derive(Clone, Copy, Default)]
 pub(crate) struct SquareFaults {
     pub(crate) bits: u64,
 }
 
 impl SquareFaults {
-    /// Those of a page with a fault of this code.
-    pub(crate) fn of(code: FaultCode) -> SquareFaults
-        ensures { shown result.bits ≡ shown_code code }
+    /// Adds a sign.
+    pub(crate) fn add(&mut self, sign: Sign)
+        ensures { self.new ≡ sign_added sign self.old }
     {
-        SquareFaults {
-            bits: 1 << FAULTY | 1 << code.index(),
-        }
+        self.bits |= 1 << sign.bit();
     }
 
-    /// Those of a page with the strong frame.
-    pub(crate) fn framed() -> SquareFaults
-        ensures { shown result.bits ≡ shown_frame }
+    // Whether a page has this sign.
+    fn shows(self, sign: Sign) -> bool
+        ensures { result ≡ shown self.bits sign }
     {
-        SquareFaults { bits: 1 << FRAMED }
-    }
-
-    // Whether a bit is set.
-    fn has_bit(self, bit: usize) -> bool
-        requires { bit < 64 }
-        ensures { result ≡ (bit_at self.bits bit == 1) }
-    {
-        (self.bits >> bit) & 1 == 1
+        (self.bits >> sign.bit()) & 1 == 1
     }
 
     /// The frame of the square.
     pub(crate) fn frame(self) -> Frame
         ensures { result ≡ frame_of (shown self.bits) }
     {
-        if self.has_bit(FRAMED) {
+        if self.shows(Sign::Framed) {
             Frame::Strong
-        } else if self.has_bit(FAULTY) {
+        } else if self.shows(Sign::Faulty) {
             Frame::Weak
         } else {
             Frame::None
@@ -64,16 +79,16 @@ impl SquareFaults {
 
     // Draws a code after a space, if a fault has it.
     fn draw_code<O: Out>(self, writer: &mut Writer<'_, O>, code: FaultCode)
-        ensures { Wrote O.held writer.old (code_if (shown self.bits).has code) writer.new }
+        ensures { Wrote O.held writer.old (code_if (shown self.bits) code) writer.new }
     {
-        if self.has_bit(code.index()) {
+        if self.shows(Sign::Code(code)) {
             writer.write_all(&[Piece::Markup(" "), Piece::Markup(code_text(code))]);
         }
     }
 
     // Draws the codes, each after a space.
     fn draw_codes<O: Out>(self, writer: &mut Writer<'_, O>)
-        ensures { Wrote O.held writer.old (flat_map (code_if (shown self.bits).has) all_codes) writer.new }
+        ensures { Wrote O.held writer.old (flat_map (code_if (shown self.bits)) all_codes) writer.new }
     {
         for code in FaultCode::all() {
             self.draw_code(writer, code);
@@ -84,7 +99,7 @@ impl SquareFaults {
     pub(crate) fn draw<O: Out>(self, writer: &mut Writer<'_, O>)
         ensures { Wrote O.held writer.old (faults_text (shown self.bits)) writer.new }
     {
-        if self.has_bit(FAULTY) {
+        if self.shows(Sign::Faulty) {
             writer.write_all(&[Piece::Markup(", with")]);
             self.draw_codes(writer);
         }

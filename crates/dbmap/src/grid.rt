@@ -20,7 +20,7 @@ pub(crate) enum Width {
 /// The squares of a file, and the outlines of the pages that its header states and it does not have.
 #[derive(Clone, Copy)]
 pub(crate) struct Grid {
-    pages: u32,
+    pub(crate) pages: u32,
     stated: u32,
     pub(crate) run: u32,
     pub(crate) squares: u32,
@@ -70,7 +70,7 @@ impl Grid {
 
     // How many squares are in a row.
     fn columns(&self) -> u32
-        ensures columns { result ≡ grids.grid_columns self.now }
+        ensures columns { result ≡ grids.columns_of self.now.width }
         ensures range { (1 ≤ result) × (result ≤ 128) }
     {
         match self.width {
@@ -82,7 +82,7 @@ impl Grid {
 
     /// How many pixels a square takes with the room after it.
     pub(crate) fn side(&self) -> u32
-        ensures side { result ≡ grids.side self.now }
+        ensures side { result ≡ grids.side_of self.now.width }
         ensures range { (7 ≤ result) × (result ≤ 28) }
     {
         match self.width {
@@ -101,20 +101,14 @@ impl Grid {
 
     /// How many squares and outlines there are. Where pages are missing there is an outline, and there are no more rows of outlines alone
     /// than the file has rows.
-    fn places(&self) -> u32
+    pub(crate) fn places(&self) -> u32
         ensures { result ≡ grids.places self.now }
     {
-        let most = u64::from(self.file_rows()) * 2 * u64::from(self.columns());
+        let rows = self.squares.div_ceil(self.columns());
+        let most = u64::from(rows) * 2 * u64::from(self.columns());
         let stated = self.stated.div_ceil(self.run.max(1));
         let least = self.squares.saturating_add(u32::from(self.missing() != 0));
         (u64::from(stated).min(most) as u32).max(least)
-    }
-
-    // How many rows the pages of the file take.
-    fn file_rows(&self) -> u32
-        ensures { result ≡ div_ceil self.now.squares (grids.grid_columns self.now) }
-    {
-        self.squares.div_ceil(self.columns())
     }
 
     /// How many rows there are.
@@ -132,36 +126,18 @@ impl Grid {
         index % self.columns() * self.side()
     }
 
-    // The first place of a row, and the first of the next, among `places` places.
-    fn places_of(&self, row: u32, places: u32) -> (u32, u32)
-        ensures first { result.0 ≡ min (row * grids.grid_columns self.now) places }
-        ensures end { result.1 ≡ min ((row + 1) * grids.grid_columns self.now) places }
+    /// The places of a row among `most` places, the first and the one after the last.
+    pub(crate) fn places_of(&self, row: u32, most: u32) -> (u32, u32)
+        ensures { result ≡ grids.places_of self.now row most }
     {
+        let most = u64::from(most);
         let first = u64::from(row) * u64::from(self.columns());
         let end = first + u64::from(self.columns());
-        (
-            first.min(u64::from(places)) as u32,
-            end.min(u64::from(places)) as u32,
-        )
+        (first.min(most) as u32, end.min(most) as u32)
     }
 
-    /// The squares of a row, the first and the one after the last.
-    pub(crate) fn squares_of_row(&self, row: u32) -> (u32, u32)
-        ensures { result ≡ grids.squares_of_row self.now row }
-    {
-        self.places_of(row, self.squares)
-    }
-
-    /// The outlines of a row, the first and the one after the last.
-    pub(crate) fn outlines_of_row(&self, row: u32) -> (u32, u32)
-        ensures { result ≡ grids.outlines_of_row self.now row }
-    {
-        let (first, end) = self.places_of(row, self.places());
-        (first.max(self.squares), end)
-    }
-
-    // The first and the last page of a place, of this number of pages at most.
-    fn run_of(&self, place: u32, pages: u32) -> (u32, u32)
+    /// The first and the last page of a place, of this number of pages at most.
+    pub(crate) fn run_of(&self, place: u32, pages: u32) -> (u32, u32)
         ensures { result ≡ grids.run_of self.now place pages }
     {
         let most = u64::from(pages);
@@ -169,13 +145,6 @@ impl Grid {
         let first = (before + 1).min(most);
         let last = (before + u64::from(self.run)).min(most);
         (first as u32, last as u32)
-    }
-
-    /// The pages of a square, the first and the last.
-    pub(crate) fn pages_of(&self, index: u32) -> (u32, u32)
-        ensures { result ≡ grids.run_of self.now index self.now.pages }
-    {
-        self.run_of(index, self.pages)
     }
 
     /// The pages of an outline, the first and the last. The first outline also has those that the last square would cover.

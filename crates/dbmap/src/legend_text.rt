@@ -1,5 +1,5 @@
 // The texts of the legend: its columns, and a line for each owner of pages.
-ghost use Rattle.std.specs.Prelude.{◌≡◌, ◌≤◌, [], length};
+ghost use Rattle.std.specs.Prelude.{◌≡◌, ◌≤◌, length};
 ghost use Rattle.dbxml.specs.Pieces.{piece_text};
 ghost use Rattle.dblines.specs.Writing.{Wrote};
 ghost use Rattle.dbmap.specs.Legends as legends;
@@ -8,7 +8,7 @@ ghost use Rattle.dbmap.specs.Sizes.{tenths_of_percent};
 use crate::colours::{MISSING, shade_letter};
 use crate::labels::Labels;
 use crate::legend::{LINE, Label, LegendLine, NAME_WIDTH};
-use crate::owner_shares::Share;
+use crate::owner_shares::{FIXED, FREELIST, NOBODY, OTHER_TREES, Share};
 use crate::size::size;
 use dblines::Writer;
 use dbsource::{Geometry, Out};
@@ -31,7 +31,7 @@ pub(crate) fn draw_lines<O: Out>(
     lines: &[LegendLine],
 )
     requires { length lines.now ≤ 19 }
-    ensures { Wrote O.held writer.old (legends.lines_from labels.now.names.items geometry 2 lines.now) writer.new }
+    ensures { Wrote O.held writer.old (legends.lines_text labels.now.names.items geometry lines.now) writer.new }
 {
     for (index, line) in lines.iter().enumerate() {
         draw_line(writer, labels, geometry, line, (index as u32 + 2) * LINE);
@@ -55,15 +55,15 @@ fn draw_line<O: Out>(
     writer.write_all(&[Piece::Markup("\n")]);
 }
 
-// Draws two texts, one after the other, so that they end at x.
-fn draw_right<'p, O: Out>(
+// Draws a text and what follows it, so that they end at x.
+fn draw_right<O: Out>(
     writer: &mut Writer<'_, O>,
     x: u32,
     y: u32,
-    text: Piece<'p>,
-    end: Piece<'p>,
+    text: Piece<'static>,
+    end: &'static str,
 )
-    ensures { Wrote O.held writer.old (legends.right_text x y (piece_text text.entry) (piece_text end.entry)) writer.new }
+    ensures { Wrote O.held writer.old (legends.right_text x y (piece_text text.entry) end.now) writer.new }
 {
     writer.write_all(&[
         Piece::Markup("<text x=\""),
@@ -72,24 +72,9 @@ fn draw_right<'p, O: Out>(
         Piece::Number(y as u64),
         Piece::Markup("\" text-anchor=\"end\">"),
         text,
-        end,
+        Piece::Markup(end),
         Piece::Markup("</text>"),
     ]);
-}
-
-// Draws a number in a column.
-fn draw_number<O: Out>(writer: &mut Writer<'_, O>, x: u32, y: u32, number: u32)
-    ensures { Wrote O.held writer.old (legends.number_text x y number) writer.new }
-{
-    let number = Piece::Number(number as u64);
-    draw_right(writer, x, y, number, Piece::Markup(""));
-}
-
-// Draws the heading of a column.
-fn draw_column<O: Out>(writer: &mut Writer<'_, O>, x: u32, name: &'static str)
-    ensures { Wrote O.held writer.old (legends.right_text x 20 name.now []) writer.new }
-{
-    draw_right(writer, x, LINE, Piece::Markup(name), Piece::Markup(""));
 }
 
 /// Begins the legend, and draws the headings of its columns.
@@ -101,10 +86,16 @@ pub(crate) fn draw_columns<O: Out>(writer: &mut Writer<'_, O>, bottom: u64)
         Piece::Number(bottom),
         Piece::Markup(")\">\n<g fill=\"#666666\">"),
     ]);
-    draw_column(writer, PAGES, "pages");
-    draw_column(writer, OVERFLOW, "of them overflow");
-    draw_column(writer, SIZE, "size");
-    draw_column(writer, SHARE, "%");
+    draw_right(writer, PAGES, LINE, Piece::Markup("pages"), "");
+    draw_right(
+        writer,
+        OVERFLOW,
+        LINE,
+        Piece::Markup("of them overflow"),
+        "",
+    );
+    draw_right(writer, SIZE, LINE, Piece::Markup("size"), "");
+    draw_right(writer, SHARE, LINE, Piece::Markup("%"), "");
     writer.write_all(&[Piece::Markup("</g>\n")]);
 }
 
@@ -112,10 +103,10 @@ pub(crate) fn draw_columns<O: Out>(writer: &mut Writer<'_, O>, bottom: u64)
 fn draw_share<O: Out>(writer: &mut Writer<'_, O>, share: Share, geometry: Geometry, y: u32)
     ensures { Wrote O.held writer.old (legends.share_text share geometry.page_size y) writer.new }
 {
-    draw_number(writer, PAGES, y, share.pages);
+    draw_right(writer, PAGES, y, Piece::Number(share.pages as u64), "");
     draw_overflow(writer, share.overflow, y);
     let (tenths, unit) = size(share.pages, geometry.page_size);
-    draw_right(writer, SIZE, y, Piece::Tenths(tenths), Piece::Markup(unit));
+    draw_right(writer, SIZE, y, Piece::Tenths(tenths), unit);
 }
 
 // Draws the number of overflow pages, if there are any.
@@ -123,7 +114,7 @@ fn draw_overflow<O: Out>(writer: &mut Writer<'_, O>, pages: u32, y: u32)
     ensures { Wrote O.held writer.old (legends.overflow_text pages y) writer.new }
 {
     if pages != 0 {
-        draw_number(writer, OVERFLOW, y, pages);
+        draw_right(writer, OVERFLOW, y, Piece::Number(pages as u64), "");
     }
 }
 
@@ -135,7 +126,7 @@ fn draw_percent<O: Out>(writer: &mut Writer<'_, O>, line: &LegendLine, all: u32,
         Label::Missing => {}
         _ => {
             let tenths = Piece::Tenths(tenths_of_percent(line.share.pages, all));
-            draw_right(writer, SHARE, y, tenths, Piece::Markup(""));
+            draw_right(writer, SHARE, y, tenths, "");
         }
     }
 }
@@ -170,10 +161,10 @@ fn owner_of(label: Label) -> Option<usize>
 {
     match label {
         Label::Tree(rank, _) => Some(rank),
-        Label::Others(_) => Some(12),
-        Label::Freelist => Some(13),
-        Label::Fixed => Some(14),
-        Label::Nobody => Some(15),
+        Label::Others(_) => Some(OTHER_TREES),
+        Label::Freelist => Some(FREELIST),
+        Label::Fixed => Some(FIXED),
+        Label::Nobody => Some(NOBODY),
         Label::Missing => Some(MISSING),
         Label::Strong | Label::Weak => None,
     }

@@ -1,10 +1,11 @@
 // The pages of the entries that are listed, and of their causes.
-ghost use Rattle.std.specs.Prelude.{◌≡◌, ℕ, ◌++◌, List};
-ghost use Rattle.dbformat.specs.declared.FaultCode.{FaultCode};
-ghost use Rattle.dbmap.specs.Faults.{cause_page, fault_value_page, framed, framed_of, leading, page_of_value};
+ghost use Rattle.std.specs.Prelude.{◌≡◌, ℕ, ◌++◌, List, flat_map};
+ghost use Rattle.dbmap.specs.declared.faults.Sign.{Sign};
+ghost use Rattle.dbmap.specs.Faults.{cause_page, fault_value_page, frame_signs, leading, page_of_value};
 ghost use Rattle.dbmap.specs.KeptFaults.{AreNoted};
 
 use crate::fault_notes::FaultNotes;
+use crate::faults::Sign;
 use dbentries::{Cause, Entry, Reported};
 use dbformat::{Fault, FaultCode};
 use std::alloc::Allocator;
@@ -44,21 +45,20 @@ fn cause_page(cause: Cause) -> u32
     }
 }
 
-// Notes the pages of a fault that leads: its own, the page that its value names, and that of its cause.
+// Notes the strong frame of the pages of a fault that leads: its own, the one that its value names, and that of its cause.
 fn note_pages<A: Allocator>(notes: &mut FaultNotes<A>, first: &Reported)
-    ensures { (count : ℕ) (fs : List (ℕ × FaultCode)) (pages : List ℕ) → AreNoted count fs pages notes.old
-        → AreNoted count fs (pages ++ framed_of first.now) notes.new }
+    ensures { (count : ℕ) (signs : List (ℕ × Sign)) → AreNoted count signs notes.old → AreNoted count (signs ++ frame_signs first.now) notes.new }
 {
     let fault = &first.fault;
-    notes.frame(fault.page);
-    notes.frame(value_page(fault));
-    notes.frame(cause_page(first.cause));
+    notes.note(fault.page, Sign::Framed);
+    notes.note(value_page(fault), Sign::Framed);
+    notes.note(cause_page(first.cause), Sign::Framed);
 }
 
-/// Notes the pages of some entries: that of the fault, the page that it names, and that of its cause.
+/// The same of the faults that lead some entries.
 pub(crate) fn note_listed<A: Allocator>(notes: &mut FaultNotes<A>, listed: &[Entry])
-    ensures { (count : ℕ) (fs : List (ℕ × FaultCode)) (pages : List ℕ) → AreNoted count fs pages notes.old
-        → AreNoted count fs (pages ++ framed (leading listed.now)) notes.new }
+    ensures { (count : ℕ) (signs : List (ℕ × Sign)) → AreNoted count signs notes.old
+        → AreNoted count (signs ++ flat_map frame_signs (leading listed.now)) notes.new }
 {
     for entry in listed {
         note_pages(notes, &entry.first);

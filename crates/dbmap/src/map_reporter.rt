@@ -1,8 +1,8 @@
 // The reporter of a map.
-ghost use Rattle.std.specs.Prelude.{◌≡◌};
 ghost use Rattle.dbwalk.specs.Rows.{row_of};
-ghost use Rattle.dbmap.specs.MapRuns.{Adds, Notes, map_held};
+ghost use Rattle.dbmap.specs.MapRuns.{Adds, Notes};
 
+use crate::faults::Sign;
 use crate::kept::KeptFaults;
 use crate::maps::put_map;
 use dbentries::Reported;
@@ -15,53 +15,34 @@ use std::alloc::Allocator;
 // Counts faults, notes the pages that they are found at, and lists those that lead; and notes the starts of pages. When the file has
 // been heard it looks at the lost pages, and puts the picture.
 #[derive(Drop)]
-pub(crate) struct MapReporter<'a, A: Allocator, O> {
-    name: &'a str,
-    kept: &'a mut KeptFaults<A>,
-    out: &'a mut O,
-    faults: u64,
+pub(crate) struct MapReporter<'n, 'k, 'o, A: Allocator, O> {
+    pub(crate) name: &'n str,
+    pub(crate) kept: &'k mut KeptFaults<A>,
+    pub(crate) out: &'o mut O,
+    pub(crate) faults: u64,
 }
 
-impl<'a, A: Allocator, O: Out> MapReporter<'a, A, O> {
-    // One that has heard nothing.
-    pub(crate) fn new(
-        name: &'a str,
-        kept: &'a mut KeptFaults<A>,
-        out: &'a mut O,
-    ) -> MapReporter<'a, A, O>
-        ensures same_out { result.out.ghost_name ≡ out.entry.ghost_name }
-        ensures out { result.out.now ≡ out.old }
-        ensures kept { result.kept.now ≡ kept.old }
-        ensures faults { result.faults ≡ 0 }
-        ensures name { result.name.now ≡ name.now }
-    {
-        MapReporter {
-            name,
-            kept,
-            out,
-            faults: 0,
-        }
-    }
-
+impl<A: Allocator, O: Out> MapReporter<'_, '_, '_, A, O> {
     // Counts a fault, notes its page, and lists it.
     fn note(&mut self, told: &Reported)
-        ensures added { Adds told.now self.old self.new }
-        ensures held { map_held O.held self.new ≡ map_held O.held self.old }
+        ensures { Adds told.now self.old self.new }
     {
         self.faults = self.faults.saturating_add(1);
-        self.kept.note(told);
+        let fault = &told.fault;
+        self.kept.notes.note(fault.page, Sign::Code(fault.code));
+        self.kept.notes.note(fault.page, Sign::Faulty);
+        self.kept.listing.hear(told);
     }
 
     // Notes the start of the page of a row.
     fn note_row(&mut self, row: &Row<'_>)
-        ensures noted { Notes (row_of row.now) self.old self.new }
-        ensures held { map_held O.held self.new ≡ map_held O.held self.old }
+        ensures { Notes (row_of row.now) self.old self.new }
     {
-        self.kept.state.trees.note(row);
+        self.kept.trees.note(row);
     }
 }
 
-impl<A: Allocator, O: Out> Reporter for MapReporter<'_, A, O> {
+impl<A: Allocator, O: Out> Reporter for MapReporter<'_, '_, '_, A, O> {
     ghost use Rattle.dbscan.specs.Notices.{CutsNever};
     ghost use Rattle.dbmap.specs.MapRuns.{Hears, map_held};
 
@@ -89,7 +70,7 @@ impl<A: Allocator, O: Out> Reporter for MapReporter<'_, A, O> {
     }
 }
 
-impl<A: Allocator, O: Out> Finish<Desk<A>> for MapReporter<'_, A, O> {
+impl<A: Allocator, O: Out> Finish<Desk<A>> for MapReporter<'_, '_, '_, A, O> {
     ghost use Rattle.dbmap.specs.MapRuns.{LeavesMap};
 
     ghost leaves = { LeavesMap O.held };

@@ -2,20 +2,25 @@
 ghost use Rattle.std.specs.Prelude.{◌≡◌};
 ghost use Rattle.dbscan.specs.DeskSizes.{DeskFitsInMemory};
 ghost use Rattle.dbreport.specs.Runs.{FailsOnce, IsUntouched};
-ghost use Rattle.dbmap.specs.Drawings.{PutsPicture};
-ghost use Rattle.dbmap.specs.Pictures.{stated_of};
+ghost use Rattle.dblines.specs.Writing.{PutsOf};
+ghost use Rattle.dbmap.specs.Drawings.{HasAll};
+ghost use Rattle.dbmap.specs.Pictures.{map_picture, stated_of};
 ghost use Rattle.dbmap.specs.Maps.{HasMap, ToldFilesAreDrawn};
 
+use crate::fault_notes::FaultNotes;
 use crate::grid::Grid;
-use crate::kept::KeptFaults;
+use crate::kept::{ENTRIES, KeptFaults};
 use crate::labels::Labels;
 use crate::legend::Legend;
+use crate::listed::note_listed;
 use crate::map_reporter::MapReporter;
 use crate::picture::{Heading, draw_picture};
 use crate::squares::Squares;
+use crate::tally::PageTally;
+use dbentries::Listing;
 use dbformat::Verdict;
 use dblines::Writer;
-use dbowner::TreeNames;
+use dbowner::{PageTrees, TreeNames};
 use dbreport::{Job, run_job};
 use dbscan::{Desk, run_over};
 use dbsource::{Geometry, Header, Out, RunError, Source, WriteFailed};
@@ -45,11 +50,10 @@ pub(crate) fn put_map<A: Allocator, O: Out>(
     faults: u64,
     out: &mut O,
 ) -> Result<(), WriteFailed>
-    ensures { PutsPicture result (O.held out.old) (O.held out.new) name.now desk.now kept.old faults }
+    ensures { PutsOf result (O.held out.old) (O.held out.new) (HasAll desk.now kept.old faults) (λ file V. map_picture file V name.now) }
 {
-    kept.note_listed();
-    kept.state.begin();
-    kept.tally.count(desk.marks(), &kept.state.trees);
+    note_listed(&mut kept.notes, kept.listing.listed());
+    kept.tally.count(desk.marks(), &kept.trees);
     let largest = kept.tally.largest(desk.roots().len() + 1);
     let names = TreeNames {
         encoding: desk.header().encoding(),
@@ -58,7 +62,7 @@ pub(crate) fn put_map<A: Allocator, O: Out>(
     let geometry = desk.geometry();
     let grid = Grid::new(geometry.pages, stated_pages(desk.header()));
     let labels = Labels::new(&names, largest.as_slice());
-    let (strong, weak) = kept.framed(geometry.pages);
+    let (strong, weak) = kept.notes.framed();
     let legend = Legend::new(
         &kept.tally,
         largest.as_slice(),
@@ -75,6 +79,7 @@ pub(crate) fn put_map<A: Allocator, O: Out>(
     let squares = Squares {
         header: desk.header(),
         marks: desk.marks(),
+        trees: &kept.trees,
         names,
         notes: &kept.notes,
         largest,
@@ -82,7 +87,7 @@ pub(crate) fn put_map<A: Allocator, O: Out>(
         labels,
     };
     let mut writer = Writer::new(out);
-    draw_picture(&mut writer, &heading, &squares, &mut kept.state, &legend);
+    draw_picture(&mut writer, &heading, &squares, &legend);
     writer.end()
 }
 
@@ -106,7 +111,16 @@ impl<A: Allocator + Copy, O: Out> Job<A, Desk<A>> for MapJob<'_, O> {
     ghost ends = { EndsOne O.held out_of FailsAtWrite };
 
     fn keep(&self, alloc: A, geometry: &Geometry) -> Result<KeptFaults<A>, AllocError> {
-        KeptFaults::new_in(alloc, geometry)
+        let trees = PageTrees::new_in(alloc, geometry)?;
+        let tally = PageTally::new_in(alloc)?;
+        let notes = FaultNotes::new_in(alloc, geometry.pages)?;
+        let listing = Listing::new_in(alloc, ENTRIES, 0)?;
+        Ok(KeptFaults {
+            trees,
+            tally,
+            notes,
+            listing,
+        })
     }
 
     fn run_on<S: Source>(
@@ -115,7 +129,12 @@ impl<A: Allocator + Copy, O: Out> Job<A, Desk<A>> for MapJob<'_, O> {
         kept: &mut KeptFaults<A>,
         source: &mut S,
     ) -> Result<Verdict, RunError> {
-        let mut reporter = MapReporter::new(self.name, kept, self.out);
+        let mut reporter = MapReporter {
+            name: self.name,
+            kept,
+            out: self.out,
+            faults: 0,
+        };
         run_over(desk, source, &mut reporter)
     }
 }

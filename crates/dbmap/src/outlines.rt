@@ -50,7 +50,8 @@ fn draw_places<O: Out>(writer: &mut Writer<'_, O>, grid: &Grid, first: u32, end:
 pub(crate) fn draw_outlines<O: Out>(writer: &mut Writer<'_, O>, grid: &Grid, row: u32)
     ensures { Wrote O.held writer.old (outlines_text grid.now row) writer.new }
 {
-    let (first, end) = grid.outlines_of_row(row);
+    let (first, end) = grid.places_of(row, grid.places());
+    let first = first.max(grid.squares);
     if first < end {
         writer.write_all(&[Piece::Markup(
             "<g transform=\"translate(.5,.5)\" fill=\"#FFFFFF\" stroke=\"#AAAAAA\">\n",

@@ -1,37 +1,21 @@
 // Whose the pages of a square are.
-ghost use Rattle.std.specs.Prelude.{◌≡◌, ◌≤◌, ◌<◌};
-ghost use Rattle.dbmap.specs.Owners.{has_pages, is_overflow, is_shaded, no_shares, one_page, owner_counted, owner_number, share_of, share_sum};
+ghost use Rattle.std.specs.Prelude.{◌≡◌, ◌<◌};
+ghost use Rattle.dbmap.specs.Owners.{has_pages, is_overflow, is_shaded, no_shares, one_page, owner_counted, share_of, share_sum};
 
 use dbowner::Place;
 
-/// Whose a page is.
-#[derive(Clone, Copy, PartialEq, Eq)]
-pub(crate) enum Owner {
-    /// One of the largest trees, by its rank from 0, or any other tree, by the rank after the last.
-    Tree(usize),
-    Freelist,
-    /// A page of fixed use.
-    Fixed,
-    Nobody,
-}
-
-/// How many owners a square tells apart: twelve trees, all others, the freelist, fixed use, and nobody.
+/// How many owners a square tells apart, in the order in which they are drawn and named: first the twelve largest trees, by their ranks.
 pub(crate) const OWNERS: usize = 16;
 
-impl Owner {
-    /// Its number, from 0: the order in which the owners of a square are drawn and named.
-    pub(crate) fn number(self) -> usize
-        ensures number { result ≡ owner_number self }
-        ensures most { result ≤ 15 }
-    {
-        match self {
-            Owner::Tree(rank) => rank.min(12),
-            Owner::Freelist => 13,
-            Owner::Fixed => 14,
-            Owner::Nobody => 15,
-        }
-    }
-}
+/// The number of all other trees.
+pub(crate) const OTHER_TREES: usize = 12;
+
+pub(crate) const FREELIST: usize = 13;
+
+/// The number of the owner of pages of fixed use.
+pub(crate) const FIXED: usize = 14;
+
+pub(crate) const NOBODY: usize = 15;
 
 /// A number of pages, and how many of them are overflow pages.
 #[derive(Clone, Copy, Default)]
@@ -88,11 +72,12 @@ impl OwnerShares {
         }
     }
 
-    /// Counts a page.
-    pub(crate) fn add(&mut self, owner: Owner, is_overflow: bool)
+    /// Counts a page of the owner with a number.
+    pub(crate) fn add(&mut self, owner: usize, is_overflow: bool)
+        requires { owner < 16 }
         ensures { self.new ≡ owner_counted owner is_overflow self.old }
     {
-        let share = &mut self.shares[owner.number()];
+        let share = &mut self.shares[owner];
         share.add(is_overflow);
     }
 

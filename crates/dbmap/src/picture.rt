@@ -1,13 +1,12 @@
 // The picture as a whole.
 ghost use Rattle.std.specs.Prelude.{◌≡◌};
 ghost use Rattle.std.specs.List.{flat_map, range_with_len};
-ghost use Rattle.dblines.specs.Writing.{Wrote};
-ghost use Rattle.dbmap.specs.Drawings.{drawn_from, DrawsAs, HoldsTreeName};
+ghost use Rattle.dblines.specs.Writing.{Wrote, WroteOf};
+ghost use Rattle.dbmap.specs.Drawings.{AreOf, drawn_by};
 ghost use Rattle.dbmap.specs.Pictures as pictures;
 ghost use Rattle.dbmap.specs.Pictures.{picture_text};
 
 use crate::colours::{OTHERS, OVERFLOW, TREES};
-use crate::draw_state::DrawState;
 use crate::grid::Grid;
 use crate::legend::Legend;
 use crate::size::size;
@@ -178,12 +177,9 @@ pub(crate) fn draw_picture<A: Allocator, O: Out>(
     writer: &mut Writer<'_, O>,
     heading: &Heading,
     squares: &Squares<'_, A>,
-    state: &mut DrawState<A>,
     legend: &Legend,
 )
-    requires { HoldsTreeName squares.now.names state.old }
-    ensures { DrawsAs O.held squares.now.marks.now state.old.trees.known (drawn_from squares.now)
-        (λ g. picture_text heading.now g legend.now.lines.items) writer.old writer.new }
+    ensures { WroteOf O.held writer.old (AreOf squares.now) (λ file V. picture_text heading.now (drawn_by squares.now V) legend.now.lines.items) writer.new }
 {
     let grid = &squares.grid;
     let bottom = grid.top_of(grid.rows());
@@ -191,7 +187,7 @@ pub(crate) fn draw_picture<A: Allocator, O: Out>(
     draw_head(writer, &heading.file, bottom + height);
     draw_heading(writer, heading, grid.run);
     draw_row_names(writer, grid);
-    squares.draw(writer, state);
+    squares.draw(writer);
     legend.draw(writer, heading.geometry, &squares.labels, bottom);
     writer.write_all(&[Piece::Markup("</svg>\n")]);
 }

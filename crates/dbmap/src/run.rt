@@ -1,9 +1,9 @@
 // The square of a run of pages.
-ghost use Rattle.std.specs.Prelude.{◌≡◌, ◌<◌, ◌&&◌, not, true};
+ghost use Rattle.std.specs.Prelude.{◌≡◌, ◌<◌, ◌&&◌, not};
 ghost use Rattle.dblines.specs.Writing.{Wrote};
 ghost use Rattle.dbmap.specs.Faults.{frame_of, shown};
 ghost use Rattle.dbmap.specs.Marks.{run_pages_text};
-ghost use Rattle.dbmap.specs.Runs.{band_frame, band_text, bands_from, frame_above, frame_below, mixed_text, owner_mark, owner_text, owners_from, plain_text};
+ghost use Rattle.dbmap.specs.Runs.{band_frame, band_text, bands_text, frame_above, frame_below, mixed_text, owner_mark, owner_text, owners_text, plain_text};
 ghost use Rattle.dbmap.specs.Runs.{run_pages, run_text, title_text, words};
 
 use crate::bands::Bands;
@@ -135,7 +135,7 @@ impl RunSquare {
 
     // Draws its bands, each owner's below those before it.
     fn draw_bands<O: Out>(&self, writer: &mut Writer<'_, O>, bands: &Bands)
-        ensures { Wrote O.held writer.old (bands_from self.now bands.now 0 16 0) writer.new }
+        ensures { Wrote O.held writer.old (bands_text self.now bands.now) writer.new }
     {
         let mut top = 0u32;
         for number in 0..OWNERS {
@@ -179,7 +179,7 @@ impl RunSquare {
 
     // Draws the number of each owner's pages.
     fn draw_owners<O: Out>(&self, writer: &mut Writer<'_, O>, labels: &Labels)
-        ensures { Wrote O.held writer.old (owners_from self.now.shares labels.now.names.items true 0 16) writer.new }
+        ensures { Wrote O.held writer.old (owners_text self.now.shares labels.now.names.items) writer.new }
     {
         let mut is_first = true;
         for number in 0..OWNERS {

@@ -1,27 +1,27 @@
 // The squares of the picture, row by row.
-ghost use Rattle.std.specs.Prelude.{◌≡◌, ◌+◌, ◌-◌, ℕ, List};
+ghost use Rattle.std.specs.Prelude.{◌≡◌, ◌+◌, ◌-◌, ◌<◌, ℕ, List};
 ghost use Rattle.dbformat.specs.FixedPages.{geometry_of};
 ghost use Rattle.dbformat.specs.Reference.{Reference};
 ghost use Rattle.dbformat.specs.Starts.{start_at};
-ghost use Rattle.dblines.specs.Writing.{Wrote};
-ghost use Rattle.dbmap.specs.Drawings.{drawn_from, DrawsAs, DrawsSquares, HoldsTreeName, marked_place};
-ghost use Rattle.dbmap.specs.Owners.{capped_pages, IsOf, owner_by, shares_by, StaysOf};
-ghost use Rattle.dbmap.specs.Squares.{fixed_in, page_square_text, row_front_text, row_text, rows_text, run_square_text, square_text, squares_text};
+ghost use Rattle.dblines.specs.Writing.{WroteOf};
+ghost use Rattle.dbmap.specs.Drawings.{AreOf, drawn_by, HoldsTreeName, marked_place};
+ghost use Rattle.dbmap.specs.Owners.{capped_pages, owner_by, shares_by};
+ghost use Rattle.dbmap.specs.Squares.{fixed_in, row_text, rows_text, run_square_text, square_text, squares_text};
 
-use crate::draw_state::DrawState;
 use crate::fault_notes::FaultNotes;
 use crate::grid::Grid;
 use crate::labels::Labels;
 use crate::outlines::draw_outlines;
-use crate::owner_shares::{Owner, OwnerShares, is_overflow};
+use crate::owner_shares::{FIXED, FREELIST, NOBODY, OwnerShares, is_overflow};
 use crate::page::PageSquare;
 use crate::picture::LEFT;
 use crate::run::RunSquare;
 use crate::tally::{COLOURED, rank_of};
+use crate::tree_text::NamedTree;
 use arrayvec::ArrayVec;
 use dbformat::Fixed;
 use dblines::Writer;
-use dbowner::{Place, TreeNames, place_of, place_tree};
+use dbowner::{PageTrees, Place, TreeNames, place_of, place_tree};
 use dbsource::{Header, Out};
 use dbwalk::Marks;
 use dbxml::{Piece, WritePieces};
@@ -35,6 +35,7 @@ pub(crate) const NAME_WIDTH: u32 = 72;
 pub(crate) struct Squares<'a, A: Allocator> {
     pub(crate) header: &'a Header,
     pub(crate) marks: &'a Marks<A>,
+    pub(crate) trees: &'a PageTrees<A>,
     pub(crate) names: TreeNames<'a, A>,
     pub(crate) notes: &'a FaultNotes<A>,
     pub(crate) largest: ArrayVec<u32, COLOURED>,
@@ -44,116 +45,114 @@ pub(crate) struct Squares<'a, A: Allocator> {
 
 impl<'a, A: Allocator> Squares<'a, A> {
     // The owner of a page, by what it is and the start that it belongs to.
-    fn owner(&self, place: Place, start: Option<u32>) -> Owner
-        ensures { result ≡ owner_by self.now.largest.items place start }
+    fn owner(&self, place: Place, start: Option<u32>) -> usize
+        ensures owner { result ≡ owner_by self.now.largest.items place start }
+        ensures within { result < 16 }
     {
         match place {
-            Place::Fixed => Owner::Fixed,
-            Place::Nowhere => Owner::Nobody,
-            Place::Trunk | Place::FreeLeaf => Owner::Freelist,
+            Place::Fixed => FIXED,
+            Place::Nowhere => NOBODY,
+            Place::Trunk | Place::FreeLeaf => FREELIST,
             Place::Root | Place::ChildOf(_) | Place::OverflowOf(_) | Place::OverflowAfter(_) => {
-                Owner::Tree(rank_of(self.largest.as_slice(), start))
+                rank_of(self.largest.as_slice(), start)
             }
         }
     }
 
     // What each owner has of some pages.
-    fn shares(&self, state: &mut DrawState<A>, first: u32, last: u32) -> OwnerShares
-        ensures shares { (file : List ℕ) (V : List Reference) → IsOf self.now.marks.now state.old.trees.known file V
+    fn shares(&self, first: u32, last: u32) -> OwnerShares
+        ensures { (file : List ℕ) (V : List Reference) → AreOf self.now file V
             → result ≡ shares_by self.now.largest.items (marked_place self.now.marks.now) (start_at V) first (capped_pages (last + 1) - first) }
-        ensures named { (state.new.name ≡ state.old.name) × (state.new.named ≡ state.old.named) }
-        ensures trees { StaysOf self.now.marks.now state.old.trees.known state.new.trees.known }
     {
         let mut shares = OwnerShares::new();
         for page in first..last.saturating_add(1) {
             let place = place_of(self.marks, page);
-            let start = state.trees.start_of(self.marks, page);
+            let start = self.trees.start_of(self.marks, page);
             shares.add(self.owner(place, start), is_overflow(place));
         }
         shares
     }
 
     /// Draws all squares.
-    pub(crate) fn draw<O: Out>(&self, writer: &mut Writer<'_, O>, state: &mut DrawState<A>)
-        requires { HoldsTreeName self.now.names state.old }
-        ensures { DrawsAs O.held self.now.marks.now state.old.trees.known (drawn_from self.now) rows_text writer.old writer.new }
+    pub(crate) fn draw<O: Out>(&self, writer: &mut Writer<'_, O>)
+        ensures { WroteOf O.held writer.old (AreOf self.now) (λ file V. rows_text (drawn_by self.now V)) writer.new }
     {
         for row in 0..self.grid.rows() {
-            self.draw_row(writer, state, row);
+            self.draw_row(writer, row);
         }
     }
 
     // Draws the squares of a row.
-    fn draw_row<O: Out>(&self, writer: &mut Writer<'_, O>, state: &mut DrawState<A>, row: u32)
-        requires { HoldsTreeName self.now.names state.old }
-        ensures { DrawsSquares O.held self.now (λ g. row_text g row) (writer.old, state.old) (writer.new, state.new) }
+    fn draw_row<O: Out>(&self, writer: &mut Writer<'_, O>, row: u32)
+        ensures { WroteOf O.held writer.old (AreOf self.now) (λ file V. row_text (drawn_by self.now V) row) writer.new }
     {
         let grid = &self.grid;
-        draw_row_front(writer, grid, row);
-        self.draw_squares(writer, state, row);
+        writer.write_all(&[
+            Piece::Markup("<g transform=\"translate("),
+            Piece::Number(LEFT),
+            Piece::Markup(","),
+            Piece::Number(grid.top_of(row)),
+            Piece::Markup(")\">\n"),
+        ]);
+        self.draw_squares(writer, row);
         draw_outlines(writer, grid, row);
         writer.write_all(&[Piece::Markup("</g>\n")]);
     }
 
     // Draws the squares of a row, and nothing else of it.
-    fn draw_squares<O: Out>(&self, writer: &mut Writer<'_, O>, state: &mut DrawState<A>, row: u32)
-        requires { HoldsTreeName self.now.names state.old }
-        ensures { DrawsSquares O.held self.now (λ g. squares_text g row) (writer.old, state.old) (writer.new, state.new) }
+    fn draw_squares<O: Out>(&self, writer: &mut Writer<'_, O>, row: u32)
+        ensures { WroteOf O.held writer.old (AreOf self.now) (λ file V. squares_text (drawn_by self.now V) row) writer.new }
     {
-        let (first, end) = self.grid.squares_of_row(row);
+        let mut tree = NamedTree::none();
+        let (first, end) = self.grid.places_of(row, self.grid.squares);
         for index in first..end {
-            self.draw_square(writer, state, index);
+            self.draw_square(writer, &mut tree, index);
         }
     }
 
     // Draws a square.
-    fn draw_square<O: Out>(&self, writer: &mut Writer<'_, O>, state: &mut DrawState<A>, index: u32)
-        requires { HoldsTreeName self.now.names state.old }
-        ensures { DrawsSquares O.held self.now (λ g. square_text g index) (writer.old, state.old) (writer.new, state.new) }
+    fn draw_square<O: Out>(&self, writer: &mut Writer<'_, O>, tree: &mut NamedTree, index: u32)
+        requires { HoldsTreeName self.now.names tree.old }
+        ensures drawn { WroteOf O.held writer.old (AreOf self.now) (λ file V. square_text (drawn_by self.now V) index) writer.new }
+        ensures tree { HoldsTreeName self.now.names tree.new }
     {
-        if self.grid.run == 1 {
-            self.draw_page(writer, state, index);
-        } else {
-            self.draw_run(writer, state, index);
+        let grid = &self.grid;
+        if grid.run != 1 {
+            self.draw_run(writer, index);
+            return;
         }
+        let (page, _) = grid.run_of(index, grid.pages);
+        let place = place_of(self.marks, page);
+        let start = self.trees.start_of(self.marks, page);
+        tree.turn_to(&self.names, place_tree(place, start));
+        let square = PageSquare {
+            x: grid.x_of(index),
+            page,
+            owner: self.owner(place, start),
+            place,
+            fixed: self.fixed(place, page),
+        };
+        square.draw(writer, grid.width, &tree.name, self.notes.of_square(index));
     }
 
     // Draws the square of a run of pages.
-    fn draw_run<O: Out>(&self, writer: &mut Writer<'_, O>, state: &mut DrawState<A>, index: u32)
-        requires { HoldsTreeName self.now.names state.old }
-        ensures { DrawsSquares O.held self.now (λ g. run_square_text g index) (writer.old, state.old) (writer.new, state.new) }
+    fn draw_run<O: Out>(&self, writer: &mut Writer<'_, O>, index: u32)
+        ensures { WroteOf O.held writer.old (AreOf self.now) (λ file V. run_square_text (drawn_by self.now V) index) writer.new }
     {
         let grid = &self.grid;
-        let (first, last) = grid.pages_of(index);
+        let (first, last) = grid.run_of(index, grid.pages);
         let run = RunSquare {
             x: grid.x_of(index),
             first,
             last,
-            shares: self.shares(state, first, last),
+            shares: self.shares(first, last),
         };
-        let faults = self.notes.of_square(index);
-        run.draw(writer, grid.width, &self.labels, faults);
-    }
-
-    // Draws the square of a page.
-    fn draw_page<O: Out>(&self, writer: &mut Writer<'_, O>, state: &mut DrawState<A>, index: u32)
-        requires { HoldsTreeName self.now.names state.old }
-        ensures { DrawsSquares O.held self.now (λ g. page_square_text g index) (writer.old, state.old) (writer.new, state.new) }
-    {
-        let grid = &self.grid;
-        let (page, _) = grid.pages_of(index);
-        let place = place_of(self.marks, page);
-        let start = state.trees.start_of(self.marks, page);
-        let square = PageSquare {
-            x: grid.x_of(index),
-            page,
-            owner: self.owner(place, start).number(),
-            place,
-            fixed: self.fixed(place, page),
-        };
-        state.name(&self.names, place_tree(place, start));
-        let faults = self.notes.of_square(index);
-        square.draw(writer, grid.width, &state.name, faults);
+        run.draw(
+            writer,
+            grid.width,
+            &self.labels,
+            self.notes.of_square(index),
+        );
     }
 
     // The fixed use of a page, if it has one.
@@ -165,17 +164,4 @@ impl<'a, A: Allocator> Squares<'a, A> {
             _ => None,
         }
     }
-}
-
-// Draws the beginning of the row.
-fn draw_row_front<O: Out>(writer: &mut Writer<'_, O>, grid: &Grid, row: u32)
-    ensures { Wrote O.held writer.old (row_front_text grid.now row) writer.new }
-{
-    writer.write_all(&[
-        Piece::Markup("<g transform=\"translate("),
-        Piece::Number(LEFT),
-        Piece::Markup(","),
-        Piece::Number(grid.top_of(row)),
-        Piece::Markup(")\">\n"),
-    ]);
 }

@@ -3,7 +3,6 @@ ghost use Rattle.std.specs.Prelude.{◌≡◌, ◌==◌, ◌≤◌, ℕ, List, p
 ghost use Rattle.dbformat.specs.Reference.{Reference};
 ghost use Rattle.dbmap.specs.Owners.{IsOf, no_share, rank_of};
 ghost use Rattle.dbmap.specs.Tallies.{largest_trees, left_pages, next_start, none_tallied, others, page_counted, pages_at, share_at, start_counted, tally_of};
-ghost use Rattle.dbmap.specs.Tallies.{used_counted};
 
 use crate::owner_shares::{Share, is_overflow};
 use arrayvec::ArrayVec;
@@ -87,19 +86,10 @@ impl<A: Allocator> PageTally<A> {
     fn add(&mut self, place: Place, start: Option<u32>)
         ensures { self.new ≡ page_counted place start self.old }
     {
-        match place {
-            Place::Fixed => self.fixed = self.fixed.saturating_add(1),
-            _ => self.add_used(start, is_overflow(place)),
-        }
-    }
-
-    // Counts a page that has no fixed use.
-    fn add_used(&mut self, start: Option<u32>, is_overflow: bool)
-        ensures { self.new ≡ used_counted start is_overflow self.old }
-    {
-        match start {
-            Some(start) => self.add_to(start, is_overflow),
-            None => self.nobody = self.nobody.saturating_add(1),
+        match (place, start) {
+            (Place::Fixed, _) => self.fixed = self.fixed.saturating_add(1),
+            (_, Some(start)) => self.add_to(start, is_overflow(place)),
+            (_, None) => self.nobody = self.nobody.saturating_add(1),
         }
     }
 

@@ -1,8 +1,10 @@
-use Rattle.std.proofs.Common.{◌+◌, drop}
-use Rattle.dbmap.specs.Legends.{lines_from}
-use Rattle.dbmap.proofs.Rests.{HasWritten}
+use Rattle.std.proofs.Common.{◌*◌, ◌+◌}
+use Rattle.std.specs.Prelude.{slice_index_or}
+use Rattle.std.specs.List.{flat_map, range_with_len}
+use Rattle.dblines.specs.Writing.{Wrote}
+use Rattle.dbmap.specs.Legends.{line_text, no_line}
 use Rattle.dbmap.proofs.legend_text.draw_lines.Given as goal
 
 abbrev pub invariant-loop-index : goal.invariant-loop-index
-invariant-loop-index g l = HasWritten g.O.Out.held l.initial.writer l.writer (lines_from l.labels.names.items l.geometry (l.index + 2) (drop l.index l.lines))
-    (lines_from l.labels.names.items l.geometry 2 l.lines)
+invariant-loop-index g l = Wrote g.O.Out.held l.initial.writer
+    (flat_map (λ i. line_text l.labels.names.items l.geometry (slice_index_or l.lines i no_line) ((i + 2) * 20)) (range_with_len 0 l.index)) l.writer

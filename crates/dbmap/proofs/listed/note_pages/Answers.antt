@@ -1,15 +1,16 @@
-use Rattle.std.proofs.Common.{◌≡◌, ℕ, ◌++◌, [], ◌∷◌, List, ap₂, subst, ◌∙◌, append_assoc}
+use Rattle.std.proofs.Common.{◌≡◌, ◌++◌, [], ◌∷◌, List, subst, ap₂, ◌∙◌, ℕ, append_assoc}
 use Rattle.dbmap.specs.KeptFaults.{AreNoted}
+use Rattle.dbmap.specs.declared.faults.Sign.{Sign}
+use Rattle.dbmap.specs.declared.faults.Sign.TheVariants.{Framed}
 use Rattle.dbmap.proofs.listed.note_pages.Goals as goal
 
-three : (ps : List ℕ) (a b d : ℕ) → ((ps ++ a ∷ []) ++ b ∷ []) ++ d ∷ [] ≡ ps ++ a ∷ b ∷ d ∷ []
-three ps a b d = append_assoc (ps ++ a ∷ []) (b ∷ []) (d ∷ []) ∙ append_assoc ps (a ∷ []) (b ∷ d ∷ [])
+three : (xs : List (ℕ × Sign)) (a b d : ℕ × Sign) → ((xs ++ a ∷ []) ++ b ∷ []) ++ d ∷ [] ≡ xs ++ a ∷ b ∷ d ∷ []
+three xs a b d = append_assoc (xs ++ a ∷ []) (b ∷ []) (d ∷ []) ∙ append_assoc xs (a ∷ []) (b ∷ d ∷ [])
 
 pub returns : goal.returns
-returns g c = λ count fs pages h.
+returns g c = λ count signs h.
     let p = c.args.first.now.fault.page in
-    let own = c.frame.ensures count fs pages h in
-    let named = c.frame-2.ensures count fs (pages ++ p ∷ []) own in
-    let all = c.frame-3.ensures count fs ((pages ++ p ∷ []) ++ c.value_page.result ∷ []) named in
-    subst (λ (l : List ℕ). AreNoted count fs l c.frame-3.new.self)
-    (three pages p c.value_page.result c.cause_page.result ∙ ap₂ (λ (n m : ℕ). pages ++ p ∷ n ∷ m ∷ []) c.value_page.ensures c.cause_page.ensures) all
+    let all = c.note-3.ensures count _ (c.note-2.ensures count _ (c.note.ensures count signs h)) in
+    subst (λ (l : List (ℕ × Sign)). AreNoted count l c.note-3.new.self)
+    (three signs (p, Framed) (c.value_page.result, Framed) (c.cause_page.result, Framed)
+    ∙ ap₂ (λ (n m : ℕ). signs ++ (p, Framed) ∷ (n, Framed) ∷ (m, Framed) ∷ []) c.value_page.ensures c.cause_page.ensures) all

@@ -1,17 +1,17 @@
 use Rattle.std.proofs.Common.{◌≡◌, ◌-◌, ap, arith}
 use Rattle.std.specs.List.{flat_map, range_with_len}
-use Rattle.dblines.proofs.Writing.{wrote_as, wrote_nothing, wrote_then}
+use Rattle.dblines.proofs.Writing.{wrote_as}
 use Rattle.dbmap.specs.Squares.{outline_text}
-use Rattle.dbmap.proofs.Steps.{flat_none, flat_to}
+use Rattle.dbmap.proofs.Steps.{range_more, range_none}
 use Rattle.dbmap.proofs.outlines.draw_places.Goals as goal
 
 pub loop-place-init : goal.loop-place-init
-loop-place-init g c = wrote_as (flat_none (outline_text c.args.grid.now) c.args.first) (wrote_nothing c.args.writer.now)
+loop-place-init g c = range_none (outline_text c.args.grid.now) c.args.first c.args.writer.now (omega arith)
 
 pub loop-place-preserved : goal.loop-place-preserved
 loop-place-preserved g c =
-    wrote_as (flat_to (outline_text c.args.grid.now) c.args.first c.loop-place.place (omega (arith, c.loop-place.auto.place)))
-    (wrote_then c.loop-place.invariant c.draw_outline.ensures)
+    range_more (outline_text c.args.grid.now) c.args.first _ c.loop-place.place c.loop-place.invariant c.draw_outline.ensures
+    (omega (arith, c.loop-place.auto.place)) (omega (arith, c.loop-place.auto.place))
 
 pub returns : goal.returns
 returns g c =

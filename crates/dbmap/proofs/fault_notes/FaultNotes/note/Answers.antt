@@ -1,20 +1,20 @@
 use Rattle.std.proofs.Common.{ap, ◌∙◌, arith, refl, set}
-use Rattle.dbmap.specs.KeptFaults.{joined_at}
+use Rattle.dbmap.specs.KeptFaults.{added_at, bits_if}
 use Rattle.dbmap.proofs.FaultBits.{not_noted, noted}
 use Rattle.dbmap.proofs.fault_notes.FaultNotes.note.Goals as goal
 use Rattle.dbmap.proofs.fault_notes.FaultNotes.note.Goals.{then-page-eq0-via-else-page-eq0+then-page-self, then-page-eq0-via-then-page-eq0}
 
 pub returns-then-page-eq0 : goal.returns-then-page-eq0
-returns-then-page-eq0 g c = λ count fs framed h. elim c.then-page-eq0.branch [
-  | then-page-eq0-via-then-page-eq0 w ↦ not_noted count c.args.self.now c.args.page fs framed h (λ l k. omega (arith, l, w.if-page-eq0.true)) c.args.code
-  | then-page-eq0-via-else-page-eq0+then-page-self w ↦ not_noted count c.args.self.now c.args.page fs framed h
-      (λ l k. (let e = h.pages in omega (arith, k, e, w.if-page-self.true))) c.args.code
-]
+returns-then-page-eq0 g c = λ count signs h. not_noted count signs c.args.page c.args.sign c.args.self.now h (λ l k. elim c.then-page-eq0.branch [
+  | then-page-eq0-via-then-page-eq0 w ↦ omega (arith, l, w.if-page-eq0.true)
+  | then-page-eq0-via-else-page-eq0+then-page-self w ↦ (let e = h.pages in omega (arith, k, e, w.if-page-self.true))
+])
 
 pub returns : goal.returns
-returns g c = λ count fs framed h.
+returns g c = λ count signs h.
     let n = c.args.self.now in
     let words = n.squares.items in
     let pages = h.pages in
-    noted count n c.args.page fs framed h (omega (arith, c.if-page-eq0.false)) (omega (arith, pages, c.if-page-self.false)) _ c.of.result
-    (c.join_at.ensures ∙ ap (λ i. set words i (joined_at words i c.of.result)) c.square_of-square.ensures) c.args.code c.of.ensures refl refl c.set.ensures refl
+    noted count signs c.args.page c.args.sign n h (omega (arith, c.if-page-eq0.false)) (omega (arith, pages, c.if-page-self.false)) _
+    (c.add_at.ensures ∙ ap (λ i. set words i (added_at words i c.args.sign)) c.square_of-square.ensures) refl refl
+    (c.set_if.ensures ∙ ap (λ b. bits_if b c.args.page n.faulty) c.is.ensures) (c.set_if-2.ensures ∙ ap (λ b. bits_if b c.args.page n.framed) c.is-2.ensures)

@@ -1,24 +1,15 @@
-use Rattle.std.proofs.Common.{◌≡◌, ℕ, ◌+◌, List, ◌++◌, [], length, refl, ap, ap₂, ◌∙◌, arith}
-use Rattle.dbformat.specs.SchemaRow.{SchemaRow}
-use Rattle.dbmap.specs.Legends.{legend_lines, line_if, no_overflow, tree_line, tree_lines}
+use Rattle.std.proofs.Common.{◌≡◌, ℕ, ◌+◌, ◌++◌, length, refl, ap, ap₂, ◌∙◌, arith}
+use Rattle.std.specs.List.{flat_map, range_with_len}
+use Rattle.dbmap.specs.Legends.{legend_lines, line_if, no_overflow, tree_line}
 use Rattle.dbmap.specs.Tallies.{others}
 use Rattle.dbmap.specs.declared.legend.Label.TheVariants.{Fixed, Freelist, Missing, Nobody, Others, Strong, Tree, Weak}
 use Rattle.dbmap.specs.declared.owner_shares.Share.{Share}
-use Rattle.dbmap.proofs.Steps.{flat_next}
+use Rattle.dbmap.proofs.Steps.{flat_more}
 use Rattle.dbmap.proofs.legend.Legend.new.Goals as goal
-
-no_line : (rows : List SchemaRow) (starts : List Share) (largest : List ℕ) → [] ≡ tree_lines rows starts largest 0
-unfolding tree_lines
-no_line rows starts largest = refl
-
-one_line : (rows : List SchemaRow) (starts : List Share) (largest : List ℕ) (i : ℕ)
-    → tree_lines rows starts largest i ++ tree_line rows starts largest i ≡ tree_lines rows starts largest (i + 1)
-unfolding tree_lines
-one_line rows starts largest i = flat_next (tree_line rows starts largest) 0 i i (omega arith)
 
 pub loop-rank-init : goal.loop-rank-init
 loop-rank-init g c = record {
-  lines = c.new.ensures ∙ no_line c.args.roots.now.rows c.args.tally.now.starts c.args.largest.now;
+  lines = c.new.ensures;
   room = omega (arith, ap length c.new.ensures);
 }
 
@@ -31,7 +22,7 @@ loop-rank-preserved g c =
     let lines = c.loop-rank.legend.lines.items in
     record {
       lines = c.add.ensures.line ∙ ap₂ (λ r s. lines ++ line_if (Tree i r) s) c.root_page.ensures c.share.ensures
-          ∙ ap (λ l. l ++ tree_line rows starts largest i) c.loop-rank.invariant.lines ∙ one_line rows starts largest i;
+          ∙ ap (λ l. l ++ tree_line rows starts largest i) c.loop-rank.invariant.lines ∙ flat_more (tree_line rows starts largest) 0 i i (omega arith) refl;
       room = omega (arith, c.loop-rank.invariant.room, c.add.ensures.room);
     }
 
@@ -48,7 +39,7 @@ returns g c =
     c.add-4.ensures.line ∙ ap₂ (λ l s. l ++ line_if Fixed s) (
     c.add-3.ensures.line ∙ ap₂ (λ l s. l ++ line_if Freelist s) (
     c.add-2.ensures.line ∙ ap₂ (λ l (o : ℕ × Share). l ++ line_if (Others o.0) o.1)
-    (c.loop-rank.invariant.lines ∙ ap (tree_lines c.args.roots.now.rows starts largest) end)
+    (c.loop-rank.invariant.lines ∙ ap (λ n. flat_map (tree_line c.args.roots.now.rows starts largest) (range_with_len 0 n)) end)
     (c.others-count.ensures ∙ ap (λ n. others starts largest (n + 1)) c.len.ensures.count))
     c.share-2.ensures) (c.no_overflow.ensures ∙ ap no_overflow c.fixed.ensures))
     (c.no_overflow-2.ensures ∙ ap no_overflow c.nobody.ensures)) c.no_overflow-3.ensures) c.no_overflow-4.ensures) c.no_overflow-5.ensures

@@ -30,9 +30,12 @@ returns-in_err-put_map g c =
           let here = desk_kept c.args.desk.now c.look_at_lost.new.desk file V look.desk heard.desk in
           let listed = way 100 V heard.desk (map_lists file V s first c.args.self.now none empty heard.heard) in (
             tt,
-            map_put file V s first c.args.self.now none empty heard.heard g.O.Out.held (λ old. Begins old (g.O.Out.held c.put_map.new.out).bytes) put.text
-                (put.is file V here (map_keeps file V s first c.args.self.now none empty heard.heard c.look_at_lost.new.self listed)
-                (map_counts file V s first c.args.self.now none empty heard.heard)) put.puts.held,
+            map_put file V s first c.args.self.now none empty heard.heard g.O.Out.held (λ old. Begins old (g.O.Out.held c.put_map.new.out).bytes) put.all
+                (put.is file V (record {
+                  desk = here;
+                  kept = map_keeps file V s first c.args.self.now none empty heard.heard c.look_at_lost.new.self listed;
+                  count = map_counts file V s first c.args.self.now none empty heard.heard;
+                })) put.puts.held,
           ));
       keeps = looked_keeps look.desk (record { lent = refl; failures = inl (put.puts.count, refl) }) (inr refl);
     }))
@@ -46,9 +49,12 @@ returns g c =
           let here = desk_kept c.args.desk.now c.look_at_lost.new.desk file V look.desk heard.desk in
           let listed = way 100 V heard.desk (map_lists file V s first c.args.self.now none empty heard.heard) in (
             c.of.ensures.count ∙ map_finds file V s first c.args.self.now none empty heard.heard,
-            map_put file V s first c.args.self.now none empty heard.heard g.O.Out.held (λ old. Appends old (g.O.Out.held c.put_map.new.out).bytes) put.text
-                (put.is file V here (map_keeps file V s first c.args.self.now none empty heard.heard c.look_at_lost.new.self listed)
-                (map_counts file V s first c.args.self.now none empty heard.heard)) put.puts.held,
+            map_put file V s first c.args.self.now none empty heard.heard g.O.Out.held (λ old. Appends old (g.O.Out.held c.put_map.new.out).bytes) put.all
+                (put.is file V (record {
+                  desk = here;
+                  kept = map_keeps file V s first c.args.self.now none empty heard.heard c.look_at_lost.new.self listed;
+                  count = map_counts file V s first c.args.self.now none empty heard.heard;
+                })) put.puts.held,
           ));
       keeps = looked_keeps look.desk (ap (one_out c.args.self.now.out.ghost_name) put.puts.count) tt;
     }

@@ -1,24 +1,37 @@
-use Rattle.std.proofs.Common.{◌≡◌, ◌+◌, ◌-◌, min, get_or, arith}
-use Rattle.dbmap.specs.Runs.{band_text, bands_from}
-use Rattle.dbmap.proofs.Rests.{written_all, written_more, written_none}
-use Rattle.dbmap.proofs.Steps.{next_band, no_band}
+use Rattle.std.proofs.Common.{◌≡◌, ℕ, ◌+◌, [], ◌∷◌, get_or, refl, ap, ◌∙◌, arith}
+use Rattle.std.specs.List.{flat_map, range_with_len, sum_by}
+use Rattle.std.proofs.lemmas.List.Sums.{sum_by-append}
+use Rattle.dbsurvey.proofs.Ranges.{range_push}
+use Rattle.dblines.proofs.Writing.{wrote_as}
+use Rattle.dbmap.specs.Runs.{band_text, band_top}
+use Rattle.dbmap.proofs.Steps.{range_more, range_none}
 use Rattle.dbmap.proofs.run.RunSquare.draw_bands.Goals as goal
 
 pub loop-number-init : goal.loop-number-init
-loop-number-init g c = written_none c.args.writer.now _
+loop-number-init g c =
+    let bands = c.args.bands.now in record {
+      top = refl;
+      drawn = range_none (λ number. band_text c.args.self.now number (band_top bands number) (get_or bands.heights number 0)) 0 c.args.writer.now refl;
+    }
 
 pub loop-number-preserved : goal.loop-number-preserved
 loop-number-preserved g c =
-    let r = c.args.self.now in
-    let b = c.args.bands.now in
+    let bands = c.args.bands.now in
     let number = c.loop-number.number in
-    let top = c.loop-number.top in
-    let height : c.height-height.result ≡ get_or b.heights number 0 = c.height-height.ensures in
-    let next : c.saturating_add-top.result ≡ min (top + get_or b.heights number 0) 4294967295 = omega arith in
-    let drawn = rw height at c.draw_band.ensures in
-    rw next (written_more (band_text r number top (get_or b.heights number 0))
-    (bands_from r b (number + 1) (16 - (number + 1)) (min (top + get_or b.heights number 0) 4294967295)) c.loop-number.invariant drawn
-    (next_band r b number top c.loop-number-test.true))
+    let top = c.loop-number.invariant.top in
+    let height = c.height-height.ensures in
+    let of_owner = λ (owner : ℕ). get_or bands.heights owner 0 in
+    let sum = ap (sum_by of_owner) (range_push 0 number) ∙ sum_by-append of_owner (range_with_len 0 number) ((0 + number) ∷ []) in
+    let here : of_owner (0 + number) ≡ of_owner number = ap of_owner (let at : 0 + number ≡ number = omega arith in at) in
+    record {
+      top = omega (arith, top, height, sum, here, c.saturating_add-top.ensures);
+      drawn = range_more (λ number. band_text c.args.self.now number (band_top bands number) (get_or bands.heights number 0)) 0 _ number
+          c.loop-number.invariant.drawn (rw (top, height) at c.draw_band.ensures) (omega arith) refl;
+    }
 
 pub returns : goal.returns
-returns g c = written_all c.loop-number.invariant (no_band c.args.self.now c.args.bands.now c.loop-number.number c.loop-number.top c.loop-number-test.false)
+returns g c =
+    let bands = c.args.bands.now in
+    let end : c.loop-number.number ≡ 16 = omega arith in
+    wrote_as (ap (λ n. flat_map (λ number. band_text c.args.self.now number (band_top bands number) (get_or bands.heights number 0)) (range_with_len 0 n)) end)
+    c.loop-number.invariant.drawn

@@ -1,9 +1,12 @@
-use Rattle.std.proofs.Common.{◌-◌, true}
-use Rattle.dbmap.specs.Runs.{owners_from}
-use Rattle.dbmap.proofs.Rests.{HasWritten}
+use Rattle.std.proofs.Common.{◌≡◌}
+use Rattle.std.specs.List.{flat_map, range_with_len}
+use Rattle.dblines.specs.Writing.{Wrote}
+use Rattle.dbmap.specs.Runs.{is_first, owner_text}
 use Rattle.dbmap.proofs.run.RunSquare.draw_owners.Given as goal
 
 abbrev pub invariant-loop-number : goal.invariant-loop-number
-invariant-loop-number g l = HasWritten g.O.Out.held l.initial.writer l.writer
-    (owners_from l.self.shares l.labels.names.items l.is_first l.number (16 - l.number))
-    (owners_from l.self.shares l.labels.names.items true 0 16)
+invariant-loop-number g l = record {
+  first : l.is_first ≡ is_first l.self.shares l.number;
+  drawn : Wrote g.O.Out.held l.initial.writer
+      (flat_map (λ number. owner_text l.self.shares l.labels.names.items (is_first l.self.shares number) number) (range_with_len 0 l.number)) l.writer;
+}

@@ -1,8 +1,9 @@
 use Rattle.std.specs.List.{flat_map, range_with_len}
-use Rattle.dbmap.specs.Drawings.{DrawsSquares}
+use Rattle.dblines.specs.Writing.{WroteOf}
+use Rattle.dbmap.specs.Drawings.{AreOf, drawn_by}
 use Rattle.dbmap.specs.Squares.{row_text}
 use Rattle.dbmap.proofs.squares.Squares.draw.Given as goal
 
 abbrev pub invariant-loop-row : goal.invariant-loop-row
 invariant-loop-row g l =
-    DrawsSquares g.O.Out.held l.self (λ d. flat_map (row_text d) (range_with_len 0 l.row)) (l.initial.writer, l.initial.state) (l.writer, l.state)
+    WroteOf g.O.Out.held l.initial.writer (AreOf l.self) (λ file V. flat_map (row_text (drawn_by l.self V)) (range_with_len 0 l.row)) l.writer

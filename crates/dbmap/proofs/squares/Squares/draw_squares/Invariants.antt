@@ -1,6 +1,14 @@
-use Rattle.dbmap.specs.Drawings.{DrawsSquares}
-use Rattle.dbmap.specs.Squares.{squares_from}
+use Rattle.std.proofs.Common.{◌-◌}
+use Rattle.std.specs.List.{flat_map, range_with_len}
+use Rattle.dblines.specs.Writing.{WroteOf}
+use Rattle.dbmap.specs.Drawings.{AreOf, drawn_by, HoldsTreeName}
+use Rattle.dbmap.specs.Squares.{square_text}
 use Rattle.dbmap.proofs.squares.Squares.draw_squares.Given as goal
 
 abbrev pub invariant-loop-index : goal.invariant-loop-index
-invariant-loop-index g l = DrawsSquares g.O.Out.held l.self (λ d. squares_from d l.first l.index) (l.initial.writer, l.initial.state) (l.writer, l.state)
+invariant-loop-index g l = record {
+  drawn : WroteOf g.O.Out.held l.initial.writer (AreOf l.self)
+      (λ file V. flat_map (square_text (drawn_by l.self V)) (range_with_len l.first (l.index - l.first)))
+      l.writer;
+  tree : HoldsTreeName l.self.names l.tree;
+}

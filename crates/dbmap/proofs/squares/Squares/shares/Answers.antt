@@ -1,4 +1,4 @@
-use Rattle.std.proofs.Common.{◌≡◌, ◌+◌, ◌-◌, refl, ap, ap₂, ◌∙◌, arith}
+use Rattle.std.proofs.Common.{◌≡◌, ◌+◌, ◌-◌, ap, ap₂, ◌∙◌, arith}
 use Rattle.dbformat.specs.Starts.{start_at}
 use Rattle.dbmap.specs.Drawings.{marked_place}
 use Rattle.dbmap.specs.Owners.{capped_pages, is_overflow, owner_by, owner_counted, shares_by}
@@ -9,28 +9,23 @@ pub loop-page-init : goal.loop-page-init
 loop-page-init g c = record {
   shares = λ file V of. c.new-shares.ensures ∙ shares_none c.args.self.now.largest.items (marked_place c.args.self.now.marks.now) (start_at V) c.args.first;
   most = omega arith;
-  named = (refl, refl);
-  trees = λ file V of. of;
 }
 
 pub loop-page-preserved : goal.loop-page-preserved
 loop-page-preserved g c = record {
   shares = λ file V of. (
-      let was = c.loop-page.invariant.trees file V of in
       let largest = c.args.self.now.largest.items in
       let at = c.place_of-place.ensures.mark in
       c.add.ensures
       ∙ ap₂ (λ o b. owner_counted o b c.loop-page.shares)
-      (c.owner.ensures ∙ ap₂ (owner_by largest) at (c.start_of-start.ensures file V was.survey was.marks was.trees))
+      (c.owner.ensures.owner ∙ ap₂ (owner_by largest) at (c.start_of-start.ensures file V of.survey of.marks of.trees))
       (c.is_overflow.ensures ∙ ap is_overflow at)
       ∙ ap (owner_counted _ _) (c.loop-page.invariant.shares file V of)
       ∙ shares_next largest (marked_place c.args.self.now.marks.now) (start_at V) c.args.first c.loop-page.page (omega (arith, c.loop-page.auto.page)));
   most = omega arith;
-  named = c.loop-page.invariant.named;
-  trees = c.loop-page.invariant.trees;
 }
 
-pub returns-clause-shares : goal.returns-clause-shares
-returns-clause-shares g c = λ file V of.
+pub returns : goal.returns
+returns g c = λ file V of.
     let end : c.loop-page.page - c.args.first ≡ capped_pages (c.args.last + 1) - c.args.first = omega arith in
     c.loop-page.invariant.shares file V of ∙ ap (shares_by c.args.self.now.largest.items (marked_place c.args.self.now.marks.now) (start_at V) c.args.first) end

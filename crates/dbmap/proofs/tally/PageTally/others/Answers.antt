@@ -1,6 +1,6 @@
-use Rattle.std.proofs.Common.{◌≡◌, ℕ, suc, ◌+◌, List, cond, refl, sym, ap, ap₂, ◌∙◌, arith}
+use Rattle.std.proofs.Common.{◌≡◌, ℕ, ◌+◌, List, cond, add-one, sym, ap, ap₂, ◌∙◌, arith}
 use Rattle.std.specs.Prelude.{◌==◌}
-use Rattle.dbmap.specs.Owners.{capped_pages, no_share, share_sum}
+use Rattle.dbmap.specs.Owners.{capped_pages, share_sum}
 use Rattle.dbmap.specs.Tallies.{left_pages, other_counted, others, pages_at, share_at}
 use Rattle.dbmap.specs.declared.owner_shares.Share.{Share}
 use Rattle.dbmap.proofs.FaultBits.{unequal}
@@ -8,14 +8,6 @@ use Rattle.dbmap.proofs.tally.PageTally.others.Goals as goal
 use Rattle.dbmap.proofs.tally.PageTally.others.Goals.{else-left-ne0, then-left-ne0}
 
 module _ (starts : List Share) (largest : List ℕ) where
-  none_yet : (0, no_share) ≡ others starts largest 0
-  unfolding others
-  none_yet = refl
-
-  one_more : (k : ℕ) → other_counted starts largest k (others starts largest k) ≡ others starts largest (k + 1)
-  unfolding others
-  one_more k = let next : suc k ≡ k + 1 = omega arith in ap (others starts largest) next
-
   counted : (k left : ℕ) (s : ℕ × Share) → left ≡ left_pages (pages_at starts) largest k → (left ≡ 0 → ⊥)
       → (capped_pages (s.0 + 1), share_sum s.1 (share_at starts k)) ≡ other_counted starts largest k s
   counted k left s e some =
@@ -26,16 +18,18 @@ module _ (starts : List Share) (largest : List ℕ) where
   passed k left s e none = ap (λ n. cond (n == 0) s (capped_pages (s.0 + 1), share_sum s.1 (share_at starts k))) (sym none ∙ e)
 
 pub loop-start-init : goal.loop-start-init
+unfolding others
 loop-start-init g c =
     let none = c.default-all.ensures in
-    (λ i. (0, record { pages = none.0 i; overflow = none.1 i })) ∙ none_yet c.args.self.now.starts c.args.largest.now
+    (λ i. (0, record { pages = none.0 i; overflow = none.1 i }))
 
 pub loop-start-preserved : goal.loop-start-preserved
+unfolding others
 loop-start-preserved g c =
     let starts = c.args.self.now.starts in
     let largest = c.args.largest.now in
     let k = c.loop-start.start in
-    let more = ap (other_counted starts largest k) c.loop-start.invariant ∙ one_more starts largest k in
+    let more = ap (other_counted starts largest k) c.loop-start.invariant ∙ ap (others starts largest) (sym (add-one k)) in
     let s : ℕ × Share = (c.loop-start.count, c.loop-start.all) in
     elim c.if-left-ne0.branch [
       | then-left-ne0 w ↦ ap₂ (λ (n : ℕ) (t : Share). let u : ℕ × Share = (n, t) in u) (w.count-is ∙ w.saturating_add-count.ensures)
