@@ -25,7 +25,7 @@ use Rattle.dbscan.specs.Placed.{faults_of, told_faults}
 use Rattle.dbscan.proofs.AllTold.{all_told}
 use Rattle.dbentries.specs.Lists.{HasListed, Held, ListsAll}
 use Rattle.dbentries.proofs.Heard.{never_stops}
-use Rattle.dbmap.specs.KeptFaults.{AreNoted, HasFaults, HearsNone}
+use Rattle.dbmap.specs.Keeping.{AreNoted, HasFaults, HearsNone}
 use Rattle.dbmap.specs.Faults.{fault_signs}
 use Rattle.dbmap.specs.declared.faults.Sign.{Sign}
 use Rattle.dbowner.specs.Trees.{AreTrees}

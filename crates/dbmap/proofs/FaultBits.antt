@@ -3,7 +3,7 @@ use Rattle.std.proofs.Common.{◌≡◌, ℕ, ◌<◌, ◌≤◌, ◌||◌, ◌&
 use Rattle.std.proofs.Common.{refl, sym, ap, ap₂, ◌∙◌, arith}
 use Rattle.std.specs.Prelude.{nat_le, ◌==◌}
 use Rattle.std.specs.Int.{bit_at, w64}
-use Rattle.std.proofs.Math.Bool.{and-false, and-true, or-false}
+use Rattle.std.proofs.Math.Bool.{and-false, and-true, or-false, or-true}
 use Rattle.std.proofs.Math.ListN.{length-set}
 use Rattle.std.proofs.lemmas.Bool.{eq-eqb, eqb-true}
 use Rattle.std.proofs.lemmas.Bool.Decides.{nat_tests}
@@ -15,7 +15,7 @@ use Rattle.dbentries.specs.Bits.{has_bit}
 use Rattle.dbentries.proofs.Bits.{set_is}
 use Rattle.dbformat.specs.Codes.{all_codes, code_index}
 use Rattle.dbformat.proofs.CodeTables.{listed}
-use Rattle.dbmap.specs.KeptFaults.{added_at, AreBits, AreNoted, bits_if, square_at}
+use Rattle.dbmap.specs.Keeping.{AreBits, AreNoted, bits_if, square_at}
 use Rattle.dbmap.specs.Faults.{shown, shows, sign_added, sign_bit}
 use Rattle.dbmap.specs.Grids.{is_of_square, run_for, square_of}
 use Rattle.dbmap.specs.declared.fault_notes.FaultNotes.{FaultNotes}
@@ -33,10 +33,6 @@ unequal x y d = by_case (x == y) refl
 
 -- ---- one sign more
 
-or_true : (b : Bool) → (b || true) ≡ true
-or_true true = refl
-or_true false = refl
-
 bit_within : (s : Sign) → sign_bit s < 64
 bit_within (Code code) = let l = slice_get_within all_codes (code_index code) code (listed code) in omega (arith, l)
 bit_within Faulty = omega arith
@@ -48,27 +44,27 @@ bit_more faults s t = by_case (sign_bit s == sign_bit t) refl
   where
     by_case : (b : Bool) → (sign_bit s == sign_bit t) ≡ b → shown (sign_added s faults).bits t ≡ (shown faults.bits t || b)
     by_case true e = ap (λ i. bit_at (sign_added s faults).bits i == 1) (sym (eqb-true (sign_bit s) (sign_bit t) e))
-        ∙ ap (λ n. n == 1) (bit_at_set_same w64 faults.bits (sign_bit s) (bit_within s)) ∙ sym (or_true (shown faults.bits t))
+        ∙ ap (λ n. n == 1) (bit_at_set_same w64 faults.bits (sign_bit s) (bit_within s)) ∙ sym (or-true (shown faults.bits t))
     by_case false e = ap (λ n. n == 1) (bit_at_set_other w64 faults.bits (sign_bit s) (bit_within s) (sign_bit t)
         (λ f. let g : (sign_bit s == sign_bit t) ≡ true = eq-eqb (sign_bit s) (sign_bit t) (sym f) in let no : ⊥ = cc in no))
         ∙ sym (or-false (shown faults.bits t))
 
 -- of a square, and no other
 square_more : (squares : List SquareFaults) (square index : ℕ) (s t : Sign) → square < length squares
-    → shown (square_at (set squares square (added_at squares square s)) index).bits t
+    → shown (square_at (set squares square (sign_added s (square_at squares square))) index).bits t
     ≡ (shown (square_at squares index).bits t || ((square == index) && (sign_bit s == sign_bit t)))
 square_more squares square index s t within = by_case (square == index) refl
   where
-    by_case : (b : Bool) → (square == index) ≡ b → shown (square_at (set squares square (added_at squares square s)) index).bits t
+    by_case : (b : Bool) → (square == index) ≡ b → shown (square_at (set squares square (sign_added s (square_at squares square))) index).bits t
         ≡ (shown (square_at squares index).bits t || (b && (sign_bit s == sign_bit t)))
     by_case true e =
         let same = eqb-true square index e in
-        ap (λ i. shown (square_at (set squares square (added_at squares square s)) i).bits t) (sym same)
-        ∙ ap (λ (f : SquareFaults). shown f.bits t) (get_or-set_same squares square (added_at squares square s) (record { bits = 0 }) within)
+        ap (λ i. shown (square_at (set squares square (sign_added s (square_at squares square))) i).bits t) (sym same)
+        ∙ ap (λ (f : SquareFaults). shown f.bits t) (get_or-set_same squares square (sign_added s (square_at squares square)) (record { bits = 0 }) within)
         ∙ bit_more (square_at squares square) s t
         ∙ ap (λ i. shown (square_at squares i).bits t || (sign_bit s == sign_bit t)) same
     by_case false e = ap (λ (f : SquareFaults). shown f.bits t)
-        (get_or-set_other squares square index (added_at squares square s) (record { bits = 0 })
+        (get_or-set_other squares square index (sign_added s (square_at squares square)) (record { bits = 0 })
         (λ f. let g : (square == index) ≡ true = eq-eqb square index (sym f) in let no : ⊥ = cc in no))
         ∙ sym (or-false (shown (square_at squares index).bits t))
 
@@ -135,7 +131,7 @@ module _ {A : Type 0} (count : ℕ) (signs : List (ℕ × Sign)) (p : ℕ) (s : 
 
   -- of a page that there is
   module _ (first : 1 ≤ p) (last : p ≤ count) (m : FaultNotes A)
-      (squares : m.squares.items ≡ set n.squares.items (square_of n.run p) (added_at n.squares.items (square_of n.run p) s)) where
+      (squares : m.squares.items ≡ set n.squares.items (square_of n.run p) (sign_added s (square_at n.squares.items (square_of n.run p)))) where
     at : square_of n.run p ≡ square_of (run_for count) p
     at = ap (λ r. square_of r p) are.run
 

@@ -1,7 +1,7 @@
 -- The first of the greatest, number by number.
 use Rattle.std.proofs.Common.{◌≡◌, ℕ, suc, ◌+◌, ◌<◌, ◌≤◌, true, false, cond, nat_lt, refl, ap, ◌∙◌, arith}
 use Rattle.std.proofs.lemmas.Bool.Decides.{nat_tests}
-use Rattle.dbmap.specs.Bands.{first_most}
+use Rattle.dbmap.specs.Owners.{first_most}
 
 module _ (much : ℕ → ℕ) where
   next_most : (n : ℕ) → first_most much (n + 1) ≡ cond (nat_lt (much (first_most much n)) (much n)) n (first_most much n)

@@ -16,7 +16,7 @@ use Rattle.dbentries.specs.Lists.{HasListed, Held}
 use Rattle.dbentries.proofs.Heard.{file_begun, file_heard}
 use Rattle.dbentries.proofs.ListedFaults.{one_listed}
 use Rattle.dbowner.specs.Trees.{row_noted, Trees}
-use Rattle.dbmap.specs.KeptFaults.{AreNoted, HearsNone}
+use Rattle.dbmap.specs.Keeping.{AreNoted, HearsNone}
 use Rattle.dbmap.specs.Faults.{fault_signs}
 use Rattle.dbmap.specs.MapRuns.{Adds, Hears, Notes}
 use Rattle.dbmap.specs.declared.faults.Sign.{Sign}

@@ -5,5 +5,4 @@ pub mod Heard
 pub mod MapAnswers
 pub mod Pictured
 pub mod Runs
-pub mod Shares
 pub mod Steps

@@ -1,6 +1,7 @@
 -- The texts of numbers that follow one another, and one more.
 use Rattle.std.proofs.Common.{◌≡◌, ℕ, ◌+◌, List, [], ◌∷◌, ◌++◌, ap, ◌∙◌, append-nil, sym}
-use Rattle.std.specs.List.{flat_map, range_with_len}
+use Rattle.std.specs.List.{flat_map, fold, range_with_len}
+use Rattle.std.proofs.lemmas.List.Sums.{fold-append}
 use Rattle.std.proofs.lemmas.List.Concat.{flat_map-append}
 use Rattle.dbsurvey.proofs.Ranges.{range_push}
 use Rattle.dbformat.specs.Reference.{Reference}
@@ -19,6 +20,14 @@ module _ {X : Type 0} (f : ℕ → List X) (first : ℕ) where
       ∙ sym (ap (flat_map f) (range_push first n) ∙ flat_map-append f (range_with_len first n) ((first + n) ∷ [])
       ∙ ap (λ l. flat_map f (range_with_len first n) ++ l) (append-nil (f (first + n))))
       ∙ ap (λ n. flat_map f (range_with_len first n)) next
+
+-- a fold over them
+pub fold_more : {X : Type 0} (f : X → ℕ → X) (x : X) (first n i : ℕ) {m : ℕ} → first + n ≡ i → n + 1 ≡ m
+    → f (fold f x (range_with_len first n)) i ≡ fold f x (range_with_len first m)
+fold_more f x first n i at next =
+    ap (f (fold f x (range_with_len first n))) (sym at)
+    ∙ sym (ap (fold f x) (range_push first n) ∙ fold-append f x (range_with_len first n) ((first + n) ∷ []))
+    ∙ ap (λ n. fold f x (range_with_len first n)) next
 
 -- as they are written
 module _ {O : Type 0} {held : O → OutState} (f : ℕ → List ℕ) (first : ℕ) where

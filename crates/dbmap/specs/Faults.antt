@@ -1,6 +1,6 @@
 -- What is shown of faults: the codes of a square's pages, and the frames. The strong frame is of the pages of faults that lead, of those that
 -- their values name, and of their causes.
-use Rattle.std.specs.Prelude.{ℕ, ◌*◌, ◌%◌, ◌^◌, ℤ, pos, Bool, true, false, List, [], ◌∷◌, map, flat_map, nat_lt, if◌then◌else◌, not, ◌&&◌, ◌++◌, codes, take, ◌==◌}
+use Rattle.std.specs.Prelude.{ℕ, ◌*◌, ◌%◌, ◌^◌, ℤ, pos, Bool, List, [], ◌∷◌, map, flat_map, nat_lt, if◌then◌else◌, not, ◌&&◌, ◌++◌, codes, take, ◌==◌}
 use Rattle.std.specs.Int.{bit_at}
 use Rattle.std.specs.Int.RustNames.{bit_or}
 use Rattle.std.specs.List.{list_any}
@@ -8,7 +8,6 @@ use Rattle.dbformat.specs.declared.Fault.{Fault}
 use Rattle.dbformat.specs.declared.FaultCode.{FaultCode}
 use Rattle.dbformat.specs.declared.FaultCode.TheVariants.{M02, O01, R02, R03, T04}
 use Rattle.dbformat.specs.Codes.{all_codes, code_index}
-use Rattle.dbformat.specs.File.{geometry}
 use Rattle.dbformat.specs.Lines.{code_text}
 use Rattle.dbformat.specs.Reference.{Reference}
 use Rattle.dbformat.specs.Report.{faults}
@@ -18,39 +17,32 @@ use Rattle.dbtrace.specs.declared.Reported.{Reported}
 use Rattle.dbentries.specs.Listing as listing
 use Rattle.dbentries.specs.Listed.{listed_entries}
 use Rattle.dbentries.specs.declared.entry.Entry.{Entry}
-use Rattle.dbmap.specs.Grids.{is_of_square}
 use Rattle.dbmap.specs.declared.faults.Sign.{Sign}
 use Rattle.dbmap.specs.declared.faults.Sign.TheVariants.{Code, Faulty, Framed}
 use Rattle.dbmap.specs.declared.faults.SquareFaults.{SquareFaults}
 use Rattle.dbmap.specs.declared.frame.Frame.{Frame}
 use Rattle.dbmap.specs.declared.frame.Frame.TheVariants as frame
 
--- whether the value of a fault with this code is the number of a page
-abbrev pub names_page : FaultCode → Bool
-names_page R02 = true
-names_page R03 = true
-names_page T04 = true
-names_page O01 = true
-names_page M02 = true
-names_page _ = false
-
 -- the page that a value is the number of: one of 32 bits, and 0 is none
 abbrev pub page_of_value : ℤ → ℕ
 page_of_value (pos n) = if nat_lt n 4294967296 then n else 0
 page_of_value _ = 0
 
--- the page that the value of a fault names, or 0
-abbrev pub fault_value_page : Fault → ℕ
-fault_value_page f = if names_page f.code then page_of_value f.value else 0
+-- the page that the value of a fault with this code names, or 0
+abbrev pub value_page : FaultCode → ℤ → ℕ
+value_page R02 value = page_of_value value
+value_page R03 value = page_of_value value
+value_page T04 value = page_of_value value
+value_page O01 value = page_of_value value
+value_page M02 value = page_of_value value
+value_page _ value = 0
 
 -- the page of a cause, or 0: that of the key, of the first leaf, or of the cell that has the chain
 abbrev pub cause_page : Cause → ℕ
 cause_page (cause.Key k) = k.page
 cause_page (cause.Leaf page) = page
 cause_page (cause.Chain c) = c.page
-cause_page cause.Itself = 0
-cause_page (cause.Page page facts) = 0
-cause_page (cause.Look l facts) = 0
+cause_page _ = 0
 
 -- the faults that lead some entries, and the same of what is kept of entries
 abbrev pub first_faults : List listing.Entry → List Reported
@@ -71,7 +63,7 @@ fault_signs f = (f.page, Code f.code) ∷ (f.page, Faulty) ∷ []
 
 -- and those of a fault that leads: its own page, the one that its value names, and that of its cause have the strong frame
 abbrev pub frame_signs : Reported → List (ℕ × Sign)
-frame_signs x = (x.fault.page, Framed) ∷ (fault_value_page x.fault, Framed) ∷ (cause_page x.cause, Framed) ∷ []
+frame_signs x = (x.fault.page, Framed) ∷ (value_page x.fault.code x.fault.value, Framed) ∷ (cause_page x.cause, Framed) ∷ []
 
 -- whether one of some pages has a sign, of all signs, each with its page
 abbrev pub shows : List (ℕ × Sign) → (ℕ → Bool) → Sign → Bool
@@ -101,10 +93,6 @@ frame_of has = if has Framed then frame.Strong else (if has Faulty then frame.We
 -- the signs of the pages: of all faults, and of those that lead the first 100 entries, which `explain` lists where no other number is given
 abbrev pub signs_of : List ℕ → List Reference → List (ℕ × Sign)
 signs_of file V = flat_map fault_signs (faults file V) ++ flat_map frame_signs (first_faults (take 100 (listed_entries file V)))
-
--- what a square shows
-abbrev pub square_faults : List ℕ → List Reference → ℕ → Sign → Bool
-square_faults file V index = shows (signs_of file V) (is_of_square (geometry file).pages index)
 
 -- whether page p has a sign
 abbrev pub page_shows : List ℕ → List Reference → Sign → ℕ → Bool

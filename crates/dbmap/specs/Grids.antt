@@ -44,11 +44,9 @@ columns_of Narrow = 32
 columns_of Medium = 64
 columns_of Wide = 128
 
--- how many pixels a square takes with the room after it
+-- how many pixels a square takes with the room after it: a row has 896
 abbrev pub side_of : Width → ℕ
-side_of Narrow = 28
-side_of Medium = 14
-side_of Wide = 7
+side_of w = 896 / columns_of w
 
 -- how many squares and outlines there are: an outline at least where pages are missing, and no more rows of outlines alone than the file
 -- has rows

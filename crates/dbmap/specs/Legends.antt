@@ -2,14 +2,14 @@
 -- trees, and then one for all other trees, for the freelist, for pages of fixed use, for pages that are nobody's, for pages with each frame, and
 -- for pages that the header states and the file does not have; each only where it has a page.
 use Rattle.std.specs.Prelude.{ℕ, ◌+◌, ◌-◌, ◌*◌, Bool, true, false, List, [], ◌∷◌, ◌++◌, length, Option, Some, None, codes, decimal, ◌==◌, if◌then◌else◌}
-use Rattle.std.specs.Prelude.{get_or, slice_index_or}
+use Rattle.std.specs.Prelude.{◌/◌, get_or, max, nat_lt, slice_index_or}
 use Rattle.std.specs.Option.{option_map_or}
 use Rattle.std.specs.List.{concat, flat_map, range_with_len}
 use Rattle.dbformat.specs.declared.Geometry.{Geometry}
 use Rattle.dbxml.specs.Pieces.{tenths_text}
 use Rattle.dbmap.specs.Marks.{shade_letter}
 use Rattle.dbmap.specs.Runs.{name_text}
-use Rattle.dbmap.specs.Sizes.{size_tenths, size_unit, tenths_of_percent}
+use Rattle.dbformat.specs.Lines.{counted}
 use Rattle.dbmap.specs.declared.owner_shares.Share.{Share}
 use Rattle.dbmap.specs.declared.legend.Label.{Label}
 use Rattle.dbmap.specs.declared.legend.Label.TheVariants.{Fixed, Freelist, Missing, Nobody, Others, Strong, Tree, Weak}
@@ -17,7 +17,19 @@ use Rattle.dbmap.specs.declared.legend.LegendLine.{LegendLine}
 use Rattle.dbformat.specs.Address.{freelist_start}
 use Rattle.dbformat.specs.SchemaRow.{SchemaRow}
 use Rattle.dbscan.specs.Roots.{root_page}
-use Rattle.dbmap.specs.Tallies.{others, PagesTallied, share_at, tree_count}
+use Rattle.dbmap.specs.Tallies.{others, PagesTallied, share_at}
+
+-- a number of units of some bytes, in tenths, rounded
+abbrev pub tenths : ℕ → ℕ → ℕ
+tenths bytes unit = counted (counted (bytes * 20) + unit) / 2 / unit
+
+-- the size of some pages, in tenths of its unit: KiB below 1 MiB, and else MiB
+abbrev pub size_tenths : ℕ → ℕ → ℕ
+size_tenths pages page_size =
+    if nat_lt (pages * page_size) 1048576 then tenths (pages * page_size) 1024 else tenths (pages * page_size) 1048576
+
+abbrev pub size_unit : ℕ → ℕ → List ℕ
+size_unit pages page_size = if nat_lt (pages * page_size) 1048576 then codes " KiB" else codes " MiB"
 
 -- some pages, none of which is an overflow page
 abbrev pub no_overflow : ℕ → Share
@@ -49,10 +61,10 @@ share_text share page_size y =
     right_text 580 y (decimal share.pages) []
     ++ (overflow_text share.overflow y ++ right_text 790 y (tenths_text (size_tenths share.pages page_size)) (size_unit share.pages page_size))
 
--- how many of all pages a line is of, where these are in the file
+-- how many of all pages a line is of, in tenths of a per cent, rounded, where these are in the file
 abbrev pub percent_text : Label → ℕ → ℕ → ℕ → List ℕ
 percent_text Missing pages all y = []
-percent_text label pages all y = right_text 860 y (tenths_text (tenths_of_percent pages all)) []
+percent_text label pages all y = right_text 860 y (tenths_text ((pages * 2000 + max all 1) / (2 * max all 1))) []
 
 -- a square of the legend, in the colour of the owner with a number, or in the shade of overflow pages
 abbrev pub box_text : ℕ → ℕ → ℕ → Bool → List ℕ
@@ -67,9 +79,8 @@ label_owner (Others count) = Some 12
 label_owner Freelist = Some 13
 label_owner Fixed = Some 14
 label_owner Nobody = Some 15
-label_owner Strong = None
-label_owner Weak = None
 label_owner Missing = Some 16
+label_owner _ = None
 
 -- the shade of an owner's overflow pages, if there are any
 abbrev pub shade_text : ℕ → ℕ → ℕ → List ℕ
@@ -145,6 +156,6 @@ tree_line rows starts largest rank = line_if (Tree rank (root_page rows (get_or 
 unfoldable pub legend_lines : List SchemaRow → PagesTallied → List ℕ → ℕ → ℕ → ℕ → List LegendLine
 legend_lines rows t largest strong weak missing =
     flat_map (tree_line rows t.starts largest) (range_with_len 0 (length largest))
-    ++ line_if (Others (others t.starts largest (tree_count rows)).0) (others t.starts largest (tree_count rows)).1
+    ++ line_if (Others (others t.starts largest (length rows + 1)).0) (others t.starts largest (length rows + 1)).1
     ++ line_if Freelist (share_at t.starts freelist_start) ++ line_if Fixed (no_overflow t.fixed) ++ line_if Nobody (no_overflow t.nobody)
     ++ line_if Strong (no_overflow strong) ++ line_if Weak (no_overflow weak) ++ line_if Missing (no_overflow missing)

@@ -1,8 +1,6 @@
-pub mod Bands
-pub mod Drawings
 pub mod Faults
 pub mod Grids
-pub mod KeptFaults
+pub mod Keeping
 pub mod Legends
 pub mod MapRuns
 pub mod Maps
@@ -10,6 +8,5 @@ pub mod Marks
 pub mod Owners
 pub mod Pictures
 pub mod Runs
-pub mod Sizes
 pub mod Squares
 pub mod Tallies

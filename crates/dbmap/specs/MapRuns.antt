@@ -15,7 +15,7 @@ use Rattle.dbentries.specs.Reported.{HearsReported}
 use Rattle.dbowner.specs.Trees.{row_noted}
 use Rattle.dbentries.specs.Lists.{ListsFault}
 use Rattle.dbmap.specs.Faults.{fault_signs}
-use Rattle.dbmap.specs.KeptFaults.{AreNoted, HearsNone}
+use Rattle.dbmap.specs.Keeping.{AreNoted, HearsNone}
 use Rattle.dbmap.specs.declared.faults.Sign.{Sign}
 use Rattle.dbmap.specs.Pictures.{map_picture}
 use Rattle.dbmap.specs.Maps.{IsMapOf, PutsMap}

@@ -5,6 +5,7 @@ use Rattle.std.specs.Prelude.{slice_set, if◌then◌else◌}
 use Rattle.dbmap.specs.declared.owner_shares.OwnerShares.{OwnerShares}
 use Rattle.dbmap.specs.declared.owner_shares.Share.{Share}
 use Rattle.std.specs.Option.{option_map_or}
+use Rattle.std.specs.List.{fold, range_with_len}
 use Rattle.dbformat.specs.Reference.{Reference}
 use Rattle.dbformat.specs.Survey.{Survey}
 use Rattle.dbmarks.specs.Marking.{AreMarksOf}
@@ -78,8 +79,11 @@ abbrev pub owner_counted : ℕ → Bool → OwnerShares → OwnerShares
 owner_counted owner over c = record { shares = slice_set c.shares owner (one_page over (share_of c owner)) }
 
 -- what each owner has of `count` pages from one on, by the largest trees, and by what each page is and the start that it belongs to
-unfoldable pub shares_by : List ℕ → (ℕ → Place) → (ℕ → Option ℕ) → ℕ → ℕ → OwnerShares
-shares_by largest place start first zero = no_shares
-shares_by largest place start first (suc n) =
-    owner_counted (owner_by largest (place (first + n)) (start (first + n))) (is_overflow (place (first + n)))
-    (shares_by largest place start first n)
+abbrev pub shares_by : List ℕ → (ℕ → Place) → (ℕ → Option ℕ) → ℕ → ℕ → OwnerShares
+shares_by largest place start first count =
+    fold (λ c p. owner_counted (owner_by largest (place p) (start p)) (is_overflow (place p)) c) no_shares (range_with_len first count)
+
+-- the first of the numbers below n that has the most
+unfoldable pub first_most : (ℕ → ℕ) → ℕ → ℕ
+first_most much zero = 0
+first_most much (suc n) = if nat_lt (much (first_most much n)) (much n) then n else first_most much n

@@ -4,9 +4,8 @@ use Rattle.std.specs.List.{concat, flat_map, range_with_len}
 use Rattle.dbformat.specs.declared.Geometry.{Geometry}
 use Rattle.dbxml.specs.Pieces.{shown_text, tenths_text}
 use Rattle.dbmap.specs.Marks.{other_colours, overflow_colours, tree_colours}
-use Rattle.dbmap.specs.Grids.{grid_of, page_of_row, rows, side_of, top_of}
-use Rattle.dbmap.specs.Legends.{height, legend_lines, legend_text}
-use Rattle.dbmap.specs.Sizes.{size_tenths, size_unit}
+use Rattle.dbmap.specs.Grids.{grid_of, is_of_square, page_of_row, rows, side_of, top_of}
+use Rattle.dbmap.specs.Legends.{height, legend_lines, legend_text, size_tenths, size_unit}
 use Rattle.dbmap.specs.Squares.{Drawn, rows_text}
 use Rattle.dbmap.specs.declared.grid.Grid.{Grid}
 use Rattle.dbmap.specs.declared.legend.LegendLine.{LegendLine}
@@ -21,7 +20,7 @@ use Rattle.dbowner.specs.Owners.{place_of}
 use Rattle.dbowner.specs.Texts.{tree_text}
 use Rattle.dbscan.specs.Roots.{listed_rows}
 use Rattle.dbxml.specs.Names.{short_text, shown_file}
-use Rattle.dbmap.specs.Faults.{is_weak, page_shows, square_faults}
+use Rattle.dbmap.specs.Faults.{is_weak, page_shows, shows, signs_of}
 use Rattle.dbmap.specs.declared.faults.Sign.TheVariants.{Faulty, Framed}
 use Rattle.dbmap.specs.Tallies.{largest_of, tally_of}
 
@@ -64,15 +63,13 @@ heading_text h run =
     ∷ codes "</text>\n<text x=\"20\" y=\"46\" fill=\"#444444\">" ∷ [])
     ++ (size_text h.geometry ++ (fault_count_text h.faults ++ unit_text run))
 
--- the first page of a row
-abbrev pub page_of_row_text : Grid → ℕ → List ℕ
-page_of_row_text g row =
-    concat (codes "<text x=\"64\" y=\"" ∷ decimal (top_of g row + (side_of g.width / 2 + 3)) ∷ codes "\">" ∷ decimal (page_of_row g row)
-    ∷ codes "</text>\n" ∷ [])
-
--- that before it; where rows are narrow, before each second one
+-- the first page of a row before it; where rows are narrow, before each second one
 abbrev pub row_label_text : Grid → ℕ → List ℕ
-row_label_text g row = if nat_lt 10 (side_of g.width) || (row % 2 == 0) then page_of_row_text g row else []
+row_label_text g row =
+    if nat_lt 10 (side_of g.width) || (row % 2 == 0)
+    then concat (codes "<text x=\"64\" y=\"" ∷ decimal (top_of g row + (side_of g.width / 2 + 3)) ∷ codes "\">" ∷ decimal (page_of_row g row)
+    ∷ codes "</text>\n" ∷ [])
+    else []
 
 unfoldable pub row_names : Grid → List ℕ
 row_names g = codes "<g font-size=\"10\" fill=\"#666666\" text-anchor=\"end\">\n" ++ (flat_map (row_label_text g) (range_with_len 0 (rows g)) ++ codes "</g>\n")
@@ -88,10 +85,6 @@ picture_text h g lines =
 abbrev pub stated_of : List ℕ → ℕ
 stated_of header = if is_size_valid header then stated_pages header else 0
 
--- what is said above the squares: the name of the file, its sizes, and how many faults it has
-abbrev pub heading_of : List ℕ → List Reference → List ℕ → Heading
-heading_of file V name = record { file = shown_file name; geometry = geometry file; faults = counted (length (faults file V)) }
-
 -- what the squares are drawn by: a page is what its visit says, and belongs to the start of it
 abbrev pub drawn_of : List ℕ → List Reference → Drawn
 drawn_of file V = record {
@@ -102,7 +95,7 @@ drawn_of file V = record {
   largest = largest_of file V;
   names = map (λ start. short_text (tree_text file V start)) (largest_of file V);
   tree = λ start. short_text (tree_text file V start);
-  faults = square_faults file V;
+  faults = λ index. shows (signs_of file V) (is_of_square (geometry file).pages index);
 }
 
 -- the lines of the legend
@@ -112,6 +105,7 @@ legend_of file V = legend_lines (listed_rows file V) (tally_of file V) (largest_
     (count_by (is_weak (page_shows file V Faulty) (page_shows file V Framed)) (range_with_len 1 (geometry file).pages))
     (stated_of (take 100 file) - (geometry file).pages)
 
--- The picture of a file with survey V, under a name.
+-- The picture of a file with survey V, under a name. Above the squares are this name, the file's sizes, and how many faults it has.
 unfoldable pub map_picture : List ℕ → List Reference → List ℕ → List ℕ
-map_picture file V name = picture_text (heading_of file V name) (drawn_of file V) (legend_of file V)
+map_picture file V name = picture_text (record { file = shown_file name; geometry = geometry file; faults = counted (length (faults file V)) })
+    (drawn_of file V) (legend_of file V)

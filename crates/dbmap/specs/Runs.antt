@@ -1,21 +1,45 @@
--- The square of a run of pages, by its pages, how many of them each owner has, and its faults.
-use Rattle.std.specs.Prelude.{ℕ, ◌+◌, ◌-◌, Bool, true, false, not, nat_lt, List, [], ◌∷◌, ◌++◌, get_or, replicate, slice_get, codes, decimal}
+-- The square of a run of pages, by its pages, how many of them each owner has, and its faults; and how it is divided in six bands where there
+-- are several owners.
+use Rattle.std.specs.Prelude.{ℕ, zero, suc, ◌+◌, ◌-◌, ◌*◌, Bool, true, false, not, nat_lt, List, slice_set, [], ◌∷◌, ◌++◌, get_or, replicate, slice_get, codes, decimal}
 use Rattle.std.specs.Prelude.{◌==◌, if◌then◌else◌}
 use Rattle.std.specs.Option.{option_map_or}
 use Rattle.std.specs.List.{concat, flat_map, list_any, range_with_len, sum_by}
 use Rattle.dbxml.specs.Pieces.{shown_text}
-use Rattle.dbmap.specs.Owners.{capped_pages, has_pages, is_shaded, share_of}
-use Rattle.dbmap.specs.Bands.{bands_of, next_owner}
+use Rattle.dbmap.specs.Owners.{capped_pages, first_most, has_pages, is_shaded, share_of}
 use Rattle.dbmap.specs.Marks.{extent, run_pages_text, shade_letter, stroke}
 use Rattle.dbmap.specs.Faults.{faults_text, frame_of}
 use Rattle.dbmap.specs.declared.bands.Bands.{Bands}
 use Rattle.dbmap.specs.declared.owner_shares.OwnerShares.{OwnerShares}
 use Rattle.dbmap.specs.declared.frame.Frame.{Frame}
-use Rattle.dbmap.specs.declared.frame.Frame.TheVariants as frame
 use Rattle.dbmap.specs.declared.frame.Frame.TheVariants.{Strong, Weak}
 use Rattle.dbmap.specs.declared.faults.Sign.{Sign}
 use Rattle.dbmap.specs.declared.grid.Width.{Width}
 use Rattle.dbmap.specs.declared.run.RunSquare.{RunSquare}
+
+-- What an owner claims that has `pages` of a square's `all` pages and some bands: what its pages are worth beyond these bands, where a band is
+-- worth a sixth of all pages. An owner without a band claims more than any that has one, and one without a page claims nothing.
+abbrev pub claim : ℕ → ℕ → ℕ → ℕ
+claim pages bands all = if pages == 0 then 0 else (if bands == 0 then pages * 6 + all * 6 else pages * 6 - bands * all)
+
+abbrev pub claims : OwnerShares → ℕ → List ℕ → ℕ → ℕ
+claims shares all heights owner = claim (share_of shares owner).pages (get_or heights owner 0) all
+
+-- the owner that gets the next band: the one that claims most, of several the first
+abbrev pub next_owner : OwnerShares → ℕ → List ℕ → ℕ
+next_owner shares all heights = first_most (claims shares all heights) 16
+
+-- one band more of an owner
+abbrev pub one_band : ℕ → List ℕ → List ℕ
+one_band owner heights = slice_set heights owner (capped_pages (get_or heights owner 0 + 1))
+
+-- how many bands each owner has after the first n were given
+unfoldable pub given : OwnerShares → ℕ → ℕ → List ℕ
+given shares all zero = replicate 16 0
+given shares all (suc n) = one_band (next_owner shares all (given shares all n)) (given shares all n)
+
+-- the bands of a square
+abbrev pub bands_of : OwnerShares → ℕ → Bands
+bands_of shares all = record { heights = given shares all 6 }
 
 -- what comes after a number of pages of the owner with a number
 abbrev pub words : ℕ → List ℕ
@@ -80,14 +104,12 @@ band_frame x = concat (codes "<rect width=\"6\" height=\"6\" stroke=\"#BE0700\" 
 -- a weak frame lies below the bands, so that they cover its inner half
 abbrev pub frame_below : Frame → ℕ → List ℕ
 frame_below Weak x = band_frame x
-frame_below Strong x = []
-frame_below frame.None x = []
+frame_below _ x = []
 
 -- and a strong one above them
 abbrev pub frame_above : Frame → ℕ → List ℕ
-frame_above Weak x = []
 frame_above Strong x = band_frame x
-frame_above frame.None x = []
+frame_above _ x = []
 
 -- the square of pages of several owners, divided in bands
 unfoldable pub mixed_text : RunSquare → List (List ℕ) → (Sign → Bool) → Bands → List ℕ

@@ -1,5 +1,5 @@
 -- The squares of a picture, row by row, and the outlines of pages that the header states and the file does not have.
-use Rattle.std.specs.Prelude.{ℕ, ◌+◌, Bool, List, [], ◌∷◌, ◌++◌, codes, decimal, ◌-◌, max, nat_lt, ◌==◌, if◌then◌else◌, Option, None}
+use Rattle.std.specs.Prelude.{ℕ, ◌+◌, Bool, List, [], ◌∷◌, ◌++◌, codes, decimal, ◌-◌, max, nat_lt, ◌==◌, if◌then◌else◌, Option}
 use Rattle.std.specs.Option.{option_map_or}
 use Rattle.std.specs.List.{concat, flat_map, range_with_len}
 use Rattle.dbowner.specs.Texts.{place_from, place_front, place_tree, place_words}
@@ -14,9 +14,7 @@ use Rattle.dbmap.specs.declared.page.PageSquare.{PageSquare}
 use Rattle.dbmap.specs.Grids.{missing_of, places, places_of, rows, run_of, top_of, x_of}
 use Rattle.dbmap.specs.declared.grid.Grid.{Grid}
 use Rattle.dbformat.specs.FixedPages.{fixed_use}
-use Rattle.dbformat.specs.declared.Fixed.{Fixed}
 use Rattle.dbformat.specs.declared.Geometry.{Geometry}
-use Rattle.dbowner.specs.declared.place.Place.TheVariants as place
 use Rattle.dbmap.specs.Runs.{run_text}
 use Rattle.dbmap.specs.declared.run.RunSquare.{RunSquare}
 
@@ -32,15 +30,14 @@ page_text s width tree f =
     ∷ place_front s.fixed s.place ∷ shown_text tree 72 ∷ place_words s.place ∷ from_text s.place ∷ [])
     ++ (faults_text f ++ codes "</title></rect>\n")
 
--- which pages one is of
-abbrev pub outline_pages : Grid → ℕ → List ℕ
-outline_pages g place =
-    if g.run == 1 then codes " " ++ decimal (missing_of g place).0 else run_pages_text (missing_of g place).0 (missing_of g place).1
+-- which pages an outline is of, and the outline
+abbrev pub outline_pages : Grid → ℕ × ℕ → List ℕ
+outline_pages g p = if g.run == 1 then codes " " ++ decimal p.0 else run_pages_text p.0 p.1
 
 abbrev pub outline_text : Grid → ℕ → List ℕ
 outline_text g place =
     concat (codes "<rect x=\"" ∷ decimal (x_of g place) ∷ outline_tail g.width ∷ [])
-    ++ (outline_pages g place ++ codes ": not in the file</title></rect>\n")
+    ++ (outline_pages g (missing_of g place) ++ codes ": not in the file</title></rect>\n")
 
 -- those from a place to another, in their group, if there are any
 abbrev pub outlines_between : Grid → ℕ → ℕ → List ℕ
@@ -66,11 +63,6 @@ pub record Drawn : Type 0 where
   pub tree : ℕ → List ℕ
   pub faults : ℕ → Sign → Bool
 
--- the fixed use of a page that is this
-abbrev pub fixed_in : Geometry → Place → ℕ → Option Fixed
-fixed_in shape place.Fixed p = fixed_use shape p
-fixed_in shape _ p = None
-
 -- ---- a square that is a page
 
 abbrev pub page_at : Drawn → ℕ → ℕ
@@ -82,15 +74,13 @@ page_square g index = record {
   page = page_at g index;
   owner = owner_by g.largest (g.place (page_at g index)) (g.start (page_at g index));
   place = g.place (page_at g index);
-  fixed = fixed_in g.shape (g.place (page_at g index)) (page_at g index);
+  fixed = fixed_use g.shape (page_at g index);
 }
 
--- the name of the tree that its page is said to be in, or nothing
-abbrev pub tree_at_page : Drawn → ℕ → List ℕ
-tree_at_page g p = option_map_or g.tree (place_tree (g.place p) (g.start p)) []
-
+-- it names the tree that its page is said to be in, if it is in one
 abbrev pub page_square_text : Drawn → ℕ → List ℕ
-page_square_text g index = page_text (page_square g index) g.grid.width (tree_at_page g (page_at g index)) (g.faults index)
+page_square_text g index =
+    page_text (page_square g index) g.grid.width (option_map_or g.tree (place_tree (g.place (page_at g index)) (g.start (page_at g index))) []) (g.faults index)
 
 -- ---- a square of a run of pages
 

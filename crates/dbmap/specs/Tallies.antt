@@ -1,17 +1,16 @@
 -- How many pages each start has, and which trees are the largest.
 use Rattle.std.specs.Prelude.{◌≡◌, ℕ, zero, suc, ◌+◌, Bool, List, [], ◌∷◌, ◌++◌, length, replicate, vec_len, Option, Some, None, slice_set, slice_index_or}
 use Rattle.std.specs.Prelude.{◌==◌, if◌then◌else◌}
+use Rattle.std.specs.List.{fold, range_with_len}
 use Rattle.dbformat.specs.Address.{freelist_start}
 use Rattle.dbformat.specs.File.{geometry}
 use Rattle.dbformat.specs.Reference.{Reference}
-use Rattle.dbformat.specs.SchemaRow.{SchemaRow}
 use Rattle.dbformat.specs.Starts.{start_at}
 use Rattle.dbowner.specs.Owners.{place_of}
 use Rattle.dbowner.specs.declared.place.Place.{Place}
 use Rattle.dbowner.specs.declared.place.Place.TheVariants as place
 use Rattle.dbscan.specs.Roots.{listed_rows}
-use Rattle.dbmap.specs.Bands.{first_most}
-use Rattle.dbmap.specs.Owners.{capped_pages, is_overflow, no_share, one_page, rank_of, share_sum}
+use Rattle.dbmap.specs.Owners.{capped_pages, first_most, is_overflow, no_share, one_page, rank_of, share_sum}
 use Rattle.dbmap.specs.declared.owner_shares.Share.{Share}
 use Rattle.dbmap.specs.declared.tally.PageTally.TheInside.{Inside}
 
@@ -56,20 +55,11 @@ page_counted place.Fixed start t = record t { fixed = capped_pages (t.fixed + 1)
 page_counted at (Some k) t = start_counted k (is_overflow at) t
 page_counted at None t = record t { nobody = capped_pages (t.nobody + 1) }
 
--- the tally of the first n pages of a file, each counted as what it is and where it belongs
-unfoldable pub tally_to : List ℕ → List Reference → ℕ → PagesTallied
-tally_to file V zero = none_tallied
-tally_to file V (suc n) = page_counted (place_of file V (n + 1)) (start_at V (n + 1)) (tally_to file V n)
-
--- that of all its pages
+-- the tally of all pages of a file, each counted as what it is and where it belongs
 abbrev pub tally_of : List ℕ → List Reference → PagesTallied
-tally_of file V = tally_to file V (geometry file).pages
+tally_of file V = fold (λ t p. page_counted (place_of file V p) (start_at V p) t) none_tallied (range_with_len 1 (geometry file).pages)
 
 -- ---- the largest trees
-
--- how many trees there are at most: they have the first starts, the schema's and one for each root page that it names
-abbrev pub tree_count : List SchemaRow → ℕ
-tree_count rows = length rows + 1
 
 -- how many pages a start has that is not among some, and else 0
 abbrev pub left_pages : (ℕ → ℕ) → List ℕ → ℕ → ℕ
@@ -89,9 +79,9 @@ unfoldable pub largest_trees : (ℕ → ℕ) → ℕ → ℕ → List ℕ
 largest_trees pages n zero = []
 largest_trees pages n (suc count) = one_tree_more pages n (largest_trees pages n count)
 
--- those of a file
+-- those of a file: trees have the first starts, the schema's and one for each root page that it names
 abbrev pub largest_of : List ℕ → List Reference → List ℕ
-largest_of file V = largest_trees (pages_at (tally_of file V).starts) (tree_count (listed_rows file V)) 12
+largest_of file V = largest_trees (pages_at (tally_of file V).starts) (length (listed_rows file V) + 1) 12
 
 -- one tree more beside the largest, where start k has pages and is none of these
 abbrev pub other_counted : List Share → List ℕ → ℕ → ℕ × Share → ℕ × Share

@@ -1,6 +1,7 @@
 // How a square of several owners is divided in bands.
 ghost use Rattle.std.specs.Prelude.{◌≡◌, ◌≤◌, ◌<◌, get_or, replicate};
-ghost use Rattle.dbmap.specs.Bands.{bands_of, claim, claims, first_most};
+ghost use Rattle.dbmap.specs.Owners.{first_most};
+ghost use Rattle.dbmap.specs.Runs.{bands_of, claim, claims};
 
 use crate::owner_shares::{OWNERS, OwnerShares};
 

@@ -3,8 +3,8 @@ ghost use Rattle.std.specs.Prelude.{◌≡◌, ℕ, [], ◌∷◌, ◌++◌, Lis
 ghost use Rattle.std.specs.List.{range_with_len};
 ghost use Rattle.dbentries.specs.Bits.{has_bit};
 ghost use Rattle.dbmap.specs.declared.faults.Sign.{Sign};
-ghost use Rattle.dbmap.specs.KeptFaults.{AreNoted, added_at, bits_if, noted_at};
-ghost use Rattle.dbmap.specs.Faults.{is_weak, shown};
+ghost use Rattle.dbmap.specs.Keeping.{AreNoted, bits_if, noted_at, square_at};
+ghost use Rattle.dbmap.specs.Faults.{is_weak, shown, sign_added};
 ghost use Rattle.dbmap.specs.Grids.{square_of};
 
 use crate::faults::{Sign, SquareFaults};
@@ -97,7 +97,7 @@ impl<A: Allocator> FaultNotes<A> {
 
 // Adds a sign to what a square shows, if there is one with this number.
 fn add_at<A: Allocator>(squares: &mut Vec<SquareFaults, A>, index: usize, sign: Sign)
-    ensures { squares.new.items ≡ slice_set squares.old.items index (added_at squares.old.items index sign) }
+    ensures { squares.new.items ≡ slice_set squares.old.items index (sign_added sign (square_at squares.old.items index)) }
 {
     if index < squares.len() {
         squares[index].add(sign);

@@ -6,6 +6,9 @@ ghost use Rattle.dbmap.specs.Grids as grids;
 // Where the first row of squares begins.
 const TOP: u64 = 64;
 
+// How many pixels a row has.
+const ROW: u32 = 896;
+
 // How many squares there are at most.
 const MOST_SQUARES: u32 = 16384;
 
@@ -85,11 +88,7 @@ impl Grid {
         ensures side { result ≡ grids.side_of self.now.width }
         ensures range { (7 ≤ result) × (result ≤ 28) }
     {
-        match self.width {
-            Width::Narrow => 28,
-            Width::Medium => 14,
-            Width::Wide => 7,
-        }
+        ROW / self.columns()
     }
 
     /// How many pages the header states that the file does not have.

@@ -1,6 +1,6 @@
 // The names of the largest trees.
 ghost use Rattle.std.specs.Prelude.{◌≡◌, ◌≤◌, length, map};
-ghost use Rattle.dbmap.specs.Drawings.{shown_tree};
+ghost use Rattle.dbmap.specs.Keeping.{shown_tree};
 ghost use Rattle.dbxml.specs.Pieces.{piece_text};
 ghost use Rattle.dbmap.specs.Runs.{name_text};
 

@@ -3,7 +3,6 @@ ghost use Rattle.std.specs.Prelude.{◌≡◌, ◌≤◌, length};
 ghost use Rattle.dbxml.specs.Pieces.{piece_text};
 ghost use Rattle.dblines.specs.Writing.{Wrote};
 ghost use Rattle.dbmap.specs.Legends as legends;
-ghost use Rattle.dbmap.specs.Sizes.{tenths_of_percent};
 
 use crate::colours::{MISSING, shade_letter};
 use crate::labels::Labels;
@@ -125,18 +124,11 @@ fn draw_percent<O: Out>(writer: &mut Writer<'_, O>, line: &LegendLine, all: u32,
     match line.label {
         Label::Missing => {}
         _ => {
-            let tenths = Piece::Tenths(tenths_of_percent(line.share.pages, all));
-            draw_right(writer, SHARE, y, tenths, "");
+            let all = u64::from(all).max(1);
+            let tenths = (u64::from(line.share.pages) * 2000 + all) / (2 * all);
+            draw_right(writer, SHARE, y, Piece::Tenths(tenths), "");
         }
     }
-}
-
-// A share of all pages, in tenths of a per cent.
-fn tenths_of_percent(pages: u32, all: u32) -> u64
-    ensures { result ≡ tenths_of_percent pages all }
-{
-    let all = u64::from(all).max(1);
-    (u64::from(pages) * 2000 + all) / (2 * all)
 }
 
 // Draws a square of the legend, in the colour of the owner with a number, or in the shade of overflow pages.

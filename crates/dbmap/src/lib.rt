@@ -16,7 +16,7 @@
 //! What is proved is what is read of the file, that the verdict is the check's, and that what is put is the picture of the file
 //! (specs/Pictures), which is a function of the file, its survey and its name. Each page, or run of pages, has one square, in their
 //! order. The square of a page says what the page is and names its tree; that of a run of several owners is divided in six bands
-//! (specs/Bands); each has the frame and the codes of the faults that the file's report has of its pages. The heading has the file's name,
+//! (specs/Runs); each has the frame and the codes of the faults that the file's report has of its pages. The heading has the file's name,
 //! and the legend a line for each owner of pages and each frame, with how many pages it has. No text of the file or of the command line
 //! comes into it but escaped (`dbxml`).
 #![tactic(auto)]

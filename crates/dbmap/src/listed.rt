@@ -1,8 +1,8 @@
 // The pages of the entries that are listed, and of their causes.
 ghost use Rattle.std.specs.Prelude.{◌≡◌, ℕ, ◌++◌, List, flat_map};
 ghost use Rattle.dbmap.specs.declared.faults.Sign.{Sign};
-ghost use Rattle.dbmap.specs.Faults.{cause_page, fault_value_page, frame_signs, leading, page_of_value};
-ghost use Rattle.dbmap.specs.KeptFaults.{AreNoted};
+ghost use Rattle.dbmap.specs.Faults.{cause_page, frame_signs, leading, page_of_value, value_page};
+ghost use Rattle.dbmap.specs.Keeping.{AreNoted};
 
 use crate::fault_notes::FaultNotes;
 use crate::faults::Sign;
@@ -23,7 +23,7 @@ fn page_of_value(value: i64) -> u32
 
 // The page that the value of a fault names, or 0.
 fn value_page(fault: &Fault) -> u32
-    ensures { result ≡ fault_value_page fault.now }
+    ensures { result ≡ value_page fault.now.code fault.now.value }
 {
     match fault.code {
         FaultCode::R02 | FaultCode::R03 | FaultCode::T04 | FaultCode::O01 | FaultCode::M02 => {

@@ -3,7 +3,7 @@ ghost use Rattle.std.specs.Prelude.{◌≡◌};
 ghost use Rattle.dbscan.specs.DeskSizes.{DeskFitsInMemory};
 ghost use Rattle.dbreport.specs.Runs.{FailsOnce, IsUntouched};
 ghost use Rattle.dblines.specs.Writing.{PutsOf};
-ghost use Rattle.dbmap.specs.Drawings.{HasAll};
+ghost use Rattle.dbmap.specs.Keeping.{HasAll};
 ghost use Rattle.dbmap.specs.Pictures.{map_picture, stated_of};
 ghost use Rattle.dbmap.specs.Maps.{HasMap, ToldFilesAreDrawn};
 

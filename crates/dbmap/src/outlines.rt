@@ -2,6 +2,7 @@
 ghost use Rattle.std.specs.Prelude.{◌-◌, ◌≤◌};
 ghost use Rattle.std.specs.List.{flat_map, range_with_len};
 ghost use Rattle.dblines.specs.Writing.{Wrote};
+ghost use Rattle.dbmap.specs.Grids.{missing_of};
 ghost use Rattle.dbmap.specs.Squares.{outline_pages, outline_text, outlines_text};
 
 use crate::frame::outline_tail;
@@ -26,7 +27,7 @@ fn draw_outline<O: Out>(writer: &mut Writer<'_, O>, grid: &Grid, place: u32)
 
 // Draws which pages an outline is of.
 fn draw_pages<O: Out>(writer: &mut Writer<'_, O>, grid: &Grid, place: u32)
-    ensures { Wrote O.held writer.old (outline_pages grid.now place) writer.new }
+    ensures { Wrote O.held writer.old (outline_pages grid.now (missing_of grid.now place)) writer.new }
 {
     let (first, last) = grid.missing_of(place);
     if grid.run == 1 {

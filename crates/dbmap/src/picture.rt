@@ -1,8 +1,7 @@
 // The picture as a whole.
 ghost use Rattle.std.specs.Prelude.{◌≡◌};
-ghost use Rattle.std.specs.List.{flat_map, range_with_len};
 ghost use Rattle.dblines.specs.Writing.{Wrote, WroteOf};
-ghost use Rattle.dbmap.specs.Drawings.{AreOf, drawn_by};
+ghost use Rattle.dbmap.specs.Keeping.{AreOf, drawn_by};
 ghost use Rattle.dbmap.specs.Pictures as pictures;
 ghost use Rattle.dbmap.specs.Pictures.{picture_text};
 
@@ -135,29 +134,13 @@ fn draw_row_name<O: Out>(writer: &mut Writer<'_, O>, grid: &Grid, row: u32)
     ensures { Wrote O.held writer.old (pictures.row_label_text grid.now row) writer.new }
 {
     if grid.side() > 10 || row % 2 == 0 {
-        draw_page_of_row(writer, grid, row);
-    }
-}
-
-// Draws the first page of a row.
-fn draw_page_of_row<O: Out>(writer: &mut Writer<'_, O>, grid: &Grid, row: u32)
-    ensures { Wrote O.held writer.old (pictures.page_of_row_text grid.now row) writer.new }
-{
-    writer.write_all(&[
-        Piece::Markup("<text x=\"64\" y=\""),
-        Piece::Number(grid.top_of(row) + (grid.side() / 2 + 3) as u64),
-        Piece::Markup("\">"),
-        Piece::Number(grid.page_of_row(row)),
-        Piece::Markup("</text>\n"),
-    ]);
-}
-
-// Draws the first pages of the first `rows` rows.
-fn draw_names<O: Out>(writer: &mut Writer<'_, O>, grid: &Grid, rows: u32)
-    ensures { Wrote O.held writer.old (flat_map (pictures.row_label_text grid.now) (range_with_len 0 rows)) writer.new }
-{
-    for row in 0..rows {
-        draw_row_name(writer, grid, row);
+        writer.write_all(&[
+            Piece::Markup("<text x=\"64\" y=\""),
+            Piece::Number(grid.top_of(row) + (grid.side() / 2 + 3) as u64),
+            Piece::Markup("\">"),
+            Piece::Number(grid.page_of_row(row)),
+            Piece::Markup("</text>\n"),
+        ]);
     }
 }
 
@@ -168,7 +151,9 @@ fn draw_row_names<O: Out>(writer: &mut Writer<'_, O>, grid: &Grid)
     writer.write_all(&[Piece::Markup(
         "<g font-size=\"10\" fill=\"#666666\" text-anchor=\"end\">\n",
     )]);
-    draw_names(writer, grid, grid.rows());
+    for row in 0..grid.rows() {
+        draw_row_name(writer, grid, row);
+    }
     writer.write_all(&[Piece::Markup("</g>\n")]);
 }
 

@@ -1,12 +1,11 @@
 // The squares of the picture, row by row.
 ghost use Rattle.std.specs.Prelude.{◌≡◌, ◌+◌, ◌-◌, ◌<◌, ℕ, List};
-ghost use Rattle.dbformat.specs.FixedPages.{geometry_of};
 ghost use Rattle.dbformat.specs.Reference.{Reference};
 ghost use Rattle.dbformat.specs.Starts.{start_at};
 ghost use Rattle.dblines.specs.Writing.{WroteOf};
-ghost use Rattle.dbmap.specs.Drawings.{AreOf, drawn_by, HoldsTreeName, marked_place};
+ghost use Rattle.dbmap.specs.Keeping.{AreOf, drawn_by, HoldsTreeName, marked_place};
 ghost use Rattle.dbmap.specs.Owners.{capped_pages, owner_by, shares_by};
-ghost use Rattle.dbmap.specs.Squares.{fixed_in, row_text, rows_text, run_square_text, square_text, squares_text};
+ghost use Rattle.dbmap.specs.Squares.{row_text, rows_text, run_square_text, square_text, squares_text};
 
 use crate::fault_notes::FaultNotes;
 use crate::grid::Grid;
@@ -19,7 +18,6 @@ use crate::run::RunSquare;
 use crate::tally::{COLOURED, rank_of};
 use crate::tree_text::NamedTree;
 use arrayvec::ArrayVec;
-use dbformat::Fixed;
 use dblines::Writer;
 use dbowner::{PageTrees, Place, TreeNames, place_of, place_tree};
 use dbsource::{Header, Out};
@@ -130,7 +128,7 @@ impl<'a, A: Allocator> Squares<'a, A> {
             page,
             owner: self.owner(place, start),
             place,
-            fixed: self.fixed(place, page),
+            fixed: self.header.geometry().fixed(page),
         };
         square.draw(writer, grid.width, &tree.name, self.notes.of_square(index));
     }
@@ -153,15 +151,5 @@ impl<'a, A: Allocator> Squares<'a, A> {
             &self.labels,
             self.notes.of_square(index),
         );
-    }
-
-    // The fixed use of a page, if it has one.
-    fn fixed(&self, place: Place, page: u32) -> Option<Fixed>
-        ensures { result ≡ fixed_in (geometry_of self.now.header.now.bytes self.now.header.now.file_len) place page }
-    {
-        match place {
-            Place::Fixed => self.header.geometry().fixed(page),
-            _ => None,
-        }
     }
 }

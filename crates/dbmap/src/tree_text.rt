@@ -1,6 +1,6 @@
 // The names of trees, as a picture shows them.
-ghost use Rattle.std.specs.Prelude.{◌≡◌};
-ghost use Rattle.dbmap.specs.Drawings.{HoldsTreeName, no_tree, shown_tree, tree_named};
+ghost use Rattle.std.specs.Prelude.{◌≡◌, [], None};
+ghost use Rattle.dbmap.specs.Keeping.{HoldsTreeName, shown_tree, tree_named};
 
 use dbowner::TreeNames;
 use dbxml::{KeptBytes, Shown};
@@ -26,7 +26,7 @@ pub(crate) struct NamedTree {
 impl NamedTree {
     /// None was named.
     pub(crate) fn none() -> NamedTree
-        ensures { result ≡ no_tree }
+        ensures { result ≡ record { start = None; name = [] } }
     {
         NamedTree {
             start: None,

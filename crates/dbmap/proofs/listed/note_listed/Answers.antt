@@ -3,7 +3,7 @@ use Rattle.std.specs.Prelude.{flat_map}
 use Rattle.std.proofs.lemmas.List.{take_all, take_more}
 use Rattle.dbentries.specs.declared.entry.Entry.{Entry}
 use Rattle.dbmap.specs.Faults.{frame_signs, leading}
-use Rattle.dbmap.specs.KeptFaults.{AreNoted}
+use Rattle.dbmap.specs.Keeping.{AreNoted}
 use Rattle.dbmap.specs.declared.faults.Sign.{Sign}
 use Rattle.dbmap.proofs.listed.note_listed.Goals as goal
 

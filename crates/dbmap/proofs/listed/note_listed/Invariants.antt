@@ -1,7 +1,7 @@
 use Rattle.std.proofs.Common.{ℕ, ◌++◌, List, take}
 use Rattle.std.specs.Prelude.{flat_map}
 use Rattle.dbmap.specs.Faults.{frame_signs, leading}
-use Rattle.dbmap.specs.KeptFaults.{AreNoted}
+use Rattle.dbmap.specs.Keeping.{AreNoted}
 use Rattle.dbmap.specs.declared.faults.Sign.{Sign}
 use Rattle.dbmap.proofs.listed.note_listed.Given as goal
 

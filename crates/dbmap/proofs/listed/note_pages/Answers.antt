@@ -1,5 +1,5 @@
 use Rattle.std.proofs.Common.{◌≡◌, ◌++◌, [], ◌∷◌, List, subst, ap₂, ◌∙◌, ℕ, append_assoc}
-use Rattle.dbmap.specs.KeptFaults.{AreNoted}
+use Rattle.dbmap.specs.Keeping.{AreNoted}
 use Rattle.dbmap.specs.declared.faults.Sign.{Sign}
 use Rattle.dbmap.specs.declared.faults.Sign.TheVariants.{Framed}
 use Rattle.dbmap.proofs.listed.note_pages.Goals as goal

@@ -1,10 +1,11 @@
-use Rattle.std.proofs.Common.{rules, ◌≡◌, ℕ, ◌+◌, ◌-◌, ◌&&◌, not, List, ◌++◌, count_by, map, take, ap, ap₂, subst, ◌∙◌}
+use Rattle.std.proofs.Common.{rules, ◌≡◌, ℕ, ◌+◌, ◌-◌, ◌&&◌, not, List, ◌++◌, length, count_by, map, take, ap, ap₂, subst, ◌∙◌}
 use Rattle.std.specs.Prelude.{flat_map}
 use Rattle.std.specs.List.{range_with_len}
 use Rattle.dbformat.specs.File.{geometry}
 use Rattle.dbformat.specs.FixedPages.{geometry_of}
 use Rattle.dbformat.specs.Header.{encoding}
 use Rattle.dbformat.specs.Report.{faults}
+use Rattle.dbformat.specs.SchemaRow.{SchemaRow}
 use Rattle.dbformat.specs.Starts.{start_at}
 use Rattle.dbformat.specs.declared.Geometry.{Geometry}
 use Rattle.dbtrace.specs.declared.Reported.{Reported}
@@ -16,14 +17,13 @@ use Rattle.dbscan.specs.Roots.{Listed, listed_rows}
 use Rattle.dbsource.specs.HeaderBytes.{HeaderBytes}
 use Rattle.dbowner.specs.Texts.{tree_of_row}
 use Rattle.dbxml.specs.Names.{short_text}
-use Rattle.dbmap.specs.Drawings.{marked_place, shown_tree}
-use Rattle.dbmap.specs.KeptFaults.{AreNoted}
+use Rattle.dbmap.specs.Keeping.{AreNoted, marked_place, shown_tree}
 use Rattle.dbmap.specs.Faults.{fault_signs, frame_signs, is_weak, leading, page_shows, signs_of}
 use Rattle.dbmap.specs.declared.faults.Sign.TheVariants.{Faulty, Framed}
 use Rattle.dbmap.specs.Grids.{grid_of}
 use Rattle.dbmap.specs.Legends.{legend_lines}
 use Rattle.dbmap.specs.Pictures.{map_picture, picture_text, stated_of}
-use Rattle.dbmap.specs.Tallies.{largest_of, largest_trees, pages_at, PagesTallied, tally_of, tree_count}
+use Rattle.dbmap.specs.Tallies.{largest_of, largest_trees, pages_at, PagesTallied, tally_of}
 use Rattle.dbmap.specs.declared.grid.Grid.{Grid}
 use Rattle.dblines.proofs.Writing.{put_written}
 use Rattle.dbmap.proofs.Pictured.{known_trees, leading_kept, same_count}
@@ -51,7 +51,7 @@ returns g c =
           let shape = c.geometry-geometry.ensures.shape ∙ desk.header.shape in
           let largest : c.largest-largest.result.items ≡ largest_of file V = c.largest-largest.ensures
           ∙ ap₂ (λ (t : PagesTallied) n. largest_trees (pages_at t.starts) n 12) tally
-          (ap (λ n. n + 1) c.len.ensures.count ∙ ap tree_count (ap (λ (l : Listed). l.rows) c.roots.ensures ∙ desk.rows)) in
+          (ap (λ n. n + 1) c.len.ensures.count ∙ ap (λ (rows : List SchemaRow). length rows + 1) (ap (λ (l : Listed). l.rows) c.roots.ensures ∙ desk.rows)) in
           let grid = c.new-grid.ensures ∙ ap₂ grid_of (ap (λ (s : Geometry). s.pages) shape)
           (c.stated_pages.ensures ∙ ap (λ (h : HeaderBytes). stated_of h.bytes) c.header-2.ensures.value ∙ ap stated_of desk.header.begins) in
           let shorten : (ℕ → List ℕ) → ℕ → List ℕ = λ names start. short_text (names start) in

@@ -1,6 +1,6 @@
 use Rattle.std.proofs.Common.{◌≡◌, ℕ, ◌+◌, List, length, get_or, set, add-one, sym, ap, ◌∙◌, arith}
 use Rattle.std.proofs.Math.ListN.{length-set}
-use Rattle.dbmap.specs.Bands.{given, next_owner, one_band}
+use Rattle.dbmap.specs.Runs.{given, next_owner, one_band}
 use Rattle.dbmap.specs.Owners.{capped_pages}
 use Rattle.dbmap.proofs.bands.Bands.divide.Goals as goal
 

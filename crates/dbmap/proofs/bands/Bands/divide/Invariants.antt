@@ -1,5 +1,5 @@
 use Rattle.std.proofs.Common.{◌≡◌, length}
-use Rattle.dbmap.specs.Bands.{given}
+use Rattle.dbmap.specs.Runs.{given}
 use Rattle.dbmap.proofs.bands.Bands.divide.Given as goal
 
 abbrev pub invariant-loop : goal.invariant-loop

@@ -1,5 +1,6 @@
 use Rattle.std.proofs.Common.{◌≡◌, sym, ap, ◌∙◌, arith}
-use Rattle.dbmap.specs.Bands.{claims, first_most}
+use Rattle.dbmap.specs.Owners.{first_most}
+use Rattle.dbmap.specs.Runs.{claims}
 use Rattle.dbmap.proofs.FirstMost.{most_before, most_here, none_first}
 use Rattle.dbmap.proofs.bands.Bands.next.Goals as goal
 use Rattle.dbmap.proofs.bands.Bands.next.Goals.{else-claim-most, then-claim-most}

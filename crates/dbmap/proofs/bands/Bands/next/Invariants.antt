@@ -1,5 +1,6 @@
 use Rattle.std.proofs.Common.{◌≡◌, ◌≤◌}
-use Rattle.dbmap.specs.Bands.{claims, first_most}
+use Rattle.dbmap.specs.Owners.{first_most}
+use Rattle.dbmap.specs.Runs.{claims}
 use Rattle.dbmap.proofs.bands.Bands.next.Given as goal
 
 abbrev pub invariant-loop-number : goal.invariant-loop-number

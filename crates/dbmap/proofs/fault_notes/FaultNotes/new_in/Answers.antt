@@ -5,7 +5,7 @@ use Rattle.std.proofs.lemmas.List.{length-replicate}
 use Rattle.std.proofs.lemmas.Nat.Bits.{bit_at-zero}
 use Rattle.dbmap.specs.Faults.{sign_bit}
 use Rattle.dbmap.specs.Grids.{run_for}
-use Rattle.dbmap.specs.KeptFaults.{square_at}
+use Rattle.dbmap.specs.Keeping.{square_at}
 use Rattle.dbmap.specs.declared.faults.SquareFaults.{SquareFaults}
 use Rattle.dbmap.proofs.fault_notes.FaultNotes.new_in.Goals as goal
 

@@ -1,5 +1,6 @@
 use Rattle.std.proofs.Common.{ap, ◌∙◌, arith, refl, set}
-use Rattle.dbmap.specs.KeptFaults.{added_at, bits_if}
+use Rattle.dbmap.specs.Faults.{sign_added}
+use Rattle.dbmap.specs.Keeping.{bits_if, square_at}
 use Rattle.dbmap.proofs.FaultBits.{not_noted, noted}
 use Rattle.dbmap.proofs.fault_notes.FaultNotes.note.Goals as goal
 use Rattle.dbmap.proofs.fault_notes.FaultNotes.note.Goals.{then-page-eq0-via-else-page-eq0+then-page-self, then-page-eq0-via-then-page-eq0}
@@ -16,5 +17,5 @@ returns g c = λ count signs h.
     let words = n.squares.items in
     let pages = h.pages in
     noted count signs c.args.page c.args.sign n h (omega (arith, c.if-page-eq0.false)) (omega (arith, pages, c.if-page-self.false)) _
-    (c.add_at.ensures ∙ ap (λ i. set words i (added_at words i c.args.sign)) c.square_of-square.ensures) refl refl
+    (c.add_at.ensures ∙ ap (λ i. set words i (sign_added c.args.sign (square_at words i))) c.square_of-square.ensures) refl refl
     (c.set_if.ensures ∙ ap (λ b. bits_if b c.args.page n.faulty) c.is.ensures) (c.set_if-2.ensures ∙ ap (λ b. bits_if b c.args.page n.framed) c.is-2.ensures)

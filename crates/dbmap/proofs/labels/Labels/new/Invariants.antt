@@ -1,5 +1,5 @@
 use Rattle.std.proofs.Common.{◌≡◌, map, take}
-use Rattle.dbmap.specs.Drawings.{shown_tree}
+use Rattle.dbmap.specs.Keeping.{shown_tree}
 use Rattle.dbmap.proofs.labels.Labels.new.Given as goal
 
 abbrev pub invariant-loop-start : goal.invariant-loop-start

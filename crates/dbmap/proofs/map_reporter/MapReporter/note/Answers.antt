@@ -1,5 +1,5 @@
 use Rattle.std.proofs.Common.{◌∷◌, [], List, subst, ℕ, refl, append_assoc, arith}
-use Rattle.dbmap.specs.KeptFaults.{AreNoted}
+use Rattle.dbmap.specs.Keeping.{AreNoted}
 use Rattle.dbmap.specs.declared.faults.Sign.{Sign}
 use Rattle.dbmap.specs.declared.faults.Sign.TheVariants.{Code, Faulty}
 use Rattle.dbmap.proofs.map_reporter.MapReporter.note.Goals as goal

@@ -3,7 +3,7 @@ use Rattle.dbformat.specs.declared.Geometry.{Geometry}
 use Rattle.dbscan.proofs.AfterHeader.{after_weaker}
 use Rattle.dbscan.proofs.Tellers.{first}
 use Rattle.dbreport.proofs.ReporterStates.{lent_same, one_failed}
-use Rattle.dbmap.specs.KeptFaults.{HearsNone}
+use Rattle.dbmap.specs.Keeping.{HearsNone}
 use Rattle.dbmap.proofs.Counting.{map_left}
 use Rattle.dbmap.proofs.MapAnswers.{map_of}
 use Rattle.dbmap.proofs.maps.MapJobJobDesk.run_on.Goals as goal

@@ -1,8 +1,7 @@
 use Rattle.std.proofs.Common.{◌≡◌, ap, ap₂, sym, ◌∙◌, eq-eqb}
 use Rattle.std.specs.Prelude.{◌==◌, false}
-use Rattle.dbmap.specs.Bands.{claims, first_most}
-use Rattle.dbmap.specs.Owners.{share_of}
-use Rattle.dbmap.specs.Runs.{first_owner, run_pages, run_text}
+use Rattle.dbmap.specs.Owners.{first_most, share_of}
+use Rattle.dbmap.specs.Runs.{claims, first_owner, run_pages, run_text}
 use Rattle.dbmap.proofs.FaultBits.{unequal}
 use Rattle.dbmap.proofs.run.RunSquare.draw.Goals as goal
 

@@ -1,7 +1,7 @@
 use Rattle.std.proofs.Common.{◌≡◌, ap, ◌∙◌, arith, refl}
 use Rattle.std.specs.List.{flat_map, range_with_len}
 use Rattle.dblines.proofs.Writing.{of_as}
-use Rattle.dbmap.specs.Drawings.{drawn_by}
+use Rattle.dbmap.specs.Keeping.{drawn_by}
 use Rattle.dbmap.specs.Squares.{row_text, rows_text}
 use Rattle.dbmap.proofs.Steps.{of_range_more, of_range_none}
 use Rattle.dbmap.proofs.squares.Squares.draw.Goals as goal

@@ -1,6 +1,6 @@
 use Rattle.std.specs.List.{flat_map, range_with_len}
 use Rattle.dblines.specs.Writing.{WroteOf}
-use Rattle.dbmap.specs.Drawings.{AreOf, drawn_by}
+use Rattle.dbmap.specs.Keeping.{AreOf, drawn_by}
 use Rattle.dbmap.specs.Squares.{row_text}
 use Rattle.dbmap.proofs.squares.Squares.draw.Given as goal
 

@@ -1,7 +1,7 @@
 use Rattle.std.proofs.Common.{◌≡◌, ◌+◌, ◌*◌, ◌≤◌, ap, ◌∙◌, arith}
 use Rattle.std.proofs.Math.Nat.{mul-le-mul_right}
 use Rattle.dblines.proofs.Writing.{of_as}
-use Rattle.dbmap.specs.Drawings.{drawn_by}
+use Rattle.dbmap.specs.Keeping.{drawn_by}
 use Rattle.dbmap.specs.Grids.{columns_of}
 use Rattle.dbmap.specs.Squares.{square_text, squares_between}
 use Rattle.dbmap.proofs.Steps.{of_range_more, of_range_none}

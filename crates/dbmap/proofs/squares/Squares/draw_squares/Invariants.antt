@@ -1,7 +1,7 @@
 use Rattle.std.proofs.Common.{◌-◌}
 use Rattle.std.specs.List.{flat_map, range_with_len}
 use Rattle.dblines.specs.Writing.{WroteOf}
-use Rattle.dbmap.specs.Drawings.{AreOf, drawn_by, HoldsTreeName}
+use Rattle.dbmap.specs.Keeping.{AreOf, drawn_by, HoldsTreeName}
 use Rattle.dbmap.specs.Squares.{square_text}
 use Rattle.dbmap.proofs.squares.Squares.draw_squares.Given as goal
 

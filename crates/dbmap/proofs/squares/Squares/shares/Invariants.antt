@@ -1,7 +1,7 @@
 use Rattle.std.proofs.Common.{◌≡◌, ◌≤◌, ◌-◌, ℕ, List, max}
 use Rattle.dbformat.specs.Reference.{Reference}
 use Rattle.dbformat.specs.Starts.{start_at}
-use Rattle.dbmap.specs.Drawings.{AreOf, marked_place}
+use Rattle.dbmap.specs.Keeping.{AreOf, marked_place}
 use Rattle.dbmap.specs.Owners.{shares_by}
 use Rattle.dbmap.proofs.squares.Squares.shares.Given as goal
 

@@ -1,5 +1,5 @@
 use Rattle.std.proofs.Common.{◌≡◌, sym, ap, ◌∙◌, arith}
-use Rattle.dbmap.specs.Bands.{first_most}
+use Rattle.dbmap.specs.Owners.{first_most}
 use Rattle.dbmap.specs.Tallies.{left_pages, pages_at}
 use Rattle.dbmap.proofs.FirstMost.{most_before, most_here, none_first}
 use Rattle.dbmap.proofs.tally.PageTally.next.Goals as goal
