@@ -104,7 +104,7 @@ swatch_text label share y =
 
 -- the name of a tree and its root page, or how many other trees there are
 abbrev pub label_subject : List (List ℕ) → Label → List ℕ
-label_subject names (Tree rank root) = concat (name_text names rank 35 ∷ codes " (root page " ∷ decimal root ∷ [])
+label_subject names (Tree rank root) = name_text names rank 35 ++ concat (codes " (root page " ∷ decimal root ∷ [])
 label_subject names (Others count) = concat (decimal count ∷ [])
 label_subject names _ = []
 

@@ -29,11 +29,11 @@ unfoldable pub head_text : List ℕ → ℕ → List ℕ
 head_text file height =
     concat (codes "<svg xmlns=\"http://www.w3.org/2000/svg\" width=\"" ∷ decimal 988 ∷ codes "\" height=\"" ∷ decimal height
     ∷ codes "\" viewBox=\"0 0 " ∷ decimal 988 ∷ codes " " ∷ decimal height
-    ∷ codes "\" font-family=\"sans-serif\" font-size=\"12\" role=\"img\" aria-label=\"Pages of " ∷ shown_text file 72
-    ∷ codes "\">\n<title>Pages of " ∷ shown_text file 72
-    ∷ codes "</title>\n<style>" ∷ tree_colours ∷ overflow_colours ∷ other_colours
+    ∷ codes "\" font-family=\"sans-serif\" font-size=\"12\" role=\"img\" aria-label=\"Pages of " ∷ [])
+    ++ (shown_text file 72 ++ (codes "\">\n<title>Pages of " ++ (shown_text file 72
+    ++ concat (codes "</title>\n<style>" ∷ tree_colours ∷ overflow_colours ∷ other_colours
     ∷ codes "</style>\n<defs><pattern id=\"unowned\" width=\"4\" height=\"4\" patternUnits=\"userSpaceOnUse\" patternTransform=\"rotate(45)\"><rect width=\"4\" height=\"4\" fill=\"#FFFFFF\"/><rect width=\"2\" height=\"4\" fill=\"#444444\"/></pattern></defs>\n"
-    ∷ codes "<rect width=\"100%\" height=\"100%\" fill=\"#FFFFFF\"/>\n" ∷ [])
+    ∷ codes "<rect width=\"100%\" height=\"100%\" fill=\"#FFFFFF\"/>\n" ∷ []))))
 
 -- how many faults there are
 abbrev pub fault_count_text : ℕ → List ℕ
@@ -59,9 +59,8 @@ unit_text run =
 -- the two lines above the squares
 unfoldable pub heading_text : Heading → ℕ → List ℕ
 heading_text h run =
-    concat (codes "<text x=\"20\" y=\"26\" font-size=\"16\" font-weight=\"bold\">" ∷ shown_text h.file 72
-    ∷ codes "</text>\n<text x=\"20\" y=\"46\" fill=\"#444444\">" ∷ [])
-    ++ (size_text h.geometry ++ (fault_count_text h.faults ++ unit_text run))
+    codes "<text x=\"20\" y=\"26\" font-size=\"16\" font-weight=\"bold\">" ++ (shown_text h.file 72
+    ++ (codes "</text>\n<text x=\"20\" y=\"46\" fill=\"#444444\">" ++ (size_text h.geometry ++ (fault_count_text h.faults ++ unit_text run))))
 
 -- the first page of a row before it; where rows are narrow, before each second one
 abbrev pub row_label_text : Grid → ℕ → List ℕ

@@ -60,7 +60,7 @@ owner_mark false = codes ", "
 abbrev pub owner_text : OwnerShares → List (List ℕ) → Bool → ℕ → List ℕ
 owner_text c names is_first number =
     if has_pages c number
-    then concat (owner_mark is_first ∷ decimal (share_of c number).pages ∷ words number ∷ name_text names number 72 ∷ [])
+    then concat (owner_mark is_first ∷ decimal (share_of c number).pages ∷ words number ∷ []) ++ name_text names number 72
     else []
 
 -- whether no owner before this one has a page

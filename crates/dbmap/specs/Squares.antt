@@ -27,8 +27,8 @@ unfoldable pub page_text : PageSquare → Width → List ℕ → (Sign → Bool)
 page_text s width tree f =
     concat (codes "<rect class=\"" ∷ shade_letter (is_overflow s.place) ∷ decimal s.owner ∷ codes "\" x=\"" ∷ decimal (s.x + inset width (frame_of f))
     ∷ extent width (frame_of f) ∷ stroke width (frame_of f) ∷ codes "><title>page " ∷ decimal s.page ∷ codes ": "
-    ∷ place_front s.fixed s.place ∷ shown_text tree 72 ∷ place_words s.place ∷ from_text s.place ∷ [])
-    ++ (faults_text f ++ codes "</title></rect>\n")
+    ∷ place_front s.fixed s.place ∷ [])
+    ++ (shown_text tree 72 ++ (concat (place_words s.place ∷ from_text s.place ∷ []) ++ (faults_text f ++ codes "</title></rect>\n")))
 
 -- which pages an outline is of, and the outline
 abbrev pub outline_pages : Grid → ℕ × ℕ → List ℕ

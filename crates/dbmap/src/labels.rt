@@ -1,14 +1,16 @@
 // The names of the largest trees.
 ghost use Rattle.std.specs.Prelude.{◌≡◌, ◌≤◌, length, map};
 ghost use Rattle.dbmap.specs.Keeping.{shown_tree};
-ghost use Rattle.dbxml.specs.Pieces.{piece_text};
+ghost use Rattle.dblines.specs.Writing.{Wrote};
 ghost use Rattle.dbmap.specs.Runs.{name_text};
 
 use crate::tally::COLOURED;
 use crate::tree_text::shown_tree;
 use arrayvec::ArrayVec;
 use dbowner::TreeNames;
-use dbxml::{Piece, Shown};
+use dblines::Writer;
+use dbsource::Out;
+use dbxml::{Shown, WritePieces};
 use std::alloc::Allocator;
 
 /// The names of the largest trees, by their ranks.
@@ -32,13 +34,12 @@ impl Labels {
         labels
     }
 
-    /// The name of the tree of a rank in at most `width` columns, or nothing.
-    pub(crate) fn piece(&self, rank: usize, width: u32) -> Piece<'_>
-        ensures { piece_text result ≡ name_text self.now.names.items rank width }
+    /// Draws the name of the tree of a rank in at most `width` columns, if there is one.
+    pub(crate) fn draw<O: Out>(&self, writer: &mut Writer<'_, O>, rank: usize, width: u32)
+        ensures { Wrote O.held writer.old (name_text self.now.names.items rank width) writer.new }
     {
-        match self.names.as_slice().get(rank) {
-            Some(name) => Piece::Shown(name, width),
-            None => Piece::Markup(""),
+        if let Some(name) = self.names.as_slice().get(rank) {
+            writer.write_shown(name, width);
         }
     }
 }

@@ -59,10 +59,10 @@ fn draw_right<O: Out>(
     writer: &mut Writer<'_, O>,
     x: u32,
     y: u32,
-    text: Piece<'static>,
+    text: Piece,
     end: &'static str,
 )
-    ensures { Wrote O.held writer.old (legends.right_text x y (piece_text text.entry) end.now) writer.new }
+    ensures { Wrote O.held writer.old (legends.right_text x y (piece_text text) end.now) writer.new }
 {
     writer.write_all(&[
         Piece::Markup("<text x=\""),
@@ -226,11 +226,10 @@ fn draw_subject<O: Out>(writer: &mut Writer<'_, O>, labels: &Labels, label: Labe
     ensures { Wrote O.held writer.old (legends.label_subject labels.now.names.items label) writer.new }
 {
     match label {
-        Label::Tree(rank, root) => writer.write_all(&[
-            labels.piece(rank, NAME_WIDTH),
-            Piece::Markup(" (root page "),
-            Piece::Number(root as u64),
-        ]),
+        Label::Tree(rank, root) => {
+            labels.draw(writer, rank, NAME_WIDTH);
+            writer.write_all(&[Piece::Markup(" (root page "), Piece::Number(root as u64)]);
+        }
         Label::Others(count) => writer.write_all(&[Piece::Number(count as u64)]),
         _ => {}
     }

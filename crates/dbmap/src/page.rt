@@ -31,7 +31,7 @@ pub(crate) struct PageSquare {
 }
 
 // The page that a page is reached from, where it is no root.
-fn from_piece(place: Place) -> Piece<'static>
+fn from_piece(place: Place) -> Piece
     ensures { piece_text result ≡ from_text place }
 {
     match place_from(place) {
@@ -66,7 +66,9 @@ impl PageSquare {
             Piece::Number(self.page as u64),
             Piece::Markup(": "),
             Piece::Markup(place_front(self.fixed, self.place)),
-            Piece::Shown(tree, NAME_WIDTH),
+        ]);
+        writer.write_shown(tree, NAME_WIDTH);
+        writer.write_all(&[
             Piece::Markup(place_words(self.place)),
             from_piece(self.place),
         ]);

@@ -30,7 +30,6 @@ pub(crate) struct Heading {
 }
 
 // Draws what begins the picture: its size, its accessible name, the hatching, and a white background.
-#[tactic(auto, unfolding(crate::specs::Pictures::head_text))]
 fn draw_head<O: Out>(writer: &mut Writer<'_, O>, file: &Shown, height: u64)
     ensures { Wrote O.held writer.old (pictures.head_text file.now height) writer.new }
 {
@@ -46,9 +45,11 @@ fn draw_head<O: Out>(writer: &mut Writer<'_, O>, file: &Shown, height: u64)
         Piece::Markup(
             "\" font-family=\"sans-serif\" font-size=\"12\" role=\"img\" aria-label=\"Pages of ",
         ),
-        Piece::Shown(file, NAME_WIDTH),
-        Piece::Markup("\">\n<title>Pages of "),
-        Piece::Shown(file, NAME_WIDTH),
+    ]);
+    writer.write_shown(file, NAME_WIDTH);
+    writer.write_all(&[Piece::Markup("\">\n<title>Pages of ")]);
+    writer.write_shown(file, NAME_WIDTH);
+    writer.write_all(&[
         Piece::Markup("</title>\n<style>"),
         Piece::Markup(TREES),
         Piece::Markup(OVERFLOW),
@@ -119,11 +120,13 @@ fn draw_unit<O: Out>(writer: &mut Writer<'_, O>, run: u32)
 fn draw_heading<O: Out>(writer: &mut Writer<'_, O>, heading: &Heading, run: u32)
     ensures { Wrote O.held writer.old (pictures.heading_text heading.now run) writer.new }
 {
-    writer.write_all(&[
-        Piece::Markup("<text x=\"20\" y=\"26\" font-size=\"16\" font-weight=\"bold\">"),
-        Piece::Shown(&heading.file, NAME_WIDTH),
-        Piece::Markup("</text>\n<text x=\"20\" y=\"46\" fill=\"#444444\">"),
-    ]);
+    writer.write_all(&[Piece::Markup(
+        "<text x=\"20\" y=\"26\" font-size=\"16\" font-weight=\"bold\">",
+    )]);
+    writer.write_shown(&heading.file, NAME_WIDTH);
+    writer.write_all(&[Piece::Markup(
+        "</text>\n<text x=\"20\" y=\"46\" fill=\"#444444\">",
+    )]);
     draw_size(writer, heading.geometry);
     draw_faults(writer, heading.faults);
     draw_unit(writer, run);

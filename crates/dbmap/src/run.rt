@@ -206,8 +206,8 @@ impl RunSquare {
             Piece::Markup(owner_mark(is_first)),
             Piece::Number(self.shares.share(number).pages as u64),
             Piece::Markup(words(number)),
-            labels.piece(number, NAME_WIDTH),
         ]);
+        labels.draw(writer, number, NAME_WIDTH);
     }
 }
 

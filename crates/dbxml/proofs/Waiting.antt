@@ -1,5 +1,5 @@
 -- Bytes that wait before an Out.
-use Rattle.std.proofs.Common.{◌≡◌, ℕ, suc, ◌+◌, ◌<◌, ◌≤◌, List, [], ◌++◌, length, drop, get_or, add-one, drop-cons, refl, sym, ap, ◌∙◌, append_assoc}
+use Rattle.std.proofs.Common.{◌≡◌, ℕ, ◌+◌, ◌<◌, ◌≤◌, List, [], ◌++◌, length, drop, get_or, add-one, drop-cons, refl, sym, ap, ◌∙◌, append_assoc}
 use Rattle.std.proofs.Common.{append-nil, Result, Ok, Err}
 use Rattle.std.proofs.lemmas.List.{drop_all}
 use Rattle.dbsource.specs.Failures.{one_more}
@@ -94,9 +94,9 @@ takes_failed {o = o} {n = n} {w = w} {b = b} q h =
     rw q (record { held = here; count = rw q at h.count })
 
 -- what is left of pieces, by the next one
-pub next_piece : (pieces : List Piece) (i : ℕ) (p : Piece) → i < length pieces → p ≡ get_or pieces i p
-    → pieces_text (drop i pieces) ≡ piece_text p ++ pieces_text (drop (i + 1) pieces)
-next_piece pieces i p h e = rw (add-one, drop-cons pieces i p h) (ap (λ q. piece_text q ++ pieces_text (drop (suc i) pieces)) (sym e))
+pub next_piece : (pieces : List Piece) (i : ℕ) (d : Piece) → i < length pieces
+    → pieces_text (drop i pieces) ≡ piece_text (get_or pieces i d) ++ pieces_text (drop (i + 1) pieces)
+next_piece pieces i d h = rw (add-one, drop-cons pieces i d h) refl
 
 pub no_piece : (pieces : List Piece) (i : ℕ) → length pieces ≤ i → pieces_text (drop i pieces) ≡ []
 no_piece pieces i h = rw (drop_all i pieces h) refl

@@ -3,7 +3,7 @@ use Rattle.std.specs.Prelude.{ℕ, ◌/◌, ◌%◌, ◌==◌, List, [], ◌∷�
 use Rattle.dbxml.specs.Widths.{fitting}
 use Rattle.dbxml.specs.Xml.{escaped}
 use Rattle.dbxml.specs.declared.pieces.Piece.{Piece}
-use Rattle.dbxml.specs.declared.pieces.Piece.TheVariants.{Markup, Number, Tenths, Shown}
+use Rattle.dbxml.specs.declared.pieces.Piece.TheVariants.{Markup, Number, Tenths}
 
 -- an ellipsis, in UTF-8
 abbrev pub ellipsis : List ℕ
@@ -22,7 +22,6 @@ abbrev pub piece_text : Piece → List ℕ
 piece_text (Markup text) = text.now
 piece_text (Number number) = decimal number
 piece_text (Tenths tenths) = tenths_text tenths
-piece_text (Shown text width) = shown_text text.now width
 
 -- pieces, one after another
 abbrev pub pieces_text : List Piece → List ℕ

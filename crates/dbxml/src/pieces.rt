@@ -2,7 +2,7 @@
 ghost use Rattle.std.specs.Prelude.{◌≡◌, [], decimal, OnOk};
 ghost use Rattle.dblines.specs.Writing.{Wrote};
 ghost use Rattle.dbsource.specs.Outs.{Puts};
-ghost use Rattle.dbxml.specs.Pieces.{piece_text, pieces_text, tenths_text};
+ghost use Rattle.dbxml.specs.Pieces.{piece_text, pieces_text, shown_text, tenths_text};
 ghost use Rattle.dbxml.specs.Puts.{Takes};
 
 use crate::shown::{Shown, put_shown};
@@ -11,17 +11,15 @@ use dblines::Writer;
 use dbsource::{Out, WriteFailed};
 use itoa::Buffer;
 
-/// A piece of an XML text.
+/// A piece of an XML text. None is a text of a file or of the command line: its markup stands in the program.
 #[derive(Clone, Copy)]
-pub enum Piece<'a> {
-    /// Markup, or plain words of this crate.
-    Markup(&'a str),
+pub enum Piece {
+    /// Markup, or plain words.
+    Markup(&'static str),
     /// A number.
     Number(u64),
     /// A number of tenths, with one decimal.
     Tenths(u64),
-    /// A text that is not of this crate, in at most this many columns.
-    Shown(&'a Shown, u32),
 }
 
 // How many bytes are put at a time.
@@ -71,45 +69,45 @@ fn add_tenths<O: Out>(out: &mut O, waiting: &mut Waiting, tenths: u64) -> Result
 }
 
 // Adds the bytes of a piece.
-fn add_piece<O: Out>(
-    out: &mut O,
-    waiting: &mut Waiting,
-    piece: &Piece<'_>,
-) -> Result<(), WriteFailed>
+fn add_piece<O: Out>(out: &mut O, waiting: &mut Waiting, piece: &Piece) -> Result<(), WriteFailed>
     ensures { Takes result (O.held out.old) (O.held out.new) waiting.old.items waiting.new.items (piece_text piece.now) }
 {
     match piece {
         Piece::Markup(text) => add(out, waiting, text.as_bytes()),
         Piece::Number(number) => add_number(out, waiting, *number),
         Piece::Tenths(tenths) => add_tenths(out, waiting, *tenths),
-        Piece::Shown(shown, width) => match shown.plain(*width) {
-            Some(text) => add(out, waiting, text),
-            None => {
-                put_waiting(out, waiting)?;
-                put_shown(out, shown, *width)
-            }
-        },
     }
 }
 
-/// A writer of pieces.
+/// A writer of an XML text.
 pub trait WritePieces {
     /// Writes some pieces, one after another, many at a time.
-    fn write_all(&mut self, pieces: &[Piece<'_>]);
+    fn write_all(&mut self, pieces: &[Piece]);
+
+    /// Writes a text in at most `width` columns, escaped: a longer one is cut at a character, and ends with an ellipsis.
+    fn write_shown(&mut self, text: &Shown, width: u32);
 }
 
 impl<O: Out> WritePieces for Writer<'_, O> {
-    fn write_all(&mut self, pieces: &[Piece<'_>])
+    fn write_all(&mut self, pieces: &[Piece])
         ensures { Wrote O.held self.old (pieces_text pieces.now) self.new }
     {
         if !self.has_failed {
             self.has_failed = put_all(self.out, pieces).is_err();
         }
     }
+
+    fn write_shown(&mut self, text: &Shown, width: u32)
+        ensures { Wrote O.held self.old (shown_text text.now width) self.new }
+    {
+        if !self.has_failed {
+            self.has_failed = put_shown(self.out, text, width).is_err();
+        }
+    }
 }
 
 // Puts some pieces. Where the Out fails, it takes a beginning of their texts.
-fn put_all<O: Out>(out: &mut O, pieces: &[Piece<'_>]) -> Result<(), WriteFailed>
+fn put_all<O: Out>(out: &mut O, pieces: &[Piece]) -> Result<(), WriteFailed>
     ensures { Puts result (O.held out.old) (O.held out.new) (pieces_text pieces.now) }
 {
     let mut waiting = ArrayVec::new();

@@ -1,12 +1,12 @@
 // Texts of a file and of the command line, as an XML text shows them.
-ghost use Rattle.std.specs.Prelude.{◌≡◌, ◌⊎◌, ◌≤◌, [], length, IfSome, Some};
+ghost use Rattle.std.specs.Prelude.{◌≡◌, ◌⊎◌, ◌≤◌, [], length, Some};
 ghost use Rattle.dbsource.specs.Outs.{Puts};
 ghost use Rattle.dbxml.specs.Names.{shown_file};
 ghost use Rattle.dbxml.specs.Pieces.{shown_text};
 ghost use Rattle.dbxml.specs.Widths as widths;
 
 use crate::kept_bytes::{KEPT, KeptBytes};
-use crate::xml::{is_plain, put_escaped};
+use crate::xml::put_escaped;
 use arrayvec::ArrayVec;
 use dbbytes::plain_name_text;
 use dbformat::Encoding;
@@ -53,18 +53,6 @@ impl Shown {
     {
         Shown {
             bytes: kept.into_bytes(),
-        }
-    }
-
-    /// The text as it is, where it fits in `width` columns and nothing of it is markup.
-    pub(crate) fn plain(&self, width: u32) -> Option<&[u8]>
-        ensures { IfSome result (λ text. text.now ≡ shown_text self.now width) }
-    {
-        let text = self.bytes.as_slice();
-        if fitting(text, width) == text.len() && is_plain(text) {
-            Some(text)
-        } else {
-            None
         }
     }
 }

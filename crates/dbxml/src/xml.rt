@@ -26,8 +26,8 @@ fn is_markup(byte: u8) -> bool
     matches!(byte, b'&' | b'<' | b'>' | b'"' | b'\'')
 }
 
-/// Whether nothing of a text is markup.
-pub(crate) fn is_plain(text: &[u8]) -> bool
+// Whether nothing of a text is markup.
+fn is_plain(text: &[u8]) -> bool
     ensures { result ≡ true → escaped text.now ≡ text.now }
 {
     for byte in text {

@@ -1,4 +1,5 @@
+use Rattle.dblines.proofs.Writing.{wrote_then}
 use Rattle.dbmap.proofs.legend_text.draw_subject.Goals as goal
 
 pub returns-in-Tree : goal.returns-in-Tree
-returns-in-Tree g c = rw c.in-Tree.is (rw c.piece.ensures at c.write_all.ensures)
+returns-in-Tree g c = rw c.in-Tree.is (wrote_then c.draw.ensures c.write_all.ensures)

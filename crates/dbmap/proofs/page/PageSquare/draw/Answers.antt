@@ -5,7 +5,7 @@ use Rattle.dbmap.proofs.page.PageSquare.draw.Goals as goal
 pub returns : goal.returns
 unfolding page_text
 returns g c =
-    let first = rw (
+    let front = rw (
       c.shade_letter.ensures,
       c.is_overflow.ensures,
       c.inset.ensures.inset,
@@ -13,7 +13,6 @@ returns g c =
       c.stroke.ensures,
       c.frame-frame.ensures,
       c.place_front.ensures.text,
-      c.place_words.ensures.text,
-      c.from_piece.ensures,
     ) at c.write_all.ensures in
-    wrote_then first (wrote_then c.draw.ensures c.write_all-2.ensures)
+    let place = rw (c.place_words.ensures.text, c.from_piece.ensures) at c.write_all-2.ensures in
+    wrote_then front (wrote_then c.write_shown.ensures (wrote_then place (wrote_then c.draw.ensures c.write_all-3.ensures)))
