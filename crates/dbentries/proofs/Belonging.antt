@@ -1,13 +1,13 @@
 -- The line of the faults that belong to an entry, by what is kept of them.
-use Rattle.std.proofs.Common.{◌≡◌, ℕ, zero, suc, ◌+◌, ◌-◌, ◌<◌, ◌≤◌, Bool, true, false, cond, ◌&&◌, List, [], ◌∷◌, ◌++◌, length, map, take, get_or, set, Option}
+use Rattle.std.proofs.Common.{◌≡◌, ℕ, zero, suc, ◌+◌, ◌-◌, ◌<◌, ◌≤◌, Bool, true, false, cond, ◌&&◌, List, [], ◌∷◌, ◌++◌, length, map, take, get_or, set}
 use Rattle.std.proofs.Common.{Some, None, refl, sym, ap, ap₂, subst, ◌∙◌, arith, append_assoc, append-nil, take-suc}
-use Rattle.std.specs.Prelude.{codes, fold, nat_le, nat_lt, ◌==◌, if◌then◌else◌}
+use Rattle.std.specs.Prelude.{codes, fold, nat_le, nat_lt, ◌==◌}
 use Rattle.std.specs.List.{join_by, last_or, flat_map, sum_by}
 use Rattle.std.specs.Option.{option_map_or}
 use Rattle.std.proofs.lemmas.Bool.Decides.{nat_tests}
 use Rattle.std.proofs.lemmas.Grind.{flat_map-append}
-use Rattle.std.proofs.lemmas.List.{length-append, length-set, length-take, map-append, take-append-le, take_all, take_more_set}
-use Rattle.std.proofs.lemmas.List.Sums.{sum_by-append}
+use Rattle.std.proofs.lemmas.List.{length-append, length-set, length-take, take-append-le, take_all, take_more_set}
+use Rattle.std.proofs.lemmas.List.Sums.{sum_by-cons}
 use Rattle.dbformat.specs.Lines.{counted}
 use Rattle.dbtrace.specs.declared.Cause.{Cause}
 use Rattle.dbtrace.specs.declared.Cause.TheVariants as cause
@@ -16,7 +16,7 @@ use Rattle.dbentries.specs.Kept.{look_cells, entry_added, lone_entry, is_next, k
 use Rattle.dbentries.specs.Lines.{indented}
 use Rattle.dbentries.specs.Listing as listing
 use Rattle.dbentries.specs.Listing.{changed_at}
-use Rattle.dbentries.specs.Others.{alike_text, belonging_text, last_text, kept_faults_line, kept_text, next_run_text, others_text, run_before, run_text, runs}
+use Rattle.dbentries.specs.Others.{alike_text, belonging_text, last_text, kept_faults_line, kept_text, next_run_text, others_text, run_after, run_text, runs}
 use Rattle.dbentries.specs.Others.{shown_runs_text}
 use Rattle.dbentries.specs.declared.entry.Entry.{Entry}
 use Rattle.dbentries.specs.declared.entry.Others.{Others}
@@ -70,41 +70,12 @@ alone page = record { first = page; last = page }
 abbrev to : ℕ → Run → Run
 to page r = record r { last = page }
 
--- a page after some runs: part of the last, where it comes next, and else a run of its own
-abbrev run_after : ℕ → List Run → List Run
-run_after page [] = alone page ∷ []
-run_after page (r ∷ []) = if page == r.last + 1 then to page r ∷ [] else r ∷ alone page ∷ []
-run_after page (r ∷ s ∷ rs) = r ∷ run_after page (s ∷ rs)
-
--- a page before and a page after, in either order
-before-after : (q p : ℕ) (rs : List Run) → run_before q (run_after p rs) ≡ run_after p (run_before q rs)
-before-after q p [] = refl
-before-after q p (r ∷ []) = by_case (p == r.last + 1) (r.first == q + 1) refl refl
-  where
-    by_case : (b c : Bool) → (p == r.last + 1) ≡ b → (r.first == q + 1) ≡ c
-        → run_before q (cond b (to p r ∷ []) (r ∷ alone p ∷ [])) ≡ run_after p (cond c (record { first = q; last = r.last } ∷ []) (alone q ∷ r ∷ []))
-    by_case true true e f = rw (e, f) refl
-    by_case true false e f = rw (e, f) refl
-    by_case false true e f = rw (e, f) refl
-    by_case false false e f = rw (e, f) refl
-before-after q p (r ∷ s ∷ rs) = by_case (r.first == q + 1) refl
-  where
-    by_case : (c : Bool) → (r.first == q + 1) ≡ c
-        → cond c (record { first = q; last = r.last } ∷ run_after p (s ∷ rs)) (alone q ∷ r ∷ run_after p (s ∷ rs))
-        ≡ run_after p (cond c (record { first = q; last = r.last } ∷ s ∷ rs) (alone q ∷ r ∷ s ∷ rs))
-    by_case true f = refl
-    by_case false f = refl
-
-runs_more : (pages : List ℕ) (p : ℕ) → runs (pages ++ p ∷ []) ≡ run_after p (runs pages)
-runs_more [] p = refl
-runs_more (q ∷ pages) p = ap (run_before q) (runs_more pages p) ∙ before-after q p (runs pages)
-
 -- the last page of some runs, and page d where there is none
 abbrev last_page : ℕ → List Run → ℕ
 last_page d [] = d
 last_page d (r ∷ rs) = last_page r.last rs
 
-last-after : (d p : ℕ) (rs : List Run) → last_page d (run_after p rs) ≡ p
+last-after : (d p : ℕ) (rs : List Run) → last_page d (run_after rs p) ≡ p
 last-after d p [] = refl
 last-after d p (r ∷ []) = by_case (p == r.last + 1)
   where
@@ -114,12 +85,12 @@ last-after d p (r ∷ []) = by_case (p == r.last + 1)
 last-after d p (r ∷ s ∷ rs) = last-after r.last p (s ∷ rs)
 
 -- where it comes next, the last run changes
-after-next : (d p : ℕ) (r : Run) (rs : List Run) → (p == last_page d (r ∷ rs) + 1) ≡ true → run_after p (r ∷ rs) ≡ changed_at (to p) (length rs) (r ∷ rs)
+after-next : (d p : ℕ) (r : Run) (rs : List Run) → (p == last_page d (r ∷ rs) + 1) ≡ true → run_after (r ∷ rs) p ≡ changed_at (to p) (length rs) (r ∷ rs)
 after-next d p r [] e = ap (λ b. cond b (to p r ∷ []) (r ∷ alone p ∷ [])) e
 after-next d p r (s ∷ rs) e = ap (λ l. r ∷ l) (after-next r.last p s rs e)
 
 -- else there is one more
-after-other : (d p : ℕ) (r : Run) (rs : List Run) → (p == last_page d (r ∷ rs) + 1) ≡ false → run_after p (r ∷ rs) ≡ (r ∷ rs) ++ alone p ∷ []
+after-other : (d p : ℕ) (r : Run) (rs : List Run) → (p == last_page d (r ∷ rs) + 1) ≡ false → run_after (r ∷ rs) p ≡ (r ∷ rs) ++ alone p ∷ []
 after-other d p r [] e = ap (λ b. cond b (to p r ∷ []) (r ∷ alone p ∷ [])) e
 after-other d p r (s ∷ rs) e = ap (λ l. r ∷ l) (after-other r.last p s rs e)
 
@@ -144,7 +115,7 @@ none_kept = record { kept = refl; room = refl; count = refl; last = refl }
 
 module _ (rs : List Run) (r : Runs) (p : ℕ) (is : AreKept rs r) where
   -- a run more
-  begun : run_after p rs ≡ rs ++ alone p ∷ [] → AreKept (run_after p rs) (with_begun r p)
+  begun : run_after rs p ≡ rs ++ alone p ∷ [] → AreKept (run_after rs p) (with_begun r p)
   begun e = record {
     kept = by_case (nat_lt r.count 10) refl ∙ ap (take 10) (sym e);
     room = by_room (nat_lt r.count 10);
@@ -178,7 +149,7 @@ module _ (rs : List Run) (r : Runs) (p : ℕ) (is : AreKept rs r) where
           ∙ sym (take-append-le 10 rs (alone p ∷ []) (omega (arith, many, c)))
 
   -- the last run with a page more
-  grown : (n : ℕ) → length rs ≡ suc n → run_after p rs ≡ changed_at (to p) n rs → AreKept (run_after p rs) (with_grown r p)
+  grown : (n : ℕ) → length rs ≡ suc n → run_after rs p ≡ changed_at (to p) n rs → AreKept (run_after rs p) (with_grown r p)
   grown n s e = record {
     kept = by_case (nat_le r.count 10) refl ∙ ap (take 10) (sym e);
     room = by_room (nat_le r.count 10);
@@ -209,14 +180,14 @@ module _ (rs : List Run) (r : Runs) (p : ℕ) (is : AreKept rs r) where
           ∙ sym (changed-past (to p) n (take 10 rs) (omega (arith, many, c, s, l)))
           ∙ sym (take-changed (to p) 10 n rs)
 
-kept_more : (rs : List Run) (r : Runs) (p : ℕ) → AreKept rs r → AreKept (run_after p rs) (run_added r p)
+kept_more : (rs : List Run) (r : Runs) (p : ℕ) → AreKept rs r → AreKept (run_after rs p) (run_added r p)
 kept_more [] r p is = by_case (is_next r p) first
   where
     first : is_next r p ≡ false
     first = ap (λ n. nat_lt 0 n && (p == r.last + 1)) is.count
 
     by_case : (b : Bool) → b ≡ false
-        → AreKept (run_after p []) (cond b (with_grown r p) (with_begun r p))
+        → AreKept (run_after [] p) (cond b (with_grown r p) (with_begun r p))
     by_case true e = absurd (let no : ⊥ = cc in no)
     by_case false e = begun [] r p is refl
 kept_more (s ∷ rs) r p is = by_case (p == last_page 0 (s ∷ rs) + 1) refl
@@ -228,118 +199,92 @@ kept_more (s ∷ rs) r p is = by_case (p == last_page 0 (s ∷ rs) + 1) refl
     next b e = ap₂ (λ c l. c && (p == l + 1)) some is.last ∙ e
 
     by_next : (b c : Bool) → c ≡ b
-        → AreKept (run_after p (s ∷ rs)) (cond b (with_grown r p) (with_begun r p))
-        → AreKept (run_after p (s ∷ rs)) (cond c (with_grown r p) (with_begun r p))
+        → AreKept (run_after (s ∷ rs) p) (cond b (with_grown r p) (with_begun r p))
+        → AreKept (run_after (s ∷ rs) p) (cond c (with_grown r p) (with_begun r p))
     by_next b c e k =
-        subst (λ c. AreKept (run_after p (s ∷ rs)) (cond c (with_grown r p) (with_begun r p))) (sym e) k
+        subst (λ c. AreKept (run_after (s ∷ rs) p) (cond c (with_grown r p) (with_begun r p))) (sym e) k
 
-    by_case : (b : Bool) → (p == last_page 0 (s ∷ rs) + 1) ≡ b → AreKept (run_after p (s ∷ rs)) (run_added r p)
+    by_case : (b : Bool) → (p == last_page 0 (s ∷ rs) + 1) ≡ b → AreKept (run_after (s ∷ rs) p) (run_added r p)
     by_case true e = by_next true (is_next r p) (next true e) (grown (s ∷ rs) r p is (length rs) refl (after-next 0 p s rs e))
     by_case false e = by_next false (is_next r p) (next false e) (begun (s ∷ rs) r p is (after-other 0 p s rs e))
 
--- ---- the faults that belong to one
-
-abbrev pages_of : List Reported → List ℕ
-pages_of = map (λ x. x.fault.page)
-
 -- page after page
-runs_from : (xs ys : List ℕ) (r : Runs) → AreKept (runs xs) r → AreKept (runs (xs ++ ys)) (fold run_added r ys)
-runs_from xs [] r is = subst (λ zs. AreKept (runs zs) r) (sym (append-nil xs)) is
-runs_from xs (y ∷ ys) r is =
-    subst (λ zs. AreKept (runs zs) (fold run_added (run_added r y) ys)) (append_assoc xs (y ∷ []) ys)
-    (runs_from (xs ++ y ∷ []) ys (run_added r y) (subst (λ rs. AreKept rs (run_added r y)) (sym (runs_more xs y)) (kept_more (runs xs) r y is)))
+runs_from : (pages : List ℕ) (rs : List Run) (r : Runs) → AreKept rs r → AreKept (fold run_after rs pages) (fold run_added r pages)
+runs_from [] rs r is = is
+runs_from (p ∷ pages) rs r is = runs_from pages (run_after rs p) (run_added r p) (kept_more rs r p is)
 
 pub runs_kept : (pages : List ℕ) → AreKept (runs pages) (fold run_added no_runs pages)
-runs_kept pages = runs_from [] pages no_runs none_kept
+runs_kept pages = runs_from pages [] no_runs none_kept
 
-abbrev cells_in : List Reported → ℕ
-cells_in = sum_by (λ x. look_cells x.cause)
+-- ---- the faults that belong to one
 
--- This is kept of these faults.
-record AreOf (xs : List Reported) (o : Others) : Type 0 where
-  count : o.count ≡ counted (length xs)
-  place : (x : Reported) → last_or None xs ≡ Some x → (o.page ≡ x.fault.page) × (o.item ≡ x.fault.item)
-  runs : AreKept (runs (pages_of xs)) o.runs
-  cells : o.cells ≡ counted (cells_in xs)
-
-last-push : (o : Option Reported) (xs : List Reported) (x : Reported) → last_or o (xs ++ x ∷ []) ≡ Some x
-last-push o [] x = refl
-last-push o (y ∷ ys) x = last-push (Some y) ys x
-
-last-exists : (y : Reported) (ys : List Reported) → (x : Reported) × (last_or (Some y) ys ≡ Some x)
-last-exists y [] = (y, refl)
-last-exists y (z ∷ zs) = last-exists z zs
-
--- one more
-others_more : (xs : List Reported) (o : Others) (x : Reported) → AreOf xs o → AreOf (xs ++ x ∷ []) (others_added o x)
-others_more xs o x is = record {
-  count = let l = length-append xs (x ∷ []) in let c = is.count in omega (arith, l, c);
-  place = λ y e.
-      let q : x ≡ y = let f : Some x ≡ Some y = sym (last-push None xs x) ∙ e in cc in
-      (ap (λ (z : Reported). z.fault.page) q, ap (λ (z : Reported). z.fault.item) q);
-  runs = subst (λ rs. AreKept rs (run_added o.runs x.fault.page))
-      (sym (ap runs (map-append (λ (z : Reported). z.fault.page) xs (x ∷ [])) ∙ runs_more (pages_of xs) x.fault.page))
-      (kept_more (runs (pages_of xs)) o.runs x.fault.page is.runs);
-  cells =
-      let l = sum_by-append (λ (z : Reported). look_cells z.cause) xs (x ∷ []) in
-      let c = is.cells in omega (arith, l, c);
-}
-
-others_all : (xs ys : List Reported) (o : Others) → AreOf xs o → AreOf (xs ++ ys) (fold others_added o ys)
-others_all xs [] o is = subst (λ zs. AreOf zs o) (sym (append-nil xs)) is
-others_all xs (y ∷ ys) o is =
-    subst (λ zs. AreOf zs (fold others_added (others_added o y) ys)) (append_assoc xs (y ∷ []) ys)
-    (others_all (xs ++ y ∷ []) ys (others_added o y) (others_more xs o y is))
-
-others_kept : (ys : List Reported) (k : Entry) → (fold entry_added k ys).others ≡ fold others_added k.others ys
+others_kept : (xs : List Reported) (k : Entry) → (fold entry_added k xs).others ≡ fold others_added k.others xs
 others_kept [] k = refl
-others_kept (y ∷ ys) k = others_kept ys (entry_added k y)
+others_kept (x ∷ xs) k = others_kept xs (entry_added k x)
 
--- what is kept of those of an entry
-others_are : (e : listing.Entry) → AreOf e.others (kept_of e).others
-others_are e =
-    subst (AreOf e.others) (sym (others_kept e.others (lone_entry e.first)))
-    (others_all [] e.others (lone_entry e.first).others (record {
-      count = refl;
-      place = λ x q. absurd (let no : ⊥ = cc in no);
-      runs = none_kept;
-      cells = refl;
-    }))
+-- their number, their pages, how many cells these have, and the last of them
+counts : (xs : List Reported) (o : Others) (n : ℕ) → o.count ≡ counted n → (fold others_added o xs).count ≡ counted (n + length xs)
+counts [] o n e = omega (arith, e)
+counts (x ∷ xs) o n e = let h = counts xs (others_added o x) (n + 1) (omega (arith, e)) in omega (arith, h)
+
+pages : (xs : List Reported) (o : Others) → (fold others_added o xs).runs ≡ fold run_added o.runs (map (λ x. x.fault.page) xs)
+pages [] o = refl
+pages (x ∷ xs) o = pages xs (others_added o x)
+
+all_cells : (xs : List Reported) (o : Others) (n : ℕ) → o.cells ≡ counted n → (fold others_added o xs).cells ≡ counted (n + sum_by (λ x. look_cells x.cause) xs)
+all_cells [] o n e = omega (arith, e)
+all_cells (x ∷ xs) o n e =
+    let h = all_cells xs (others_added o x) (n + look_cells x.cause) (omega (arith, e)) in
+    let s = sum_by-cons (λ (x : Reported). look_cells x.cause) x xs in omega (arith, h, s)
+
+last_is : (x : Reported) (xs : List Reported) (o : Others)
+    → (y : Reported) × (last_or (Some x) xs ≡ Some y) × ((fold others_added (others_added o x) xs).page ≡ y.fault.page)
+    × ((fold others_added (others_added o x) xs).item ≡ y.fault.item)
+last_is x [] o = (x, refl, refl, refl)
+last_is x (z ∷ zs) o = last_is z zs (others_added o x)
 
 -- ---- their line
 
-text_is : (c : Cause) (xs : List Reported) (x : Reported) (o : Others) → AreOf xs o → last_or None xs ≡ Some x → kept_text c o ≡ belonging_text c xs x
-text_is c xs x o is e = by_cause c
-  where
-    by_place : last_text o.count o.page o.item ≡ last_text (counted (length xs)) x.fault.page x.fault.item
-    by_place =
-        let p = is.place x e in
-        ap (λ n. last_text n o.page o.item) is.count
-        ∙ ap₂ (last_text (counted (length xs))) p.0 p.1
-
-    by_cause : (c : Cause) → kept_text c o ≡ belonging_text c xs x
-    by_cause (cause.Look l facts) =
-        ap₂ (λ n m. alike_text l n m ++ shown_runs_text (take o.runs.count o.runs.kept) (o.runs.count - 10)) is.count is.cells
-        ∙ ap₂ (λ rs n. alike_text l (counted (length xs)) (counted (cells_in xs)) ++ shown_runs_text rs (n - 10)) is.runs.kept is.runs.count
-    by_cause _ = by_place
-
 pub line_is : (e : listing.Entry) → kept_faults_line (kept_of e).first.cause (kept_of e).others ≡ others_text e
-line_is e = by_case e.others (others_are e) ∙ same
+line_is e =
+    ap₂ (λ (f : Reported) o. kept_faults_line f.cause o) (first_kept e.others (lone_entry e.first)) (others_kept e.others (lone_entry e.first))
+    ∙ by_others e.others
   where
-    line : List Reported → List ℕ
-    line xs = option_map_or (λ x. indented (belonging_text (kept_of e).first.cause xs x)) (last_or None xs) []
+    why : Cause
+    why = e.first.cause
 
-    same : line e.others ≡ others_text e
-    same =
-        ap (λ (f : Reported). option_map_or (λ x. indented (belonging_text f.cause e.others x)) (last_or None e.others) [])
-        (first_kept e.others (lone_entry e.first))
+    none : Others
+    none = (lone_entry e.first).others
 
-    by_case : (xs : List Reported) → AreOf xs (kept_of e).others → kept_faults_line (kept_of e).first.cause (kept_of e).others ≡ line xs
-    by_case [] is = ap (λ n. cond (n == 0) [] (indented (kept_text (kept_of e).first.cause (kept_of e).others))) is.count
-    by_case (y ∷ ys) is =
-        let last = last-exists y ys in
-        let c = is.count in
-        let some : ((kept_of e).others.count == 0) ≡ false = grind (arith, nat_tests, c) in
-        ap (λ b. cond b [] (indented (kept_text (kept_of e).first.cause (kept_of e).others))) some
-        ∙ ap indented (text_is (kept_of e).first.cause (y ∷ ys) last.0 (kept_of e).others is last.1)
-        ∙ sym (ap (λ o. option_map_or (λ x. indented (belonging_text (kept_of e).first.cause (y ∷ ys) x)) o []) last.1)
+    number : (xs : List Reported) → (fold others_added none xs).count ≡ counted (length xs)
+    number xs = let h = counts xs none 0 refl in omega (arith, h)
+
+    cells : (xs : List Reported) → (fold others_added none xs).cells ≡ counted (sum_by (λ x. look_cells x.cause) xs)
+    cells xs = let h = all_cells xs none 0 refl in omega (arith, h)
+
+    by_cause : (c : Cause) (x : Reported) (xs : List Reported) → let o = fold others_added none (x ∷ xs) in
+        kept_text c o ≡ belonging_text c (x ∷ xs) (last_is x xs none).0
+    by_cause (cause.Look l facts) x xs =
+        let o = fold others_added none (x ∷ xs) in
+        let k = runs_kept (map (λ x. x.fault.page) (x ∷ xs)) in
+        let same : take o.runs.count o.runs.kept ≡ take 10 (runs (map (λ x. x.fault.page) (x ∷ xs))) =
+        ap (λ (r : Runs). take r.count r.kept) (pages (x ∷ xs) none) ∙ k.kept in
+        ap₂ (λ n m. alike_text l n m ++ shown_runs_text (take o.runs.count o.runs.kept) (o.runs.count - 10)) (number (x ∷ xs))
+        (cells (x ∷ xs))
+        ∙ ap₂ (λ rs n. alike_text l (counted (length (x ∷ xs))) (counted (sum_by (λ x. look_cells x.cause) (x ∷ xs))) ++ shown_runs_text rs (n - 10)) same
+        (ap (λ (r : Runs). r.count) (pages (x ∷ xs) none) ∙ k.count)
+    by_cause _ x xs =
+        let o = fold others_added none (x ∷ xs) in
+        let p = last_is x xs none in
+        ap (λ n. last_text n o.page o.item) (number (x ∷ xs)) ∙ ap₂ (last_text (counted (length (x ∷ xs)))) p.2 p.3
+
+    by_others : (xs : List Reported) → kept_faults_line why (fold others_added none xs)
+        ≡ option_map_or (λ x. indented (belonging_text why xs x)) (last_or None xs) []
+    by_others [] = refl
+    by_others (x ∷ xs) =
+        let o = fold others_added none (x ∷ xs) in
+        let c = number (x ∷ xs) in
+        let some : (o.count == 0) ≡ false = grind (arith, nat_tests, c) in
+        ap (λ b. cond b [] (indented (kept_text why o))) some
+        ∙ ap indented (by_cause why x xs)
+        ∙ sym (ap (λ y. option_map_or (λ y. indented (belonging_text why (x ∷ xs) y)) y []) (last_is x xs none).1)

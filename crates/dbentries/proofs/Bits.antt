@@ -4,7 +4,6 @@ use Rattle.std.proofs.Common.{arith}
 use Rattle.std.specs.Prelude.{◌==◌}
 use Rattle.std.specs.Int.{bit_at, w64}
 use Rattle.std.specs.Int.RustNames.{bit_or}
-use Rattle.std.proofs.Math.ListN.{length-set}
 use Rattle.std.proofs.Math.Bool.{or-false}
 use Rattle.std.proofs.lemmas.Bool.{eqb-true, eq-eqb}
 use Rattle.std.proofs.lemmas.List.{get_or-set_same, get_or-set_other}
@@ -64,10 +63,6 @@ module _ (words : List ℕ) (q p : ℕ) (room : HasPageBit words p) where
       by_case true e = here (eqb-true q p e) ∙ sym (or_true (has_bit words p)) ∙ ap (λ b. has_bit words p || b) (sym e)
       by_case false e = elsewhere (λ f. let g : (q == p) ≡ true = eq-eqb q p f in cc) ∙ sym (or-false (has_bit words p))
           ∙ ap (λ b. has_bit words p || b) (sym e)
-
--- there is room as before
-pub room_kept : (words : List ℕ) (q p : ℕ) → HasPageBit (bit_set q words) p → HasPageBit words p
-room_kept words q p h = let l : length (bit_set q words) ≡ length words = length-set words (q / 64) _ in omega (arith, l, h)
 
 -- none is set where all words are 0
 pub none_set : (n p : ℕ) → has_bit (replicate n 0) p ≡ false

@@ -2,13 +2,9 @@ pub mod Adding
 pub mod Belonging
 pub mod Bits
 pub mod Desks
-pub mod Few
 pub mod Heard
 pub mod ListedFaults
-pub mod Looking
 pub mod LostPages
 pub mod Noting
 pub mod Numbers
-pub mod PartsRise
-pub mod Placing
 pub mod ZeroPages

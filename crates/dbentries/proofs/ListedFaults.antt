@@ -1,58 +1,82 @@
 -- Faults one after another, listed as they are heard.
-use Rattle.std.proofs.Common.{◌≡◌, ℕ, Bool, true, false, List, [], ◌∷◌, ◌++◌, ◌≤◌, map, take, drop, refl, sym, ap, subst, ◌∙◌, append_assoc}
-use Rattle.std.specs.Prelude.{not}
-use Rattle.std.specs.List.{sum_by}
+use Rattle.std.proofs.Common.{◌≡◌, ℕ, Bool, true, false, cond, List, [], ◌∷◌, ◌++◌, refl, sym, ap, subst, ◌∙◌, append_assoc}
+use Rattle.std.specs.Prelude.{fold, not}
 use Rattle.std.proofs.lemmas.List.Elements.{filter-append}
-use Rattle.dbformat.specs.Lines.{counted}
+use Rattle.std.proofs.lemmas.List.Sums.{fold-append}
+use Rattle.dbformat.specs.File.{geometry}
 use Rattle.dbformat.specs.Reference.{Reference}
 use Rattle.dbtrace.specs.declared.Reported.{Reported}
-use Rattle.dbentries.specs.Kept.{kept_of}
-use Rattle.dbentries.specs.Listed.{IsBeginning, is_lost, lost_faults, others_of}
-use Rattle.dbentries.specs.Listing.{entries, rank, size}
-use Rattle.dbentries.specs.Lists.{Held, HoldsFaults, HasListed, IsListOf, ListsFault, ListsFirst, Shows, listed_now}
+use Rattle.dbentries.specs.Bits.{has_bit, HasPageBit}
+use Rattle.dbentries.specs.Listed.{IsBeginning, is_lost, listed_faults, lost_faults, others_of}
+use Rattle.dbentries.specs.Listing.{entries}
+use Rattle.dbentries.specs.Lists.{HasListed, Held, IsUnused, ListsAll, ListsFirst, Shows, added, heard}
+use Rattle.dbentries.specs.Store.{put}
+use Rattle.dbentries.specs.Zeros.{AreZeros, zero_noted}
+use Rattle.dbentries.proofs.Adding.{Keeps, keeps_entries}
+use Rattle.dbentries.proofs.ZeroPages.{zeros_are}
 use Rattle.dbscan.specs.Placed.{told_faults}
 
+-- the entries, and the pages that are noted
+entries_of : (xs : List Reported) (s : Held) → (fold added s xs).entries ≡ fold put s.entries xs
+entries_of [] s = refl
+entries_of (x ∷ xs) s = entries_of xs (added s x)
+
+zeros_of : (xs : List Reported) (s : Held) → (fold added s xs).zeros ≡ fold zero_noted s.zeros xs
+zeros_of [] s = refl
+zeros_of (x ∷ xs) s = zeros_of xs (added s x)
+
 -- what is kept of some faults shows their entries
-pub shown : (limit : ℕ) (xs : List Reported) (s : Held) → HoldsFaults limit xs s → Shows limit (entries xs) s
-shown limit xs s h = record {
-  listed = h.entries.entries.listed ∙ ap (λ n. map kept_of (take n (entries xs))) h.room;
-  rest = h.entries.entries.rest ∙ ap (λ n. counted (sum_by size (drop n (entries xs)))) h.room;
-}
+shown : (limit : ℕ) (first s : Held) (xs : List Reported) → IsUnused limit first → s ≡ fold added first xs → Shows limit (entries xs) s
+shown limit first s xs none e =
+    let k = subst (Keeps limit _) (sym (ap (λ (s : Held). s.entries) e ∙ entries_of xs first)) (keeps_entries limit xs first.entries none.entries) in
+    record { room = k.room; listed = rw k.room at k.listed; rest = rw k.room at k.rest }
 
--- one more
-others_push : (ts : List Reported) (x : Reported) → others_of ts ++ listed_now x ≡ others_of (ts ++ x ∷ [])
-others_push ts x = sym (filter-append (λ x. not (is_lost x)) ts (x ∷ []) ∙ ap (λ l. others_of ts ++ l) (one (is_lost x) refl))
+-- those that are listed as they are heard
+heard_others : (ts : List Reported) (s : Held) → fold heard s ts ≡ fold added s (others_of ts)
+heard_others [] s = refl
+heard_others (t ∷ ts) s = by_case (is_lost t) (heard_others ts)
   where
-    one : (b : Bool) → is_lost x ≡ b → others_of (x ∷ []) ≡ listed_now x
-    one true e = rw e refl
-    one false e = rw e refl
+    by_case : (b : Bool) → ((s : Held) → fold heard s ts ≡ fold added s (others_of ts))
+        → fold heard (cond b s (added s t)) ts ≡ fold added s (cond (not b) (t ∷ others_of ts) (others_of ts))
+    by_case true h = h s
+    by_case false h = h (added s t)
 
-pub one_listed : (limit : ℕ) (ts : List Reported) (x : Reported) (old new : Held) → old.entries.part ≤ rank x.part → HasListed limit ts old
-    → ListsFault x old new
-    → HasListed limit (ts ++ x ∷ []) new
-one_listed limit ts x old new most h a = record {
-  entries = subst (λ l. IsListOf l new) (others_push ts x) (a.entries (others_of ts) h.entries most);
-  room = a.limit ∙ h.room;
-}
+-- all of a file were heard, and its lost pages looked at
+module _ (file : List ℕ) (V : List Reference) (first now l : Held) (e : HasListed first (told_faults file V) now)
+    (f : l ≡ fold added now (lost_faults file V)) where
+  all_added : l ≡ fold added first (listed_faults file V)
+  all_added = f ∙ ap (λ s. fold added s (lost_faults file V)) (e ∙ heard_others (told_faults file V) first)
+      ∙ sym (fold-append added first (others_of (told_faults file V)) (lost_faults file V))
+
+  pub all_listed : (limit : ℕ) → IsUnused limit first → ListsAll limit file V l
+  all_listed limit none = shown limit first l (listed_faults file V) none all_added
+
+  pub all_zeros : HasPageBit first.zeros (geometry file).pages → ((p : ℕ) → has_bit first.zeros p ≡ false) → AreZeros file V l.zeros
+  all_zeros room none =
+      subst (AreZeros file V) (sym (ap (λ (s : Held). s.zeros) all_added ∙ zeros_of (listed_faults file V) first)) (zeros_are file V first.zeros room none)
 
 -- the first faults of a file were heard
-pub heard_first : (limit : ℕ) (file : List ℕ) (V : List Reference) (s : Held) (us : List Reported) → IsBeginning us (told_faults file V)
-    → HasListed limit us s → ListsFirst limit file V s
-heard_first limit file V s us first h = record {
+pub heard_first : (limit : ℕ) (file : List ℕ) (V : List Reference) (first s : Held) (us : List Reported) → IsUnused limit first
+    → IsBeginning us (told_faults file V) → s ≡ fold heard first us → ListsFirst limit file V s
+heard_first limit file V first s us none begins e = record {
   told = others_of us;
   first = (
-    others_of first.0 ++ lost_faults file V,
-    sym (append_assoc (others_of us) (others_of first.0) (lost_faults file V))
-        ∙ ap (λ l. l ++ lost_faults file V) (sym (filter-append (λ x. not (is_lost x)) us first.0) ∙ ap others_of first.1),
+    others_of begins.0 ++ lost_faults file V,
+    sym (append_assoc (others_of us) (others_of begins.0) (lost_faults file V))
+        ∙ ap (λ l. l ++ lost_faults file V) (sym (filter-append (λ x. not (is_lost x)) us begins.0) ∙ ap others_of begins.1),
   );
-  listed = h;
+  shows = shown limit first s (others_of us) none (e ∙ heard_others us first);
 }
 
 -- all of them were, and then the first lost pages were looked at
-pub looked_first : (limit : ℕ) (file : List ℕ) (V : List Reference) (s : Held) (ys : List Reported) → IsBeginning ys (lost_faults file V)
-    → HoldsFaults limit (others_of (told_faults file V) ++ ys) s → ListsFirst limit file V s
-looked_first limit file V s ys first h = record {
-  told = others_of (told_faults file V) ++ ys;
-  first = (first.0, append_assoc (others_of (told_faults file V)) ys first.0 ∙ ap (λ l. others_of (told_faults file V) ++ l) first.1);
-  listed = h;
+pub looked_first : (limit : ℕ) (file : List ℕ) (V : List Reference) (first now s : Held) (ys : List Reported) → IsUnused limit first
+    → now ≡ fold heard first (told_faults file V) → IsBeginning ys (lost_faults file V) → s ≡ fold added now ys → ListsFirst limit file V s
+looked_first limit file V first now s ys none e begins f = record {
+  told = xs ++ ys;
+  first = (begins.0, append_assoc xs ys begins.0 ∙ ap (λ l. xs ++ l) begins.1);
+  shows = shown limit first s (xs ++ ys) none
+      (f ∙ ap (λ s. fold added s ys) (e ∙ heard_others (told_faults file V) first) ∙ sym (fold-append added first xs ys));
 }
+  where
+    xs : List Reported
+    xs = others_of (told_faults file V)

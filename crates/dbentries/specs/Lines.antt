@@ -1,6 +1,6 @@
 -- What is written of an entry below its fault line (own), but for the lines that say where a page is: the cause, and the faults
 -- that belong to it.
-use Rattle.std.specs.Prelude.{ℕ, ℤ, Bool, List, [], ◌∷◌, ◌++◌, Option, codes, decimal, ◌==◌, if◌then◌else◌}
+use Rattle.std.specs.Prelude.{ℕ, ℤ, List, [], ◌∷◌, ◌++◌, Option, codes, decimal, ◌==◌, if◌then◌else◌}
 use Rattle.std.specs.Fmt.{signed_decimal}
 use Rattle.std.specs.Option.{option_map_or}
 use Rattle.dbformat.specs.FirstBytes.{begins_with}
@@ -22,6 +22,10 @@ use Rattle.dbtrace.specs.declared.NamedPages.{NamedPages}
 abbrev pub indented : List ℕ → List ℕ
 indented text = codes "    " ++ text ++ line_feed ∷ []
 
+-- a number of things
+abbrev pub number_text : ℕ → List ℕ → List ℕ → List ℕ
+number_text n one more = decimal n ++ (if n == 1 then one else more)
+
 -- ---- the cause
 
 -- the key that a key is not above
@@ -36,15 +40,15 @@ leaf_text page = indented (codes "the first leaf of the tree is page " ++ decima
 abbrev pub rowid_text : ℤ → List ℕ
 rowid_text rowid = codes ", rowid " ++ signed_decimal rowid
 
--- the line of a page of zeros, if it is one
-abbrev pub zeros_text : Bool → List ℕ
-zeros_text is_zeros = if is_zeros then indented (codes "all zeros") else []
+-- a page whose bytes are all one
+abbrev pub blank_text : ℕ → List ℕ
+blank_text byte = indented (if byte == 0 then codes "all zeros" else codes "all bytes " ++ hex_text 2 byte)
 
 -- The overflow chain that is broken, by its cell, and how much of it was found; below it whether the page with the fault is all zeros.
 abbrev pub broken_chain_text : CellChain → List ℕ
 broken_chain_text c = indented (codes "chain of page " ++ decimal c.page ++ codes " item " ++ decimal c.item ++ option_map_or rowid_text c.rowid [] ++ codes ": "
-    ++ decimal c.found ++ codes " of " ++ decimal c.pages ++ (if c.pages == 1 then codes " page" else codes " pages"))
-    ++ zeros_text c.is_in_zeros
+    ++ decimal c.found ++ codes " of " ++ number_text c.pages (codes " page") (codes " pages"))
+    ++ (if c.is_in_zeros then blank_text 0 else [])
 
 -- the kind of a page of a tree
 abbrev pub page_kind_text : PageKind → List ℕ
@@ -55,7 +59,7 @@ page_kind_text InteriorIndex = codes "an interior page of an index"
 
 -- the text of n cells
 abbrev pub cells_text : ℕ → List ℕ
-cells_text n = decimal n ++ (if n == 1 then codes " cell" else codes " cells")
+cells_text n = number_text n (codes " cell") (codes " cells")
 
 -- from the first rowid to the last
 abbrev pub rowids_text : Rowids → List ℕ
@@ -63,8 +67,8 @@ rowids_text r = codes ", rowids " ++ signed_decimal r.first ++ codes " to " ++ s
 
 -- how many of the pages that a lost interior page names are lost too
 abbrev pub named_text : NamedPages → List ℕ
-named_text n = codes "; " ++ decimal n.lost ++ codes " of the " ++ decimal n.pages
-    ++ (if n.pages == 1 then codes " page that it names is lost too" else codes " pages that it names are lost too")
+named_text n = codes "; " ++ decimal n.lost ++ codes " of the "
+    ++ number_text n.pages (codes " page that it names is lost too") (codes " pages that it names are lost too")
 
 -- a page that looks like one of a tree
 abbrev pub tree_look_text : TreeLook → Option NamedPages → List ℕ
@@ -74,10 +78,6 @@ tree_look_text l named = indented (codes "looks like " ++ page_kind_text l.kind 
 -- the first bytes of a page
 abbrev pub first_bytes_text : List ℕ → List ℕ
 first_bytes_text bytes = indented (begins_with bytes)
-
--- a page whose bytes are all one
-abbrev pub blank_text : ℕ → List ℕ
-blank_text byte = indented (if byte == 0 then codes "all zeros" else codes "all bytes " ++ hex_text 2 byte)
 
 -- what a page looks like
 abbrev pub look_text : Look → Option NamedPages → List ℕ

@@ -1,6 +1,6 @@
 -- What `explain` lists (own): the faults that lead, each with the faults that belong to it.
-use Rattle.std.specs.Prelude.{ℕ, zero, suc, ◌+◌, Bool, true, false, ◌&&◌, List, [], ◌∷◌, ◌++◌, length, find, fold, Option, Some, None, nat_lt, slice_get, ◌==◌, if◌then◌else◌}
-use Rattle.std.specs.Option.{option_map_or, option_or}
+use Rattle.std.specs.Prelude.{ℕ, zero, suc, ◌+◌, ◌-◌, Bool, true, false, ◌&&◌, ◌||◌, List, [], ◌∷◌, ◌++◌, length, drop, map, fold, Option, Some, None, nat_le, ◌==◌, if◌then◌else◌}
+use Rattle.std.specs.Option.{option_map_or}
 use Rattle.dbformat.specs.Codes.{code_index}
 use Rattle.dbformat.specs.declared.FaultCode.{FaultCode}
 use Rattle.dbformat.specs.declared.FaultCode.TheVariants.{N01}
@@ -57,39 +57,26 @@ pub record Entry : Type 0 where
   pub first : Reported
   pub others : List Reported
 
--- whether an entry is of the code with this index, and of the part with this number
-abbrev pub is_of : ℕ → ℕ → Entry → Bool
-is_of code part e = (code_index e.first.fault.code == code) && (rank e.first.part == part)
-
--- the numbers of the entries that pass a test, from number i on
-abbrev pub entry_numbers_from : {X : Type 0} → (X → Bool) → ℕ → List X → List ℕ
-entry_numbers_from test i [] = []
-entry_numbers_from test i (x ∷ xs) = if test x then i ∷ entry_numbers_from test (suc i) xs else entry_numbers_from test (suc i) xs
-
--- the entries of the code and the part of a fault
-abbrev pub beside : Reported → List Entry → List ℕ
-beside x es = entry_numbers_from (is_of (code_index x.fault.code) (rank x.part)) 0 es
-
--- whether entry i goes back to what a fault goes back to
-abbrev pub is_cause : Reported → List Entry → ℕ → Bool
-is_cause x es i = option_map_or (λ (e : Entry). same_cause x.cause e.first.cause) (slice_get es i) false
-
--- the last of some numbers
-abbrev pub last_of : List ℕ → Option ℕ
-last_of [] = None
-last_of (i ∷ is) = option_or (last_of is) (Some i)
-
--- The entry that a fault with this code belongs to, by the numbers of those of its code and part: the one that goes back to the same; none
--- where there are not yet as many as there may be, and then it is an entry itself; else the last.
-abbrev pub home_among : FaultCode → (ℕ → Bool) → List ℕ → Option ℕ
-home_among code same is = option_or (find same is) (if nat_lt (length is) (most code) then None else last_of is)
-
-abbrev pub home : Reported → List Entry → Option ℕ
-home x es = home_among x.fault.code (is_cause x es) (beside x es)
+-- an entry of this fault alone
+abbrev pub alone : Reported → Entry
+alone x = record { first = x; others = [] }
 
 -- one more belongs to an entry
 abbrev pub joined : Reported → Entry → Entry
 joined x e = record e { others = e.others ++ x ∷ [] }
+
+-- whether two faults are of one code
+abbrev pub is_beside : Reported → Reported → Bool
+is_beside x y = code_index y.fault.code == code_index x.fault.code
+
+-- whether a fault belongs to the one that is led by y, where n of its code may lead yet: it goes back to the same, or y is the last that may lead
+abbrev pub is_home : Reported → ℕ → Reported → Bool
+is_home x n y = is_beside x y && (nat_le n 1 || same_cause x.cause y.cause)
+
+-- The number of the first entry that a fault belongs to, by the faults that lead them, from number i on.
+abbrev pub home_from : Reported → ℕ → ℕ → List Reported → Option ℕ
+home_from x n i [] = None
+home_from x n i (y ∷ ys) = if is_home x n y then Some i else home_from x (if is_beside x y then n - 1 else n) (i + 1) ys
 
 -- element i of a list, changed
 abbrev pub changed_at : {X : Type 0} → (X → X) → ℕ → List X → List X
@@ -97,13 +84,31 @@ changed_at f i [] = []
 changed_at f zero (x ∷ xs) = f x ∷ xs
 changed_at f (suc i) (x ∷ xs) = x ∷ changed_at f i xs
 
--- the entries with one fault more
-abbrev pub with_fault : List Entry → Reported → List Entry
-with_fault es x = option_map_or (λ i. changed_at (joined x) i es) (home x es) (es ++ record { first = x; others = [] } ∷ [])
+-- the entries of some faults, the number of the first that is of the part of the last fault, and that part
+pub record Entered : Type 0 where
+  pub entries : List Entry
+  pub begins : ℕ
+  pub part : ℕ
 
--- the entries of some faults
+-- the entries from here on are of this part
+abbrev pub turned : ℕ → Entered → Entered
+turned part w = if w.part == part then w else record w { begins = length w.entries; part = part }
+
+-- the entry of this part that a fault belongs to, if there is one
+abbrev pub home : Entered → Reported → Option ℕ
+home w x = home_from x (most x.fault.code) w.begins (drop w.begins (map (λ (e : Entry). e.first) w.entries))
+
+-- one fault more of the last part: it belongs to an entry, or is one
+abbrev pub entered : Entered → Reported → Entered
+entered w x = record w { entries = option_map_or (λ i. changed_at (joined x) i w.entries) (home w x) (w.entries ++ alone x ∷ []) }
+
+-- one fault more
+abbrev pub with_fault : Entered → Reported → Entered
+with_fault w x = entered (turned (rank x.part) w) x
+
+-- the entries of some faults, of which those of one part come one after another
 abbrev pub entries : List Reported → List Entry
-entries xs = fold with_fault [] xs
+entries xs = (fold with_fault (record { entries = []; begins = 0; part = 0 }) xs).entries
 
 -- how many faults an entry speaks of
 abbrev pub size : Entry → ℕ

@@ -1,60 +1,61 @@
 -- What is kept of the faults of a file.
-use Rattle.std.specs.Prelude.{◌≡◌, ℕ, ◌≤◌, List, [], ◌∷◌, ◌++◌, map, take, drop, if◌then◌else◌}
+use Rattle.std.specs.Prelude.{◌≡◌, ℕ, ◌≤◌, false, List, [], map, fold, take, drop, vec_len, if◌then◌else◌}
 use Rattle.std.specs.List.{sum_by}
 use Rattle.dbformat.specs.Lines.{counted}
 use Rattle.dbformat.specs.Reference.{Reference}
 use Rattle.dbtrace.specs.declared.Reported.{Reported}
+use Rattle.dbentries.specs.Bits.{has_bit}
 use Rattle.dbentries.specs.Kept.{kept_of}
-use Rattle.dbentries.specs.Listed.{IsBeginning, is_lost, listed_faults, others_of}
-use Rattle.dbentries.specs.Listing.{Entry, rank, size}
-use Rattle.dbentries.specs.Store.{AreEntriesOf, Stored}
-use Rattle.dbentries.specs.Zeros.{AreZeros}
+use Rattle.dbentries.specs.Listed.{IsBeginning, is_lost, listed_entries, listed_faults}
+use Rattle.dbentries.specs.Listing.{Entry, entries, size}
+use Rattle.dbentries.specs.Store.{Stored, put}
+use Rattle.dbentries.specs.Zeros.{zero_noted}
+use Rattle.dbentries.specs.declared.listing.Listing.TheInside.{Inside}
 
 -- a listing as contracts see it: entries, and words with a bit for each page
 pub record Held : Type 0 where
   pub entries : Stored
   pub zeros : List ℕ
 
--- What is kept is that of the entries of these faults, and of the pages that are zeros by them.
-pub record IsListOf (xs : List Reported) (s : Held) : Type 0 where
-  pub entries : AreEntriesOf xs s.entries
-  pub zeros : AreZeros xs s.zeros
+abbrev pub held : {A : Type 0} → Inside A → Held
+held l = record {
+  entries = record { limit = vec_len l.entries; listed = take l.shown l.entries.items; rest = l.rest; part = l.part; begins = l.begins };
+  zeros = l.zeros;
+}
 
--- these faults are listed, with room for `limit` entries
-pub record HoldsFaults (limit : ℕ) (xs : List Reported) (s : Held) : Type 0 where
-  pub entries : IsListOf xs s
-  pub room : s.entries.limit ≡ limit
+-- no more entries are shown than there is room for, and those of the last part are among them
+abbrev pub IsHeld : {A : Type 0} → Inside A → Type 0
+IsHeld l = (l.shown ≤ vec_len l.entries) × (l.begins ≤ l.shown)
 
--- all of these faults are listed but those of lost pages, of which none was looked at
-abbrev pub HasListed : ℕ → List Reported → Held → Type 0
-HasListed limit ts s = HoldsFaults limit (others_of ts) s
-
--- nothing is listed, and there is room for `limit` entries
+-- nothing is listed, there is room for `limit` entries, and no page is noted
 pub record IsUnused (limit : ℕ) (s : Held) : Type 0 where
-  pub none : HoldsFaults limit [] s
-  pub part : s.entries.part ≡ 0
+  pub entries : s.entries ≡ record { limit = limit; listed = []; rest = 0; part = 0; begins = 0 }
+  pub zeros : (p : ℕ) → has_bit s.zeros p ≡ false
 
--- what is listed of a fault as it is heard
-abbrev pub listed_now : Reported → List Reported
-listed_now x = if is_lost x then [] else x ∷ []
+-- with one fault more
+abbrev pub added : Held → Reported → Held
+added s x = record { entries = put s.entries x; zeros = zero_noted s.zeros x }
 
--- One fault more is listed, but for that of a lost page, where its part is not before those of the others.
-pub record ListsFault (x : Reported) (old new : Held) : Type 0 where
-  pub entries : (xs : List Reported) → IsListOf xs old → old.entries.part ≤ rank x.part → IsListOf (xs ++ listed_now x) new
-  pub part : old.entries.part ≤ rank x.part → new.entries.part ≤ rank x.part
-  pub limit : new.entries.limit ≡ old.entries.limit
+-- as it is heard: that of a lost page is added later
+abbrev pub heard : Held → Reported → Held
+heard s x = if is_lost x then s else added s x
+
+-- some faults were heard, one after another
+abbrev pub HasListed : Held → List Reported → Held → Type 0
+HasListed first ts s = s ≡ fold heard first ts
+
+-- of these entries the first `limit` are listed, and the faults of the others are counted
+pub record Shows (limit : ℕ) (es : List Entry) (s : Held) : Type 0 where
+  pub room : s.entries.limit ≡ limit
+  pub listed : s.entries.listed ≡ map kept_of (take limit es)
+  pub rest : s.entries.rest ≡ counted (sum_by size (drop limit es))
 
 -- all faults of a file are listed
 abbrev pub ListsAll : ℕ → List ℕ → List Reference → Held → Type 0
-ListsAll limit file V s = HoldsFaults limit (listed_faults file V) s
+ListsAll limit file V s = Shows limit (listed_entries file V) s
 
 -- the first of them are
 pub record ListsFirst (limit : ℕ) (file : List ℕ) (V : List Reference) (s : Held) : Type 0 where
   pub told : List Reported
   pub first : IsBeginning told (listed_faults file V)
-  pub listed : HoldsFaults limit told s
-
--- of these entries the first `limit` are listed, and the faults of the others are counted
-pub record Shows (limit : ℕ) (es : List Entry) (s : Held) : Type 0 where
-  pub listed : s.entries.listed ≡ map kept_of (take limit es)
-  pub rest : s.entries.rest ≡ counted (sum_by size (drop limit es))
+  pub shows : Shows limit (entries told) s

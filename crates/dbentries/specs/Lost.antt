@@ -1,13 +1,17 @@
 -- Lost pages: no visit names them, and they have no fixed use. Each has a fault, which goes back to what the page looks like.
-use Rattle.std.specs.Prelude.{◌≡◌, ℕ, List, [], ◌∷◌, ◌++◌, pos, Result, MatchResult, if◌then◌else◌}
+use Rattle.std.specs.Prelude.{◌≡◌, ℕ, List, [], ◌∷◌, fold, pos, Result, MatchResult, if◌then◌else◌}
 use Rattle.dbformat.specs.Faults.{fault}
+use Rattle.dbformat.specs.File.{geometry}
 use Rattle.dbformat.specs.Reference.{Reference}
 use Rattle.dbformat.specs.declared.FaultCode.TheVariants.{N01}
 use Rattle.dbtrace.specs.Causes.{lost_cause_at}
 use Rattle.dbtrace.specs.declared.Part.TheVariants as part
 use Rattle.dbtrace.specs.declared.Reported.{Reported}
+use Rattle.dbentries.specs.Bits.{HasPageBit}
 use Rattle.dbentries.specs.Listed.{is_lost_page, is_unreached}
-use Rattle.dbentries.specs.Lists.{Held, HoldsFaults, ListsAll, ListsFirst}
+use Rattle.dbentries.specs.Lists.{HasListed, Held, IsUnused, ListsAll, ListsFirst, added}
+use Rattle.dbentries.specs.Zeros.{AreZeros}
+use Rattle.dbscan.specs.Placed.{told_faults}
 
 -- the fault of a lost page
 abbrev pub lost_page : List ℕ → List Reference → ℕ → Reported
@@ -17,11 +21,12 @@ lost_page file V p = record { part = part.End; fault = fault N01 p 0 (pos 0); ca
 abbrev pub lost_at : List ℕ → List Reference → ℕ → List Reported
 lost_at file V p = if is_unreached file V p then lost_page file V p ∷ [] else []
 
--- The fault of page p was listed after those of the pages before it, if p is lost; after a failed read it was not.
+-- The fault of page p was listed, if p is lost; after a failed read it was not.
 abbrev pub AddsLost : {A E : Type 0} → List ℕ → List Reference → ℕ → Result A E → Held → Held → Type 0
-AddsLost file V p r old new =
-    MatchResult r (λ _. (limit : ℕ) (xs : List Reported) → HoldsFaults limit xs old → HoldsFaults limit (xs ++ lost_at file V p) new) (λ _. new ≡ old)
+AddsLost file V p r old new = MatchResult r (λ _. new ≡ fold added old (lost_at file V p)) (λ _. new ≡ old)
 
--- the faults of all lost pages were listed, after all others; after a failed read the first of them
-abbrev pub HasLooked : {A E : Type 0} → ℕ → List ℕ → List Reference → Result A E → Held → Type 0
-HasLooked limit file V r new = MatchResult r (λ _. ListsAll limit file V new) (λ _. ListsFirst limit file V new)
+-- The faults of all lost pages were listed, after all others were heard; after a failed read the first of them.
+abbrev pub HasLooked : {A E : Type 0} → List ℕ → List Reference → Result A E → Held → Held → Type 0
+HasLooked file V r old new = (limit : ℕ) (first : Held) → IsUnused limit first → HasListed first (told_faults file V) old
+    → MatchResult r (λ _. ListsAll limit file V new
+    × (HasPageBit first.zeros (geometry file).pages → AreZeros file V new.zeros)) (λ _. ListsFirst limit file V new)

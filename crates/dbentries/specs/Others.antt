@@ -1,5 +1,5 @@
 -- The line of the faults that belong to an entry (own): how many there are, and the last of them, or the pages that look alike.
-use Rattle.std.specs.Prelude.{ℕ, ◌+◌, ◌-◌, List, [], ◌∷◌, ◌++◌, length, take, map, None, sum_by, codes, decimal, ◌==◌, if◌then◌else◌}
+use Rattle.std.specs.Prelude.{ℕ, ◌+◌, ◌-◌, List, [], ◌∷◌, ◌++◌, length, take, map, fold, None, sum_by, codes, decimal, ◌==◌, if◌then◌else◌}
 use Rattle.std.specs.List.{join_by, last_or}
 use Rattle.std.specs.Option.{option_map_or}
 use Rattle.dbformat.specs.Lines.{counted}
@@ -9,7 +9,7 @@ use Rattle.dbtrace.specs.declared.Cause.{Cause}
 use Rattle.dbtrace.specs.declared.Cause.TheVariants as cause
 use Rattle.dbtrace.specs.declared.Reported.{Reported}
 use Rattle.dbentries.specs.Kept.{look_cells}
-use Rattle.dbentries.specs.Lines.{cells_text, indented}
+use Rattle.dbentries.specs.Lines.{cells_text, indented, number_text}
 use Rattle.dbentries.specs.Listing.{Entry}
 use Rattle.dbentries.specs.declared.entry.Entry as kept
 use Rattle.dbentries.specs.declared.entry.Others.{Others}
@@ -17,16 +17,15 @@ use Rattle.dbentries.specs.declared.runs.Run.{Run}
 
 -- ---- pages in runs
 
--- a page before some runs: part of the first, where that begins with the next page, and else a run of its own
-abbrev pub run_before : ℕ → List Run → List Run
-run_before page [] = record { first = page; last = page } ∷ []
-run_before page (r ∷ rs) =
-    if r.first == page + 1 then record { first = page; last = r.last } ∷ rs else record { first = page; last = page } ∷ r ∷ rs
+-- a page after some runs: part of the last, where it comes next, and else a run of its own
+abbrev pub run_after : List Run → ℕ → List Run
+run_after [] page = record { first = page; last = page } ∷ []
+run_after (r ∷ []) page = if page == r.last + 1 then record r { last = page } ∷ [] else r ∷ record { first = page; last = page } ∷ []
+run_after (r ∷ s ∷ rs) page = r ∷ run_after (s ∷ rs) page
 
 -- the runs of some pages, in their order: pages that follow one another are one
 abbrev pub runs : List ℕ → List Run
-runs [] = []
-runs (page ∷ pages) = run_before page (runs pages)
+runs pages = fold run_after [] pages
 
 -- a run: a page, or from the first page to the last
 abbrev pub run_text : Run → List ℕ
@@ -34,7 +33,7 @@ run_text r = if r.first == r.last then decimal r.first else decimal r.first ++ c
 
 -- how many runs there are beside those that are shown
 abbrev pub more_runs_text : ℕ → List ℕ
-more_runs_text k = if k == 0 then [] else codes " and " ++ decimal k ++ (if k == 1 then codes " more run" else codes " more runs")
+more_runs_text k = if k == 0 then [] else codes " and " ++ number_text k (codes " more run") (codes " more runs")
 
 -- these runs, and k more
 abbrev pub shown_runs_text : List Run → ℕ → List ℕ
@@ -55,13 +54,9 @@ abbrev pub all_cells_text : Look → ℕ → List ℕ
 all_cells_text (look.Tree l) cells = codes " with " ++ cells_text cells
 all_cells_text _ cells = []
 
--- n pages that look like another
-abbrev pub more_pages_text : ℕ → List ℕ
-more_pages_text n = decimal n ++ (if n == 1 then codes " more page like it" else codes " more pages like it")
-
 -- n pages that look like this one, and how many cells they have
 abbrev pub alike_text : Look → ℕ → ℕ → List ℕ
-alike_text l n cells = codes "and " ++ more_pages_text n ++ all_cells_text l cells ++ codes ": "
+alike_text l n cells = codes "and " ++ number_text n (codes " more page like it") (codes " more pages like it") ++ all_cells_text l cells ++ codes ": "
 
 -- faults of pages that look like this one: how many there are, and the pages
 abbrev pub alike_pages_text : Look → List Reported → List ℕ

@@ -9,7 +9,7 @@ use Rattle.dbtrace.specs.declared.Cause.{Cause}
 use Rattle.dbtrace.specs.declared.Cause.TheVariants as cause
 use Rattle.dbtrace.specs.declared.Reported.{Reported}
 use Rattle.dbentries.specs.Listed.{listed_faults}
-use Rattle.dbentries.specs.Bits.{bit_set, has_bit, HasPageBit}
+use Rattle.dbentries.specs.Bits.{bit_set, has_bit}
 
 -- whether the page of a fault with this cause is zeros: it is of an unknown type or lost, and blank, or its next overflow page is refused
 abbrev pub is_of_zeros : Cause → Bool
@@ -28,9 +28,9 @@ zero_pages file V = filter (is_zero_page (listed_faults file V)) (page_numbers (
 -- ---- by bits
 
 -- the bits, with that of the page of one more fault
-abbrev pub zero_noted : Reported → List ℕ → List ℕ
-zero_noted x words = if is_of_zeros x.cause then bit_set x.fault.page words else words
+abbrev pub zero_noted : List ℕ → Reported → List ℕ
+zero_noted words x = if is_of_zeros x.cause then bit_set x.fault.page words else words
 
--- the bits are those of the pages that are zeros, by these faults
-abbrev pub AreZeros : List Reported → List ℕ → Type 0
-AreZeros xs words = (p : ℕ) → HasPageBit words p → has_bit words p ≡ is_zero_page xs p
+-- those of a file with a bit are its pages that are zeros
+abbrev pub AreZeros : List ℕ → List Reference → List ℕ → Type 0
+AreZeros file V words = filter (has_bit words) (page_numbers (geometry file)) ≡ zero_pages file V

@@ -16,22 +16,19 @@
 #![tactic(auto)]
 
 mod causes;
-mod entries;
 mod entry;
-mod first_bytes;
 mod lines;
 mod listing;
 mod lost;
 mod others;
 mod page_bits;
-mod part;
 mod runs;
 
 pub use dbscan::Desk;
 pub use dbsource::{Out, ReadFailed, Source, WriteFailed};
 pub use dbtrace::{Cause, Part, Reported};
 pub use entry::{Entry, Others};
-pub use lines::{append_signed, put_cause};
+pub use lines::{append_count, append_signed, put_cause};
 pub use listing::Listing;
 pub use others::put_others;
 pub use page_bits::PageBits;

@@ -1,16 +1,15 @@
 // The lines of an entry below its fault line: its cause, and the faults that belong to it.
 ghost use Rattle.arrayvec.specs.ArrayVec.{array_vec_len};
-ghost use Rattle.std.specs.Prelude.{◌≡◌, ◌+◌, ◌≤◌, [], ◌++◌, length};
+ghost use Rattle.std.specs.Prelude.{◌≡◌, ◌+◌, ◌≤◌, [], ◌++◌, length, if◌then◌else◌};
 ghost use Rattle.std.specs.Fmt.{signed_decimal};
 ghost use Rattle.std.specs.Option.{option_map_or};
 ghost use Rattle.dblines.specs.Writing.{Wrote};
-ghost use Rattle.dbentries.specs.Lines.{blank_text, broken_chain_text, cause_text, cells_text, key_text, leaf_text, look_text, named_text};
-ghost use Rattle.dbentries.specs.Lines.{page_kind_text, rowid_text, rowids_text, tree_look_text, zeros_text};
+ghost use Rattle.dbentries.specs.Lines.{blank_text, broken_chain_text, cause_text, first_bytes_text, key_text, leaf_text, look_text};
+ghost use Rattle.dbentries.specs.Lines.{named_text, number_text, page_kind_text, rowid_text, rowids_text, tree_look_text};
 
-use crate::first_bytes::first_bytes_text;
 use arrayvec::ArrayVec;
 use dbformat::{Look, PageKind, Rowids, TreeLook, hex_byte};
-use dblines::{Writer, append, append_number};
+use dblines::{Writer, append, append_first_bytes, append_number};
 use dbsource::Out;
 use dbtrace::{Cause, CellChain, CellKey, NamedPages};
 use itoa::Buffer;
@@ -25,14 +24,20 @@ pub fn append_signed<const CAP: usize>(line: &mut ArrayVec<u8, CAP>, number: i64
     append(line, buffer.format(number));
 }
 
-// Adds a number of cells.
-pub(crate) fn append_cells<const CAP: usize>(line: &mut ArrayVec<u8, CAP>, cells: u64)
-    requires { array_vec_len line.old + 26 ≤ CAP }
-    ensures text { line.new.items ≡ line.old.items ++ cells_text cells }
-    ensures short { array_vec_len line.new ≤ array_vec_len line.old + 26 }
+/// Adds a number of things, of which there may be one.
+pub fn append_count<const CAP: usize>(
+    line: &mut ArrayVec<u8, CAP>,
+    count: u64,
+    one: &str,
+    more: &str,
+)
+    requires one { array_vec_len line.old + 20 + length one.now ≤ CAP }
+    requires more { array_vec_len line.old + 20 + length more.now ≤ CAP }
+    ensures text { line.new.items ≡ line.old.items ++ number_text count one.now more.now }
+    ensures short { array_vec_len line.new ≤ array_vec_len line.old + 20 + length one.now + length more.now }
 {
-    append_number(line, cells);
-    append(line, if cells == 1 { " cell" } else { " cells" });
+    append_number(line, count);
+    append(line, if count == 1 { one } else { more });
 }
 
 fn key_text(key: CellKey) -> ArrayVec<u8, 128>
@@ -73,15 +78,15 @@ fn append_rowid<const CAP: usize>(line: &mut ArrayVec<u8, CAP>, rowid: Option<i6
 
 // Adds the line of a page of zeros, if it is one.
 fn append_zeros<const CAP: usize>(line: &mut ArrayVec<u8, CAP>, is_zeros: bool)
-    requires { array_vec_len line.old + 14 ≤ CAP }
-    ensures { line.new.items ≡ line.old.items ++ zeros_text is_zeros }
+    requires { array_vec_len line.old + 32 ≤ CAP }
+    ensures { line.new.items ≡ line.old.items ++ (if is_zeros then blank_text 0 else []) }
 {
     if is_zeros {
-        append(line, "    all zeros\n");
+        let _ = line.try_extend_from_slice(blank_text(0).as_slice());
     }
 }
 
-fn chain_text(chain: CellChain) -> ArrayVec<u8, 160>
+fn chain_text(chain: CellChain) -> ArrayVec<u8, 192>
     ensures { result.items ≡ broken_chain_text chain }
 {
     let mut line = ArrayVec::new();
@@ -93,15 +98,8 @@ fn chain_text(chain: CellChain) -> ArrayVec<u8, 160>
     append(&mut line, ": ");
     append_number(&mut line, u64::from(chain.found));
     append(&mut line, " of ");
-    append_number(&mut line, u64::from(chain.pages));
-    append(
-        &mut line,
-        if chain.pages == 1 {
-            " page\n"
-        } else {
-            " pages\n"
-        },
-    );
+    append_count(&mut line, u64::from(chain.pages), " page", " pages");
+    append(&mut line, "\n");
     append_zeros(&mut line, chain.is_in_zeros);
     line
 }
@@ -134,22 +132,19 @@ fn append_rowids<const CAP: usize>(line: &mut ArrayVec<u8, CAP>, rowids: Option<
 
 // Adds how many of the pages that a lost interior page names are lost too, if it is one.
 fn append_named<const CAP: usize>(line: &mut ArrayVec<u8, CAP>, named: Option<NamedPages>)
-    requires { array_vec_len line.old + 83 ≤ CAP }
+    requires { array_vec_len line.old + 114 ≤ CAP }
     ensures text { line.new.items ≡ line.old.items ++ option_map_or named_text named [] }
-    ensures short { array_vec_len line.new ≤ array_vec_len line.old + 83 }
+    ensures short { array_vec_len line.new ≤ array_vec_len line.old + 114 }
 {
     if let Some(named) = named {
         append(line, "; ");
         append_number(line, u64::from(named.lost));
         append(line, " of the ");
-        append_number(line, u64::from(named.pages));
-        append(
+        append_count(
             line,
-            if named.pages == 1 {
-                " page that it names is lost too"
-            } else {
-                " pages that it names are lost too"
-            },
+            u64::from(named.pages),
+            " page that it names is lost too",
+            " pages that it names are lost too",
         );
     }
 }
@@ -161,7 +156,7 @@ fn tree_look_text(look: TreeLook, named: Option<NamedPages>) -> ArrayVec<u8, 256
     append(&mut line, "    looks like ");
     append(&mut line, page_kind_text(look.kind));
     append(&mut line, " with ");
-    append_cells(&mut line, u64::from(look.cells));
+    append_count(&mut line, u64::from(look.cells), " cell", " cells");
     append_rowids(&mut line, look.rowids);
     append_named(&mut line, named);
     append(&mut line, "\n");
@@ -179,6 +174,17 @@ fn blank_text(byte: u8) -> ArrayVec<u8, 32>
         append(&mut line, "bytes ");
         let _ = line.try_extend_from_slice(&hex_byte(byte));
     }
+    append(&mut line, "\n");
+    line
+}
+
+// The line of the first bytes of a page.
+fn first_bytes_text(first: [u8; 16]) -> ArrayVec<u8, 128>
+    ensures { result.items ≡ first_bytes_text first }
+{
+    let mut line = ArrayVec::new();
+    append(&mut line, "    ");
+    append_first_bytes(&mut line, &first);
     append(&mut line, "\n");
     line
 }

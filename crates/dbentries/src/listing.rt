@@ -1,25 +1,32 @@
 // The entries of the reported faults, and which pages are zeros.
-ghost use Rattle.std.specs.Prelude.{◌≡◌, ◌≤◌, ◌∷◌, [], ◌++◌, ℕ, List, IfOk, filter, fold, length};
+ghost use Rattle.std.specs.Prelude.{◌≡◌, ◌≤◌, ◌<◌, IfOk, filter, fold, length};
 ghost use Rattle.std.specs.List.{range_with_len};
-ghost use Rattle.dbentries.specs.Kept.{no_runs, run_added};
-ghost use Rattle.dbentries.specs.Listing.{rank};
-ghost use Rattle.dbentries.specs.Lists.{IsListOf, IsUnused};
 ghost use Rattle.dbentries.specs.Bits.{has_bit, HasPageBit};
+ghost use Rattle.dbentries.specs.Kept.{no_runs, run_added};
+ghost use Rattle.dbentries.specs.Listing.{is_beside, rank};
+ghost use Rattle.dbentries.specs.Lists.{added, IsUnused};
+ghost use Rattle.dbentries.specs.Store.{home_kept, put_kept, put_new, turned_to};
 ghost use Rattle.dbentries.specs.Zeros.{is_of_zeros, zero_noted};
 
-use crate::entries::Entries;
+use crate::causes::{most, same_cause};
 use crate::entry::Entry;
 use crate::page_bits::PageBits;
 use crate::runs::{NO_RUNS, Runs};
-use dbformat::Look;
-use dbtrace::{Cause, Reported};
+use dbformat::{Fault, FaultCode, Look};
+use dbtrace::{Cause, Part, Reported};
 use std::alloc::{AllocError, Allocator, Global};
 use std::marker::Model;
 
-/// The entries of the reported faults, and of each page whether it is zeros, by a fault of it.
+/// The entries of the reported faults: the first ones, as many as there is room for, and how many faults belong to the others; and
+/// of each page whether it is zeros, by a fault of it.
 #[derive(Drop)]
 pub struct Listing<A: Allocator = Global> {
-    entries: Entries<A>,
+    entries: Vec<Entry, A>,
+    shown: usize,
+    rest: u64,
+    // The part of the last fault, and where its entries begin.
+    part: u64,
+    begins: usize,
     zeros: PageBits<A>,
 }
 
@@ -28,7 +35,44 @@ impl<A: Allocator> Model for Listing<A> {
 
     ghost Value = { Held };
 
-    ghost view = { λ listing. record { entries = listing.entries; zeros = listing.zeros } };
+    ghost use Rattle.dbentries.specs.Lists.{held, IsHeld};
+
+    ghost view = { held };
+
+    ghost invariant = { IsHeld };
+}
+
+// Fills the places where no entry is kept yet.
+const NO_ENTRY: Reported = Reported {
+    part: Part::Header,
+    fault: Fault {
+        code: FaultCode::H01,
+        page: 0,
+        item: 0,
+        value: 0,
+    },
+    cause: Cause::Itself,
+};
+
+// The number of the end, greater than that of each start.
+const END: u64 = 4294967297;
+
+// The number of a part in the order of a report.
+fn rank(part: Part) -> u64
+    ensures { result ≡ rank part }
+{
+    match part {
+        Part::Header => 0,
+        Part::Start(start) => u64::from(start) + 1,
+        Part::End => END,
+    }
+}
+
+// Whether two faults are of one code.
+fn is_beside(told: &Reported, first: &Reported) -> bool
+    ensures { result ≡ is_beside told.now first.now }
+{
+    first.fault.code.index() == told.fault.code.index()
 }
 
 // Whether the page of a fault with this cause is zeros.
@@ -53,47 +97,44 @@ impl<A: Allocator + Copy> Listing<A> {
         ensures none { IfOk result (IsUnused limit) }
         ensures room { IfOk result (λ listing. HasPageBit listing.zeros pages) }
     {
+        let entries = Vec::from_elem(alloc, Entry::of(&NO_ENTRY), limit as usize)?;
+        let zeros = PageBits::new_in(alloc, pages)?;
         Ok(Listing {
-            entries: Entries::new_in(alloc, limit)?,
-            zeros: PageBits::new_in(alloc, pages)?,
+            entries,
+            shown: 0,
+            rest: 0,
+            part: 0,
+            begins: 0,
+            zeros,
         })
     }
 }
 
 impl<A: Allocator> Listing<A> {
-    // Notes of the page of a fault that it is zeros, if it is.
-    fn note_zeros(&mut self, told: &Reported)
-        ensures { self.new ≡ record self.old { zeros = zero_noted told.now self.old.zeros } }
-    {
-        if is_of_zeros(&told.cause) {
-            self.zeros.set(told.fault.page);
-        }
-    }
-
-    // Adds a fault, which comes after those of earlier parts and the earlier ones of its own part.
+    // Adds a fault, which comes after the earlier ones of its part.
     pub(crate) fn add(&mut self, told: &Reported)
-        ensures entries { (xs : List Reported) → IsListOf xs self.old → self.old.entries.part ≤ rank told.now.part → IsListOf (xs ++ told.now ∷ []) self.new }
-        ensures limit { self.new.entries.limit ≡ self.old.entries.limit }
-        ensures part { self.new.entries.part ≡ rank told.now.part }
-        ensures last { self.old.entries.part ≤ 4294967297 }
-        ensures room { length self.new.zeros ≡ length self.old.zeros }
+        ensures { self.new ≡ added self.old told.now }
     {
         self.note_zeros(told);
-        self.entries.add(told);
+        self.turn_to(rank(told.part));
+        match self.home(told) {
+            Some(slot) => self.put_kept(slot, told),
+            None => self.put_new(told),
+        }
     }
 
     /// The entries that are kept, in their order.
     pub fn listed(&self) -> &[Entry]
         ensures { result.now ≡ self.now.entries.listed }
     {
-        self.entries.listed()
+        &self.entries[..self.shown]
     }
 
     /// How many faults belong to the other entries: these entries, and the faults that belong to them.
     pub fn rest(&self) -> u64
         ensures { result ≡ self.now.entries.rest }
     {
-        self.entries.rest()
+        self.rest
     }
 
     /// The runs of the pages that are zeros, of the first `pages`.
@@ -107,5 +148,61 @@ impl<A: Allocator> Listing<A> {
             }
         }
         runs
+    }
+
+    // The entries from here on are of this part.
+    fn turn_to(&mut self, part: u64)
+        ensures { self.new ≡ record self.old { entries = turned_to part self.old.entries } }
+    {
+        if self.part != part {
+            self.part = part;
+            self.begins = self.shown;
+        }
+    }
+
+    // The entry that a fault of the last part belongs to, if one is kept: there are at most three of each code, and six of lost pages.
+    fn home(&self, told: &Reported) -> Option<usize>
+        ensures { result ≡ home_kept told.now self.now.entries }
+    {
+        let mut left = most(told.fault.code);
+        for slot in self.begins..self.shown {
+            let first = &self.entries[slot].first;
+            if is_beside(told, first) {
+                if left <= 1 || same_cause(told.cause, first.cause) {
+                    return Some(slot);
+                }
+                left -= 1;
+            }
+        }
+        None
+    }
+
+    // Adds a fault to an entry that is kept.
+    fn put_kept(&mut self, slot: usize, told: &Reported)
+        requires { slot < length self.old.entries.listed }
+        ensures { self.new ≡ record self.old { entries = put_kept slot told.now self.old.entries } }
+    {
+        self.entries[slot].add(told);
+    }
+
+    // Adds an entry, where there is room.
+    fn put_new(&mut self, told: &Reported)
+        ensures { self.new ≡ record self.old { entries = put_new told.now self.old.entries } }
+    {
+        if self.shown < self.entries.len() {
+            self.entries[self.shown] = Entry::of(told);
+            self.shown += 1;
+        } else {
+            self.rest = self.rest.saturating_add(1);
+        }
+    }
+
+    // Notes of the page of a fault that it is zeros, if it is.
+    fn note_zeros(&mut self, told: &Reported)
+        ensures { self.new ≡ record self.old { zeros = zero_noted self.old.zeros told.now } }
+    {
+        if is_of_zeros(&told.cause) {
+            self.zeros.set(told.fault.page);
+        }
     }
 }

@@ -8,11 +8,11 @@ ghost use Rattle.dbentries.specs.Lines.{indented};
 ghost use Rattle.dbentries.specs.Listing as listing;
 ghost use Rattle.dbtrace.specs.Causes.{no_rowids, page_facts};
 ghost use Rattle.dbtrace.specs.declared.Cause.TheVariants as cause;
-ghost use Rattle.dbentries.specs.Others.{all_cells_text, alike_text, kept_faults_line, kept_text, last_text, more_pages_text};
+ghost use Rattle.dbentries.specs.Others.{all_cells_text, alike_text, kept_faults_line, kept_text, last_text};
 ghost use Rattle.dbentries.specs.Others.{kept_others_text, more_runs_text, next_run_text, others_text, run_text, shown_runs_text};
 
 use crate::entry::{Entry, Others};
-use crate::lines::append_cells;
+use crate::lines::append_count;
 use crate::runs::{Run, Runs};
 use arrayvec::ArrayVec;
 use dbformat::Look;
@@ -58,66 +58,53 @@ fn append_runs<const CAP: usize>(line: &mut ArrayVec<u8, CAP>, runs: &[Run])
 
 // Adds how many runs there are beside those that are shown.
 fn append_more_runs<const CAP: usize>(line: &mut ArrayVec<u8, CAP>, more: u64)
-    requires { array_vec_len line.old + 35 ≤ CAP }
+    requires { array_vec_len line.old + 44 ≤ CAP }
     ensures text { line.new.items ≡ line.old.items ++ more_runs_text more }
-    ensures short { array_vec_len line.new ≤ array_vec_len line.old + 35 }
+    ensures short { array_vec_len line.new ≤ array_vec_len line.old + 44 }
 {
     if more == 0 {
         return;
     }
     append(line, " and ");
-    append_number(line, more);
-    append(line, if more == 1 { " more run" } else { " more runs" });
+    append_count(line, more, " more run", " more runs");
 }
 
 // Adds the runs that are kept, and how many more there are.
 fn append_shown_runs<const CAP: usize>(line: &mut ArrayVec<u8, CAP>, runs: &Runs)
-    requires { array_vec_len line.old + 495 ≤ CAP }
+    requires { array_vec_len line.old + 504 ≤ CAP }
     ensures text { line.new.items ≡ line.old.items ++ shown_runs_text (take runs.now.count runs.now.kept) (runs.now.count - 10) }
-    ensures short { array_vec_len line.new ≤ array_vec_len line.old + 495 }
+    ensures short { array_vec_len line.new ≤ array_vec_len line.old + 504 }
 {
     let shown = runs.count.min(10) as usize;
     append_runs(line, &runs.kept[..shown]);
     append_more_runs(line, runs.count.saturating_sub(10));
 }
 
-// Adds a number of pages that look alike.
-fn append_more_pages<const CAP: usize>(line: &mut ArrayVec<u8, CAP>, count: u64)
-    requires { array_vec_len line.old + 39 ≤ CAP }
-    ensures text { line.new.items ≡ line.old.items ++ more_pages_text count }
-    ensures short { array_vec_len line.new ≤ array_vec_len line.old + 39 }
-{
-    append_number(line, count);
-    append(
-        line,
-        if count == 1 {
-            " more page like it"
-        } else {
-            " more pages like it"
-        },
-    );
-}
-
 // Adds how many cells some pages have together that look like pages of a tree.
 fn append_all_cells<const CAP: usize>(line: &mut ArrayVec<u8, CAP>, look: Look, cells: u64)
-    requires { array_vec_len line.old + 32 ≤ CAP }
+    requires { array_vec_len line.old + 37 ≤ CAP }
     ensures text { line.new.items ≡ line.old.items ++ all_cells_text look cells }
-    ensures short { array_vec_len line.new ≤ array_vec_len line.old + 32 }
+    ensures short { array_vec_len line.new ≤ array_vec_len line.old + 37 }
 {
     if let Look::Tree(_) = look {
         append(line, " with ");
-        append_cells(line, cells);
+        append_count(line, cells, " cell", " cells");
     }
 }
 
 // The pages that look like this one: how many, and with how many cells.
 fn alike_text(look: Look, count: u64, cells: u64) -> ArrayVec<u8, 640>
     ensures text { result.items ≡ codes "    " ++ alike_text look count cells }
-    ensures short { array_vec_len result ≤ 81 }
+    ensures short { array_vec_len result ≤ 104 }
 {
     let mut line = ArrayVec::new();
     append(&mut line, "    and ");
-    append_more_pages(&mut line, count);
+    append_count(
+        &mut line,
+        count,
+        " more page like it",
+        " more pages like it",
+    );
     append_all_cells(&mut line, look, cells);
     append(&mut line, ": ");
     line

@@ -28,7 +28,6 @@ use Rattle.dbreport.proofs.RunReports.{check_answer}
 use Rattle.dbentries.specs.Listed.{listed_entries, listed_faults}
 use Rattle.dbentries.specs.Listing.{entries}
 use Rattle.dbentries.specs.Lists.{ListsFirst}
-use Rattle.dbentries.proofs.ListedFaults.{shown}
 use Rattle.dbexplain.specs.Explained.{explain_report, explain_text, found_text}
 use Rattle.dbexplain.specs.Keeping.{IsEmpty, lines_of}
 use Rattle.dbexplain.specs.Reporting.{Ends, Hears, IsReportLeft, LeavesExplained, PutsLines}
@@ -75,7 +74,7 @@ module _ {A O : Type 0} (held : O → OutState) (limit : ℕ) (file : List ℕ) 
         found = record {
           told = found.told;
           first = found.first;
-          lines = found_lines limit (entries found.told) l (shown limit found.told l found.listed);
+          lines = found_lines limit (entries found.told) l found.shows;
         };
         answer = lines.put;
         put = subst (λ o. Puts lines.put (held o) (held after.out.now) text) k.0 lines.lines;

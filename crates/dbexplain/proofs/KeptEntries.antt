@@ -1,16 +1,17 @@
 -- The lines of entries, one after another, by what is kept of them.
-use Rattle.std.proofs.Common.{◌≡◌, ℕ, zero, suc, Bool, true, false, Option, Some, None, List, [], ◌∷◌, ◌++◌, take, map, refl, sym, ap, ap₂, ◌∙◌}
+use Rattle.std.proofs.Common.{◌≡◌, ℕ, zero, suc, ◌<◌, Option, Some, None, List, [], ◌∷◌, ◌++◌, length, take, map, refl, sym, ap, ap₂, ◌∙◌, arith}
 use Rattle.std.proofs.Common.{append_assoc}
-use Rattle.std.specs.Prelude.{flat_map, fold, nat_lt, if◌then◌else◌}
+use Rattle.std.specs.Prelude.{flat_map, fold}
 use Rattle.std.specs.Option.{option_map_or}
 use Rattle.dbformat.specs.Lines.{fault_line}
 use Rattle.dbtrace.specs.declared.Reported.{Reported}
 use Rattle.dbentries.specs.Kept.{lone_entry, kept_of}
 use Rattle.dbentries.specs.Listing as listing
-use Rattle.dbentries.specs.Listing.{changed_at, entries, home, joined, most, with_fault}
+use Rattle.dbentries.specs.Listing.{Entered, alone, changed_at, entered, entries, home, joined, rank, turned, with_fault}
 use Rattle.dbentries.specs.declared.entry.Entry.{Entry}
 use Rattle.dbentries.specs.Lines.{cause_text}
 use Rattle.dbentries.specs.Others.{others_text}
+use Rattle.dbentries.proofs.Adding.{home_inside}
 use Rattle.dbentries.proofs.Belonging.{line_is}
 use Rattle.dbentries.proofs.Noting.{first_kept}
 use Rattle.dbentries.specs.Lists.{Held, Shows}
@@ -45,28 +46,22 @@ found_lines limit es l shown = ap lines_of shown.listed ∙ same_lines (take lim
 
 -- ---- where there is a fault there is an entry
 
-no_home : (x : Reported) → home x [] ≡ None
-no_home x = none (nat_lt 0 (most x.fault.code))
-  where
-    none : (b : Bool) → let n : Option ℕ = None in (if b then n else n) ≡ n
-    none true = refl
-    none false = refl
-
-not_empty : (es : List listing.Entry) (x : Reported) (o : Option ℕ) → (es ≡ [] → o ≡ None)
-    → option_map_or (λ i. changed_at (joined x) i es) o (es ++ record { first = x; others = [] } ∷ []) ≡ [] → ⊥
+-- an entry more, or one changed
+not_empty : (es : List listing.Entry) (x : Reported) (o : Option ℕ) → ((i : ℕ) → o ≡ Some i → i < length es)
+    → option_map_or (λ i. changed_at (joined x) i es) o (es ++ alone x ∷ []) ≡ [] → ⊥
 not_empty [] x None q h = cc
-not_empty [] x (Some i) q h = let e : Some i ≡ None = q refl in cc
+not_empty [] x (Some i) q h = let l = q i refl in absurd (let no : ⊥ = omega arith in no)
 not_empty (e ∷ es) x None q h = cc
 not_empty (e ∷ es) x (Some zero) q h = cc
 not_empty (e ∷ es) x (Some (suc i)) q h = cc
 
-with_one : (es : List listing.Entry) (x : Reported) → with_fault es x ≡ [] → ⊥
-with_one es x = not_empty es x (home x es) (λ e. ap (home x) e ∙ no_home x)
-
-with_some : (es : List listing.Entry) (xs : List Reported) → (es ≡ [] → ⊥) → fold with_fault es xs ≡ [] → ⊥
-with_some es [] h = h
-with_some es (x ∷ xs) h = with_some (with_fault es x) xs (with_one es x)
+with_some : (xs : List Reported) (w : Entered) → (w.entries ≡ [] → ⊥) → (fold with_fault w xs).entries ≡ [] → ⊥
+with_some [] w h = h
+with_some (x ∷ xs) w h =
+    let t = turned (rank x.part) w in with_some xs (with_fault w x) (not_empty t.entries x (home t x) (home_inside t x))
 
 pub some_listed : (xs : List Reported) → entries xs ≡ [] → xs ≡ []
 some_listed [] h = refl
-some_listed (x ∷ xs) h = absurd (with_some (with_fault [] x) xs (with_one [] x) h)
+some_listed (x ∷ xs) h =
+    let t = turned (rank x.part) (record { entries = []; begins = 0; part = 0 }) in
+    absurd (with_some xs (entered t x) (not_empty t.entries x (home t x) (home_inside t x)) h)

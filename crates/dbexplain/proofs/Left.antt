@@ -1,5 +1,5 @@
 -- What a run leaves of a reporter of which nothing had been heard.
-use Rattle.std.proofs.Common.{◌≡◌, ◌≢◌, ℕ, ◌*◌, ◌<◌, List, [], ◌∷◌, length, Err, Result, inl, inr, refl, sym, ap, subst, ◌∙◌, arith}
+use Rattle.std.proofs.Common.{◌≡◌, ◌≢◌, ℕ, List, [], ◌∷◌, length, Err, Result, inl, inr, refl, sym, ap, subst, ◌∙◌, arith}
 use Rattle.std.proofs.lemmas.List.{length-map}
 use Rattle.dbsurvey.specs.Moves.{MovesBySome}
 use Rattle.dbformat.specs.File.{geometry}
@@ -22,15 +22,19 @@ use Rattle.dbscan.specs.Finishes.{HasHeard, IsDeskOf, Leaves}
 use Rattle.dbscan.specs.Notices.{CutsNever, run_notices}
 use Rattle.dbscan.specs.Placed.{told_faults}
 use Rattle.dbscan.proofs.AllTold.{all_told}
+use Rattle.dbentries.specs.Bits.{HasPageBit}
 use Rattle.dbentries.specs.Listed.{listed_entries}
 use Rattle.dbentries.specs.Lists.{Held, ListsAll, ListsFirst}
+use Rattle.dbentries.specs.Zeros.{AreZeros}
 use Rattle.dbentries.proofs.Heard.{never_stops}
 use Rattle.dbexplain.specs.Explained.{explain_text}
 use Rattle.dbexplain.specs.Keeping.{HasAll, IsEmpty}
 use Rattle.dbexplain.specs.Reporting.{Hears, IsReportLeft, LeavesExplained}
 use Rattle.dbexplain.specs.declared.reporter.ExplainReporter.{ExplainReporter}
+use Rattle.dbexplain.specs.Tallies.{IsTallyOf}
 use Rattle.dbexplain.proofs.Heard.{HasHeardFaults, all_heard, found_first}
 use Rattle.dbexplain.proofs.Reports.{ok_text}
+use Rattle.dbexplain.proofs.Tallies as tallies
 
 -- ---- the number of faults
 
@@ -42,17 +46,24 @@ none_counted (t ∷ ts) h = absurd (let e : ⊥ = omega arith in e)
 pub record HasHeardFile {A O : Type 0} (limit : ℕ) (file : List ℕ) (V : List Reference) (first now : ExplainReporter A O) : Type 0 where
   pub survey : Survey file V
   pub empty : IsEmpty limit (geometry file) first.kept.now
-  pub all : HasHeardFaults limit first (told_faults file V) (stat_rows file V) now
+  pub all : HasHeardFaults first (told_faults file V) (stat_rows file V) now
+  pub tally : IsTallyOf (geometry file).pages (told_faults file V) now.kept.now.tally
 
 pub file_heard : {A O : Type 0} {limit : ℕ} {file : List ℕ} {V : List Reference} {d : DeskView} {first now : ExplainReporter A O}
     → HasHeard Hears d file V first now → IsEmpty limit (geometry file) first.kept.now → HasHeardFile limit file V first now
 file_heard {limit = limit} {file = file} {V = V} {first = first} {now = now} h empty =
-    record { survey = h.desk.survey; empty = empty; all = all_heard file V h.desk.survey first now limit (geometry file) empty h.heard }
+    let all = all_heard first file V h.desk.survey now h.heard in record {
+      survey = h.desk.survey;
+      empty = empty;
+      all = all;
+      tally = subst (IsTallyOf (geometry file).pages (told_faults file V)) (sym all.tally)
+          (tallies.all_told (geometry file).pages (told_faults file V) [] first.kept.now.tally empty.tally);
+    }
 
 module _ {A O : Type 0} (held : O → OutState) {limit : ℕ} {file : List ℕ} {V : List Reference} {first now : ExplainReporter A O}
     (heard : HasHeardFile limit file V first now) where
   pub all_counted : now.kept.now.tally.all ≡ counted (length (faults file V))
-  all_counted = heard.all.tally.all ∙ ap counted (sym (length-map (told_faults file V) (λ (t : Reported). t.fault)) ∙ ap length (all_told file V))
+  all_counted = heard.tally.all ∙ ap counted (sym (length-map (told_faults file V) (λ (t : Reported). t.fault)) ∙ ap length (all_told file V))
 
   abbrev text : List ℕ
   text = explain_text limit file V (listed_entries file V)
@@ -66,18 +77,18 @@ module _ {A O : Type 0} (held : O → OutState) {limit : ℕ} {file : List ℕ} 
   -- no fault was found
   pub clean_put : now.kept.now.tally.all ≡ 0 → {X E : Type 0} (r : Result X E) (after : O) → Writes r (held now.out.now).bytes (held after).bytes ok_line
       → Writes r (held first.out.now).bytes (held after).bytes text
-  clean_put none r after w = written r after ok_line (sym (ok_text limit file V (none_counted (told_faults file V) (sym heard.all.tally.all ∙ none)))) w
+  clean_put none r after w = written r after ok_line (sym (ok_text limit file V (none_counted (told_faults file V) (sym heard.tally.all ∙ none)))) w
 
   -- some were found, and listed with the lost pages
-  pub all_kept : (d : DeskView) (l : Held) → IsDeskOf d file V → ListsAll limit file V l → length l.zeros ≡ length now.kept.now.listing.zeros
-      → now.kept.now.tally.all ≢ 0 → HasAll d (record now.kept.now { listing = l }) file V
-  all_kept d l desk listed words some = record {
+  pub all_kept : (d : DeskView) (l : Held) → IsDeskOf d file V → ListsAll limit file V l
+      × (HasPageBit first.kept.now.listing.zeros (geometry file).pages → AreZeros file V l.zeros) → now.kept.now.tally.all ≢ 0
+      → HasAll d (record now.kept.now { listing = l }) file V
+  all_kept d l desk listed some = record {
     desk = desk;
-    some = λ e. some (heard.all.tally.all ∙ ap (λ (ts : List Reported). counted (length ts)) e);
-    listing = listed.entries;
-    tally = heard.all.tally;
-    bits = subst (λ n. (geometry file).pages < 64 * n) (sym heard.all.bits) heard.empty.bits;
-    zeros = subst (λ n. (geometry file).pages < 64 * n) (sym (words ∙ heard.all.zeros)) heard.empty.zeros;
+    some = λ e. some (heard.tally.all ∙ ap (λ (ts : List Reported). counted (length ts)) e);
+    listing = subst (λ n. ListsAll n file V l) (sym listed.0.room) listed.0;
+    tally = heard.tally;
+    zeros = listed.1 heard.empty.zeros;
     trees = subst (AreTrees V) (sym heard.all.trees) (all_noted file V first.kept.now.trees.known heard.survey heard.empty.room);
   }
 
@@ -89,7 +100,7 @@ module _ {A O : Type 0} (held : O → OutState) (file : List ℕ) (V : List Refe
   CutOff = MovesBySome Hears first (run_notices file V) now
 
   found : CutOff → (now.out.now ≡ first.out.now) × ListsFirst limit file V now.kept.now.listing
-  found m = found_first file V survey first now limit (geometry file) empty m
+  found m = found_first first file V survey now limit (geometry file) empty m
 
   nothing_put : CutOff → Begins (held first.out.now).bytes (held now.out.now).bytes (explain_text limit file V (listed_entries file V))
   nothing_put m = subst (λ o. Begins (held first.out.now).bytes (held o).bytes (explain_text limit file V (listed_entries file V))) (sym (found m).0)

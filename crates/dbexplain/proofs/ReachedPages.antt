@@ -1,26 +1,20 @@
 -- A tally with one page more.
 use Rattle.std.proofs.Common.{◌≡◌, ℕ, ◌+◌, ◌-◌, ◌^◌, ◌<◌, ◌≤◌, Bool, true, false, cond, ◌&&◌, List, min, Option, Some, None, refl, sym, ap, ap₂, ◌∙◌, arith}
-use Rattle.std.specs.Prelude.{count_by, slice_get, slice_set, slice_index_or, ◌==◌}
+use Rattle.std.specs.Prelude.{count_by, ◌==◌}
 use Rattle.std.specs.List.{range_with_len}
 use Rattle.std.specs.Option.{option_map_or}
-use Rattle.std.proofs.lemmas.Bool.{eqb-true}
-use Rattle.std.proofs.lemmas.Bool.Decides.{nat_tests}
 use Rattle.std.proofs.lemmas.List.FromFn.{length-range_with_len}
 use Rattle.std.proofs.lemmas.List.Sums.{count_by-le-length}
-use Rattle.std.proofs.lemmas.Option.{get_or_from_slice_get, slice_get_within}
-use Rattle.dbformat.specs.Address.{freelist_start}
 use Rattle.dbformat.specs.FixedPages.{most_pages}
 use Rattle.dbformat.specs.Lines.{counted}
 use Rattle.dbformat.specs.Reference.{Reference}
 use Rattle.dbsurvey.proofs.Ranges.{count_push}
 use Rattle.dbtrace.specs.declared.Reported.{Reported}
 use Rattle.dbformat.specs.Starts.{start_at}
-use Rattle.dbowner.proofs.Slots.{get_set, get_set_other}
-use Rattle.dbentries.specs.Bits.{has_bit, HasPageBit}
-use Rattle.dbexplain.specs.Summary.{start_count, is_reached}
-use Rattle.dbexplain.specs.Tallies.{Tallied, IsTallyTo, counted_start, is_told, no_count, one_reached_page}
-use Rattle.dbexplain.specs.TallySteps.{reached_counted}
-use Rattle.dbexplain.specs.declared.tally.StartCount.{StartCount}
+use Rattle.dbentries.specs.Bits.{has_bit}
+use Rattle.dbexplain.specs.Summary.{start_count, is_reached, is_told}
+use Rattle.dbexplain.specs.Tallies.{Tallied, IsTallyTo, counted_start, no_count, one_reached_page, page_reached}
+use Rattle.dbexplain.proofs.Tallies.{slot}
 
 -- ---- counts along a range
 
@@ -75,52 +69,28 @@ module _ (V : List Reference) (ts : List Reported) (n : ℕ) (few : n < most_pag
           sym (more (both k) ∙ ap₂ (λ a b. count_by (both k) (range_with_len 1 n) + cond (a && b) 1 0) on e
           ∙ (let f : count_by (both k) (range_with_len 1 n) + 0 ≡ count_by (both k) (range_with_len 1 n) = omega arith in f))
 
-  pub page_more : (t : Tallied) → IsTallyTo V ts n t → HasPageBit t.pages p → IsTallyTo V ts (n + 1) (reached_counted (start_at V p) p t)
-  page_more t is room = by_start (start_at V p) refl
+  pub page_more : (pages : ℕ) (t : Tallied) → IsTallyTo pages V ts n t → p ≤ pages → IsTallyTo pages V ts (n + 1) (page_reached (start_at V p) p t)
+  page_more pages t is within = by_start (start_at V p) refl
     where
-      by_start : (o : Option ℕ) → start_at V p ≡ o → IsTallyTo V ts (n + 1) (reached_counted o p t)
+      by_start : (o : Option ℕ) → start_at V p ≡ o → IsTallyTo pages V ts (n + 1) (page_reached o p t)
       by_start None e = record {
         all = is.all;
         codes = is.codes;
         starts = λ k l. is.starts k l ∙ ap Some (same_start k (ap (λ o. option_map_or (λ j. j == k) o false) e));
         whole = is.whole;
-        pages = is.pages;
+        room = is.room;
+        bits = is.bits;
       }
       by_start (Some j) e = record {
         all = is.all;
         codes = is.codes;
-        starts = λ k l. at_each k l (j == k) refl;
+        starts = λ k l. slot t.starts j k no_count (one_reached_page (has_bit t.pages p)) _ _ (is.starts k l)
+            (λ h. ap (λ b. one_reached_page b (counted_start V ts n k)) (is.bits p within) ∙ next_start k (reached_is k ∙ h))
+            (λ h. same_start k (reached_is k ∙ h));
         whole = is.whole;
-        pages = is.pages;
+        room = is.room;
+        bits = is.bits;
       }
         where
           reached_is : (k : ℕ) → is_reached V k p ≡ (j == k)
           reached_is k = ap (λ o. option_map_or (λ j. j == k) o false) e
-
-          new : StartCount
-          new = one_reached_page (has_bit t.pages p) (slice_index_or t.starts j no_count)
-
-          at_each : (k : ℕ) → k ≤ freelist_start → (b : Bool) → (j == k) ≡ b → slice_get (slice_set t.starts j new) k ≡ Some (counted_start V ts (n + 1) k)
-          at_each k l true h =
-              let same : j ≡ k = eqb-true j k h in
-              let here : slice_get t.starts j ≡ Some (counted_start V ts n j) = is.starts j (omega arith) in
-              let v : slice_index_or t.starts j no_count ≡ counted_start V ts n j = get_or_from_slice_get t.starts j (counted_start V ts n j) no_count here in
-              let on : is_reached V j p ≡ true = reached_is j ∙ ap (λ i. j == i) same ∙ h in
-              ap (slice_get (slice_set t.starts j new)) (sym same)
-              ∙ get_set t.starts j new (slice_get_within t.starts j (counted_start V ts n j) here)
-              ∙ ap₂ (λ b c. Some (one_reached_page b c)) (is.pages p room) v
-              ∙ ap Some (next_start j on)
-              ∙ ap (λ i. Some (counted_start V ts (n + 1) i)) same
-          at_each k l false h =
-              get_set_other t.starts j k new (λ e. let d : (j == k) ≡ true = grind (arith, nat_tests) in cc)
-              ∙ is.starts k l
-              ∙ ap Some (same_start k (reached_is k ∙ h))
-
--- there is room for the pages before the last
-pub room_before : (words : List ℕ) (p q : ℕ) → HasPageBit words q → p ≤ q → HasPageBit words p
-room_before words p q h l = omega (arith, h, l)
-
--- words are as many
-pub same_words : (o : Option ℕ) (p : ℕ) (t : Tallied) → (reached_counted o p t).pages ≡ t.pages
-same_words None p t = refl
-same_words (Some k) p t = refl

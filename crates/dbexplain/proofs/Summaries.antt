@@ -17,7 +17,7 @@ use Rattle.dbsurvey.proofs.Lists.{any_one, any_true, count_more, count_none}
 use Rattle.dbsurvey.proofs.Order.{IsIn-cases}
 use Rattle.dbsurvey.proofs.Ordering.{IsIn-from_map}
 use Rattle.dbformat.specs.Address.{freelist_start, last_root_start}
-use Rattle.dbformat.specs.Codes.{all_codes}
+use Rattle.dbformat.specs.Codes.{all_codes, code_index}
 use Rattle.dbformat.specs.EndFaults.{page_numbers}
 use Rattle.dbformat.specs.File.{geometry}
 use Rattle.dbformat.specs.Header.{encoding, first_trunk}
@@ -43,19 +43,17 @@ use Rattle.dbformat.proofs.BelowStarts.{length_taken, rows_start}
 use Rattle.dbscan.specs.Placed.{told_faults}
 use Rattle.dbscan.proofs.Reached.{of_starts}
 use Rattle.dbentries.specs.Lines.{indented}
-use Rattle.dbentries.specs.Bits.{has_bit, HasPageBit}
+use Rattle.dbentries.specs.Bits.{has_bit}
 use Rattle.dbentries.specs.Kept.{no_runs, run_added}
-use Rattle.dbentries.specs.Listed.{listed_faults}
 use Rattle.dbentries.specs.Zeros.{AreZeros, zero_pages}
 use Rattle.dbentries.specs.declared.runs.Runs.{Runs}
 use Rattle.dbentries.proofs.Belonging.{runs_kept}
 use Rattle.dbentries.proofs.Numbers.{get-take}
-use Rattle.dbentries.proofs.ZeroPages.{zeros_are}
-use Rattle.dbexplain.specs.Summary.{aligned, code_count, code_line, count_text, faulty_pages_at, is_faulty_at, is_of_kind, is_reached, is_part_of_start}
-use Rattle.dbexplain.specs.Summary.{is_whole, faulty_pages_text, reached_pages, start_count, start_sum_line, start_name, sum_line, summary, trees_text}
+use Rattle.dbexplain.specs.Summary.{aligned, code_count, code_line, count_text, faulty_pages, is_of_kind, is_part_of_start}
+use Rattle.dbexplain.specs.Summary.{faulty_pages_text, reached_pages, start_count, start_sum_line, start_name, sum_line, summary, trees_text}
 use Rattle.dbexplain.specs.Summary.{whole_count, whole_line, whole_trees, zero_runs_text, zeros_text}
 use Rattle.dbexplain.specs.Sums.{code_sum, freelist_start_count, numbered_sum, start_sum, last_sum, summary_by, tree_counts, trees_by, zeros_sum}
-use Rattle.dbexplain.specs.Tallies.{Tallied, IsTallyTo, counted_code, counted_start, is_told, no_count}
+use Rattle.dbexplain.specs.Tallies.{Tallied, IsTallyTo, counted_start, no_count}
 use Rattle.dbexplain.specs.declared.tally.StartCount.{StartCount}
 use Rattle.dbexplain.specs.declared.trees.TreeSum.{TreeSum}
 
@@ -79,10 +77,6 @@ count_same : (n : ℕ) → count_text (counted n) ≡ count_text n
 count_same n =
     ap (λ b. decimal (counted (counted n)) ++ cond b (codes " fault") (codes " faults") ++ line_feed ∷ []) (is_one n)
     ∙ ap (λ x. decimal x ++ cond (n == 1) (codes " fault") (codes " faults") ++ line_feed ∷ []) (twice n)
-
-codes_same : (ts : List Reported) (cs : List FaultCode) → flat_map (code_sum (counted (length ts))) (map (counted_code ts) cs) ≡ flat_map (code_line ts) cs
-codes_same ts [] = refl
-codes_same ts (c ∷ cs) = ap₂ (λ a b. a ++ b) (sum_same (length ts) (code_count ts c) (code_text c ++ codes " " ++ code_words c)) (codes_same ts cs)
 
 -- ---- counts of a list
 
@@ -108,15 +102,6 @@ start_is k part.Header e = cc
 start_is k (part.Start j) e = ap part.Start (eqb-true j k e)
 start_is k part.End e = cc
 
-some_start : (p : Part) → not (is_whole p) ≡ true → (j : ℕ) × (p ≡ part.Start j)
-some_start part.Header e = cc
-some_start (part.Start j) e = (j, refl)
-some_start part.End e = cc
-
-reached_is : (k : ℕ) (o : Option ℕ) → option_map_or (λ j. j == k) o false ≡ true → o ≡ Some k
-reached_is k None e = cc
-reached_is k (Some j) e = ap Some (eqb-true j k e)
-
 module _ (file : List ℕ) (V : List Reference) (s : Survey file V) where
   abbrev ts : List Reported
   ts = told_faults file V
@@ -124,49 +109,11 @@ module _ (file : List ℕ) (V : List Reference) (s : Survey file V) where
   abbrev n : ℕ
   n = (geometry file).pages
 
-  -- a page has a fault of start k where it was reached from there and has a fault of some start
-  page_same : (k p : ℕ) → 1 ≤ p → (is_reached V k p && is_told ts p) ≡ is_faulty_at ts k p
-  page_same k p above = same_tests (is_reached V k p && is_told ts p) (is_faulty_at ts k p) one other
-    where
-      at_page : (t : Reported) → IsIn t ts → (j : ℕ) → t.part ≡ part.Start j → t.fault.page ≡ p → start_at V p ≡ Some j
-      at_page t i j e f = ap (start_at V) (sym f) ∙ (of_starts file V s t i j e).reached (λ z. let x : ⊥ = omega (arith, f, z, above) in x)
-
-      one : (is_reached V k p && is_told ts p) ≡ true → is_faulty_at ts k p ≡ true
-      one e =
-          let parts = and_parts (is_reached V k p) (is_told ts p) e in
-          let t = any_one (λ (t : Reported). not (is_whole t.part) && (t.fault.page == p)) ts parts.1 in
-          let both = and_parts (not (is_whole t.0.part)) (t.0.fault.page == p) t.2 in
-          let j = some_start t.0.part both.0 in
-          let page : t.0.fault.page ≡ p = eqb-true t.0.fault.page p both.1 in
-          let here : start_at V p ≡ Some j.0 = at_page t.0 t.1 j.0 j.1 page in
-          let there : start_at V p ≡ Some k = reached_is k (start_at V p) parts.0 in
-          let same : j.0 ≡ k = cc in
-          any_true (λ (t : Reported). is_part_of_start k t.part && (t.fault.page == p)) ts t.0 t.1
-          (and_from (is_part_of_start k t.0.part) (t.0.fault.page == p) (ap (is_part_of_start k) j.1 ∙ eq-eqb j.0 k same) both.1)
-
-      other : is_faulty_at ts k p ≡ true → (is_reached V k p && is_told ts p) ≡ true
-      other e =
-          let t = any_one (λ (t : Reported). is_part_of_start k t.part && (t.fault.page == p)) ts e in
-          let both = and_parts (is_part_of_start k t.0.part) (t.0.fault.page == p) t.2 in
-          let at = start_is k t.0.part both.0 in
-          let page : t.0.fault.page ≡ p = eqb-true t.0.fault.page p both.1 in
-          let here : start_at V p ≡ Some k = at_page t.0 t.1 k at page in
-          and_from (is_reached V k p) (is_told ts p) (ap (λ o. option_map_or (λ j. j == k) o false) here ∙ eq-eqb k k refl)
-          (any_true (λ (t : Reported). not (is_whole t.part) && (t.fault.page == p)) ts t.0 t.1
-          (and_from (not (is_whole t.0.part)) (t.0.fault.page == p) (ap (λ p. not (is_whole p)) at) both.1))
-
-  pages_same : (k : ℕ) → count_by (λ p. is_reached V k p && is_told ts p) (range_with_len 1 n) ≡ faulty_pages_at file ts k
-  pages_same k = same_counts (λ p. is_reached V k p && is_told ts p) (is_faulty_at ts k) (page_numbers (geometry file))
-      (λ p i. page_same k p (IsIn-from_range 1 n p i).0)
-
   abbrev name : ℕ → List ℕ
   name = start_name (encoding file) (listed_rows file V)
 
   line_same : (k : ℕ) → start_sum (counted (length ts)) (name k) (counted_start V ts n k) ≡ start_sum_line file V ts k
-  line_same k =
-      sum_same (length ts) (start_count ts k) (codes "in " ++ name k
-      ++ faulty_pages_text (count_by (λ p. is_reached V k p && is_told ts p) (range_with_len 1 n)) (reached_pages file V k))
-      ∙ ap (λ m. sum_line (length ts) (start_count ts k) (codes "in " ++ name k ++ faulty_pages_text m (reached_pages file V k))) (pages_same k)
+  line_same k = sum_same (length ts) (start_count ts k) (codes "in " ++ name k ++ faulty_pages_text (faulty_pages file V ts k) (reached_pages file V k))
 
   lines_same : (m k : ℕ) → flat_map (numbered_sum (counted (length ts)) name) (enumerate_from k (map (counted_start V ts n) (range_with_len k m)))
       ≡ flat_map (start_sum_line file V ts) (range_with_len k m)
@@ -216,7 +163,7 @@ module _ (file : List ℕ) (V : List Reference) (s : Survey file V) where
           → start_sum_line file V ts freelist_start ≡ flat_map (λ (l : Link Way). start_sum_line file V ts l.step)
           (cond b [] (start freelist_start trunk (first_trunk file) ∷ []))
       by_case true h = ap (λ m. sum_line (length ts) m (codes "in " ++ name freelist_start
-          ++ faulty_pages_text (faulty_pages_at file ts freelist_start) (reached_pages file V freelist_start))) (h refl)
+          ++ faulty_pages_text (faulty_pages file V ts freelist_start) (reached_pages file V freelist_start))) (h refl)
       by_case false h = sym (append-nil (start_sum_line file V ts freelist_start))
 
   start_lines : start_sum_line file V ts 0 ++ (flat_map (start_sum_line file V ts) (range_with_len 1 (length rows)) ++ start_sum_line file V ts freelist_start)
@@ -228,7 +175,14 @@ module _ (file : List ℕ) (V : List Reference) (s : Survey file V) where
       ∙ ap (λ w. start_sum_line file V ts 0 ++ w) (sym (flat_map-append f M (freelist_starts file)))
       ∙ ap (flat_map f) (sym starts_are)
 
-  module _ (t : Tallied) (is : IsTallyTo V ts n t) where
+  module _ (t : Tallied) (is : IsTallyTo n V ts n t) where
+    codes_same : (cs : List FaultCode) → flat_map (code_sum t) cs ≡ flat_map (code_line ts) cs
+    codes_same [] = refl
+    codes_same (c ∷ cs) =
+        let text = code_text c ++ codes " " ++ code_words c in
+        ap₂ (λ a b. a ++ b) (ap₂ (λ a n. sum_line a n text) is.all (get_or_from_slice_get t.codes (code_index c) (counted (code_count ts c)) 0 (is.codes c))
+        ∙ sum_same (length ts) (code_count ts c) text) (codes_same cs)
+
     trees_are : tree_counts rows t ≡ map (counted_start V ts n) (range_with_len 0 (suc (length rows)))
     trees_are = points (counted_start V ts n) 0 (suc (length rows)) t.starts
         (λ k l. is.starts k (let w = few in omega (arith, l, w)) ∙ ap (λ i. Some (counted_start V ts n i)) (let e : k ≡ 0 + k = omega arith in e))
@@ -281,7 +235,7 @@ module _ (file : List ℕ) (V : List Reference) (s : Survey file V) where
     summary_same size r zeros =
         joined
         (ap count_text is.all ∙ count_same (length ts))
-        (ap₂ (λ n cs. flat_map (code_sum n) cs) is.all is.codes ∙ codes_same ts all_codes)
+        (codes_same all_codes)
         first_part free_part whole_part (last_part size r zeros)
         ∙ parts (count_text (length ts)) (flat_map (code_line ts) all_codes) (start_sum_line file V ts 0)
         (flat_map (start_sum_line file V ts) (range_with_len 1 (length rows)))
@@ -298,7 +252,7 @@ module _ (file : List ℕ) (V : List Reference) (s : Survey file V) where
 -- so it is of what is put by the list of roots, and by the runs of the pages that are zeros
 pub known_summary : (file : List ℕ) (V : List Reference) → Survey file V
     → (h : HeaderBytes) (rows : List SchemaRow) (e : Encoding) (t : Tallied) (size : ℕ) (r : Runs)
-    → IsHeaderOf h file → AreListed file V rows → e ≡ encoding h.bytes → IsTallyTo V (told_faults file V) (geometry file).pages t
+    → IsHeaderOf h file → AreListed file V rows → e ≡ encoding h.bytes → IsTallyTo (geometry file).pages V (told_faults file V) (geometry file).pages t
     → zeros_sum size r ≡ zeros_text (geometry file).page_size (zero_pages file V) → summary_by size r e rows t ≡ summary file V (told_faults file V)
 known_summary file V s h given e t size r header listed texts is zeros =
     ap₂ (λ e rows. summary_by size r e rows t) (texts ∙ ap encoding header.begins ∙ encoding_within file) listed ∙ summary_same file V s t is size r zeros
@@ -317,14 +271,12 @@ min_taken n xs all = by_case (nat_le n 10) refl
         ap (λ k. take k xs) m ∙ take_all 10 xs (omega (arith, all)) ∙ sym (take_all n xs (omega (arith, all, l)))
 
 -- what is put of these runs
-pub known_zeros : (file : List ℕ) (V : List Reference) (g : Geometry) (words : List ℕ) (r : Runs) → g ≡ geometry file → HasPageBit words (geometry file).pages
-    → AreZeros (listed_faults file V) words → r ≡ fold run_added no_runs (filter (has_bit words) (range_with_len 1 g.pages))
+pub known_zeros : (file : List ℕ) (V : List Reference) (g : Geometry) (words : List ℕ) (r : Runs) → g ≡ geometry file → AreZeros file V words
+    → r ≡ fold run_added no_runs (filter (has_bit words) (range_with_len 1 g.pages))
     → zeros_sum g.page_size r ≡ zeros_text (geometry file).page_size (zero_pages file V)
-known_zeros file V g words r e room are is =
-    let size : g.page_size ≡ (geometry file).page_size = ap (λ (g : Geometry). g.page_size) e in
-    let pages : filter (has_bit words) (range_with_len 1 g.pages) ≡ zero_pages file V =
-    ap (λ (g : Geometry). filter (has_bit words) (range_with_len 1 g.pages)) e ∙ zeros_are file V words room are in
-    let same = is ∙ ap (fold run_added no_runs) pages in
+known_zeros file V g words r e are is =
+    let same = is ∙ ap (fold run_added no_runs) (ap (λ (g : Geometry). filter (has_bit words) (range_with_len 1 g.pages)) e ∙ are) in
     let kept = runs_kept (zero_pages file V) in
     let r = fold run_added no_runs (zero_pages file V) in
-    ap₂ zeros_sum size same ∙ ap₂ (zero_runs_text (geometry file).page_size) (min_taken r.count r.kept kept.room ∙ kept.kept) (ap (λ n. n - 10) kept.count)
+    ap₂ zeros_sum (ap (λ (g : Geometry). g.page_size) e) same
+    ∙ ap₂ (zero_runs_text (geometry file).page_size) (min_taken r.count r.kept kept.room ∙ kept.kept) (ap (λ n. n - 10) kept.count)

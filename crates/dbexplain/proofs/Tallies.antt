@@ -1,7 +1,7 @@
 -- A tally with one fault more.
-use Rattle.std.proofs.Common.{◌≡◌, ℕ, zero, suc, ◌+◌, ◌<◌, ◌≤◌, Bool, true, false, ◌||◌, List, [], ◌∷◌, ◌++◌, length, map, replicate, Some}
-use Rattle.std.proofs.Common.{refl, sym, ap, ◌∙◌, arith, length-append}
-use Rattle.std.specs.Prelude.{if◌then◌else◌, count_by, not, ◌&&◌, slice_get, slice_set, slice_index_or, ◌==◌}
+use Rattle.std.proofs.Common.{◌≡◌, ℕ, zero, suc, ◌+◌, ◌*◌, ◌/◌, ◌<◌, ◌≤◌, Bool, true, false, ◌||◌, List, [], ◌∷◌, ◌++◌, length, replicate, Some}
+use Rattle.std.proofs.Common.{refl, sym, ap, subst, ◌∙◌, arith, length-append, append-nil, append_assoc}
+use Rattle.std.specs.Prelude.{count_by, fold, not, ◌&&◌, slice_get, slice_set, slice_index_or, ◌==◌}
 use Rattle.std.proofs.Math.Bool.{or-false}
 use Rattle.std.proofs.Math.ListN.{length-set}
 use Rattle.std.proofs.lemmas.Bool.{eqb-true}
@@ -12,7 +12,7 @@ use Rattle.dbsurvey.proofs.Lists.{count-append}
 use Rattle.dbformat.specs.Address.{freelist_start}
 use Rattle.dbformat.specs.Codes.{all_codes, is_code, code_index}
 use Rattle.dbformat.specs.Lines.{counted}
-use Rattle.dbformat.proofs.CodeTables.{is_itself, entry_at, entry_set}
+use Rattle.dbformat.proofs.CodeTables.{apart, listed}
 use Rattle.dbformat.specs.declared.Fault.{Fault}
 use Rattle.dbformat.specs.declared.FaultCode.{FaultCode}
 use Rattle.dbtrace.specs.declared.Cause.{Cause}
@@ -21,146 +21,122 @@ use Rattle.dbtrace.specs.declared.Part.TheVariants as part
 use Rattle.dbtrace.specs.declared.Reported.{Reported}
 use Rattle.dbowner.proofs.Slots.{get_set, get_set_other}
 use Rattle.dbentries.specs.Bits.{bit_set, has_bit}
-use Rattle.dbexplain.specs.Summary.{code_count, start_count, is_part_of_start, is_whole}
-use Rattle.dbexplain.specs.Tallies.{Tallied, IsTallyOf, counted_code, counted_in, counted_start, is_told, no_count, one_fault, one_more_of_code}
-use Rattle.dbexplain.specs.TallySteps.{start_fault_counted}
-use Rattle.dbexplain.specs.declared.tally.CodeCount.{CodeCount}
+use Rattle.dbexplain.specs.Summary.{code_count, start_count, is_part_of_start, is_told, is_whole}
+use Rattle.dbexplain.specs.Tallies.{Tallied, IsTallyOf, counted_start, no_count, one_fault, fault_told}
 use Rattle.dbexplain.specs.declared.tally.StartCount.{StartCount}
-use Rattle.dbentries.proofs.Bits.{room_kept, set_is}
+use Rattle.dbentries.proofs.Bits.{set_is}
 
 -- ---- counts
 
-pub one_longer : {X : Type 0} (p : X → Bool) (xs : List X) (x : X) → p x ≡ true → count_by p (xs ++ x ∷ []) ≡ count_by p xs + 1
-one_longer p xs x e = count-append p xs (x ∷ []) ∙ ap (λ n. count_by p xs + n) (rw e refl)
+-- number k of some counts, where number j is changed
+pub slot : {X : Type 0} (xs : List X) (j k : ℕ) (d : X) (f : X → X) (a b : X) → slice_get xs k ≡ Some a
+    → ((j == k) ≡ true → f a ≡ b) → ((j == k) ≡ false → a ≡ b)
+    → slice_get (slice_set xs j (f (slice_index_or xs j d))) k ≡ Some b
+slot xs j k d f a b at on off = by_case (j == k) refl
+  where
+    by_case : (t : Bool) → (j == k) ≡ t → slice_get (slice_set xs j (f (slice_index_or xs j d))) k ≡ Some b
+    by_case true e =
+        let same : j ≡ k = eqb-true j k e in
+        let here : slice_get xs j ≡ Some a = ap (slice_get xs) same ∙ at in
+        ap (slice_get (slice_set xs j (f (slice_index_or xs j d)))) (sym same)
+        ∙ get_set xs j (f (slice_index_or xs j d)) (slice_get_within xs j a here)
+        ∙ ap (λ c. Some (f c)) (get_or_from_slice_get xs j a d here)
+        ∙ ap Some (on e)
+    by_case false e =
+        get_set_other xs j k (f (slice_index_or xs j d)) (λ q. let t : (j == k) ≡ true = grind (arith, nat_tests) in cc) ∙ at ∙ ap Some (off e)
 
-pub none_more : {X : Type 0} (p : X → Bool) (xs : List X) (x : X) → p x ≡ false → count_by p (xs ++ x ∷ []) ≡ count_by p xs
-none_more p xs x e = count-append p xs (x ∷ []) ∙ ap (λ n. count_by p xs + n) (rw e refl) ∙ (let f : count_by p xs + 0 ≡ count_by p xs = omega arith in f)
-
-counted_next : (n m : ℕ) → m ≡ n + 1 → counted (counted n + 1) ≡ counted m
-counted_next n m e = omega arith
-
-module _ (ts : List Reported) (r : Reported) where
-  abbrev more : List Reported
-  more = ts ++ r ∷ []
-
-  same_count : (c : FaultCode) → is_code r.fault.code c ≡ false → counted_code ts c ≡ counted_code more c
-  same_count c e = ap (λ n. record { code = c; count = counted n }) (sym (none_more (λ (t : Reported). is_code t.fault.code c) ts r e))
-
-  next_count : one_more_of_code (counted_code ts r.fault.code) ≡ counted_code more r.fault.code
-  next_count = ap (λ n. record { code = r.fault.code; count = n })
-      (counted_next (code_count ts r.fault.code) (code_count more r.fault.code)
-      (one_longer (λ (t : Reported). is_code t.fault.code r.fault.code) ts r (is_itself r.fault.code)))
-
-  -- the counts of all codes
-  codes_more : (cs : List CodeCount) → cs ≡ map (counted_code ts) all_codes → counted_in r.fault.code cs ≡ map (counted_code more) all_codes
-  codes_more cs e =
-      let code = r.fault.code in
-      ap (counted_in code) e
-      ∙ ap (λ c. slice_set (map (counted_code ts) all_codes) (code_index code) (one_more_of_code c))
-      (get_or_from_slice_get (map (counted_code ts) all_codes) (code_index code) (counted_code ts code) (record { code = code; count = 0 })
-      (entry_at (counted_code ts) code))
-      ∙ ap (slice_set (map (counted_code ts) all_codes) (code_index code)) next_count
-      ∙ entry_set (counted_code ts) (counted_code more) code same_count
-
-  -- a count that stays, and one that goes up
-  stays : (p : Reported → Bool) (n : ℕ) → p r ≡ false → n ≡ counted (count_by p ts) → n ≡ counted (count_by p more)
-  stays p n off e = e ∙ ap counted (sym (none_more p ts r off))
-
-  rises : (p : Reported → Bool) (n : ℕ) → p r ≡ true → n ≡ counted (count_by p ts) → counted (n + 1) ≡ counted (count_by p more)
-  rises p n on e = ap (λ n. counted (n + 1)) e ∙ counted_next (count_by p ts) (count_by p more) (one_longer p ts r on)
-
--- a count of all
-all_more : (ts : List Reported) (r : Reported) (n : ℕ) → n ≡ counted (length ts) → counted (n + 1) ≡ counted (length (ts ++ r ∷ []))
-all_more ts r n e = ap (λ n. counted (n + 1)) e ∙ counted_next (length ts) (length (ts ++ r ∷ [])) (length-append ts (r ∷ []))
-
--- of a start
-abbrev faults_of : ℕ → StartCount
-faults_of n = record { faults = counted n; reached = 0; faulty = 0 }
-
--- the tally with this fault counted, and its page noted
-abbrev pub told_in : Part → Fault → Tallied → Tallied
-told_in p f t =
-    let u = start_fault_counted p (record t { all = counted (t.all + 1); codes = counted_in f.code t.codes }) in
-    record u { pages = if is_whole p then u.pages else bit_set f.page u.pages }
-
-module _ (ts : List Reported) (f : Fault) (why : Cause) (t : Tallied) (is : IsTallyOf ts t) where
-  abbrev told : Part → Reported
-  told p = record { part = p; fault = f; cause = why }
+module _ (pages : ℕ) (ts : List Reported) (f : Fault) (why : Cause) (t : Tallied) (is : IsTallyOf pages ts t) where
+  abbrev one : Part → Reported
+  one p = record { part = p; fault = f; cause = why }
 
   abbrev with : Part → List Reported
-  with p = ts ++ told p ∷ []
+  with p = ts ++ one p ∷ []
+
+  -- a count that stays, and one that goes up
+  stays : (test : Reported → Bool) (p : Part) → test (one p) ≡ false → counted (count_by test ts) ≡ counted (count_by test (with p))
+  stays test p e =
+      let a = count-append test ts (one p ∷ []) in
+      let b : count_by test (one p ∷ []) ≡ 0 = rw e refl in omega (arith, a, b)
+
+  rises : (test : Reported → Bool) (p : Part) → test (one p) ≡ true → counted (counted (count_by test ts) + 1) ≡ counted (count_by test (with p))
+  rises test p e =
+      let a = count-append test ts (one p ∷ []) in
+      let b : count_by test (one p ∷ []) ≡ 1 = rw e refl in omega (arith, a, b)
+
+  all_more : (p : Part) → counted (t.all + 1) ≡ counted (length (with p))
+  all_more p = let e = is.all in let l = length-append ts (one p ∷ []) in omega (arith, e, l)
+
+  codes_more : (p : Part) (c : FaultCode) → slice_get (fault_told t (one p)).codes (code_index c) ≡ Some (counted (code_count (with p) c))
+  codes_more p c = by_part p
+    where
+      here : slice_get (slice_set t.codes (code_index f.code) (counted (slice_index_or t.codes (code_index f.code) 0 + 1))) (code_index c)
+          ≡ Some (counted (code_count (with p) c))
+      here = slot t.codes (code_index f.code) (code_index c) 0 (λ n. counted (n + 1)) _ _ (is.codes c)
+          (λ e. rises (λ (t : Reported). is_code t.fault.code c) p (apart f.code c ∙ e))
+          (λ e. stays (λ (t : Reported). is_code t.fault.code c) p (apart f.code c ∙ e))
+
+      by_part : (q : Part) → slice_get (fault_told t (one q)).codes (code_index c) ≡ Some (counted (code_count (with p) c))
+      by_part part.Header = here
+      by_part (part.Start j) = here
+      by_part part.End = here
 
   -- pages of faults that were reported at starts
   any_more : (p : Part) (q : ℕ) → is_told (with p) q ≡ (is_told ts q || (not (is_whole p) && (f.page == q)))
   any_more p q =
-      list_any-append (λ (t : Reported). not (is_whole t.part) && (t.fault.page == q)) ts (told p ∷ [])
+      list_any-append (λ (t : Reported). not (is_whole t.part) && (t.fault.page == q)) ts (one p ∷ [])
       ∙ ap (λ b. is_told ts q || b) (or-false (not (is_whole p) && (f.page == q)))
 
-  -- a fault of the whole file
-  of_file : (p : Part) → is_whole p ≡ true → ((k : ℕ) → is_part_of_start k p ≡ false)
-      → IsTallyOf (with p) (record t { all = counted (t.all + 1); codes = counted_in f.code t.codes; whole = counted (t.whole + 1) })
-  of_file p on off = record {
-    all = all_more ts (told p) t.all is.all;
-    codes = codes_more ts (told p) t.codes is.codes;
-    starts = λ k l. is.starts k l ∙ ap (λ n. Some (faults_of n)) (sym (none_more (λ (t : Reported). is_part_of_start k t.part) ts (told p) (off k)));
-    whole = rises ts (told p) (λ (t : Reported). is_whole t.part) t.whole on is.whole;
-    pages = λ q room. is.pages q room ∙ sym (any_more p q ∙ ap (λ b. is_told ts q || (not b && (f.page == q))) on ∙ or-false (is_told ts q));
+  pub told_more : (p : Part) → IsTallyOf pages (with p) (fault_told t (one p))
+  told_more part.Header = record {
+    all = all_more part.Header;
+    codes = codes_more part.Header;
+    starts = λ k l. is.starts k l ∙ ap (λ n. Some (record { faults = n; reached = 0; faulty = 0 }))
+        (stays (λ (t : Reported). is_part_of_start k t.part) part.Header refl);
+    whole = ap (λ n. counted (n + 1)) is.whole ∙ rises (λ (t : Reported). is_whole t.part) part.Header refl;
+    room = is.room;
+    bits = λ q l. is.bits q l ∙ sym (any_more part.Header q ∙ or-false (is_told ts q));
+  }
+  told_more part.End = record {
+    all = all_more part.End;
+    codes = codes_more part.End;
+    starts = λ k l. is.starts k l ∙ ap (λ n. Some (record { faults = n; reached = 0; faulty = 0 }))
+        (stays (λ (t : Reported). is_part_of_start k t.part) part.End refl);
+    whole = ap (λ n. counted (n + 1)) is.whole ∙ rises (λ (t : Reported). is_whole t.part) part.End refl;
+    room = is.room;
+    bits = λ q l. is.bits q l ∙ sym (any_more part.End q ∙ or-false (is_told ts q));
+  }
+  told_more (part.Start j) = record {
+    all = all_more (part.Start j);
+    codes = codes_more (part.Start j);
+    starts = λ k l. slot t.starts j k no_count one_fault (counted_start [] ts 0 k) (counted_start [] (with (part.Start j)) 0 k) (is.starts k l)
+        (λ e. ap (λ n. record { faults = n; reached = 0; faulty = 0 }) (rises (λ (t : Reported). is_part_of_start k t.part) (part.Start j) e))
+        (λ e. ap (λ n. record { faults = n; reached = 0; faulty = 0 }) (stays (λ (t : Reported). is_part_of_start k t.part) (part.Start j) e));
+    whole = is.whole ∙ stays (λ (t : Reported). is_whole t.part) (part.Start j) refl;
+    room = let l : length (bit_set f.page t.pages) ≡ length t.pages = length-set t.pages (f.page / 64) _ in let h = is.room in omega (arith, l, h);
+    bits = λ q l. set_is t.pages f.page q (let h = is.room in omega (arith, h, l)) ∙ ap (λ b. b || (f.page == q)) (is.bits q l)
+        ∙ sym (any_more (part.Start j) q);
   }
 
-  -- and one of a start
-  of_start : (j : ℕ) → IsTallyOf (with (part.Start j)) (told_in (part.Start j) f t)
-  of_start j = record {
-    all = all_more ts (told (part.Start j)) t.all is.all;
-    codes = codes_more ts (told (part.Start j)) t.codes is.codes;
-    starts = λ k l. at_each k l (j == k) refl;
-    whole = stays ts (told (part.Start j)) (λ (t : Reported). is_whole t.part) t.whole refl is.whole;
-    pages = λ q room. let old = room_kept t.pages f.page q room in
-        set_is t.pages f.page q old ∙ ap (λ b. b || (f.page == q)) (is.pages q old) ∙ sym (any_more (part.Start j) q);
-  }
-    where
-      at_each : (k : ℕ) → k ≤ freelist_start → (b : Bool) → (j == k) ≡ b
-          → slice_get (slice_set t.starts j (one_fault (slice_index_or t.starts j no_count))) k ≡ Some (counted_start [] (with (part.Start j)) 0 k)
-      at_each k l true h =
-          let same : j ≡ k = eqb-true j k h in
-          let here : slice_get t.starts j ≡ Some (faults_of (start_count ts j)) = is.starts j (omega arith) in
-          let v : slice_index_or t.starts j no_count ≡ faults_of (start_count ts j) =
-          get_or_from_slice_get t.starts j (faults_of (start_count ts j)) no_count here in
-          let on : (j == j) ≡ true = ap (λ i. j == i) same ∙ h in
-          ap (slice_get (slice_set t.starts j (one_fault (slice_index_or t.starts j no_count)))) (sym same)
-          ∙ get_set t.starts j (one_fault (slice_index_or t.starts j no_count)) (slice_get_within t.starts j (faults_of (start_count ts j)) here)
-          ∙ ap (λ c. Some (one_fault c)) v
-          ∙ ap (λ n. Some (record { faults = n; reached = 0; faulty = 0 }))
-          (rises ts (told (part.Start j)) (λ (t : Reported). is_part_of_start j t.part) (counted (start_count ts j)) on refl)
-          ∙ ap (λ i. Some (counted_start [] (with (part.Start j)) 0 i)) same
-      at_each k l false h =
-          get_set_other t.starts j k (one_fault (slice_index_or t.starts j no_count)) (λ e. let d : (j == k) ≡ true = grind (arith, nat_tests) in cc)
-          ∙ is.starts k l
-          ∙ ap (λ n. Some (faults_of n)) (sym (none_more (λ (t : Reported). is_part_of_start k t.part) ts (told (part.Start j)) h))
+-- fault after fault
+pub all_told : (pages : ℕ) (xs ts : List Reported) (t : Tallied) → IsTallyOf pages ts t → IsTallyOf pages (ts ++ xs) (fold fault_told t xs)
+all_told pages [] ts t is = subst (λ l. IsTallyOf pages l t) (sym (append-nil ts)) is
+all_told pages (x ∷ xs) ts t is =
+    subst (λ l. IsTallyOf pages l (fold fault_told (fault_told t x) xs)) (append_assoc ts (x ∷ []) xs)
+    (all_told pages xs (ts ++ x ∷ []) (fault_told t x) (told_more pages ts x.fault x.cause t is x.part))
 
-  pub told_more : (p : Part) → IsTallyOf (with p) (told_in p f t)
-  told_more part.Header = of_file part.Header refl (λ k. refl)
-  told_more (part.Start j) = of_start j
-  told_more part.End = of_file part.End refl (λ k. refl)
-
--- the words are as many
-pub same_room : (p : Part) (f : Fault) (t : Tallied) → length (told_in p f t).pages ≡ length t.pages
-same_room part.Header f t = refl
-same_room (part.Start j) f t = simp length-set
-same_room part.End f t = refl
-
-none_told : (n k : ℕ) (c : StartCount) → k < n → slice_get (replicate n c) k ≡ Some c
+none_told : {X : Type 0} (n k : ℕ) (c : X) → k < n → slice_get (replicate n c) k ≡ Some c
 none_told (suc n) zero c l = refl
 none_told (suc n) (suc k) c l = none_told n k c (omega arith)
 none_told zero k c l = absurd (let f : ⊥ = omega arith in f)
 
 -- where no fault was reported
-pub nothing_told : (t : Tallied) → t.all ≡ 0 → t.codes ≡ map (counted_code []) all_codes → t.starts ≡ replicate 65538 no_count → t.whole ≡ 0
-    → ((p : ℕ) → has_bit t.pages p ≡ false)
-    → IsTallyOf [] t
-nothing_told t all codes starts whole none = record {
+pub nothing_told : (pages : ℕ) (t : Tallied) → t.all ≡ 0 → t.codes ≡ replicate 35 0 → t.starts ≡ replicate 65538 no_count → t.whole ≡ 0
+    → pages < 64 * length t.pages → ((p : ℕ) → has_bit t.pages p ≡ false) → IsTallyOf pages [] t
+nothing_told pages t all codes starts whole room none = record {
   all = all;
-  codes = codes;
+  codes = λ c. ap (λ ns. slice_get ns (code_index c)) codes ∙ none_told 35 (code_index c) 0 (slice_get_within all_codes (code_index c) c (listed c));
   starts = λ k l. ap (λ xs. slice_get xs k) starts ∙ none_told 65538 k no_count (omega arith);
   whole = whole;
-  pages = λ p room. none p;
+  room = room;
+  bits = λ p l. none p;
 }

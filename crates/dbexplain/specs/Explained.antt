@@ -21,18 +21,13 @@ use Rattle.dbentries.specs.Listed.{IsBeginning, listed_entries, listed_faults}
 use Rattle.dbexplain.specs.Below.{lines_below, place_line}
 use Rattle.dbscan.specs.Placed.{told_faults}
 use Rattle.dbexplain.specs.Facts.{facts_text}
-use Rattle.dbexplain.specs.Summary.{summary}
+use Rattle.dbexplain.specs.Summary.{pages_text, summary}
 
 -- ---- what is written of an entry
 
--- the pages from one number to another
-abbrev pub missing_text : ℕ → ℕ → List ℕ
-missing_text first last =
-    if first == last then codes "page " ++ decimal first ++ codes " is missing" else codes "pages " ++ decimal first ++ codes " to " ++ decimal last ++ codes " are missing"
-
 -- where a file is shorter than the header states: the pages after its last one, up to the stated number
 abbrev pub missing_line : List ℕ → FaultCode → List ℕ
-missing_line file H06 = indented (missing_text ((geometry file).pages + 1) (stated_pages file))
+missing_line file H06 = indented (pages_text ((geometry file).pages + 1) (stated_pages file) ++ codes " missing")
 missing_line file _ = []
 
 -- what comes after the line of a cause of a fault of page p: of a key and a leaf where its page is, and of a page what is known of it

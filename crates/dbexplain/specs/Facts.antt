@@ -24,19 +24,16 @@ run_line page_size p run = indented (bytes_text (page_begin page_size p + run.st
 abbrev pub rowids_line : List ℕ → List ℕ
 rowids_line bounds = indented (codes "by the keys around it, its rowids are" ++ bounds)
 
--- that rowids are above a key, and that they are up to one
-abbrev pub above_text : ℤ → List ℕ
-above_text key = codes " above " ++ signed_decimal key
-
-abbrev pub up_to_text : ℤ → List ℕ
-up_to_text key = codes " up to " ++ signed_decimal key
+-- a key that rowids are above, or up to
+abbrev pub bound_text : List ℕ → ℤ → List ℕ
+bound_text words key = words ++ signed_decimal key
 
 -- between which rowids the rows of a page are, if there are keys around it
 abbrev pub rowids_text : Option ℤ → Option ℤ → List ℕ
 rowids_text None None = []
-rowids_text (Some above) None = rowids_line (above_text above)
-rowids_text None (Some up_to) = rowids_line (up_to_text up_to)
-rowids_text (Some above) (Some up_to) = rowids_line (above_text above ++ codes " and" ++ up_to_text up_to)
+rowids_text (Some above) None = rowids_line (bound_text (codes " above ") above)
+rowids_text None (Some up_to) = rowids_line (bound_text (codes " up to ") up_to)
+rowids_text (Some above) (Some up_to) = rowids_line (bound_text (codes " above ") above ++ codes " and" ++ bound_text (codes " up to ") up_to)
 
 -- what is known of page p: its longest run of one byte, and its rowids
 abbrev pub facts_text : ℕ → ℕ → PageFacts → List ℕ

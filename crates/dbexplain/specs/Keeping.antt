@@ -7,8 +7,7 @@ use Rattle.dbformat.specs.declared.Geometry.{Geometry}
 use Rattle.dbentries.specs.Lines.{cause_text}
 use Rattle.dbentries.specs.Others.{kept_others_text}
 use Rattle.dbentries.specs.declared.entry.Entry.{Entry}
-use Rattle.dbentries.specs.Listed.{listed_faults}
-use Rattle.dbentries.specs.Lists.{IsListOf, IsUnused}
+use Rattle.dbentries.specs.Lists.{IsUnused, ListsAll}
 use Rattle.dbscan.specs.Desks.{DeskView}
 use Rattle.dbscan.specs.Finishes.{IsDeskOf}
 use Rattle.dbscan.specs.Placed.{told_faults}
@@ -33,8 +32,7 @@ lines_of kept = flat_map (λ (e : Entry). fault_line e.first.fault) kept
 -- nothing is known of a file of this shape, and there is room for `limit` entries and for its pages
 pub record IsEmpty {A : Type 0} (limit : ℕ) (g : Geometry) (k : Kept A) : Type 0 where
   pub listing : IsUnused limit k.listing
-  pub tally : IsTallyOf [] k.tally
-  pub bits : HasPageBit k.tally.pages g.pages
+  pub tally : IsTallyOf g.pages [] k.tally
   pub zeros : HasPageBit k.listing.zeros g.pages
   pub room : g.pages < length k.trees.known
 
@@ -42,16 +40,13 @@ pub record IsEmpty {A : Type 0} (limit : ℕ) (g : Geometry) (k : Kept A) : Type
 pub record HasAll {A : Type 0} (d : DeskView) (k : Kept A) (file : List ℕ) (V : List Reference) : Type 0 where
   pub desk : IsDeskOf d file V
   pub some : told_faults file V ≡ [] → ⊥
-  pub listing : IsListOf (listed_faults file V) k.listing
-  pub tally : IsTallyOf (told_faults file V) k.tally
-  pub bits : HasPageBit k.tally.pages (geometry file).pages
-  pub zeros : HasPageBit k.listing.zeros (geometry file).pages
+  pub listing : ListsAll k.listing.entries.limit file V k.listing
+  pub tally : IsTallyOf (geometry file).pages (told_faults file V) k.tally
+  pub zeros : AreZeros file V k.listing.zeros
   pub trees : AreTrees V k.trees.known
 
 -- All faults of a file were counted by a tally, and these bits are of the pages that are zeros.
 pub record IsCounted {A : Type 0} (o : Owners A) (t : Tallied) (words : List ℕ) (file : List ℕ) (V : List Reference) : Type 0 where
   pub owners : AreOwnersOf o file V
-  pub tally : IsTallyOf (told_faults file V) t
-  pub bits : HasPageBit t.pages (geometry file).pages
-  pub room : HasPageBit words (geometry file).pages
-  pub zeros : AreZeros (listed_faults file V) words
+  pub tally : IsTallyOf (geometry file).pages (told_faults file V) t
+  pub zeros : AreZeros file V words

@@ -9,4 +9,3 @@ pub mod Runs
 pub mod Summary
 pub mod Sums
 pub mod Tallies
-pub mod TallySteps

@@ -1,5 +1,5 @@
 -- The reporter of `explain`: what a notice makes of it, and what a run leaves.
-use Rattle.std.specs.Prelude.{◌≡◌, ℕ, List, [], ◌∷◌, ◌++◌, length, Result, Ok, Err}
+use Rattle.std.specs.Prelude.{◌≡◌, ℕ, List, Result, Ok, Err}
 use Rattle.std.specs.Io.KnownBytes.{Appends}
 use Rattle.dbformat.specs.File.{geometry}
 use Rattle.dbformat.specs.Reference.{Reference}
@@ -14,22 +14,20 @@ use Rattle.dbsource.specs.declared.out.WriteFailed.{WriteFailed}
 use Rattle.dbwalk.specs.Telling.{SinkState, one_out}
 use Rattle.dbscan.specs.Notices.{Notice}
 use Rattle.dbentries.specs.Listed.{listed_entries}
-use Rattle.dbentries.specs.Lists.{ListsFault, ListsFirst}
+use Rattle.dbentries.specs.Lists.{ListsFirst, heard}
 use Rattle.dbentries.specs.Reported.{HearsReported}
 use Rattle.dbowner.specs.Trees.{row_noted}
 use Rattle.dbexplain.specs.Explained.{explain_text}
 use Rattle.dbexplain.specs.Keeping.{IsEmpty, lines_of}
-use Rattle.dbexplain.specs.Tallies.{IsTallyOf}
+use Rattle.dbexplain.specs.Tallies.{fault_told}
 use Rattle.dbexplain.specs.declared.reporter.ExplainReporter.{ExplainReporter}
 
 module _ {A O : Type 0} where
   -- A fault was counted, and listed.
   pub record Adds (x : Reported) (s t : ExplainReporter A O) : Type 0 where
-    pub tally : (ts : List Reported) → IsTallyOf ts s.kept.now.tally → IsTallyOf (ts ++ x ∷ []) t.kept.now.tally
-    pub bits : length t.kept.now.tally.pages ≡ length s.kept.now.tally.pages
-    pub listing : ListsFault x s.kept.now.listing t.kept.now.listing
-    pub zeros : length t.kept.now.listing.zeros ≡ length s.kept.now.listing.zeros
-    pub trees : t.kept.now.trees ≡ s.kept.now.trees
+    pub tally : t.kept.now.tally ≡ fault_told s.kept.now.tally x
+    pub listing : t.kept.now.listing ≡ heard s.kept.now.listing x
+    pub trees : t.kept.now.trees.known ≡ s.kept.now.trees.known
     pub out : t.out.now ≡ s.out.now
 
   -- The start of the page of a row was noted.

@@ -16,8 +16,8 @@ use Rattle.dbformat.specs.declared.Encoding.{Encoding}
 use Rattle.dbformat.specs.declared.FaultCode.{FaultCode}
 use Rattle.dbformat.specs.declared.RowKind.{RowKind}
 use Rattle.dbformat.specs.declared.RowKind.TheVariants as row
-use Rattle.dbentries.specs.Lines.{indented}
-use Rattle.dbentries.specs.Others.{run_text, runs}
+use Rattle.dbentries.specs.Lines.{indented, number_text}
+use Rattle.dbentries.specs.Others.{runs}
 use Rattle.dbentries.specs.Zeros.{zero_pages}
 use Rattle.dbentries.specs.declared.runs.Run.{Run}
 use Rattle.dbexplain.specs.Facts.{bytes_text, page_begin}
@@ -64,13 +64,13 @@ is_reached V k p = option_map_or (λ j. j == k) (start_at V p) false
 abbrev pub reached_pages : List ℕ → List Reference → ℕ → ℕ
 reached_pages file V k = count_by (is_reached V k) (page_numbers (geometry file))
 
--- whether page p has a fault that was reported at start k
-abbrev pub is_faulty_at : List Reported → ℕ → ℕ → Bool
-is_faulty_at ts k p = list_any (λ t. is_part_of_start k t.part && (t.fault.page == p)) ts
+-- whether page p has a fault that was reported at a start
+abbrev pub is_told : List Reported → ℕ → Bool
+is_told ts p = list_any (λ t. not (is_whole t.part) && (t.fault.page == p)) ts
 
--- how many pages of a file have one
-abbrev pub faulty_pages_at : List ℕ → List Reported → ℕ → ℕ
-faulty_pages_at file ts k = count_by (is_faulty_at ts k) (page_numbers (geometry file))
+-- how many of the pages that were reached from start k have one
+abbrev pub faulty_pages : List ℕ → List Reference → List Reported → ℕ → ℕ
+faulty_pages file V ts k = count_by (λ p. is_reached V k p && is_told ts p) (page_numbers (geometry file))
 
 -- Trees.
 
@@ -125,7 +125,7 @@ faulty_pages_text faulty n =
 -- how many were reported at start k
 abbrev pub start_sum_line : List ℕ → List Reference → List Reported → ℕ → List ℕ
 start_sum_line file V ts k = sum_line (length ts) (start_count ts k)
-    (codes "in " ++ start_name (encoding file) (listed_rows file V) k ++ faulty_pages_text (faulty_pages_at file ts k) (reached_pages file V k))
+    (codes "in " ++ start_name (encoding file) (listed_rows file V) k ++ faulty_pages_text (faulty_pages file V ts k) (reached_pages file V k))
 
 -- how many of the whole file
 abbrev pub whole_line : List Reported → List ℕ
@@ -133,21 +133,25 @@ whole_line ts = sum_line (length ts) (whole_count ts) (codes "in the whole file"
 
 -- how many of some trees have none
 abbrev pub share_text : TreeSum → List ℕ → List ℕ → List ℕ
-share_text t one more = decimal t.whole ++ codes " of " ++ decimal t.all ++ (if t.all == 1 then one else more)
+share_text t one more = decimal t.whole ++ codes " of " ++ number_text t.all one more
 
 -- how many of the tables, and of the indexes
 abbrev pub trees_text : TreeSum → TreeSum → List ℕ
 trees_text tables indexes =
     indented (share_text tables (codes " table") (codes " tables") ++ codes " and " ++ share_text indexes (codes " index") (codes " indexes") ++ codes " without a fault")
 
+-- the pages from one number to another, before what they are
+abbrev pub pages_text : ℕ → ℕ → List ℕ
+pages_text first last =
+    if first == last then codes "page " ++ decimal first ++ codes " is" else codes "pages " ++ decimal first ++ codes " to " ++ decimal last ++ codes " are"
+
 -- a run of pages that are zeros, where pages have this size
 abbrev pub zero_run_line : ℕ → Run → List ℕ
-zero_run_line page_size r = indented ((if r.first == r.last then codes "page " ++ decimal r.first ++ codes " is" else codes "pages " ++ run_text r ++ codes " are")
-    ++ codes " zeros: " ++ bytes_text (page_begin page_size r.first) (r.last * page_size - 1))
+zero_run_line page_size r = indented (pages_text r.first r.last ++ codes " zeros: " ++ bytes_text (page_begin page_size r.first) (r.last * page_size - 1))
 
 -- how many more runs there are
 abbrev pub more_zeros_line : ℕ → List ℕ
-more_zeros_line k = if k == 0 then [] else indented (codes "and " ++ decimal k ++ (if k == 1 then codes " more run" else codes " more runs") ++ codes " of zero pages")
+more_zeros_line k = if k == 0 then [] else indented (codes "and " ++ number_text k (codes " more run") (codes " more runs") ++ codes " of zero pages")
 
 -- these runs, and k more
 abbrev pub zero_runs_text : ℕ → List Run → ℕ → List ℕ

@@ -2,13 +2,14 @@
 use Rattle.std.specs.Prelude.{ℕ, suc, ◌-◌, Bool, true, false, ◌&&◌, List, ◌++◌, take, length, min, count_by, codes, slice_index_or, ◌==◌}
 use Rattle.std.specs.List.{enumerate_from, flat_map, range_with_len}
 use Rattle.dbformat.specs.Address.{freelist_start}
+use Rattle.dbformat.specs.Codes.{all_codes}
 use Rattle.dbformat.specs.Lines.{code_text, code_words}
 use Rattle.dbformat.specs.SchemaRow.{SchemaRow}
 use Rattle.dbformat.specs.declared.Encoding.{Encoding}
+use Rattle.dbformat.specs.declared.FaultCode.{FaultCode}
 use Rattle.dbentries.specs.declared.runs.Runs.{Runs}
 use Rattle.dbexplain.specs.Summary.{aligned, count_text, faulty_pages_text, is_of_kind, start_name, sum_line, trees_text, zero_runs_text}
-use Rattle.dbexplain.specs.Tallies.{Tallied, no_count}
-use Rattle.dbexplain.specs.declared.tally.CodeCount.{CodeCount}
+use Rattle.dbexplain.specs.Tallies.{Tallied, count_of, no_count}
 use Rattle.dbexplain.specs.declared.tally.StartCount.{StartCount}
 use Rattle.dbexplain.specs.declared.trees.TreeSum.{TreeSum}
 
@@ -17,8 +18,8 @@ abbrev pub sum_front : ℕ → ℕ → List ℕ
 sum_front all n = codes "    " ++ aligned all n ++ codes " "
 
 -- the line of a code
-abbrev pub code_sum : ℕ → CodeCount → List ℕ
-code_sum all c = sum_line all c.count (code_text c.code ++ codes " " ++ code_words c.code)
+abbrev pub code_sum : Tallied → FaultCode → List ℕ
+code_sum t code = sum_line t.all (count_of t code) (code_text code ++ codes " " ++ code_words code)
 
 -- the line of a start with this name
 abbrev pub start_sum : ℕ → List ℕ → StartCount → List ℕ
@@ -57,6 +58,6 @@ last_sum page_size r rows cs = zeros_sum page_size r ++ trees_sum rows cs
 -- the summary
 abbrev pub summary_by : ℕ → Runs → Encoding → List SchemaRow → Tallied → List ℕ
 summary_by page_size r e rows t =
-    count_text t.all ++ (flat_map (code_sum t.all) t.codes ++ (flat_map (numbered_sum t.all (start_name e rows)) (enumerate_from 0 (tree_counts rows t))
+    count_text t.all ++ (flat_map (code_sum t) all_codes ++ (flat_map (numbered_sum t.all (start_name e rows)) (enumerate_from 0 (tree_counts rows t))
     ++ (start_sum t.all (start_name e rows freelist_start) (freelist_start_count t) ++ (sum_line t.all t.whole (codes "in the whole file")
     ++ last_sum page_size r rows (tree_counts rows t)))))

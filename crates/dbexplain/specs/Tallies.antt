@@ -1,23 +1,24 @@
 -- The tally of the faults that were reported: how many there are by code and by start, which pages have one, and how many pages were reached.
-use Rattle.std.specs.Prelude.{◌≡◌, ℕ, ◌+◌, ◌-◌, ◌≤◌, not, Bool, ◌&&◌, List, [], length, map, min, count_by, vec_len, Some, ◌^◌, slice_get, slice_set, slice_index_or, ◌==◌, if◌then◌else◌}
-use Rattle.std.specs.List.{list_any, range_with_len}
+use Rattle.std.specs.Prelude.{◌≡◌, ℕ, ◌+◌, ◌-◌, ◌≤◌, Bool, ◌&&◌, List, [], length, min, count_by, vec_len, Option, Some, None, ◌^◌, slice_get, slice_index, slice_set, slice_index_or, if◌then◌else◌}
+use Rattle.std.specs.List.{range_with_len}
 use Rattle.dbformat.specs.Address.{freelist_start}
-use Rattle.dbformat.specs.Codes.{all_codes, code_index}
+use Rattle.dbformat.specs.Codes.{code_index}
 use Rattle.dbformat.specs.Lines.{counted}
 use Rattle.dbformat.specs.Reference.{Reference}
 use Rattle.dbformat.specs.declared.FaultCode.{FaultCode}
+use Rattle.dbtrace.specs.declared.Part.{Part}
+use Rattle.dbtrace.specs.declared.Part.TheVariants as part
 use Rattle.dbtrace.specs.declared.Reported.{Reported}
-use Rattle.dbentries.specs.Bits.{has_bit, HasPageBit}
-use Rattle.dbexplain.specs.Summary.{code_count, start_count, whole_count, is_reached, is_whole}
-use Rattle.dbexplain.specs.declared.tally.CodeCount.{CodeCount}
+use Rattle.dbentries.specs.Bits.{bit_set, has_bit, HasPageBit}
+use Rattle.dbexplain.specs.Summary.{code_count, start_count, whole_count, is_reached, is_told, is_whole}
 use Rattle.dbexplain.specs.declared.tally.StartCount.{StartCount}
 use Rattle.dbexplain.specs.declared.tally.Tally.TheInside.{Inside}
 
--- A tally as contracts see it: how many faults there are, with each code, at each start, and of the whole file; and words with a bit for
--- each page.
+-- A tally as contracts see it: how many faults there are, with each code by its index, at each start, and of the whole file; and words with a
+-- bit for each page.
 pub record Tallied : Type 0 where
   pub all : ℕ
-  pub codes : List CodeCount
+  pub codes : List ℕ
   pub starts : List StartCount
   pub whole : ℕ
   pub pages : List ℕ
@@ -30,33 +31,50 @@ tallied t = record { all = t.all; codes = t.codes; starts = t.starts.items; whol
 abbrev pub IsRoomy : {A : Type 0} → Inside A → Type 0
 IsRoomy t = vec_len t.starts ≡ freelist_start + 1
 
--- a code with its count, which stops at the greatest number of 64 bits
-abbrev pub counted_code : List Reported → FaultCode → CodeCount
-counted_code ts code = record { code = code; count = counted (code_count ts code) }
-
--- the same where one fault more was reported
-abbrev pub one_more_of_code : CodeCount → CodeCount
-one_more_of_code c = record c { count = counted (c.count + 1) }
-
--- the counts of all codes, where one fault more with this code was reported
-abbrev pub counted_in : FaultCode → List CodeCount → List CodeCount
-counted_in code cs = slice_set cs (code_index code) (one_more_of_code (slice_index_or cs (code_index code) (record { code = code; count = 0 })))
+-- how many faults with a code were counted
+abbrev pub count_of : Tallied → FaultCode → ℕ
+count_of t code = slice_index t.codes (code_index code)
 
 -- nothing is counted of a start
 abbrev pub no_count : StartCount
 no_count = record { faults = 0; reached = 0; faulty = 0 }
 
--- one fault more was reported at a start
+-- ---- a fault more
+
+-- one with this code
+abbrev pub code_told : FaultCode → Tallied → Tallied
+code_told code t = record t { all = counted (t.all + 1); codes = slice_set t.codes (code_index code) (counted (count_of t code + 1)) }
+
+-- at a start, or of the whole file
 abbrev pub one_fault : StartCount → StartCount
 one_fault c = record c { faults = counted (c.faults + 1) }
 
--- a page more was reached from it, with a fault or without one
+abbrev pub part_told : Part → Tallied → Tallied
+part_told (part.Start k) t = record t { starts = slice_set t.starts k (one_fault (slice_index_or t.starts k no_count)) }
+part_told _ t = record t { whole = counted (t.whole + 1) }
+
+-- of this page, which is noted where it was reported at a start
+abbrev pub page_told : Part → ℕ → Tallied → Tallied
+page_told part page t = record t { pages = if is_whole part then t.pages else bit_set page t.pages }
+
+abbrev pub fault_told : Tallied → Reported → Tallied
+fault_told t x = page_told x.part x.fault.page (part_told x.part (code_told x.fault.code t))
+
+-- ---- a page more
+
+-- reached from a start, with a fault or without one
 abbrev pub one_reached_page : Bool → StartCount → StartCount
 one_reached_page faulty c = record c { reached = min (c.reached + 1) (2 ^ 32 - 1); faulty = if faulty then min (c.faulty + 1) (2 ^ 32 - 1) else c.faulty }
 
--- whether some fault that was reported at a start is of page p
-abbrev pub is_told : List Reported → ℕ → Bool
-is_told ts p = list_any (λ t. not (is_whole t.part) && (t.fault.page == p)) ts
+abbrev pub start_reached : ℕ → ℕ → Tallied → Tallied
+start_reached k p t = record t { starts = slice_set t.starts k (one_reached_page (has_bit t.pages p) (slice_index_or t.starts k no_count)) }
+
+-- if it was reached
+abbrev pub page_reached : Option ℕ → ℕ → Tallied → Tallied
+page_reached None p t = t
+page_reached (Some k) p t = start_reached k p t
+
+-- ---- what it all means
 
 -- What was counted at start k: its faults, and of the first n pages those that were reached from it, and those of them with a fault.
 abbrev pub counted_start : List Reference → List Reported → ℕ → ℕ → StartCount
@@ -66,14 +84,15 @@ counted_start V ts n k = record {
   faulty = count_by (λ p. is_reached V k p && is_told ts p) (range_with_len 1 n);
 }
 
--- The tally is that of these faults, and of the first n pages.
-pub record IsTallyTo (V : List Reference) (ts : List Reported) (n : ℕ) (t : Tallied) : Type 0 where
+-- The tally is that of these faults of a file of so many pages, and of the first n pages.
+pub record IsTallyTo (pages : ℕ) (V : List Reference) (ts : List Reported) (n : ℕ) (t : Tallied) : Type 0 where
   pub all : t.all ≡ counted (length ts)
-  pub codes : t.codes ≡ map (counted_code ts) all_codes
+  pub codes : (code : FaultCode) → slice_get t.codes (code_index code) ≡ Some (counted (code_count ts code))
   pub starts : (k : ℕ) → k ≤ freelist_start → slice_get t.starts k ≡ Some (counted_start V ts n k)
   pub whole : t.whole ≡ counted (whole_count ts)
-  pub pages : (p : ℕ) → HasPageBit t.pages p → has_bit t.pages p ≡ is_told ts p
+  pub room : HasPageBit t.pages pages
+  pub bits : (p : ℕ) → p ≤ pages → has_bit t.pages p ≡ is_told ts p
 
 -- The tally is that of these faults, where no page is counted yet.
-abbrev pub IsTallyOf : List Reported → Tallied → Type 0
-IsTallyOf ts t = IsTallyTo [] ts 0 t
+abbrev pub IsTallyOf : ℕ → List Reported → Tallied → Type 0
+IsTallyOf pages ts t = IsTallyTo pages [] ts 0 t

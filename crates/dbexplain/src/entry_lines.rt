@@ -1,7 +1,7 @@
 // The lines of entries.
 ghost use Rattle.std.specs.Prelude.{◌≡◌, flat_map};
 ghost use Rattle.dblines.specs.Writing.{Wrote, WroteOf};
-ghost use Rattle.dbexplain.specs.Explained.{after_cause, front_text};
+ghost use Rattle.dbexplain.specs.Explained.{after_cause};
 ghost use Rattle.dbexplain.specs.Keeping.{kept_entry_text, lines_of};
 ghost use Rattle.dbexplain.specs.Notes.{AreOwnersOf};
 
@@ -9,23 +9,9 @@ use crate::facts::put_facts;
 use crate::missing::put_missing;
 use crate::owners::Owners;
 use dbentries::{Cause, Entry, put_cause, put_others};
-use dbformat::Fault;
 use dblines::Writer;
 use dbsource::Out;
 use std::alloc::Allocator;
-
-// Writes the line of a fault, where it is, and the pages that are missing.
-fn put_front<A: Allocator, O: Out>(
-    writer: &mut Writer<'_, O>,
-    owners: &Owners<'_, A>,
-    fault: &Fault,
-)
-    ensures { WroteOf O.held writer.old (AreOwnersOf owners.now) (λ file V. front_text file V fault.now) writer.new }
-{
-    writer.put_fault(fault);
-    owners.put_below(writer, fault);
-    put_missing(writer, owners, fault.code);
-}
 
 // Writes what comes after the line of a cause: of a key and a leaf where its page is, and of a page what is known of it.
 fn put_after_cause<A: Allocator, O: Out>(
@@ -54,7 +40,9 @@ fn put_entry<A: Allocator, O: Out>(
     ensures { WroteOf O.held writer.old (AreOwnersOf owners.now) (λ file V. kept_entry_text file V entry.now) writer.new }
 {
     let first = &entry.first;
-    put_front(writer, owners, &first.fault);
+    writer.put_fault(&first.fault);
+    owners.put_below(writer, &first.fault);
+    put_missing(writer, owners, first.fault.code);
     put_cause(writer, &first.cause);
     put_after_cause(writer, owners, first.fault.page, &first.cause);
     put_others(writer, entry);

@@ -1,10 +1,10 @@
 // What is known of a page with faults.
 ghost use Rattle.arrayvec.specs.ArrayVec.{array_vec_len};
 ghost use Rattle.std.specs.Option.{option_map_or};
-ghost use Rattle.std.specs.Prelude.{◌≡◌, ◌≤◌, ◌+◌, [], ◌++◌};
+ghost use Rattle.std.specs.Prelude.{◌≡◌, ◌≤◌, ◌+◌, [], ◌++◌, length};
 ghost use Rattle.dbformat.specs.FixedPages.{IsInRange};
 ghost use Rattle.dblines.specs.Writing.{Wrote};
-ghost use Rattle.dbexplain.specs.Facts.{above_text, facts_text, rowids_text, run_line, up_to_text};
+ghost use Rattle.dbexplain.specs.Facts.{bound_text, facts_text, rowids_text, run_line};
 
 use arrayvec::ArrayVec;
 use dbentries::append_signed;
@@ -46,24 +46,15 @@ fn run_text(shape: Geometry, page: u32, run: Option<ByteRun>) -> ArrayVec<u8, 96
     }
 }
 
-// Adds that rowids are above a key.
-fn append_above(line: &mut ArrayVec<u8, 128>, above: i64)
-    requires { array_vec_len line.old ≤ 101 }
-    ensures text { line.new.items ≡ line.old.items ++ above_text above }
+// Adds a key that rowids are above, or up to.
+fn append_bound(line: &mut ArrayVec<u8, 128>, words: &str, key: i64)
+    requires room { array_vec_len line.old ≤ 101 }
+    requires words { length words.now ≤ 7 }
+    ensures text { line.new.items ≡ line.old.items ++ bound_text words.now key }
     ensures short { array_vec_len line.new ≤ array_vec_len line.old + 27 }
 {
-    append(line, " above ");
-    append_signed(line, above);
-}
-
-// Adds that they are up to a key.
-fn append_up_to(line: &mut ArrayVec<u8, 128>, up_to: i64)
-    requires { array_vec_len line.old ≤ 101 }
-    ensures text { line.new.items ≡ line.old.items ++ up_to_text up_to }
-    ensures short { array_vec_len line.new ≤ array_vec_len line.old + 27 }
-{
-    append(line, " up to ");
-    append_signed(line, up_to);
+    append(line, words);
+    append_signed(line, key);
 }
 
 // The line of rowids, if there are keys around the page.
@@ -74,12 +65,12 @@ fn rowids_line(rowids: &RowidBounds) -> ArrayVec<u8, 128>
     append(&mut line, "    by the keys around it, its rowids are");
     match (rowids.above, rowids.up_to) {
         (None, None) => return ArrayVec::new(),
-        (Some(above), None) => append_above(&mut line, above),
-        (None, Some(up_to)) => append_up_to(&mut line, up_to),
+        (Some(above), None) => append_bound(&mut line, " above ", above),
+        (None, Some(up_to)) => append_bound(&mut line, " up to ", up_to),
         (Some(above), Some(up_to)) => {
-            append_above(&mut line, above);
+            append_bound(&mut line, " above ", above);
             append(&mut line, " and");
-            append_up_to(&mut line, up_to);
+            append_bound(&mut line, " up to ", up_to);
         }
     }
     append(&mut line, "\n");

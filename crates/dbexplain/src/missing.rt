@@ -1,33 +1,27 @@
 // The pages that a file lacks.
-ghost use Rattle.std.specs.Prelude.{◌≡◌};
+ghost use Rattle.std.specs.Prelude.{◌≡◌, ◌++◌, codes};
 ghost use Rattle.dblines.specs.Writing.{WroteOf};
 ghost use Rattle.dbentries.specs.Lines.{indented};
-ghost use Rattle.dbexplain.specs.Explained.{missing_line, missing_text};
+ghost use Rattle.dbexplain.specs.Explained.{missing_line};
 ghost use Rattle.dbexplain.specs.Notes.{AreOwnersOf};
+ghost use Rattle.dbexplain.specs.Summary.{pages_text};
 
 use crate::owners::Owners;
+use crate::zeros::append_pages;
 use arrayvec::ArrayVec;
 use dbformat::FaultCode;
-use dblines::{Writer, append, append_number};
+use dblines::{Writer, append};
 use dbsource::Out;
 use std::alloc::Allocator;
 
 // The line of the pages from one number to another.
 fn missing_text(first: u64, last: u64) -> ArrayVec<u8, 96>
-    ensures { result.items ≡ indented (missing_text first last) }
+    ensures { result.items ≡ indented (pages_text first last ++ codes " missing") }
 {
     let mut line = ArrayVec::new();
-    if first == last {
-        append(&mut line, "    page ");
-        append_number(&mut line, first);
-        append(&mut line, " is missing\n");
-    } else {
-        append(&mut line, "    pages ");
-        append_number(&mut line, first);
-        append(&mut line, " to ");
-        append_number(&mut line, last);
-        append(&mut line, " are missing\n");
-    }
+    append(&mut line, "    ");
+    append_pages(&mut line, first, last);
+    append(&mut line, " missing\n");
     line
 }
 

@@ -101,14 +101,6 @@ fn entry_line(entry: MapEntry) -> ArrayVec<u8, 96>
     line
 }
 
-// Writes the line of a number of the header.
-fn put_header<O: Out>(writer: &mut Writer<'_, O>, number: u32)
-    ensures { Wrote O.held writer.old (header_line number) writer.new }
-{
-    let line = header_line(number);
-    writer.put(line.as_slice());
-}
-
 impl<A: Allocator> Owners<'_, A> {
     /// The texts of the trees.
     pub(crate) fn names(&self) -> TreeNames<'_, A>
@@ -174,9 +166,11 @@ impl<A: Allocator> Owners<'_, A> {
     {
         match below_of(fault.code) {
             Below::Nothing => {}
-            Below::StatedPages => put_header(writer, self.header.stated_pages()),
-            Below::GreatestRoot => put_header(writer, self.header.greatest_root()),
-            Below::FreelistCount => put_header(writer, self.header.freelist_count()),
+            Below::StatedPages => writer.put(header_line(self.header.stated_pages()).as_slice()),
+            Below::GreatestRoot => writer.put(header_line(self.header.greatest_root()).as_slice()),
+            Below::FreelistCount => writer.put(header_line(
+                self.header.freelist_count(),
+            ).as_slice()),
             Below::Own => self.put_own(writer, fault),
             Below::Both => {
                 self.put_own(writer, fault);

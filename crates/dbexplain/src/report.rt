@@ -1,6 +1,6 @@
 // The report, when all of a file is known, and what is put of it after a failed read.
 ghost use Rattle.std.specs.Prelude.{◌≡◌};
-ghost use Rattle.dblines.specs.Writing.{PutsOf, WroteOf};
+ghost use Rattle.dblines.specs.Writing.{PutsOf};
 ghost use Rattle.dbsource.specs.Outs.{Puts};
 ghost use Rattle.dbentries.specs.Listed.{listed_entries};
 ghost use Rattle.dbexplain.specs.Explained.{explain_text};
@@ -11,40 +11,9 @@ use crate::kept::Kept;
 use crate::owners::Owners;
 use crate::summary::put_summary;
 use dblines::Writer;
-use dbowner::PageTrees;
 use dbscan::Desk;
 use dbsource::{Out, WriteFailed};
 use std::alloc::Allocator;
-
-// What is known of the pages of a file at the end of a run.
-fn owners_of<'a, A: Allocator>(desk: &'a Desk<A>, trees: &'a PageTrees<A>) -> Owners<'a, A>
-    ensures header { result.header.now ≡ desk.now.header }
-    ensures marks { result.marks.now ≡ desk.now.marks }
-    ensures roots { result.roots.now ≡ desk.now.roots }
-    ensures trees { result.trees.now ≡ trees.now }
-{
-    Owners {
-        header: desk.header(),
-        marks: desk.marks(),
-        roots: desk.roots(),
-        trees,
-    }
-}
-
-// Writes the report of a file in which faults were found.
-fn write_report<A: Allocator, O: Out>(
-    writer: &mut Writer<'_, O>,
-    desk: &Desk<A>,
-    kept: &mut Kept<A>,
-)
-    ensures { WroteOf O.held writer.old (HasAll desk.now kept.old)
-        (λ file V. explain_text kept.old.listing.entries.limit file V (listed_entries file V)) writer.new }
-{
-    let owners = owners_of(desk, &kept.trees);
-    put_entries(writer, &owners, kept.listing.listed());
-    writer.put_rest(kept.listing.rest());
-    put_summary(writer, &owners, &mut kept.tally, &kept.listing);
-}
 
 /// Puts the report of a file in which faults were found: the first entries, how many faults belong to none of them, and the
 /// summary.
@@ -61,7 +30,15 @@ pub(crate) fn put_report<A: Allocator, O: Out>(
         (λ file V. explain_text kept.old.listing.entries.limit file V (listed_entries file V)) }
 {
     let mut writer = Writer::new(out);
-    write_report(&mut writer, desk, kept);
+    let owners = Owners {
+        header: desk.header(),
+        marks: desk.marks(),
+        roots: desk.roots(),
+        trees: &kept.trees,
+    };
+    put_entries(&mut writer, &owners, kept.listing.listed());
+    writer.put_rest(kept.listing.rest());
+    put_summary(&mut writer, &owners, &mut kept.tally, &kept.listing);
     writer.end()
 }
 

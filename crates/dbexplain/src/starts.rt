@@ -5,7 +5,7 @@ ghost use Rattle.std.specs.List.{enumerate_from, flat_map};
 ghost use Rattle.dbformat.specs.Lines.{line_feed};
 ghost use Rattle.dblines.specs.Writing.{Wrote};
 ghost use Rattle.dbexplain.specs.Summary.{faulty_pages_text, start_name};
-ghost use Rattle.dbexplain.specs.Sums.{numbered_sum, start_sum, sum_front};
+ghost use Rattle.dbexplain.specs.Sums.{numbered_sum, start_sum};
 
 use crate::page_lines::put_tree;
 use crate::sums::sum_front;
@@ -40,15 +40,6 @@ fn put_name<A: Allocator, O: Out>(writer: &mut Writer<'_, O>, names: &TreeNames<
     writer.put(root_text(names.roots.root_page(start)).as_slice());
 }
 
-// What is before the name of a start in the line of its count.
-fn count_front(all: u64, count: u64) -> ArrayVec<u8, 160>
-    ensures { result.items ≡ sum_front all count ++ codes "in " }
-{
-    let mut front = sum_front(all, count);
-    append(&mut front, "in ");
-    front
-}
-
 // On how many of its pages the faults of a start are, and the end of the line.
 fn pages_text(faulty: u32, reached: u32) -> ArrayVec<u8, 160>
     ensures { result.items ≡ faulty_pages_text faulty reached ++ line_feed ∷ [] }
@@ -79,7 +70,8 @@ pub(crate) fn put_start_sum<A: Allocator, O: Out>(
     if count.faults == 0 {
         return;
     }
-    writer.put(count_front(all, count.faults).as_slice());
+    writer.put(sum_front(all, count.faults).as_slice());
+    writer.put(b"in ");
     put_name(writer, names, start);
     writer.put(pages_text(count.faulty, count.reached).as_slice());
 }

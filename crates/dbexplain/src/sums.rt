@@ -7,12 +7,13 @@ ghost use Rattle.dblines.specs.Writing.{Wrote};
 ghost use Rattle.dbexplain.specs.Summary.{aligned, count_text, sum_line};
 ghost use Rattle.dbexplain.specs.Sums.{code_sum, sum_front};
 
-use crate::tally::CodeCount;
+use crate::tally::Tally;
 use arrayvec::ArrayVec;
 use dbformat::FaultCode;
 use dblines::{Writer, append, append_number, code_text, code_words};
 use dbsource::Out;
 use itoa::Buffer;
+use std::alloc::Allocator;
 
 // How many digits a number of 64 bits has at most.
 const MAX_DIGITS: usize = 20;
@@ -82,22 +83,27 @@ fn code_sum(all: u64, count: u64, code: FaultCode) -> ArrayVec<u8, 160>
 }
 
 // Puts how many of all faults have a code, if there are any.
-fn put_code_sum<O: Out>(writer: &mut Writer<'_, O>, all: u64, count: CodeCount)
-    ensures { Wrote O.held writer.old (code_sum all count) writer.new }
+fn put_code_sum<A: Allocator, O: Out>(writer: &mut Writer<'_, O>, tally: &Tally<A>, code: FaultCode)
+    ensures { Wrote O.held writer.old (code_sum tally.now code) writer.new }
 {
-    if count.count == 0 {
+    let count = tally.with_code(code);
+    if count == 0 {
         return;
     }
-    let line = code_sum(all, count.count, count.code);
+    let line = code_sum(tally.all(), count, code);
     writer.put(line.as_slice());
 }
 
 // Puts how many of all faults have each of these codes.
-pub(crate) fn put_code_sums<O: Out>(writer: &mut Writer<'_, O>, all: u64, counts: &[CodeCount])
-    ensures { Wrote O.held writer.old (flat_map (code_sum all) counts.now) writer.new }
+pub(crate) fn put_code_sums<A: Allocator, O: Out>(
+    writer: &mut Writer<'_, O>,
+    tally: &Tally<A>,
+    codes: &[FaultCode],
+)
+    ensures { Wrote O.held writer.old (flat_map (code_sum tally.now) codes.now) writer.new }
 {
-    for count in counts {
-        put_code_sum(writer, all, *count);
+    for code in codes {
+        put_code_sum(writer, tally, *code);
     }
 }
 

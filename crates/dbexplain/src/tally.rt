@@ -1,12 +1,7 @@
 // The tally of the faults that were reported.
-ghost use Rattle.std.specs.Prelude.{◌≡◌, ℕ, ◌+◌, ◌*◌, ◌<◌, ◌≤◌, [], ◌∷◌, ◌++◌, List, IfOk, length, map, suc, take, if◌then◌else◌};
-ghost use Rattle.dbformat.specs.Codes.{all_codes};
-ghost use Rattle.dbtrace.specs.declared.Reported.{Reported};
-ghost use Rattle.dbentries.specs.Bits.{bit_set, HasPageBit};
-ghost use Rattle.dbexplain.specs.Summary.{is_whole};
-ghost use Rattle.dbexplain.specs.Tallies.{counted_code, counted_in, IsTallyOf, one_reached_page};
+ghost use Rattle.std.specs.Prelude.{◌≡◌, ◌<◌, ◌≤◌, [], IfOk, length, suc, take};
 ghost use Rattle.dbexplain.specs.Sums.{freelist_start_count};
-ghost use Rattle.dbexplain.specs.TallySteps.{page_of_start_counted, start_fault_counted};
+ghost use Rattle.dbexplain.specs.Tallies.{code_told, count_of, fault_told, IsTallyOf, one_reached_page, page_told, part_told, start_reached};
 
 use dbentries::PageBits;
 use dbformat::{FREELIST_START, FaultCode, Geometry};
@@ -14,13 +9,6 @@ use dbscan::STARTS;
 use dbtrace::{Part, Reported};
 use std::alloc::{AllocError, Allocator, Global};
 use std::marker::Model;
-
-/// How many faults have a code.
-#[derive(Clone, Copy, Debug, PartialEq, Eq)]
-pub struct CodeCount {
-    pub code: FaultCode,
-    pub count: u64,
-}
 
 /// What is counted of a start: the faults that were reported there; and then the pages that were reached from it, and those of them
 /// that have a fault.
@@ -36,7 +24,8 @@ pub struct StartCount {
 #[derive(Drop)]
 pub struct Tally<A: Allocator = Global> {
     all: u64,
-    codes: [CodeCount; FaultCode::COUNT],
+    // By the index of the code.
+    codes: [u64; FaultCode::COUNT],
     starts: Vec<StartCount, A>,
     whole: u64,
     pages: PageBits<A>,
@@ -61,33 +50,6 @@ const NO_COUNT: StartCount = StartCount {
     faulty: 0,
 };
 
-// The count of a code, 0.
-fn zero_count(code: FaultCode) -> CodeCount
-    ensures { result ≡ counted_code [] code }
-{
-    CodeCount { code, count: 0 }
-}
-
-// All codes in their order, none of them reported yet.
-fn zero_counts() -> [CodeCount; FaultCode::COUNT]
-    ensures { result ≡ map (counted_code []) all_codes }
-{
-    let codes = FaultCode::all();
-    let mut counts = [zero_count(FaultCode::H01); FaultCode::COUNT];
-    for index in 0..FaultCode::COUNT {
-        counts[index] = zero_count(codes[index]);
-    }
-    counts
-}
-
-// Counts a fault with this code.
-fn count_code(counts: &mut [CodeCount; FaultCode::COUNT], code: FaultCode)
-    ensures { counts.new ≡ counted_in code counts.old }
-{
-    let index = code.index();
-    counts[index].count = counts[index].count.saturating_add(1);
-}
-
 // The counts of a start with one page more, which has a fault or has none.
 fn with_page(count: &StartCount, faulty: bool) -> StartCount
     ensures { result ≡ one_reached_page faulty count.now }
@@ -110,14 +72,13 @@ impl<A: Allocator + Copy> Tally<A> {
     ///
     /// [`AllocError`] where a growth was refused.
     pub fn new_in(alloc: A, geometry: &Geometry) -> Result<Tally<A>, AllocError>
-        ensures faults { IfOk result (IsTallyOf []) }
-        ensures room { IfOk result (λ tally. HasPageBit tally.pages geometry.now.pages) }
+        ensures { IfOk result (IsTallyOf geometry.now.pages []) }
     {
         let starts = Vec::from_elem(alloc, NO_COUNT, STARTS)?;
         let pages = PageBits::new_in(alloc, geometry.pages)?;
         Ok(Tally {
             all: 0,
-            codes: zero_counts(),
+            codes: [0; FaultCode::COUNT],
             starts,
             whole: 0,
             pages,
@@ -128,7 +89,7 @@ impl<A: Allocator + Copy> Tally<A> {
 impl<A: Allocator> Tally<A> {
     // Counts a fault of a page at a start, or of the whole file.
     fn count_part(&mut self, part: Part)
-        ensures { self.new ≡ start_fault_counted part self.old }
+        ensures { self.new ≡ part_told part self.old }
     {
         match part {
             Part::Header | Part::End => self.whole = self.whole.saturating_add(1),
@@ -143,20 +104,27 @@ impl<A: Allocator> Tally<A> {
 
     // Notes of a page that it has a fault, where that was reported at a start.
     fn note_page(&mut self, part: Part, page: u32)
-        ensures { self.new ≡ record self.old { pages = if is_whole part then self.old.pages else bit_set page self.old.pages } }
+        ensures { self.new ≡ page_told part page self.old }
     {
         if let Part::Start(_) = part {
             self.pages.set(page);
         }
     }
 
+    // Counts a fault with this code.
+    fn count_code(&mut self, code: FaultCode)
+        ensures { self.new ≡ code_told code self.old }
+    {
+        let index = code.index();
+        self.all = self.all.saturating_add(1);
+        self.codes[index] = self.codes[index].saturating_add(1);
+    }
+
     /// Counts a fault, with its code and at its start, and notes its page.
     pub fn add(&mut self, told: &Reported)
-        ensures faults { (ts : List Reported) → IsTallyOf ts self.old → IsTallyOf (ts ++ told.now ∷ []) self.new }
-        ensures room { length self.new.pages ≡ length self.old.pages }
+        ensures { self.new ≡ fault_told self.old told.now }
     {
-        self.all = self.all.saturating_add(1);
-        count_code(&mut self.codes, told.fault.code);
+        self.count_code(told.fault.code);
         self.count_part(told.part);
         self.note_page(told.part, told.fault.page);
     }
@@ -168,11 +136,11 @@ impl<A: Allocator> Tally<A> {
         self.all
     }
 
-    /// How many faults were reported with each code.
-    pub(crate) fn codes(&self) -> &[CodeCount]
-        ensures { result.now ≡ self.now.codes }
+    /// How many faults were reported with a code.
+    pub(crate) fn with_code(&self, code: FaultCode) -> u64
+        ensures { result ≡ count_of self.now code }
     {
-        &self.codes
+        self.codes[code.index()]
     }
 
     /// What is counted of each tree, from the schema's on, where the list of roots has `rows` rows.
@@ -200,7 +168,7 @@ impl<A: Allocator> Tally<A> {
 
     // Counts a page that was reached from a start.
     pub(crate) fn count_page(&mut self, start: u32, page: u32)
-        ensures { self.new ≡ page_of_start_counted start page self.old }
+        ensures { self.new ≡ start_reached start page self.old }
     {
         let start = start as usize;
         if start < STARTS {

@@ -7,6 +7,7 @@ ghost use Rattle.dbexplain.specs.Sums.{trees_by, trees_sum};
 
 use crate::tally::StartCount;
 use arrayvec::ArrayVec;
+use dbentries::append_count;
 use dbformat::RowKind;
 use dblines::{Writer, append, append_number};
 use dbowner::RootList;
@@ -50,16 +51,15 @@ fn trees_by<A: Allocator>(roots: &RootList<A>, counts: &[StartCount], index: boo
 
 // Adds how many of some trees have no fault.
 fn append_share<const CAP: usize>(line: &mut ArrayVec<u8, CAP>, sum: TreeSum, one: &str, more: &str)
-    requires room { array_vec_len line.old + 54 ≤ CAP }
+    requires room { array_vec_len line.old + 64 ≤ CAP }
     requires one { length one.now ≤ 10 }
     requires more { length more.now ≤ 10 }
     ensures text { line.new.items ≡ line.old.items ++ share_text sum one.now more.now }
-    ensures short { array_vec_len line.new ≤ array_vec_len line.old + 54 }
+    ensures short { array_vec_len line.new ≤ array_vec_len line.old + 64 }
 {
     append_number(line, u64::from(sum.whole));
     append(line, " of ");
-    append_number(line, u64::from(sum.all));
-    append(line, if sum.all == 1 { one } else { more });
+    append_count(line, u64::from(sum.all), one, more);
 }
 
 // The line of how many of the tables and of the indexes have no fault.

@@ -1,16 +1,36 @@
 // The pages that are zeros, in the summary.
-ghost use Rattle.std.specs.Prelude.{◌≡◌, ◌-◌, ◌≤◌, length, take};
+ghost use Rattle.arrayvec.specs.ArrayVec.{array_vec_len};
+ghost use Rattle.std.specs.Prelude.{◌≡◌, ◌+◌, ◌-◌, ◌≤◌, ◌++◌, length, take};
 ghost use Rattle.std.specs.List.{flat_map};
 ghost use Rattle.dbformat.specs.FixedPages.{IsInRange};
 ghost use Rattle.dblines.specs.Writing.{Wrote};
-ghost use Rattle.dbexplain.specs.Summary.{more_zeros_line, zero_run_line};
+ghost use Rattle.dbexplain.specs.Summary.{more_zeros_line, pages_text, zero_run_line};
 ghost use Rattle.dbexplain.specs.Sums.{zeros_sum};
 
 use arrayvec::ArrayVec;
-use dbentries::{Run, Runs};
+use dbentries::{Run, Runs, append_count};
 use dbformat::Geometry;
 use dblines::{Writer, append, append_number};
 use dbsource::Out;
+
+/// Adds the pages from one number to another, before what they are.
+pub(crate) fn append_pages<const CAP: usize>(line: &mut ArrayVec<u8, CAP>, first: u64, last: u64)
+    requires { array_vec_len line.old + 54 ≤ CAP }
+    ensures text { line.new.items ≡ line.old.items ++ pages_text first last }
+    ensures short { array_vec_len line.new ≤ array_vec_len line.old + 54 }
+{
+    if first == last {
+        append(line, "page ");
+        append_number(line, first);
+        append(line, " is");
+    } else {
+        append(line, "pages ");
+        append_number(line, first);
+        append(line, " to ");
+        append_number(line, last);
+        append(line, " are");
+    }
+}
 
 // The line of a run of pages that are zeros.
 fn zero_run_line(shape: Geometry, run: Run) -> ArrayVec<u8, 160>
@@ -19,17 +39,8 @@ fn zero_run_line(shape: Geometry, run: Run) -> ArrayVec<u8, 160>
 {
     let size = u64::from(shape.page_size);
     let mut line = ArrayVec::new();
-    if run.first == run.last {
-        append(&mut line, "    page ");
-        append_number(&mut line, u64::from(run.first));
-        append(&mut line, " is");
-    } else {
-        append(&mut line, "    pages ");
-        append_number(&mut line, u64::from(run.first));
-        append(&mut line, " to ");
-        append_number(&mut line, u64::from(run.last));
-        append(&mut line, " are");
-    }
+    append(&mut line, "    ");
+    append_pages(&mut line, u64::from(run.first), u64::from(run.last));
     append(&mut line, " zeros: bytes ");
     append_number(&mut line, u64::from(run.first.saturating_sub(1)) * size);
     append(&mut line, " to ");
@@ -47,22 +58,9 @@ fn more_zeros_line(more: u64) -> ArrayVec<u8, 96>
         return line;
     }
     append(&mut line, "    and ");
-    append_number(&mut line, more);
-    append(
-        &mut line,
-        if more == 1 { " more run" } else { " more runs" },
-    );
+    append_count(&mut line, more, " more run", " more runs");
     append(&mut line, " of zero pages\n");
     line
-}
-
-// Writes the line of a run.
-fn put_run<O: Out>(writer: &mut Writer<'_, O>, shape: Geometry, run: Run)
-    requires { IsInRange shape }
-    ensures { Wrote O.held writer.old (zero_run_line shape.page_size run) writer.new }
-{
-    let line = zero_run_line(shape, run);
-    writer.put(line.as_slice());
 }
 
 // Writes the lines of some runs.
@@ -71,7 +69,7 @@ fn put_runs<O: Out>(writer: &mut Writer<'_, O>, shape: Geometry, runs: &[Run])
     ensures { Wrote O.held writer.old (flat_map (zero_run_line shape.page_size) runs.now) writer.new }
 {
     for run in runs {
-        put_run(writer, shape, *run);
+        writer.put(zero_run_line(shape, *run).as_slice());
     }
 }
 

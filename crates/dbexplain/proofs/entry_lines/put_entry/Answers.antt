@@ -3,4 +3,5 @@ use Rattle.dbexplain.proofs.entry_lines.put_entry.Goals as goal
 
 pub returns : goal.returns
 returns g c =
-    of_then c.put_front.ensures (of_then (of_all c.put_cause.ensures) (of_then c.put_after_cause.ensures (of_all c.put_others.ensures.line)))
+    of_then (of_then (of_all c.put_fault.ensures) (of_then c.put_below.ensures c.put_missing.ensures))
+    (of_then (of_all c.put_cause.ensures) (of_then c.put_after_cause.ensures (of_all c.put_others.ensures.line)))

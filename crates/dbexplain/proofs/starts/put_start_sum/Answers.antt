@@ -12,5 +12,5 @@ returns g c =
     let name = start_name c.args.names.now.encoding c.args.names.now.roots.now.rows c.args.start in
     let some : (n.faults == 0) ≡ false = grind (arith, nat_tests, c.if-count-eq0.false) in
     wrote_as (start_pieces c.args.all name n (omega arith) (omega arith) some)
-    (wrote_then (wrote_as (c.as_slice.ensures.value ∙ c.count_front.ensures) c.put.ensures)
-    (wrote_then c.put_name.ensures (wrote_as (c.as_slice-2.ensures.value ∙ c.pages_text.ensures) c.put-2.ensures)))
+    (wrote_then (wrote_then (wrote_as (c.as_slice.ensures.value ∙ c.sum_front.ensures.text) c.put.ensures) c.put-2.ensures)
+    (wrote_then c.put_name.ensures (wrote_as (c.as_slice-2.ensures.value ∙ c.pages_text.ensures) c.put-3.ensures)))

@@ -1,19 +1,37 @@
-use Rattle.std.proofs.Common.{ap, ◌∙◌}
+use Rattle.std.proofs.Common.{◌≡◌, suc, take, ap, ap₂, ◌∙◌}
+use Rattle.std.specs.Prelude.{codes}
+use Rattle.std.specs.List.{enumerate_from, flat_map}
+use Rattle.dbformat.specs.Address.{freelist_start}
+use Rattle.dblines.proofs.Writing.{wrote_as, wrote_then}
 use Rattle.dbscan.specs.Placed.{told_faults}
 use Rattle.dbscan.specs.Roots.{Listed}
+use Rattle.dbexplain.specs.Summary.{count_text, start_name, sum_line}
+use Rattle.dbexplain.specs.Sums.{code_sum, numbered_sum, start_sum, tree_counts, trees_sum, zeros_sum}
 use Rattle.dbexplain.proofs.Summaries.{known_summary, known_zeros}
 use Rattle.dbexplain.proofs.summary.put_summary.Goals as goal
 
 pub returns : goal.returns
-returns g c = record {
-  all = _;
-  wrote = c.write_counts.ensures;
-  is = λ file V h. (
-      let o = h.owners in
-      known_summary file V o.survey c.args.owners.now.header.now c.names.result.roots.now.rows c.names.result.encoding c.count_pages.new.tally
-      c.geometry-shape.result.page_size c.zero_runs-zeros.result
-      o.header (ap (λ (l : Listed). l.rows) c.names.ensures.roots ∙ o.rows) c.names.ensures.encoding
-      (c.count_pages.ensures file V (told_faults file V) o h.tally h.bits)
-      (known_zeros file V c.geometry-shape.result c.args.listing.now.zeros c.zero_runs-zeros.result (c.geometry-shape.ensures.shape ∙ o.header.shape)
-      h.room h.zeros c.zero_runs-zeros.ensures));
-}
+returns g c =
+    let t = c.count_pages.new.tally in
+    let roots = c.names-names.result.roots.now in
+    let name = start_name c.names-names.result.encoding roots.rows in
+    let all = c.all-all.ensures in
+    let trees : c.trees-trees.result.now ≡ tree_counts roots.rows t =
+    c.trees-trees.ensures.counts ∙ ap (λ n. take (suc n) t.starts) c.len.ensures.count in record {
+      all = _;
+      wrote =
+          wrote_then (wrote_as (ap count_text all) c.put_count.ensures)
+          (wrote_then (wrote_as (ap (flat_map (code_sum t)) c.all.ensures) c.put_code_sums.ensures)
+          (wrote_then (wrote_as (ap₂ (λ n cs. flat_map (numbered_sum n name) (enumerate_from 0 cs)) all trees) c.put_start_sums.ensures)
+          (wrote_then (wrote_as (ap₂ (λ n x. start_sum n (name freelist_start) x) all c.freelist.ensures) c.put_start_sum.ensures)
+          (wrote_then (wrote_as (ap₂ (λ n w. sum_line n w (codes "in the whole file")) all c.whole.ensures) c.put_sum.ensures)
+          (wrote_then c.put_zeros.ensures (wrote_as (ap (trees_sum roots.rows) trees) c.put_trees.ensures))))));
+      is = λ file V h. (
+          let o = h.owners in
+          known_summary file V o.survey c.args.owners.now.header.now roots.rows c.names-names.result.encoding t c.geometry-shape.result.page_size
+          c.zero_runs.result
+          o.header (ap (λ (l : Listed). l.rows) c.names-names.ensures.roots ∙ o.rows) c.names-names.ensures.encoding
+          (c.count_pages.ensures file V (told_faults file V) o h.tally)
+          (known_zeros file V c.geometry-shape.result c.args.listing.now.zeros c.zero_runs.result (c.geometry-shape.ensures.shape ∙ o.header.shape)
+          h.zeros c.zero_runs.ensures));
+    }

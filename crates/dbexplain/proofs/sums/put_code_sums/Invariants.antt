@@ -4,5 +4,5 @@ use Rattle.dblines.specs.Writing.{Wrote}
 use Rattle.dbexplain.specs.Sums.{code_sum}
 use Rattle.dbexplain.proofs.sums.put_code_sums.Given as goal
 
-abbrev pub invariant-loop-count : goal.invariant-loop-count
-invariant-loop-count g l = Wrote g.O.Out.held l.initial.writer (flat_map (code_sum l.all) (take l.count-index l.counts)) l.writer
+abbrev pub invariant-loop-code : goal.invariant-loop-code
+invariant-loop-code g l = Wrote g.O.Out.held l.initial.writer (flat_map (code_sum l.tally) (take l.code-index l.codes)) l.writer

@@ -1,18 +1,31 @@
-use Rattle.std.proofs.Common.{◌≤◌, [], ◌∷◌, ◌++◌, sym, ap, subst, ◌∙◌}
+use Rattle.std.proofs.Common.{ap, sym, ◌∙◌}
 use Rattle.dbentries.specs.Listing.{rank}
 use Rattle.dbentries.specs.Lists.{Held}
-use Rattle.dbentries.specs.Store.{AreEntriesOf, Stored}
-use Rattle.dbentries.specs.Zeros.{AreZeros}
-use Rattle.dbentries.proofs.ZeroPages.{zeros_more}
+use Rattle.dbentries.specs.Store.{put_at, put_here, turned_to}
+use Rattle.dbentries.proofs.Adding.{kept_within}
 use Rattle.dbentries.proofs.listing.Listing.add.Goals as goal
 
-pub returns-clause-entries : goal.returns-clause-entries
-returns-clause-entries g c = λ xs h most.
+pub put_kept-requires : goal.put_kept-requires
+put_kept-requires g c = kept_within c.args.told.now c.turn_to.new.self.entries c.in-Some.slot (sym c.in-Some.ensures)
+
+pub returns-in-Some : goal.returns-in-Some
+returns-in-Some g c =
     let told = c.args.told.now in
-    let same = c.self.view_is ∙ c.note_zeros.ensures in
-    let entries = ap (λ (s : Held). s.entries) same in
-    let zeros = ap (λ (s : Held). s.zeros) same in
-    record {
-      entries = c.add.ensures.entries xs (subst (AreEntriesOf xs) (sym entries) h.entries) (subst (λ (s : Stored). s.part ≤ rank told.part) (sym entries) most);
-      zeros = subst (AreZeros (xs ++ told ∷ [])) (sym zeros) (zeros_more xs told c.args.self.now.zeros h.zeros);
-    }
+    let here = c.turn_to.new.self in
+    let noted = c.note_zeros.new.self in
+    c.put_kept.ensures
+    ∙ ap (λ o. record here { entries = put_at o told here.entries }) c.in-Some.ensures
+    ∙ ap (λ (s : Held). record s { entries = put_here s.entries told })
+    (c.turn_to.ensures ∙ ap (λ p. record noted { entries = turned_to p noted.entries }) c.rank.ensures
+    ∙ ap (λ (s : Held). record s { entries = turned_to (rank told.part) s.entries }) c.note_zeros.ensures)
+
+pub returns-in-None : goal.returns-in-None
+returns-in-None g c =
+    let told = c.args.told.now in
+    let here = c.turn_to.new.self in
+    let noted = c.note_zeros.new.self in
+    c.put_new.ensures
+    ∙ ap (λ o. record here { entries = put_at o told here.entries }) c.in-None.ensures
+    ∙ ap (λ (s : Held). record s { entries = put_here s.entries told })
+    (c.turn_to.ensures ∙ ap (λ p. record noted { entries = turned_to p noted.entries }) c.rank.ensures
+    ∙ ap (λ (s : Held). record s { entries = turned_to (rank told.part) s.entries }) c.note_zeros.ensures)

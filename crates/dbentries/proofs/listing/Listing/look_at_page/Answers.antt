@@ -1,17 +1,15 @@
-use Rattle.std.proofs.Common.{◌≡◌, ◌++◌, List, ◌∷◌, [], inl, inr, Ok, Err, refl, sym, ap, subst, append-nil, ◌∙◌}
-use Rattle.std.specs.Prelude.{pos}
+use Rattle.std.proofs.Common.{◌≡◌, List, ◌∷◌, [], inl, inr, Ok, Err, refl, sym, ap, ◌∙◌}
+use Rattle.std.specs.Prelude.{fold, pos}
 use Rattle.std.proofs.lemmas.Result.{err_from_is_err_and}
 use Rattle.dbformat.specs.Faults.{fault}
 use Rattle.dbformat.specs.declared.FaultCode.TheVariants.{N01}
-use Rattle.dbformat.specs.declared.Fault.{Fault}
 use Rattle.dbtrace.specs.Causes.{lost_cause_at}
 use Rattle.dbtrace.specs.declared.Cause.{Cause}
 use Rattle.dbtrace.specs.declared.Part.TheVariants as part
 use Rattle.dbtrace.specs.declared.Reported.{Reported}
 use Rattle.dbsource.proofs.Logs.{asks_weaker, has_none}
 use Rattle.dbentries.specs.Listed.{is_lost_page}
-use Rattle.dbentries.specs.Lists.{HoldsFaults, IsListOf}
-use Rattle.dbentries.specs.Lost.{lost_at}
+use Rattle.dbentries.specs.Lists.{added}
 use Rattle.dbentries.proofs.LostPages.{lost_here, not_lost, unmarked_lost, unmarked_nowhere}
 use Rattle.dbentries.proofs.listing.Listing.look_at_page.Goals as goal
 
@@ -21,7 +19,7 @@ returns-then-not-is_lost-clause-asks g c = record {
       let p = c.args.page in
       let none = not_lost file V p (sym (unmarked_nowhere file V c.args.desk.now.marks p d.marks low high) ∙ sym c.is_lost.ensures.mark ∙ c.if-not-is_lost.true)
       in
-      λ limit xs a. subst (λ l. HoldsFaults limit l c.args.self.now) (sym (ap (λ l. xs ++ l) none ∙ append-nil xs)) a);
+      ap (fold added c.args.self.now) (sym none));
   count = refl;
 }
 
@@ -37,12 +35,7 @@ returns-clause-asks g c =
     let yes = sym c.is_lost.ensures.mark ∙ c.if-not-is_lost.false in
     asks_weaker _ _ (Ok _) (λ n. refl) c.in_ok-cause.ensures.asks (λ log l. inr (l, yes)) (λ file w V d low high.
     let some = lost_here file V p (sym (unmarked_nowhere file V c.args.desk.now.marks p d.marks low high) ∙ yes) in
-    let told : Fault → Cause → List Reported = λ f why. record { part = part.End; fault = f; cause = why } ∷ [] in
+    let told : Cause → List Reported = λ why. record { part = part.End; fault = fault N01 p 0 (pos 0); cause = why } ∷ [] in
     let why : c.in_ok-cause.cause ≡ lost_cause_at (is_lost_page file V) file p = w d.header
     ∙ ap (λ lost. lost_cause_at lost file p) (unmarked_lost file V c.args.desk.now.marks d.marks) in
-    let same : told c.lost_fault.result c.in_ok-cause.cause ≡ lost_at file V p = ap (λ f. told f c.in_ok-cause.cause) c.lost_fault.ensures
-    ∙ ap (told (fault N01 p 0 (pos 0))) why ∙ sym some in
-    λ limit xs a. record {
-      entries = subst (λ l. IsListOf (xs ++ l) c.add.new.self) same (c.add.ensures.entries xs a.entries c.add.ensures.last);
-      room = c.add.ensures.limit ∙ a.room;
-    })
+    c.add.ensures ∙ ap (fold added c.args.self.now) (ap told why ∙ sym some))

@@ -16,18 +16,21 @@ returns-in-Nothing g c = record {
 
 pub returns-in-StatedPages : goal.returns-in-StatedPages
 returns-in-StatedPages g c =
-    of_as (λ file V h. ap header_line (c.stated_pages.ensures ∙ ap stated_pages h.header.begins ∙ stated_pages_within file)
-    ∙ lines_of file V c.args.fault.now below.StatedPages (sym c.in-StatedPages.is ∙ c.below_of.ensures)) (of_all c.put_header.ensures)
+    of_as (λ file V h. c.as_slice.ensures.value ∙ c.header_line.ensures
+    ∙ ap header_line (c.stated_pages.ensures ∙ ap stated_pages h.header.begins ∙ stated_pages_within file)
+    ∙ lines_of file V c.args.fault.now below.StatedPages (sym c.in-StatedPages.is ∙ c.below_of.ensures)) (of_all c.put.ensures)
 
 pub returns-in-GreatestRoot : goal.returns-in-GreatestRoot
 returns-in-GreatestRoot g c =
-    of_as (λ file V h. ap header_line (c.greatest_root.ensures ∙ ap greatest_root h.header.begins ∙ greatest_root_within file)
-    ∙ lines_of file V c.args.fault.now below.GreatestRoot (sym c.in-GreatestRoot.is ∙ c.below_of.ensures)) (of_all c.put_header-in-GreatestRoot.ensures)
+    of_as (λ file V h. c.as_slice-in-GreatestRoot.ensures.value ∙ c.header_line-in-GreatestRoot.ensures
+    ∙ ap header_line (c.greatest_root.ensures ∙ ap greatest_root h.header.begins ∙ greatest_root_within file)
+    ∙ lines_of file V c.args.fault.now below.GreatestRoot (sym c.in-GreatestRoot.is ∙ c.below_of.ensures)) (of_all c.put-in-GreatestRoot.ensures)
 
 pub returns-in-FreelistCount : goal.returns-in-FreelistCount
 returns-in-FreelistCount g c =
-    of_as (λ file V h. ap header_line (c.freelist_count.ensures ∙ ap freelist_count h.header.begins ∙ freelist_count_within file)
-    ∙ lines_of file V c.args.fault.now below.FreelistCount (sym c.in-FreelistCount.is ∙ c.below_of.ensures)) (of_all c.put_header-in-FreelistCount.ensures)
+    of_as (λ file V h. c.as_slice-in-FreelistCount.ensures.value ∙ c.header_line-in-FreelistCount.ensures
+    ∙ ap header_line (c.freelist_count.ensures ∙ ap freelist_count h.header.begins ∙ freelist_count_within file)
+    ∙ lines_of file V c.args.fault.now below.FreelistCount (sym c.in-FreelistCount.is ∙ c.below_of.ensures)) (of_all c.put-in-FreelistCount.ensures)
 
 pub returns-in-Own : goal.returns-in-Own
 returns-in-Own g c =

@@ -52,7 +52,7 @@ returns-in_err-look_at_lost g c =
     rw q.1 (rw q.2 (record {
       asks = asks_weaker _ _ (Err ReadFailed) (λ n. refl) look.asks (λ log l. l) (λ file way V first heard limit empty.
           let k = file_heard heard empty in
-          (k.all.out, way limit V heard.desk k.all.listing));
+          (k.all.out, way V heard.desk limit first.kept.now.listing empty.listing k.all.listing));
       keeps = looked_keeps look.desk refl (inl refl);
     }))
 
@@ -66,11 +66,11 @@ returns-in_err-put_report g c =
     rw q.1 (rw q.2 (record {
       asks = asks_weaker _ _ (Err error.WriteFailed) (λ n. refl) look.asks (λ log l. l) (λ file way V first heard limit empty.
           let k = file_heard heard empty in
-          let all = way limit V heard.desk k.all.listing in
+          let listed = way V heard.desk limit first.kept.now.listing empty.listing k.all.listing in
           let here = desk_kept c.args.desk.now c.look_at_lost.new.desk file V look.desk heard.desk in
           written held k (cut c.in_err-put_report.field-0.0) c.put_report.new.out put.all
-          (put.is file V (all_kept held k _ c.look_at_lost.new.self here all look.room some)
-          ∙ ap (λ n. explain_text n file V (listed_entries file V)) all.room) put.puts.held);
+          (put.is file V (all_kept held k _ c.look_at_lost.new.self here listed some)
+          ∙ ap (λ n. explain_text n file V (listed_entries file V)) listed.0.room) put.puts.held);
       keeps = looked_keeps look.desk (record { lent = refl; failures = inl (put.puts.count, refl) }) (inr refl);
     }))
 
@@ -82,11 +82,11 @@ returns g c =
     let put = c.in_ok-put_report.ensures in record {
       asks = asks_weaker _ _ (Ok _) (λ n. refl) look.asks (λ log l. l) (λ file way V first heard limit empty.
           let k = file_heard heard empty in
-          let all = way limit V heard.desk k.all.listing in
+          let listed = way V heard.desk limit first.kept.now.listing empty.listing k.all.listing in
           let here = desk_kept c.args.desk.now c.look_at_lost.new.desk file V look.desk heard.desk in (
             written held k done c.put_report.new.out put.all
-                (put.is file V (all_kept held k _ c.look_at_lost.new.self here all look.room some)
-                ∙ ap (λ n. explain_text n file V (listed_entries file V)) all.room) put.puts.held,
+                (put.is file V (all_kept held k _ c.look_at_lost.new.self here listed some)
+                ∙ ap (λ n. explain_text n file V (listed_entries file V)) listed.0.room) put.puts.held,
             c.of-verdict.ensures.faults (faults file V) (c.all-faults.ensures ∙ all_counted held k),
           ));
       keeps = looked_keeps look.desk (ap (one_out c.args.self.now.out.ghost_name) put.puts.count) tt;
