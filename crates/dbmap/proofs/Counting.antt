@@ -58,8 +58,8 @@ module _ {A O : Type 0} (file : List ℕ) (V : List Reference) (survey : Survey 
     pub map_finds : verdict_of t.faults ≡ verdict (faults file V)
     map_finds = ap verdict_of map_counts ∙ verdict_counted (faults file V)
 
-    pub map_lists : HasListed 100 (told_faults file V) t.kept.now.listing
-    map_lists = all.listing
+    pub map_hears : HasListed s.kept.now.listing (told_faults file V) t.kept.now.listing
+    map_hears = all.listing
 
     -- with the lost pages
     pub map_keeps : (l : Held) → ListsAll 100 file V l → HasFaults file V (record t.kept.now { listing = l })

@@ -1,5 +1,5 @@
 -- What a reporter keeps that has heard all of a file, or a beginning of it.
-use Rattle.std.proofs.Common.{◌≡◌, ℕ, ◌≤◌, List, [], ◌∷◌, ◌++◌, length, refl, sym, ap, subst, ◌∙◌, arith, length-append}
+use Rattle.std.proofs.Common.{◌≡◌, ℕ, List, [], ◌∷◌, ◌++◌, length, refl, sym, ap, subst, ◌∙◌, arith, length-append}
 use Rattle.std.specs.Prelude.{flat_map, fold}
 use Rattle.std.proofs.lemmas.List.Sums.{fold-append}
 use Rattle.dbsurvey.specs.Moves.{Moves, MovesBySome}
@@ -9,12 +9,10 @@ use Rattle.dbformat.specs.Reference.{Reference}
 use Rattle.dbformat.specs.Rows.{StatRow, stat_rows}
 use Rattle.dbformat.specs.Survey.{Survey}
 use Rattle.dbtrace.specs.declared.Reported.{Reported}
-use Rattle.dbentries.specs.Listing.{rank}
 use Rattle.dbscan.specs.Notices.{run_notices}
 use Rattle.dbscan.specs.Placed.{told_faults}
-use Rattle.dbentries.specs.Lists.{HasListed, Held}
+use Rattle.dbentries.specs.Lists.{HasListed, heard}
 use Rattle.dbentries.proofs.Heard.{file_begun, file_heard}
-use Rattle.dbentries.proofs.ListedFaults.{one_listed}
 use Rattle.dbowner.specs.Trees.{row_noted, Trees}
 use Rattle.dbmap.specs.Keeping.{AreNoted, HearsNone}
 use Rattle.dbmap.specs.Faults.{fault_signs}
@@ -35,20 +33,17 @@ module _ {A O : Type 0} where
   pub record HasNotedFaults (pages : ℕ) (first : MapReporter A O) (ts : List Reported) (rs : List StatRow) (now : MapReporter A O) : Type 0 where
     pub count : now.faults ≡ counted (length ts)
     pub notes : AreNoted pages (signs_told ts) now.kept.now.notes
-    pub listing : HasListed 100 ts now.kept.now.listing
+    pub listing : HasListed first.kept.now.listing ts now.kept.now.listing
     pub trees : now.kept.now.trees.known ≡ fold row_noted first.kept.now.trees.known rs
     pub out : now.out ≡ first.out
     pub name : now.name ≡ first.name
 
-  abbrev listing : MapReporter A O → Held
-  listing s = s.kept.now.listing
-
   one_heard : (pages : ℕ) (first : MapReporter A O) (x : Reported) (ts : List Reported) (rs : List StatRow) (s t : MapReporter A O)
-      → (listing s).entries.part ≤ rank x.part → HasNotedFaults pages first ts rs s → Adds x s t → HasNotedFaults pages first (ts ++ x ∷ []) rs t
-  one_heard pages first x ts rs s t most h a = record {
+      → HasNotedFaults pages first ts rs s → Adds x s t → HasNotedFaults pages first (ts ++ x ∷ []) rs t
+  one_heard pages first x ts rs s t h a = record {
     count = let e = a.count in let n = h.count in let l = length-append ts (x ∷ []) in omega (arith, e, n, l);
     notes = subst (λ (l : List (ℕ × Sign)). AreNoted pages l t.kept.now.notes) (told_more ts x) (a.notes pages (signs_told ts) h.notes);
-    listing = one_listed 100 ts x (listing s) (listing t) most h.listing a.listing;
+    listing = a.listing ∙ ap (λ l. heard l x) h.listing ∙ sym (fold-append heard first.kept.now.listing ts (x ∷ []));
     trees = ap (λ (w : Trees). w.known) a.trees ∙ h.trees;
     out = a.out ∙ h.out;
     name = a.name ∙ h.name;
@@ -59,7 +54,7 @@ module _ {A O : Type 0} where
   one_noted pages first r ts rs s t h a = record {
     count = a.count ∙ h.count;
     notes = subst (AreNoted pages (signs_told ts)) (sym a.notes) h.notes;
-    listing = subst (HasListed 100 ts) (sym a.listing) h.listing;
+    listing = a.listing ∙ h.listing;
     trees = a.trees ∙ ap (λ k. row_noted k r) h.trees ∙ sym (fold-append row_noted first.kept.now.trees.known rs (r ∷ []));
     out = a.out ∙ h.out;
     name = a.name ∙ h.name;
@@ -68,14 +63,14 @@ module _ {A O : Type 0} where
 module _ {A O : Type 0} (file : List ℕ) (V : List Reference) (survey : Survey file V) (first now : MapReporter A O)
     (none : first.faults ≡ 0) (empty : HearsNone (geometry file).pages first.kept.now) where
   nothing_noted : HasNotedFaults (geometry file).pages first [] [] first
-  nothing_noted = record { count = none; notes = empty.notes; listing = empty.listing.none; trees = refl; out = refl; name = refl }
+  nothing_noted = record { count = none; notes = empty.notes; listing = refl; trees = refl; out = refl; name = refl }
 
   -- all of it
   pub all_heard : Moves Hears first (run_notices file V) now → HasNotedFaults (geometry file).pages first (told_faults file V) (stat_rows file V) now
-  all_heard m = file_heard Adds Notes listing (λ x s t a. a.listing) (λ r s t a. a.listing) (HasNotedFaults (geometry file).pages first)
-      (one_heard (geometry file).pages first) (one_noted (geometry file).pages first) file V survey first now empty.listing.part nothing_noted m
+  all_heard m = file_heard Adds Notes (HasNotedFaults (geometry file).pages first)
+      (one_heard (geometry file).pages first) (one_noted (geometry file).pages first) file V survey first now nothing_noted m
 
   -- nothing is put, where only some of it was heard
   pub some_untouched : MovesBySome Hears first (run_notices file V) now → now.out ≡ first.out
-  some_untouched m = (file_begun Adds Notes listing (λ x s t a. a.listing) (λ r s t a. a.listing) (HasNotedFaults (geometry file).pages first)
-      (one_heard (geometry file).pages first) (one_noted (geometry file).pages first) file V survey first now empty.listing.part nothing_noted m).3.out
+  some_untouched m = (file_begun Adds Notes (HasNotedFaults (geometry file).pages first)
+      (one_heard (geometry file).pages first) (one_noted (geometry file).pages first) file V survey first now nothing_noted m).3.out

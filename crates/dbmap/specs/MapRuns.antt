@@ -13,7 +13,7 @@ use Rattle.dbwalk.specs.Telling.{one_out, SinkState}
 use Rattle.dbscan.specs.Notices.{Notice}
 use Rattle.dbentries.specs.Reported.{HearsReported}
 use Rattle.dbowner.specs.Trees.{row_noted}
-use Rattle.dbentries.specs.Lists.{ListsFault}
+use Rattle.dbentries.specs.Lists.{heard}
 use Rattle.dbmap.specs.Faults.{fault_signs}
 use Rattle.dbmap.specs.Keeping.{AreNoted, HearsNone}
 use Rattle.dbmap.specs.declared.faults.Sign.{Sign}
@@ -30,7 +30,7 @@ module _ {A O : Type 0} where
   pub record Adds (x : Reported) (s t : MapReporter A O) : Type 0 where
     pub count : t.faults ≡ counted (s.faults + 1)
     pub notes : (count : ℕ) (signs : List (ℕ × Sign)) → AreNoted count signs s.kept.now.notes → AreNoted count (signs ++ fault_signs x.fault) t.kept.now.notes
-    pub listing : ListsFault x s.kept.now.listing t.kept.now.listing
+    pub listing : t.kept.now.listing ≡ heard s.kept.now.listing x
     pub trees : t.kept.now.trees ≡ s.kept.now.trees
     pub out : t.out ≡ s.out
     pub name : t.name ≡ s.name

@@ -10,8 +10,7 @@ use Rattle.dbformat.specs.Starts.{start_at}
 use Rattle.dbformat.specs.declared.Geometry.{Geometry}
 use Rattle.dbtrace.specs.declared.Reported.{Reported}
 use Rattle.dbentries.specs.Bits.{has_bit}
-use Rattle.dbentries.specs.Listed.{listed_entries, listed_faults}
-use Rattle.dbentries.proofs.ListedFaults as kept
+use Rattle.dbentries.specs.Listed.{listed_entries}
 use Rattle.dbowner.proofs.PageMarks.{place_is}
 use Rattle.dbscan.specs.Roots.{Listed, listed_rows}
 use Rattle.dbsource.specs.HeaderBytes.{HeaderBytes}
@@ -40,8 +39,7 @@ returns g c =
       is = λ file V known.
           let desk = known.desk in
           let has = known.kept in
-          let all = kept.shown 100 (listed_faults file V) c.args.kept.now.listing has.listing in
-          let leads = ap leading (c.listed.ensures ∙ all.listed) ∙ leading_kept (take 100 (listed_entries file V)) in
+          let leads = ap leading (c.listed.ensures ∙ has.listing.listed) ∙ leading_kept (take 100 (listed_entries file V)) in
           let notes = c.note_listed.new.notes in
           let noted : AreNoted (geometry file).pages (signs_of file V) notes =
           subst (λ (xs : List Reported). AreNoted (geometry file).pages (flat_map fault_signs (faults file V) ++ flat_map frame_signs xs) notes) leads

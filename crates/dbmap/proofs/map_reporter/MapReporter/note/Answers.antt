@@ -10,7 +10,7 @@ returns g c = record {
   notes = λ count signs h. (let f = c.args.told.now.fault in
       subst (λ (l : List (ℕ × Sign)). AreNoted count l c.note-2.new.self) (append_assoc signs ((f.page, Code f.code) ∷ []) ((f.page, Faulty) ∷ []))
       (c.note-2.ensures count _ (c.note.ensures count signs h)));
-  listing = c.hear.ensures.lists;
+  listing = c.hear.ensures;
   trees = refl;
   out = refl;
   name = refl;

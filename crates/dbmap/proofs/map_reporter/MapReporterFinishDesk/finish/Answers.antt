@@ -6,7 +6,7 @@ use Rattle.dbsource.specs.declared.error.RunError.TheVariants.{ReadFailed, Write
 use Rattle.dbsource.proofs.Logs.{asks_weaker}
 use Rattle.dbwalk.specs.Telling.{one_out}
 use Rattle.dbentries.proofs.Desks.{desk_kept, looked_keeps}
-use Rattle.dbmap.proofs.Counting.{map_counts, map_finds, map_keeps, map_lists, map_put, map_unput}
+use Rattle.dbmap.proofs.Counting.{map_counts, map_finds, map_keeps, map_hears, map_put, map_unput}
 use Rattle.dbmap.proofs.map_reporter.MapReporterFinishDesk.finish.Goals as goal
 
 pub returns-in_err-look_at_lost : goal.returns-in_err-look_at_lost
@@ -28,7 +28,8 @@ returns-in_err-put_map g c =
       asks = asks_weaker _ _ (Err WriteFailed) (λ n. refl) look.asks (λ log l. l) (λ file way V first heard none empty.
           let s = heard.desk.survey in
           let here = desk_kept c.args.desk.now c.look_at_lost.new.desk file V look.desk heard.desk in
-          let listed = way 100 V heard.desk (map_lists file V s first c.args.self.now none empty heard.heard) in (
+          let told = map_hears file V s first c.args.self.now none empty heard.heard in
+          let listed = (way V heard.desk 100 first.kept.now.listing empty.listing told).0 in (
             tt,
             map_put file V s first c.args.self.now none empty heard.heard g.O.Out.held (λ old. Begins old (g.O.Out.held c.put_map.new.out).bytes) put.all
                 (put.is file V (record {
@@ -47,7 +48,8 @@ returns g c =
       asks = asks_weaker _ _ (Ok c.of.result) (λ n. refl) look.asks (λ log l. l) (λ file way V first heard none empty.
           let s = heard.desk.survey in
           let here = desk_kept c.args.desk.now c.look_at_lost.new.desk file V look.desk heard.desk in
-          let listed = way 100 V heard.desk (map_lists file V s first c.args.self.now none empty heard.heard) in (
+          let told = map_hears file V s first c.args.self.now none empty heard.heard in
+          let listed = (way V heard.desk 100 first.kept.now.listing empty.listing told).0 in (
             c.of.ensures.count ∙ map_finds file V s first c.args.self.now none empty heard.heard,
             map_put file V s first c.args.self.now none empty heard.heard g.O.Out.held (λ old. Appends old (g.O.Out.held c.put_map.new.out).bytes) put.all
                 (put.is file V (record {
