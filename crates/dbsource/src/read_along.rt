@@ -8,10 +8,10 @@ use std::os::unix::fs::FileExt;
 const ROW: u32 = 4;
 
 // The sizes of longer reads in bytes: each in a row is twice as long as the one before, up to the greatest. Beyond that
-// the calls are few, and what is read is no longer in the processor's cache when it is copied.
+// the calls are few, and what is read is no longer near in the processor's caches when it is copied.
 const LEAST: usize = 32_768;
 
-const GREATEST: usize = 262_144;
+const GREATEST: usize = 65_536;
 
 // The longest page that is read so. A longer one costs more to copy than a call of the system takes.
 const LONGEST: usize = 4096;
@@ -54,16 +54,25 @@ impl ReadAlong {
         if self.gives(offset, buf) {
             return true;
         }
-        if !follows {
-            self.row = 0;
+        if !self.goes_on(offset) {
+            if !follows {
+                self.row = 0;
+                return false;
+            }
+            if self.row < ROW {
+                self.row += 1;
+                return false;
+            }
             self.size = LEAST;
-        } else if self.row < ROW {
-            self.row += 1;
-        } else {
-            self.fill(file, offset);
-            return self.gives(offset, buf);
         }
-        false
+        self.fill(file, offset);
+        self.gives(offset, buf)
+    }
+
+    // Whether a read begins where the bytes that are held end. Others may have come between: each leaf comes between the
+    // overflow chains of its cells, which follow one another.
+    fn goes_on(&self, offset: u64) -> bool {
+        self.held > 0 && offset == self.start.saturating_add(self.held as u64)
     }
 
     // Copies the bytes from `offset` on, if all of them are held.
