@@ -111,7 +111,9 @@ impl<'a> PageView<'a> {
         requires { i < count self.now }
         ensures { result ≡ cell_pointer self.now i }
     {
-        u32::from(u16_at(self.bytes, self.pointers + 2 * i))
+        // Added up as a usize, so that a loop over the cells needs no second counter.
+        let at = self.pointers as usize + 2 * i as usize;
+        u32::from(u16::from_be_bytes([self.bytes[at], self.bytes[at + 1]]))
     }
 
     // The page right of all cells, on an interior page.
