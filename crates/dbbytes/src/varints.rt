@@ -5,6 +5,14 @@ ghost use Rattle.dbbytes.specs.Varint.{GoesOn};
 
 use crate::partial::{PartialVarint, VarintProgress};
 
+// What the bits that say that more follow add to the bytes of a number after one, two and three of them. They are taken off at the
+// end, all at once.
+const ONE_MORE: u64 = 128 * 128;
+
+const TWO_MORE: u64 = (ONE_MORE + 128) * 128;
+
+const THREE_MORE: u64 = (TWO_MORE + 128) * 128;
+
 /// The number that `bytes` begin with, and its length in bytes, from 1 to 9. Every spelling of a number is accepted.
 /// `None` only where the bytes end within it.
 // Nearly all numbers of a page have four bytes at most, so these are read in the caller, without a loop.
@@ -30,22 +38,22 @@ pub fn varint_of_four(bytes: &[u8]) -> Option<(u64, usize)>
     if one < 128 {
         return Some((one, 1));
     }
-    let two = one % 128 * 128 + u64::from(bytes[1] % 128);
+    let two = one * 128 + u64::from(bytes[1]);
     if bytes[1] < 128 {
-        return Some((two, 2));
+        return Some((two - ONE_MORE, 2));
     }
-    let three = two * 128 + u64::from(bytes[2] % 128);
+    let three = two * 128 + u64::from(bytes[2]);
     if bytes[2] < 128 {
-        return Some((three, 3));
+        return Some((three - TWO_MORE, 3));
     }
-    let four = three * 128 + u64::from(bytes[3] % 128);
+    let four = three * 128 + u64::from(bytes[3]);
     if bytes[3] < 128 {
-        return Some((four, 4));
+        return Some((four - THREE_MORE, 4));
     }
     if bytes.len() < 9 {
         return varint_by_bytes(bytes);
     }
-    Some(varint_after_four(bytes, four))
+    Some(varint_after_four(bytes, four - THREE_MORE - 128))
 }
 
 // `varint`, whose first four bytes gave `four` and say that more follow. Cold, so that what the loops of callers keep in
