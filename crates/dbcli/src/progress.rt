@@ -37,12 +37,15 @@ impl<W: Print> Progress<W> {
 
     /// Whether it is due after `count` pages of this size: after each 65536th, and of pages above 4096 bytes after each 256 MiB.
     pub fn is_due(&self, count: u64, page_size: u32) -> bool {
+        if !self.is_on.get() {
+            return false;
+        }
         let step = BYTES
             .checked_div(u64::from(page_size))
             .unwrap_or(PAGES)
             .min(PAGES)
             .max(1);
-        count > 0 && count % step == 0 && self.is_on.get()
+        count > 0 && count % step == 0
     }
 
     /// Shows how many pages were read, and how many there are.
