@@ -59,15 +59,16 @@ module _ (V : List Reference) (ts : List Reported) (n : ℕ) (few : n < most_pag
           (more (is_reached V k) ∙ ap (λ b. count_by (is_reached V k) (range_with_len 1 n) + cond b 1 0) on)
 
       faulty : (b : Bool) → is_told ts p ≡ b
-          → cond b (min (count_by (both k) (range_with_len 1 n) + 1) (2 ^ 32 - 1)) (count_by (both k) (range_with_len 1 n))
-          ≡ count_by (both k) (range_with_len 1 (n + 1))
-      faulty true e =
+          → min (count_by (both k) (range_with_len 1 n) + cond b 1 0) (2 ^ 32 - 1) ≡ count_by (both k) (range_with_len 1 (n + 1))
+      faulty b e =
           let l = at_most (both k) 1 n in
-          capped (count_by (both k) (range_with_len 1 n)) (count_by (both k) (range_with_len 1 (n + 1))) (omega (arith, l, few))
-          (more (both k) ∙ ap₂ (λ a b. count_by (both k) (range_with_len 1 n) + cond (a && b) 1 0) on e)
-      faulty false e =
-          sym (more (both k) ∙ ap₂ (λ a b. count_by (both k) (range_with_len 1 n) + cond (a && b) 1 0) on e
-          ∙ (let f : count_by (both k) (range_with_len 1 n) + 0 ≡ count_by (both k) (range_with_len 1 n) = omega arith in f))
+          let m = more (both k) ∙ ap₂ (λ a b. count_by (both k) (range_with_len 1 n) + cond (a && b) 1 0) on e in by_case b l m
+        where
+          by_case : (b : Bool) → count_by (both k) (range_with_len 1 n) ≤ n
+              → count_by (both k) (range_with_len 1 (n + 1)) ≡ count_by (both k) (range_with_len 1 n) + cond b 1 0
+              → min (count_by (both k) (range_with_len 1 n) + cond b 1 0) (2 ^ 32 - 1) ≡ count_by (both k) (range_with_len 1 (n + 1))
+          by_case true l m = omega (arith, l, m, few)
+          by_case false l m = omega (arith, l, m, few)
 
   pub page_more : (pages : ℕ) (t : Tallied) → IsTallyTo pages V ts n t → p ≤ pages → IsTallyTo pages V ts (n + 1) (page_reached (start_at V p) p t)
   page_more pages t is within = by_start (start_at V p) refl

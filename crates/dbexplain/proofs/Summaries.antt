@@ -1,10 +1,9 @@
 -- The summary by the counts of a tally is that of a file.
-use Rattle.std.proofs.Common.{◌≡◌, ℕ, zero, suc, ◌+◌, ◌-◌, ◌<◌, ◌≤◌, inl, inr, Bool, true, false, cond, not, ◌&&◌, List, [], ◌∷◌, ◌++◌, length, map, take}
-use Rattle.std.proofs.Common.{Option, Some, None, refl, sym, ap, ap₂, subst, ◌∙◌, arith, append-nil, append_assoc}
+use Rattle.std.proofs.Common.{◌≡◌, ℕ, zero, suc, ◌+◌, ◌-◌, ◌<◌, ◌≤◌, inl, inr, Bool, true, false, cond, ◌&&◌, List, [], ◌∷◌, ◌++◌, length, map, take}
+use Rattle.std.proofs.Common.{Some, None, refl, sym, ap, ap₂, subst, ◌∙◌, arith, append-nil, append_assoc}
 use Rattle.std.specs.Prelude.{codes, decimal, count_by, filter, fold, min, nat_le, slice_get, slice_index_or, ◌==◌}
 use Rattle.std.specs.List.{enumerate_from, flat_map, range_with_len}
-use Rattle.std.specs.Option.{option_map_or}
-use Rattle.std.proofs.lemmas.Bool.{and_parts, and_from, eqb-true, eq-eqb}
+use Rattle.std.proofs.lemmas.Bool.{eqb-true}
 use Rattle.std.proofs.lemmas.Bool.Decides.{nat_tests}
 use Rattle.std.proofs.lemmas.Grind.{flat_map-append}
 use Rattle.std.proofs.lemmas.List.{take_all}
@@ -13,12 +12,11 @@ use Rattle.std.proofs.lemmas.Option.{get_or_from_slice_get}
 use Rattle.dbsurvey.specs.Address.{IsIn}
 use Rattle.dbsurvey.specs.Survey.{Link}
 use Rattle.dbsurvey.proofs.Elements.{IsIn-from_range}
-use Rattle.dbsurvey.proofs.Lists.{any_one, any_true, count_more, count_none}
+use Rattle.dbsurvey.proofs.Lists.{count_more, count_none}
 use Rattle.dbsurvey.proofs.Order.{IsIn-cases}
 use Rattle.dbsurvey.proofs.Ordering.{IsIn-from_map}
 use Rattle.dbformat.specs.Address.{freelist_start, last_root_start}
 use Rattle.dbformat.specs.Codes.{all_codes, code_index}
-use Rattle.dbformat.specs.EndFaults.{page_numbers}
 use Rattle.dbformat.specs.File.{geometry}
 use Rattle.dbformat.specs.Header.{encoding, first_trunk}
 use Rattle.dbformat.specs.Lines.{code_text, code_words, counted, line_feed}
@@ -34,11 +32,9 @@ use Rattle.dbformat.proofs.SchemaStart.{schema_below}
 use Rattle.dbsource.specs.HeaderBytes.{HeaderBytes}
 use Rattle.dbsource.specs.Headers.{IsHeaderOf}
 use Rattle.dbscan.specs.Roots.{AreListed, listed_rows}
-use Rattle.dbtrace.proofs.Keys.{same_tests}
 use Rattle.dbtrace.specs.declared.Part.{Part}
 use Rattle.dbtrace.specs.declared.Part.TheVariants as part
 use Rattle.dbtrace.specs.declared.Reported.{Reported}
-use Rattle.dbformat.specs.Starts.{start_at}
 use Rattle.dbformat.proofs.BelowStarts.{length_taken, rows_start}
 use Rattle.dbscan.specs.Placed.{told_faults}
 use Rattle.dbscan.proofs.Reached.{of_starts}

@@ -1,5 +1,5 @@
 -- A tally with one fault more.
-use Rattle.std.proofs.Common.{◌≡◌, ℕ, zero, suc, ◌+◌, ◌*◌, ◌/◌, ◌<◌, ◌≤◌, Bool, true, false, ◌||◌, List, [], ◌∷◌, ◌++◌, length, replicate, Some}
+use Rattle.std.proofs.Common.{◌≡◌, ℕ, zero, suc, ◌+◌, ◌*◌, ◌/◌, ◌<◌, Bool, true, false, ◌||◌, List, [], ◌∷◌, ◌++◌, length, replicate, Some}
 use Rattle.std.proofs.Common.{refl, sym, ap, subst, ◌∙◌, arith, length-append, append-nil, append_assoc}
 use Rattle.std.specs.Prelude.{count_by, fold, not, ◌&&◌, slice_get, slice_set, slice_index_or, ◌==◌}
 use Rattle.std.proofs.Math.Bool.{or-false}
@@ -9,7 +9,6 @@ use Rattle.std.proofs.lemmas.Bool.Decides.{nat_tests}
 use Rattle.std.proofs.lemmas.List.Folds.{list_any-append}
 use Rattle.std.proofs.lemmas.Option.{get_or_from_slice_get, slice_get_within}
 use Rattle.dbsurvey.proofs.Lists.{count-append}
-use Rattle.dbformat.specs.Address.{freelist_start}
 use Rattle.dbformat.specs.Codes.{all_codes, is_code, code_index}
 use Rattle.dbformat.specs.Lines.{counted}
 use Rattle.dbformat.proofs.CodeTables.{apart, listed}
@@ -21,9 +20,8 @@ use Rattle.dbtrace.specs.declared.Part.TheVariants as part
 use Rattle.dbtrace.specs.declared.Reported.{Reported}
 use Rattle.dbowner.proofs.Slots.{get_set, get_set_other}
 use Rattle.dbentries.specs.Bits.{bit_set, has_bit}
-use Rattle.dbexplain.specs.Summary.{code_count, start_count, is_part_of_start, is_told, is_whole}
+use Rattle.dbexplain.specs.Summary.{code_count, is_part_of_start, is_told, is_whole}
 use Rattle.dbexplain.specs.Tallies.{Tallied, IsTallyOf, counted_start, no_count, one_fault, fault_told}
-use Rattle.dbexplain.specs.declared.tally.StartCount.{StartCount}
 use Rattle.dbentries.proofs.Bits.{set_is}
 
 -- ---- counts

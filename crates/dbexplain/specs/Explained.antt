@@ -1,6 +1,6 @@
 -- What `dbck explain` writes of a file with survey V (own): the faults that lead, each with where it is, what it goes back to and
 -- what belongs to it; and then how many faults there are, by code and by tree.
-use Rattle.std.specs.Prelude.{◌≡◌, ℕ, ◌+◌, List, [], ◌∷◌, ◌++◌, take, drop, flat_map, Ok, codes, decimal, ◌==◌, if◌then◌else◌}
+use Rattle.std.specs.Prelude.{◌≡◌, ℕ, ◌+◌, List, [], ◌∷◌, ◌++◌, take, drop, flat_map, Ok, codes}
 use Rattle.std.specs.List.{sum_by}
 use Rattle.std.specs.Option.{option_map_or}
 use Rattle.dbformat.specs.File.{geometry, refusal}

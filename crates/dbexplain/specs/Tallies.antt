@@ -10,7 +10,7 @@ use Rattle.dbtrace.specs.declared.Part.{Part}
 use Rattle.dbtrace.specs.declared.Part.TheVariants as part
 use Rattle.dbtrace.specs.declared.Reported.{Reported}
 use Rattle.dbentries.specs.Bits.{bit_set, has_bit, HasPageBit}
-use Rattle.dbexplain.specs.Summary.{code_count, start_count, whole_count, is_reached, is_told, is_whole}
+use Rattle.dbexplain.specs.Summary.{code_count, start_count, whole_count, is_reached, is_told}
 use Rattle.dbexplain.specs.declared.tally.StartCount.{StartCount}
 use Rattle.dbexplain.specs.declared.tally.Tally.TheInside.{Inside}
 
@@ -45,26 +45,22 @@ no_count = record { faults = 0; reached = 0; faulty = 0 }
 abbrev pub code_told : FaultCode → Tallied → Tallied
 code_told code t = record t { all = counted (t.all + 1); codes = slice_set t.codes (code_index code) (counted (count_of t code + 1)) }
 
--- at a start, or of the whole file
+-- at a start, where its page is noted, or of the whole file
 abbrev pub one_fault : StartCount → StartCount
 one_fault c = record c { faults = counted (c.faults + 1) }
 
-abbrev pub part_told : Part → Tallied → Tallied
-part_told (part.Start k) t = record t { starts = slice_set t.starts k (one_fault (slice_index_or t.starts k no_count)) }
-part_told _ t = record t { whole = counted (t.whole + 1) }
-
--- of this page, which is noted where it was reported at a start
-abbrev pub page_told : Part → ℕ → Tallied → Tallied
-page_told part page t = record t { pages = if is_whole part then t.pages else bit_set page t.pages }
+abbrev pub part_told : Part → ℕ → Tallied → Tallied
+part_told (part.Start k) page t = record t { starts = slice_set t.starts k (one_fault (slice_index_or t.starts k no_count)); pages = bit_set page t.pages }
+part_told _ page t = record t { whole = counted (t.whole + 1) }
 
 abbrev pub fault_told : Tallied → Reported → Tallied
-fault_told t x = page_told x.part x.fault.page (part_told x.part (code_told x.fault.code t))
+fault_told t x = part_told x.part x.fault.page (code_told x.fault.code t)
 
 -- ---- a page more
 
 -- reached from a start, with a fault or without one
 abbrev pub one_reached_page : Bool → StartCount → StartCount
-one_reached_page faulty c = record c { reached = min (c.reached + 1) (2 ^ 32 - 1); faulty = if faulty then min (c.faulty + 1) (2 ^ 32 - 1) else c.faulty }
+one_reached_page faulty c = record c { reached = min (c.reached + 1) (2 ^ 32 - 1); faulty = min (c.faulty + (if faulty then 1 else 0)) (2 ^ 32 - 1) }
 
 abbrev pub start_reached : ℕ → ℕ → Tallied → Tallied
 start_reached k p t = record t { starts = slice_set t.starts k (one_reached_page (has_bit t.pages p) (slice_index_or t.starts k no_count)) }

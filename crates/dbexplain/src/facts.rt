@@ -1,7 +1,6 @@
 // What is known of a page with faults.
 ghost use Rattle.arrayvec.specs.ArrayVec.{array_vec_len};
-ghost use Rattle.std.specs.Option.{option_map_or};
-ghost use Rattle.std.specs.Prelude.{◌≡◌, ◌≤◌, ◌+◌, [], ◌++◌, length};
+ghost use Rattle.std.specs.Prelude.{◌≡◌, ◌≤◌, ◌+◌, ◌++◌, length};
 ghost use Rattle.dbformat.specs.FixedPages.{IsInRange};
 ghost use Rattle.dblines.specs.Writing.{Wrote};
 ghost use Rattle.dbexplain.specs.Facts.{bound_text, facts_text, rowids_text, run_line};
@@ -33,17 +32,6 @@ fn run_line(shape: Geometry, page: u32, run: ByteRun) -> ArrayVec<u8, 96>
     }
     append(&mut line, "\n");
     line
-}
-
-// The line of a run, if there is one.
-fn run_text(shape: Geometry, page: u32, run: Option<ByteRun>) -> ArrayVec<u8, 96>
-    requires { IsInRange shape }
-    ensures { result.items ≡ option_map_or (run_line shape.page_size page) run [] }
-{
-    match run {
-        Some(run) => run_line(shape, page, run),
-        None => ArrayVec::new(),
-    }
 }
 
 // Adds a key that rowids are above, or up to.
@@ -87,6 +75,8 @@ pub(crate) fn put_facts<O: Out>(
     requires { IsInRange shape }
     ensures { Wrote O.held writer.old (facts_text shape.page_size page facts.now) writer.new }
 {
-    writer.put(run_text(shape, page, facts.run).as_slice());
+    if let Some(run) = facts.run {
+        writer.put(run_line(shape, page, run).as_slice());
+    }
     writer.put(rowids_line(&facts.rowids).as_slice());
 }

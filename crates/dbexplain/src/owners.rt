@@ -8,12 +8,12 @@ ghost use Rattle.dblines.specs.Writing.{Wrote, WroteOf};
 ghost use Rattle.dbexplain.specs.Below.{entry_line, header_line, line_of_entry, lines_below, own_line, place_line};
 ghost use Rattle.dbexplain.specs.Notes.{AreOwnersOf, below_of, page_or_none, wanted_entry};
 
-use crate::page_lines::{Spot, put_page_line, put_start_line};
+use crate::page_lines::{page_front, place_end, put_line, put_start_line};
 use arrayvec::ArrayVec;
 use dbformat::{Fault, FaultCode};
 use dblines::{Writer, append, append_number};
 use dbmarks::MapEntry;
-use dbowner::{PageTrees, RootList, TreeNames, mark_of, place_of};
+use dbowner::{PageTrees, RootList, TreeNames, mark_of, place_of, place_tree};
 use dbsource::{Header, Out};
 use dbwalk::{Mark, Marks};
 use std::alloc::{Allocator, Global};
@@ -130,12 +130,21 @@ impl<A: Allocator> Owners<'_, A> {
     pub(crate) fn put_page<O: Out>(&self, writer: &mut Writer<'_, O>, page: u32)
         ensures { WroteOf O.held writer.old (AreOwnersOf self.now) (λ file V. place_line file V page) writer.new }
     {
-        let spot = Spot {
-            page,
-            place: place_of(self.marks, page),
-            start: self.trees.start_of(self.marks, page),
-        };
-        put_page_line(writer, &self.names(), self.header.geometry(), spot);
+        let shape = self.header.geometry();
+        if page == 0 || page > shape.pages {
+            return;
+        }
+        let place = place_of(self.marks, page);
+        let tree = place_tree(place, self.trees.start_of(self.marks, page));
+        let front = page_front(shape, page, place);
+        let end = place_end(place);
+        put_line(
+            writer,
+            &self.names(),
+            front.as_slice(),
+            tree,
+            end.as_slice(),
+        );
     }
 
     // Writes where a fault is.

@@ -12,20 +12,12 @@ ghost use Rattle.dbexplain.specs.Notes.{page_front, place_end, start_front, star
 use arrayvec::ArrayVec;
 use dbformat::{FREELIST_START, Geometry};
 use dblines::{Writer, append, append_number};
-use dbowner::{Place, TreeNames, place_from, place_front, place_tree, place_words};
+use dbowner::{Place, TreeNames, place_from, place_front, place_words};
 use dbsource::Out;
 use std::alloc::Allocator;
 
-/// Where a page is: what it is there, and the start that it belongs to.
-#[derive(Clone, Copy, Debug, PartialEq, Eq)]
-pub(crate) struct Spot {
-    pub page: u32,
-    pub place: Place,
-    pub start: Option<u32>,
-}
-
 // What comes after the tree of a page, to the end of the line.
-fn place_end(place: Place) -> ArrayVec<u8, 64>
+pub(crate) fn place_end(place: Place) -> ArrayVec<u8, 64>
     ensures { result.items ≡ place_end place }
 {
     let mut end = ArrayVec::new();
@@ -38,7 +30,7 @@ fn place_end(place: Place) -> ArrayVec<u8, 64>
 }
 
 // Where a page begins in the file, and what comes before its tree.
-fn page_front(shape: Geometry, page: u32, place: Place) -> ArrayVec<u8, 128>
+pub(crate) fn page_front(shape: Geometry, page: u32, place: Place) -> ArrayVec<u8, 128>
     requires range { IsInRange shape }
     requires page { 1 ≤ page }
     ensures { result.items ≡ page_front shape page place }
@@ -80,35 +72,23 @@ fn start_tree(start: u32) -> Option<u32>
     }
 }
 
-// Puts the text of the tree of a start.
-pub(crate) fn put_tree<A: Allocator, O: Out>(
-    writer: &mut Writer<'_, O>,
-    names: &TreeNames<'_, A>,
-    start: u32,
-)
-    ensures { Wrote O.held writer.old (tree_of_row names.now.encoding names.now.roots.now.rows start) writer.new }
-{
-    if !writer.has_failed {
-        writer.has_failed = names.put_tree(writer.out, start).is_err();
-    }
-}
-
 // Puts the text of the tree of a start, if there is one.
-fn put_tree_of<A: Allocator, O: Out>(
+pub(crate) fn put_tree<A: Allocator, O: Out>(
     writer: &mut Writer<'_, O>,
     names: &TreeNames<'_, A>,
     start: Option<u32>,
 )
     ensures { Wrote O.held writer.old (option_map_or (tree_of_row names.now.encoding names.now.roots.now.rows) start []) writer.new }
 {
-    match start {
-        Some(start) => put_tree(writer, names, start),
-        None => {}
+    if let Some(start) = start
+        && !writer.has_failed
+    {
+        writer.has_failed = names.put_tree(writer.out, start).is_err();
     }
 }
 
 // Puts a line with the text of a tree in it, or of none.
-fn put_line<A: Allocator, O: Out>(
+pub(crate) fn put_line<A: Allocator, O: Out>(
     writer: &mut Writer<'_, O>,
     names: &TreeNames<'_, A>,
     front: &[u8],
@@ -119,28 +99,8 @@ fn put_line<A: Allocator, O: Out>(
         (front.now ++ (option_map_or (tree_of_row names.now.encoding names.now.roots.now.rows) start [] ++ end.now)) writer.new }
 {
     writer.put(front);
-    put_tree_of(writer, names, start);
+    put_tree(writer, names, start);
     writer.put(end);
-}
-
-// Puts where a page is. A number that no page has gets no line.
-pub(crate) fn put_page_line<A: Allocator, O: Out>(
-    writer: &mut Writer<'_, O>,
-    names: &TreeNames<'_, A>,
-    shape: Geometry,
-    spot: Spot,
-)
-    requires { IsInRange shape }
-    ensures { Wrote O.held writer.old
-        (page_place_line shape (tree_of_row names.now.encoding names.now.roots.now.rows) spot.page spot.place spot.start) writer.new }
-{
-    if spot.page == 0 || spot.page > shape.pages {
-        return;
-    }
-    let front = page_front(shape, spot.page, spot.place);
-    let end = place_end(spot.place);
-    let tree = place_tree(spot.place, spot.start);
-    put_line(writer, names, front.as_slice(), tree, end.as_slice());
 }
 
 // Puts what a start is.

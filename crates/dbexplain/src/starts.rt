@@ -36,7 +36,7 @@ fn put_name<A: Allocator, O: Out>(writer: &mut Writer<'_, O>, names: &TreeNames<
         writer.put(b"the freelist");
         return;
     }
-    put_tree(writer, names, start);
+    put_tree(writer, names, Some(start));
     writer.put(root_text(names.roots.root_page(start)).as_slice());
 }
 

@@ -7,7 +7,7 @@ ghost use Rattle.dbexplain.specs.Summary.{summary};
 use crate::owners::Owners;
 use crate::reached::count_pages;
 use crate::starts::{put_start_sum, put_start_sums};
-use crate::sums::{put_code_sums, put_count, put_sum};
+use crate::sums::{count_text, put_code_sums, put_sum};
 use crate::tally::Tally;
 use crate::trees::put_trees;
 use crate::zeros::put_zeros;
@@ -34,7 +34,7 @@ pub(crate) fn put_summary<A: Allocator, O: Out>(
     let names = owners.names();
     let all = tally.all();
     let trees = tally.trees(names.roots.len());
-    put_count(writer, all);
+    writer.put(count_text(all).as_slice());
     put_code_sums(writer, tally, &FaultCode::all());
     put_start_sums(writer, &names, all, trees);
     put_start_sum(writer, &names, all, FREELIST_START, tally.freelist());

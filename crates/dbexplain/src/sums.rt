@@ -90,8 +90,7 @@ fn put_code_sum<A: Allocator, O: Out>(writer: &mut Writer<'_, O>, tally: &Tally<
     if count == 0 {
         return;
     }
-    let line = code_sum(tally.all(), count, code);
-    writer.put(line.as_slice());
+    writer.put(code_sum(tally.all(), count, code).as_slice());
 }
 
 // Puts how many of all faults have each of these codes.
@@ -115,24 +114,15 @@ pub(crate) fn put_sum<O: Out>(writer: &mut Writer<'_, O>, all: u64, count: u64, 
     if count == 0 {
         return;
     }
-    let line = sum_text(all, count, text);
-    writer.put(line.as_slice());
+    writer.put(sum_text(all, count, text).as_slice());
 }
 
 // The line of how many faults there are.
-fn count_text(all: u64) -> ArrayVec<u8, 32>
+pub(crate) fn count_text(all: u64) -> ArrayVec<u8, 32>
     ensures { result.items ≡ count_text all }
 {
     let mut line = ArrayVec::new();
     append_number(&mut line, all);
     append(&mut line, if all == 1 { " fault\n" } else { " faults\n" });
     line
-}
-
-// Puts how many faults there are.
-pub(crate) fn put_count<O: Out>(writer: &mut Writer<'_, O>, all: u64)
-    ensures { Wrote O.held writer.old (count_text all) writer.new }
-{
-    let line = count_text(all);
-    writer.put(line.as_slice());
 }

@@ -1,7 +1,7 @@
 // The tally of the faults that were reported.
 ghost use Rattle.std.specs.Prelude.{◌≡◌, ◌<◌, ◌≤◌, [], IfOk, length, suc, take};
 ghost use Rattle.dbexplain.specs.Sums.{freelist_start_count};
-ghost use Rattle.dbexplain.specs.Tallies.{code_told, count_of, fault_told, IsTallyOf, one_reached_page, page_told, part_told, start_reached};
+ghost use Rattle.dbexplain.specs.Tallies.{code_told, count_of, fault_told, IsTallyOf, one_reached_page, part_told, start_reached};
 
 use dbentries::PageBits;
 use dbformat::{FREELIST_START, FaultCode, Geometry};
@@ -57,11 +57,7 @@ fn with_page(count: &StartCount, faulty: bool) -> StartCount
     StartCount {
         faults: count.faults,
         reached: count.reached.saturating_add(1),
-        faulty: if faulty {
-            count.faulty.saturating_add(1)
-        } else {
-            count.faulty
-        },
+        faulty: count.faulty.saturating_add(u32::from(faulty)),
     }
 }
 
@@ -87,27 +83,19 @@ impl<A: Allocator + Copy> Tally<A> {
 }
 
 impl<A: Allocator> Tally<A> {
-    // Counts a fault of a page at a start, or of the whole file.
-    fn count_part(&mut self, part: Part)
-        ensures { self.new ≡ part_told part self.old }
+    // Counts a fault of a page at a start, and notes the page; or a fault of the whole file.
+    fn count_part(&mut self, part: Part, page: u32)
+        ensures { self.new ≡ part_told part page self.old }
     {
         match part {
             Part::Header | Part::End => self.whole = self.whole.saturating_add(1),
             Part::Start(start) => {
+                self.pages.set(page);
                 let start = start as usize;
                 if start < STARTS {
                     self.starts[start].faults = self.starts[start].faults.saturating_add(1);
                 }
             }
-        }
-    }
-
-    // Notes of a page that it has a fault, where that was reported at a start.
-    fn note_page(&mut self, part: Part, page: u32)
-        ensures { self.new ≡ page_told part page self.old }
-    {
-        if let Part::Start(_) = part {
-            self.pages.set(page);
         }
     }
 
@@ -125,8 +113,7 @@ impl<A: Allocator> Tally<A> {
         ensures { self.new ≡ fault_told self.old told.now }
     {
         self.count_code(told.fault.code);
-        self.count_part(told.part);
-        self.note_page(told.part, told.fault.page);
+        self.count_part(told.part, told.fault.page);
     }
 
     /// How many faults were reported.

@@ -80,6 +80,5 @@ pub(crate) fn put_zeros<O: Out>(writer: &mut Writer<'_, O>, shape: Geometry, run
 {
     let shown = runs.count.min(10) as usize;
     put_runs(writer, shape, &runs.kept[..shown]);
-    let more = more_zeros_line(runs.count.saturating_sub(10));
-    writer.put(more.as_slice());
+    writer.put(more_zeros_line(runs.count.saturating_sub(10)).as_slice());
 }

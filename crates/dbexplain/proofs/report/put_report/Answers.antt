@@ -6,7 +6,6 @@ use Rattle.dbscan.specs.Placed.{told_faults}
 use Rattle.dbentries.specs.Listed.{listed_entries}
 use Rattle.dbexplain.specs.Explained.{entry_text}
 use Rattle.dbexplain.specs.Keeping.{HasAll}
-use Rattle.dbexplain.specs.Notes.{AreOwnersOf}
 use Rattle.dbexplain.specs.Summary.{summary}
 use Rattle.dbexplain.proofs.Desks.{of_desk}
 use Rattle.dbexplain.proofs.KeptEntries.{kept_texts}

@@ -6,7 +6,7 @@ use Rattle.dblines.proofs.Writing.{wrote_as, wrote_then}
 use Rattle.dbscan.specs.Placed.{told_faults}
 use Rattle.dbscan.specs.Roots.{Listed}
 use Rattle.dbexplain.specs.Summary.{count_text, start_name, sum_line}
-use Rattle.dbexplain.specs.Sums.{code_sum, numbered_sum, start_sum, tree_counts, trees_sum, zeros_sum}
+use Rattle.dbexplain.specs.Sums.{code_sum, numbered_sum, start_sum, tree_counts, trees_sum}
 use Rattle.dbexplain.proofs.Summaries.{known_summary, known_zeros}
 use Rattle.dbexplain.proofs.summary.put_summary.Goals as goal
 
@@ -20,7 +20,7 @@ returns g c =
     c.trees-trees.ensures.counts ∙ ap (λ n. take (suc n) t.starts) c.len.ensures.count in record {
       all = _;
       wrote =
-          wrote_then (wrote_as (ap count_text all) c.put_count.ensures)
+          wrote_then (wrote_as (c.as_slice.ensures.value ∙ c.count_text.ensures ∙ ap count_text all) c.put.ensures)
           (wrote_then (wrote_as (ap (flat_map (code_sum t)) c.all.ensures) c.put_code_sums.ensures)
           (wrote_then (wrote_as (ap₂ (λ n cs. flat_map (numbered_sum n name) (enumerate_from 0 cs)) all trees) c.put_start_sums.ensures)
           (wrote_then (wrote_as (ap₂ (λ n x. start_sum n (name freelist_start) x) all c.freelist.ensures) c.put_start_sum.ensures)

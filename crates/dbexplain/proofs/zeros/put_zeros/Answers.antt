@@ -8,4 +8,4 @@ pub returns : goal.returns
 returns g c =
     let lines = flat_map (zero_run_line c.args.shape.page_size) in
     wrote_then (wrote_as (ap (λ (n : ℕ). lines (take n c.args.runs.now.kept)) c.min-shown.ensures) c.put_runs.ensures)
-    (wrote_as (c.as_slice.ensures.value ∙ c.more_zeros_line-more.ensures ∙ ap more_zeros_line c.saturating_sub.ensures) c.put.ensures)
+    (wrote_as (c.as_slice.ensures.value ∙ c.more_zeros_line.ensures ∙ ap more_zeros_line c.saturating_sub.ensures) c.put.ensures)
