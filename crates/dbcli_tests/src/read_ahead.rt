@@ -4,7 +4,6 @@ use dbfiles::holds;
 use dbsource::{FileSource, Source};
 use std::fs;
 use std::fs::File;
-use std::process::Abort;
 use std::rt::{Clock, Files};
 use std::test::Fail;
 use std::time::Duration;
@@ -55,29 +54,43 @@ fn open<'r, R: Files<File = File> + Clock + AllocGlobal>(
     Ok(FileSource::open_with(rt, path, bound.map(Duration::from_micros))?)
 }
 
-// Reads into `buf` from a place on, in a file of `len` bytes: its bytes, or nothing where they pass its end.
-fn read_part(stop: &impl Abort, source: &mut impl Source, len: u64, offset: u64, buf: &mut [u8]) {
+// Whether a read into `buf` from a place on, in a file of `len` bytes, gives its bytes, or fails where they pass its end.
+fn is_part_right(source: &mut impl Source, len: u64, offset: u64, buf: &mut [u8]) -> bool {
     let is_inside = offset.saturating_add(buf.len() as u64) <= len;
     let is_read = source.read_at(offset, buf).is_ok();
-    holds!(*stop; is_read == is_inside, "a part");
-    holds!(*stop; !is_read || are_right(offset, buf), "a part");
+    is_read == is_inside && (!is_read || are_right(offset, buf))
 }
 
 // The same of a page, by its number from 0 on.
-fn read_page(stop: &impl Abort, source: &mut impl Source, len: u64, number: u64, page: &mut [u8]) {
+fn is_page_right(source: &mut impl Source, len: u64, number: u64, page: &mut [u8]) -> bool {
     let size = page.len() as u64;
-    read_part(stop, source, len, number.wrapping_mul(size), page);
+    is_part_right(source, len, number.wrapping_mul(size), page)
 }
 
-// Reads all parts of a file, and two past its end.
-fn read_parts(stop: &impl Abort, source: &mut impl Source, len: u64, step: u64, buf: &mut [u8]) {
+// The same of all parts of a file, and two past its end.
+fn are_parts_right(source: &mut impl Source, len: u64, step: u64, buf: &mut [u8]) -> bool {
     let size = buf.len() as u64;
     let parts = len.checked_div(size).unwrap_or(0).saturating_add(2);
     let mut part = 0u64;
+    let mut are_right = true;
     for _ in 0..parts {
-        read_page(stop, source, len, part, buf);
+        are_right = is_page_right(source, len, part, buf) && are_right;
         part = part.wrapping_add(step).checked_rem(parts).unwrap_or(0);
     }
+    are_right
+}
+
+// The same in each order and of each size.
+fn is_file_right(rt: &HostRuntime, len: u64, bound: Option<u64>) -> Result<bool, Fail> {
+    let mut source = open(rt, "parts.db", bound)?;
+    let mut is_right = true;
+    for size in SIZES {
+        let mut buf = vec![in rt.alloc(); 0; size]?;
+        for step in STEPS {
+            is_right = are_parts_right(&mut source, len, step, &mut buf) && is_right;
+        }
+    }
+    Ok(is_right)
 }
 
 #[test]
@@ -85,13 +98,7 @@ fn reads_the_same_at_each_bound(rt: HostRuntime) -> Result<(), Fail> {
     for len in LENGTHS {
         make_file(&rt, "parts.db", len)?;
         for bound in BOUNDS {
-            let mut source = open(&rt, "parts.db", bound)?;
-            for size in SIZES {
-                let mut buf = vec![in rt.alloc(); 0; size]?;
-                for step in STEPS {
-                    read_parts(&rt, &mut source, len, step, &mut buf);
-                }
-            }
+            holds!(rt; is_file_right(&rt, len, bound)?, (len, bound));
         }
     }
     fs::remove_file(&rt, "parts.db")?;
@@ -103,25 +110,29 @@ fn cut(rt: &HostRuntime, path: &str, len: u64) -> Result<(), Fail> {
     Ok(())
 }
 
-// Past the end of a file that was cut short nothing is read, except what a longer read returned before.
+// Whether, past the end of a file that was cut short, nothing is read, except what a longer read returned before.
+fn is_cut_file_right(rt: &HostRuntime, bound: Option<u64>) -> Result<bool, Fail> {
+    let mut page = [0u8; 4096];
+    let mut source = open(rt, "cut.db", bound)?;
+    let mut is_right = is_page_right(&mut source, 2 * WINDOW, 0, &mut page);
+    cut(rt, "cut.db", 80_000)?;
+    for number in [200, 2, 300, 19, 18, 5, 6, 7, 8, 9, 10, 11] {
+        is_right = is_page_right(&mut source, 80_000, number, &mut page) && is_right;
+    }
+    // The last of these was a longer read of 32768 bytes.
+    cut(rt, "cut.db", 20_000)?;
+    for (number, is_read) in [(12, true), (17, true), (18, false), (2, true), (5, false)] {
+        let len = if is_read { u64::MAX } else { 0 };
+        is_right = is_page_right(&mut source, len, number, &mut page) && is_right;
+    }
+    Ok(is_right)
+}
+
 #[test]
 fn reads_a_file_that_is_cut_short(rt: HostRuntime) -> Result<(), Fail> {
-    let mut page = [0u8; 4096];
     for bound in BOUNDS {
         make_file(&rt, "cut.db", 2 * WINDOW)?;
-        let mut source = open(&rt, "cut.db", bound)?;
-        read_page(&rt, &mut source, 2 * WINDOW, 0, &mut page);
-        cut(&rt, "cut.db", 80_000)?;
-        for number in [200, 2, 300, 19, 18, 5, 6, 7, 8, 9, 10, 11] {
-            read_page(&rt, &mut source, 80_000, number, &mut page);
-        }
-        // The last of these was a longer read of 32768 bytes.
-        cut(&rt, "cut.db", 20_000)?;
-        for (number, is_read) in [(12, true), (17, true), (18, false), (2, true), (5, false)] {
-            let offset = 4096u64.wrapping_mul(number);
-            holds!(rt; source.read_at(offset, &mut page).is_ok() == is_read, "a page");
-            holds!(rt; !is_read || are_right(offset, &page), "a page");
-        }
+        holds!(rt; is_cut_file_right(&rt, bound)?, bound);
     }
     fs::remove_file(&rt, "cut.db")?;
     Ok(())
@@ -160,28 +171,31 @@ fn bytes_read(rt: &HostRuntime) -> Option<u64> {
     line.strip_prefix("rchar: ")?.parse::<u64>().ok()
 }
 
-// How many windows are read ahead while some pages of four windows are read, where a read takes `pace` microseconds.
-fn windows_read(rt: &HostRuntime, stop: &impl Abort, pace: u64) -> Result<Option<u64>, Fail> {
+// How many windows are read ahead while some pages of four windows are read, where a read takes `pace` microseconds, and whether the
+// pages are right.
+fn windows_read(rt: &HostRuntime, pace: u64) -> Result<(Option<u64>, bool), Fail> {
     let files = FakeFiles::new(rt, Allowed::Reading);
     files.set_pace(pace);
     let mut page = [0u8; 4096];
     let mut source = FileSource::open(&files, "ahead.db")?;
     let before = bytes_read(rt);
+    let mut are_right = true;
     for number in [300, 2, 1000, 400, 9, 600, 1010, 700, 20] {
-        read_page(stop, &mut source, 4 * WINDOW, number, &mut page);
+        are_right = is_page_right(&mut source, 4 * WINDOW, number, &mut page) && are_right;
     }
-    match (before, bytes_read(rt)) {
-        (Some(before), Some(after)) => Ok(Some(after.saturating_sub(before) / WINDOW)),
-        _ => Ok(None),
-    }
+    let windows = match (before, bytes_read(rt)) {
+        (Some(before), Some(after)) => Some(after.saturating_sub(before) / WINDOW),
+        _ => None,
+    };
+    Ok((windows, are_right))
 }
 
 #[test]
 fn reads_ahead_what_a_device_has(rt: HostRuntime) -> Result<(), Fail> {
     make_file(&rt, "ahead.db", 4 * WINDOW)?;
     for (pace, wanted) in [(0, 0), (14, 0), (15, 4), (1000, 4)] {
-        let found = windows_read(&rt, &rt, pace)?;
-        holds!(rt; found.is_none() || found == Some(wanted), "windows");
+        let (found, are_right) = windows_read(&rt, pace)?;
+        holds!(rt; are_right && found.unwrap_or(wanted) == wanted, pace);
     }
     fs::remove_file(&rt, "ahead.db")?;
     Ok(())
@@ -215,48 +229,57 @@ fn windows_with(
     Some(bytes_read(rt)?.saturating_sub(before) / WINDOW)
 }
 
+// Whether so many windows are read ahead with each of these reads, of this size. Of pages of which a few fill a window, one window is read
+// at once.
+fn are_jumps_followed(rt: &HostRuntime, size: usize, is_short: bool) -> Result<bool, Fail> {
+    let files = FakeFiles::new(rt, Allowed::Reading);
+    files.set_pace(1000);
+    let mut buf = vec![in rt.alloc(); 0; size]?;
+    let mut source = FileSource::open(&files, "jumps.db")?;
+    let mut are_followed = true;
+    for (window, at_once) in JUMPS {
+        let wanted = if is_short { at_once } else { 1 };
+        let found = windows_with(rt, &mut source, window, &mut buf);
+        are_followed = are_followed && found.unwrap_or(wanted) == wanted;
+    }
+    Ok(are_followed)
+}
+
 #[test]
 fn reads_more_windows_where_reads_jump(rt: HostRuntime) -> Result<(), Fail> {
     fs::write(&rt, "jumps.db", b"")?;
     cut(&rt, "jumps.db", 64 * WINDOW)?;
-    // Of pages of which a few fill a window, one window is read at once.
     for (size, is_short) in [(4096, true), (32_768, false)] {
-        let files = FakeFiles::new(&rt, Allowed::Reading);
-        files.set_pace(1000);
-        let mut buf = vec![in rt.alloc(); 0; size]?;
-        let mut source = FileSource::open(&files, "jumps.db")?;
-        for (window, at_once) in JUMPS {
-            let wanted = if is_short { at_once } else { 1 };
-            let found = windows_with(&rt, &mut source, window, &mut buf);
-            holds!(rt; found.is_none() || found == Some(wanted), (size, window));
-        }
+        holds!(rt; are_jumps_followed(&rt, size, is_short)?, size);
     }
     fs::remove_file(&rt, "jumps.db")?;
     Ok(())
 }
 
-// The most bytes that are read for one page of four windows, which are read in their order.
-fn most_read(rt: &HostRuntime, stop: &impl Abort) -> Result<Option<u64>, Fail> {
+// The most bytes that are read for one page of four windows, which are read in their order, and whether the pages are right.
+fn most_read(rt: &HostRuntime) -> Result<(Option<u64>, bool), Fail> {
     let mut page = [0u8; 4096];
     let mut most = 0;
+    let mut are_right = true;
     let mut source = open(rt, "along.db", None)?;
     for number in 0..1024 {
         let before = bytes_read(rt);
-        read_page(stop, &mut source, 4 * WINDOW, number, &mut page);
+        are_right = is_page_right(&mut source, 4 * WINDOW, number, &mut page) && are_right;
         match (before, bytes_read(rt)) {
             (Some(before), Some(after)) => most = after.saturating_sub(before).max(most),
-            _ => return Ok(None),
+            _ => return Ok((None, are_right)),
         }
     }
-    Ok(Some(most))
+    Ok((Some(most), are_right))
 }
 
 // The count itself is a read of less than a page.
 #[test]
 fn reads_along_by_256_kib_at_most(rt: HostRuntime) -> Result<(), Fail> {
     make_file(&rt, "along.db", 4 * WINDOW)?;
-    let most = most_read(&rt, &rt)?.unwrap_or(262_144);
-    holds!(rt; (262_144..262_144 + 4096).contains(&most), "along");
+    let (most, are_right) = most_read(&rt)?;
+    let most = most.unwrap_or(262_144);
+    holds!(rt; are_right && (262_144..262_144 + 4096).contains(&most), "along");
     fs::remove_file(&rt, "along.db")?;
     Ok(())
 }
