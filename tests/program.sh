@@ -745,6 +745,11 @@ make_damaged() {
     grep -v '^#' tests/damaged.txt | cut -f 3 | LC_ALL=C sort | cmp -s - "$work/names"
 }
 
+# agrees: whether a slow checker finds those files sound that the program does.
+agrees() {
+    tests/slow.py "$dbck" "$work/slow" tests/sqlite/*.db "$work"/damaged/* > "$work/why"
+}
+
 # The examples of docs/SQLITE.md, each with the codes of all its faults.
 while read -r name wanted; do
     run check "tests/beside/$name.db"
@@ -776,8 +781,9 @@ if command -v python3 > "$work/out"; then
     while IFS=$'\t' read -r wanted _ name; do
         count "$name: $wanted" [ "$(verdict "$work/damaged/$name")" = "$wanted" ]
     done < <(grep -v '^#' tests/damaged.txt)
+    count 'a slow checker agrees' agrees
 else
-    leave_out $((1 + $(grep -vc '^#' tests/damaged.txt))) python3
+    leave_out $((2 + $(grep -vc '^#' tests/damaged.txt))) python3
 fi
 
 # repairs: repairs twenty damaged databases as docs/REPAIR.md says, which has to lose no row that another recipe saves.

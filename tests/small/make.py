@@ -140,12 +140,43 @@ def freelist(_):
     return db
 
 
+def long_row(pages):
+    """A row of 600 bytes whose overflow page is page 3."""
+    db = Database(pages)
+    db.schema(("table", "t", 2))
+    db.long_rows(2, (600, 92, 3))
+    return db
+
+
 def mapped(pages):
     """After a pointer map, a row of 600 bytes whose overflow page is page 4."""
     db = Database(pages)
     db.schema(("table", "t", 3))
     db.long_rows(3, (600, 92, 4))
     db.map(3, (1, 0), (3, 3))
+    return db
+
+
+def root_beside_trunk(_, root=3, trunk=4):
+    """After a pointer map the empty root of a table and the only trunk, without leaves."""
+    db = Database(4)
+    db.schema(("table", "t", root))
+    db.freelist(trunk, 1)
+    db.map(root, *sorted([(1, 0), (2, 0)], reverse=trunk < root))
+    db.leaf(root)
+    return db
+
+
+def trunk_beside_root(_):
+    return root_beside_trunk(_, 4, 3)
+
+
+def ladder(pages):
+    """A schema of a level a page: interior pages without cells, each with the next as its right child, and an empty leaf."""
+    db = Database(pages)
+    for page in range(1, pages):
+        db.interior(page, page + 1)
+    db.leaf(pages)
     return db
 
 
@@ -387,8 +418,8 @@ def many_entries(_):
     return db
 
 
-def write(path, text):
-    """The database of a name, its pages, and what is written over it."""
+def content(text):
+    """The bytes of the database of a name, its pages, and what is written over it."""
     front, _, changes = text.partition(":")
     name, _, pages = front.partition(" ")
     pages = int(pages or 0)
@@ -396,10 +427,8 @@ def write(path, text):
     for change in filter(None, changes.split(",")):
         page, at, digits = change.split(maxsplit=2)
         db.put(int(page), int(at), bytes.fromhex(digits))
-    with open(path, "wb") as it:
-        it.write(db.bytes)
-        if pages:
-            it.truncate(db.size * pages)
+    length = db.size * pages if pages else len(db.bytes)
+    return bytes(db.bytes[:length].ljust(length, b"\0"))
 
 
 def main():
@@ -413,7 +442,8 @@ def main():
         title, *lines = block.splitlines(keepends=True)
         lines = [line for line in lines if not line.startswith("#")]
         limit = lines.pop(0).split()[1] if lines[0].startswith("--limit") else "100"
-        write(os.path.join(folder, f"{number}.db"), title.strip())
+        with open(os.path.join(folder, f"{number}.db"), "wb") as it:
+            it.write(content(title.strip()))
         with open(os.path.join(folder, f"{number}.text"), "w", encoding="utf-8") as it:
             it.write("".join(lines))
         print(f"{number}|{limit}|{title.strip()}")

@@ -1,5 +1,5 @@
 //! Tests of the crates below the program, on whole files: [`check`], [`stat`], [`explain`] and [`map`], what is refused to a run,
-//! a slow checker beside it, and the parts of a run. Those of the walk alone are in `dbwalk_tests`.
+//! files that are written meanwhile, and the parts of a run. Those of the walk alone are in `dbwalk_tests`.
 #![tactic(auto)]
 
 #[cfg(test)]
@@ -17,8 +17,8 @@ mod refusals;
 #[cfg(test)]
 mod runs;
 #[cfg(test)]
-mod slow;
-#[cfg(test)]
 mod stat;
 #[cfg(test)]
 mod support;
+#[cfg(test)]
+mod versions;

@@ -1,8 +1,7 @@
 // A run over a file that is written meanwhile, where each read answers bytes of another version: it writes to both outs, and
-// answers, what a run over the one file does that the answers make up under the header that was read first. It is clean exactly
-// where the slow checker finds that file sound. Where a read fails, a beginning of what there would be is written.
+// answers, what a run over the one file does that the answers make up under the header that was read first. Where a read fails, a
+// beginning of what there would be is written.
 use crate::runs::{Found, check_of, found_of, is_same, stat_of};
-use crate::slow::sound::is_sound;
 use crate::support::cases::{file_of, lines};
 use crate::support::versions::{Answer, ChangingSource};
 use dbfiles::{holds, patch};
@@ -34,13 +33,6 @@ fn found_in(alloc: Global, case: Case<'_>, answers: &[Answer]) -> Result<Found, 
     put_together(file.as_mut_slice(), answers);
     let mut source = MemSource::new(file.as_slice());
     Ok(found_of(alloc, case.command, &mut source))
-}
-
-// Whether it is sound.
-fn is_sound_in(alloc: Global, case: Case<'_>, answers: &[Answer]) -> Result<bool, AllocError> {
-    let mut file = Vec::from_elem(alloc, 0u8, case.file.len())?;
-    put_together(file.as_mut_slice(), answers);
-    is_sound(alloc, file.as_slice())
 }
 
 // Whether a read of this number was of the header, or of a page: of page 1 first, and of none that was read before after the
@@ -151,9 +143,7 @@ fn is_found_together(
 ) -> Result<(), AllocError> {
     let of = (case.name, case.seed);
     let is_other = is_other_in(alloc, case, answers, found)?;
-    let is_sound = is_sound_in(alloc, case, answers)?;
     holds!(*rt; !is_other, of);
-    holds!(*rt; (found.answer == Ok(Verdict::Clean)) == is_sound, of);
     holds!(*rt; has_its_lines(case.command, found), of);
     Ok(())
 }
@@ -299,8 +289,9 @@ fn runs_over_versions(rt: &impl Abort, alloc: Global, command: Command) -> Resul
 fn forests_are_sound(rt: HostRuntime) -> Result<(), Fail> {
     for name in ["Forest 19", "MappedForest 19"] {
         let file = file_of(rt.alloc(), name)?;
-        let is_sound = is_sound(rt.alloc(), file.as_slice())?;
-        holds!(rt; is_sound, name);
+        let mut source = MemSource::new(file.as_slice());
+        let found = found_of(rt.alloc(), check_of(LIMIT), &mut source);
+        holds!(rt; found.answer == Ok(Verdict::Clean), name);
     }
     Ok(())
 }
