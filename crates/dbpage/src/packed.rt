@@ -228,7 +228,8 @@ impl<'a> PageView<'a> {
     }
 
     // The key of the first cell of a page of this kind, where there is one and it has a key.
-    #[inline(always)]
+    // Not inlined: a caller that reads two cells is too large to be compiled for each kind.
+    #[inline(never)]
     fn first_key(&self, kind: PageKind) -> Option<i64>
         requires { kind ≡ self.now.kind }
         ensures some { 0 < count self.now → key_at self.now 0 ≡ result }
