@@ -137,13 +137,20 @@ impl<A: Allocator> Listing<A> {
         self.rest
     }
 
+    /// Whether a page is zeros.
+    pub fn is_zeros(&self, page: u32) -> bool
+        ensures { result ≡ has_bit self.now.zeros page }
+    {
+        self.zeros.has(page)
+    }
+
     /// The runs of the pages that are zeros, of the first `pages`.
     pub fn zero_runs(&self, pages: u32) -> Runs
         ensures { result ≡ fold run_added no_runs (filter (has_bit self.now.zeros) (range_with_len 1 pages)) }
     {
         let mut runs = NO_RUNS;
         for index in 0..pages {
-            if self.zeros.has(index + 1) {
+            if self.is_zeros(index + 1) {
                 runs.add(index + 1);
             }
         }

@@ -12,7 +12,7 @@ use std::marker::Model;
 
 /// What is counted of a start: the faults that were reported there; and then the pages that were reached from it, and those of them
 /// that have a fault.
-#[derive(Clone, Copy, Debug, PartialEq, Eq)]
+#[derive(Clone, Copy, Debug, Default, PartialEq, Eq)]
 pub struct StartCount {
     pub faults: u64,
     pub reached: u32,
@@ -43,13 +43,6 @@ impl<A: Allocator> Model for Tally<A> {
     ghost invariant = { IsRoomy };
 }
 
-// Of a start nothing is counted yet.
-const NO_COUNT: StartCount = StartCount {
-    faults: 0,
-    reached: 0,
-    faulty: 0,
-};
-
 // The counts of a start with one page more, which has a fault or has none.
 fn with_page(count: &StartCount, faulty: bool) -> StartCount
     ensures { result ≡ one_reached_page faulty count.now }
@@ -70,7 +63,7 @@ impl<A: Allocator + Copy> Tally<A> {
     pub fn new_in(alloc: A, geometry: &Geometry) -> Result<Tally<A>, AllocError>
         ensures { IfOk result (IsTallyOf geometry.now.pages []) }
     {
-        let starts = Vec::from_elem(alloc, NO_COUNT, STARTS)?;
+        let starts = Vec::from_elem(alloc, StartCount::default(), STARTS)?;
         let pages = PageBits::new_in(alloc, geometry.pages)?;
         Ok(Tally {
             all: 0,

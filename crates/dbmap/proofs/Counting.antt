@@ -23,7 +23,9 @@ use Rattle.dbscan.specs.Finishes.{Leaves}
 use Rattle.dbscan.specs.Notices.{CutsNever, run_notices}
 use Rattle.dbscan.specs.Placed.{faults_of, told_faults}
 use Rattle.dbscan.proofs.AllTold.{all_told}
+use Rattle.dbentries.specs.Bits.{HasPageBit}
 use Rattle.dbentries.specs.Lists.{HasListed, Held, ListsAll}
+use Rattle.dbentries.specs.Zeros.{AreZeros}
 use Rattle.dbentries.proofs.Heard.{never_stops}
 use Rattle.dbmap.specs.Keeping.{AreNoted, HasFaults, HearsNone}
 use Rattle.dbmap.specs.Faults.{fault_signs}
@@ -62,12 +64,14 @@ module _ {A O : Type 0} (file : List ℕ) (V : List Reference) (survey : Survey 
     map_hears = all.listing
 
     -- with the lost pages
-    pub map_keeps : (l : Held) → ListsAll 100 file V l → HasFaults file V (record t.kept.now { listing = l })
-    map_keeps l listed = record {
+    pub map_keeps : (l : Held) → ListsAll 100 file V l × (HasPageBit s.kept.now.listing.zeros (geometry file).pages → AreZeros file V l.zeros)
+        → HasFaults file V (record t.kept.now { listing = l })
+    map_keeps l looked = record {
       trees = subst (AreTrees V) (sym all.trees) (all_noted file V s.kept.now.trees.known survey empty.room);
       notes = subst (λ (l : List (ℕ × Sign)). AreNoted (geometry file).pages l t.kept.now.notes)
           (signs_are (told_faults file V) ∙ ap (flat_map fault_signs) (all_told file V)) all.notes;
-      listing = listed;
+      listing = looked.0;
+      zeros = looked.1 empty.zeros;
     }
 
     -- what was put then is the picture, in any relation to what the Out held

@@ -16,9 +16,10 @@ use Rattle.dbtrace.specs.declared.Cause.TheVariants as cause
 use Rattle.dbtrace.specs.declared.Reported.{Reported}
 use Rattle.dbentries.specs.Listing as listing
 use Rattle.dbentries.specs.Listed.{listed_entries}
+use Rattle.dbentries.specs.Zeros.{zero_pages}
 use Rattle.dbentries.specs.declared.entry.Entry.{Entry}
 use Rattle.dbmap.specs.declared.faults.Sign.{Sign}
-use Rattle.dbmap.specs.declared.faults.Sign.TheVariants.{Code, Faulty, Framed}
+use Rattle.dbmap.specs.declared.faults.Sign.TheVariants.{Code, Faulty, Framed, Zeros}
 use Rattle.dbmap.specs.declared.faults.SquareFaults.{SquareFaults}
 use Rattle.dbmap.specs.declared.frame.Frame.{Frame}
 use Rattle.dbmap.specs.declared.frame.Frame.TheVariants as frame
@@ -51,9 +52,10 @@ first_faults es = map (λ (e : listing.Entry). e.first) es
 abbrev pub leading : List Entry → List Reported
 leading es = map (λ (e : Entry). e.first) es
 
--- the bit of a sign: those below 62 are of codes
+-- the bit of a sign: those below 61 are of codes
 abbrev pub sign_bit : Sign → ℕ
 sign_bit (Code code) = code_index code
+sign_bit Zeros = 61
 sign_bit Faulty = 62
 sign_bit Framed = 63
 
@@ -64,6 +66,10 @@ fault_signs f = (f.page, Code f.code) ∷ (f.page, Faulty) ∷ []
 -- and those of a fault that leads: its own page, the one that its value names, and that of its cause have the strong frame
 abbrev pub frame_signs : Reported → List (ℕ × Sign)
 frame_signs x = (x.fault.page, Framed) ∷ (value_page x.fault.code x.fault.value, Framed) ∷ (cause_page x.cause, Framed) ∷ []
+
+-- and those of pages that are zeros
+abbrev pub zero_signs : List ℕ → List (ℕ × Sign)
+zero_signs pages = map (λ p. (p, Zeros)) pages
 
 -- whether one of some pages has a sign, of all signs, each with its page
 abbrev pub shows : List (ℕ × Sign) → (ℕ → Bool) → Sign → Bool
@@ -84,15 +90,20 @@ code_if has code = if has (Code code) then codes " " ++ code_text code else []
 abbrev pub faults_text : (Sign → Bool) → List ℕ
 faults_text has = if has Faulty then codes ", with" ++ flat_map (code_if has) all_codes else []
 
+-- and what that of a page says where it is zeros
+abbrev pub zeros_text : (Sign → Bool) → List ℕ
+zeros_text has = if has Zeros then codes ", all zeros" else []
+
 -- the frame of a square
 abbrev pub frame_of : (Sign → Bool) → Frame
 frame_of has = if has Framed then frame.Strong else (if has Faulty then frame.Weak else frame.None)
 
 -- ---- the faults of a file with survey V
 
--- the signs of the pages: of all faults, and of those that lead the first 100 entries, which `explain` lists where no other number is given
+-- the signs of the pages: of all faults, of those that lead the first 100 entries, which `explain` lists where no other number is given, and of zeros
 abbrev pub signs_of : List ℕ → List Reference → List (ℕ × Sign)
 signs_of file V = flat_map fault_signs (faults file V) ++ flat_map frame_signs (first_faults (take 100 (listed_entries file V)))
+    ++ zero_signs (zero_pages file V)
 
 -- whether page p has a sign
 abbrev pub page_shows : List ℕ → List Reference → Sign → ℕ → Bool

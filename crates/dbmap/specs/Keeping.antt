@@ -17,6 +17,7 @@ use Rattle.dbscan.specs.Desks.{DeskView}
 use Rattle.dbscan.specs.Finishes.{IsDeskOf}
 use Rattle.dbentries.specs.Bits.{bit_set, has_bit, HasPageBit}
 use Rattle.dbentries.specs.Lists.{IsUnused, ListsAll}
+use Rattle.dbentries.specs.Zeros.{AreZeros}
 use Rattle.dbowner.specs.Trees.{AreTrees, place_by}
 use Rattle.dbowner.specs.Texts.{tree_of_row}
 use Rattle.dbowner.specs.declared.place.Place.{Place}
@@ -64,12 +65,14 @@ pub record HearsNone {A : Type 0} (count : ℕ) (k : KeptFaults A) : Type 0 wher
   pub room : count < length k.trees.known
   pub notes : AreNoted count [] k.notes
   pub listing : IsUnused 100 k.listing
+  pub zeros : HasPageBit k.listing.zeros count
 
 -- All faults of a file were noted at their pages, and are listed, and the start of each page was noted; no strong frame is noted yet.
 pub record HasFaults {A : Type 0} (file : List ℕ) (V : List Reference) (k : KeptFaults A) : Type 0 where
   pub trees : AreTrees V k.trees.known
   pub notes : AreNoted (geometry file).pages (flat_map fault_signs (faults file V)) k.notes
   pub listing : ListsAll 100 file V k.listing
+  pub zeros : AreZeros file V k.listing.zeros
 
 -- the text of the tree of a start, by the rows of the schema that have a root page
 abbrev pub shown_tree : Encoding → List SchemaRow → ℕ → List ℕ

@@ -6,7 +6,7 @@ use Rattle.dbowner.specs.Texts.{place_from, place_front, place_tree, place_words
 use Rattle.dbowner.specs.declared.place.Place.{Place}
 use Rattle.dbxml.specs.Pieces.{shown_text}
 use Rattle.dbmap.specs.Marks.{extent, inset, outline_tail, run_pages_text, shade_letter, stroke}
-use Rattle.dbmap.specs.Faults.{faults_text, frame_of}
+use Rattle.dbmap.specs.Faults.{faults_text, frame_of, zeros_text}
 use Rattle.dbmap.specs.Owners.{capped_pages, is_overflow, owner_by, shares_by}
 use Rattle.dbmap.specs.declared.faults.Sign.{Sign}
 use Rattle.dbmap.specs.declared.grid.Width.{Width}
@@ -22,13 +22,13 @@ use Rattle.dbmap.specs.declared.run.RunSquare.{RunSquare}
 abbrev pub from_text : Place → List ℕ
 from_text place = option_map_or decimal (place_from place) []
 
--- its title: the number of the page, what comes before its tree, the tree, what it is there, and its faults
+-- its title: the number of the page, what comes before its tree, the tree, what it is there, its faults, and whether it is zeros
 unfoldable pub page_text : PageSquare → Width → List ℕ → (Sign → Bool) → List ℕ
 page_text s width tree f =
     concat (codes "<rect class=\"" ∷ shade_letter (is_overflow s.place) ∷ decimal s.owner ∷ codes "\" x=\"" ∷ decimal (s.x + inset width (frame_of f))
     ∷ extent width (frame_of f) ∷ stroke width (frame_of f) ∷ codes "><title>page " ∷ decimal s.page ∷ codes ": "
     ∷ place_front s.fixed s.place ∷ [])
-    ++ (shown_text tree 72 ++ (concat (place_words s.place ∷ from_text s.place ∷ []) ++ (faults_text f ++ codes "</title></rect>\n")))
+    ++ (shown_text tree 72 ++ (concat (place_words s.place ∷ from_text s.place ∷ []) ++ (faults_text f ++ concat (zeros_text f ∷ codes "</title></rect>\n" ∷ []))))
 
 -- which pages an outline is of, and the outline
 abbrev pub outline_pages : Grid → ℕ × ℕ → List ℕ

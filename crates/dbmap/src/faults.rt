@@ -3,7 +3,7 @@ ghost use Rattle.std.specs.Prelude.{◌≡◌, ◌<◌, ◌==◌};
 ghost use Rattle.std.specs.List.{flat_map};
 ghost use Rattle.dbformat.specs.Codes.{all_codes};
 ghost use Rattle.dblines.specs.Writing.{Wrote};
-ghost use Rattle.dbmap.specs.Faults.{code_if, faults_text, frame_of, shown, sign_added, sign_bit};
+ghost use Rattle.dbmap.specs.Faults.{code_if, faults_text, frame_of, shown, sign_added, sign_bit, zeros_text};
 
 use crate::frame::Frame;
 use dbformat::FaultCode;
@@ -20,6 +20,8 @@ pub(crate) enum Sign {
     Faulty,
     /// The strong frame.
     Framed,
+    /// Zeros in all its usable bytes.
+    Zeros,
 }
 
 impl Sign {
@@ -30,6 +32,7 @@ impl Sign {
     {
         match self {
             Sign::Code(code) => code.index(),
+            Sign::Zeros => 61,
             Sign::Faulty => 62,
             Sign::Framed => 63,
         }
@@ -92,6 +95,17 @@ impl SquareFaults {
     {
         for code in FaultCode::all() {
             self.draw_code(writer, code);
+        }
+    }
+
+    /// What a title says of a page that is zeros.
+    pub(crate) fn zeros(self) -> &'static str
+        ensures { result.now ≡ zeros_text (shown self.bits) }
+    {
+        if self.shows(Sign::Zeros) {
+            ", all zeros"
+        } else {
+            ""
         }
     }
 

@@ -1,12 +1,14 @@
-// The pages of the entries that are listed, and of their causes.
-ghost use Rattle.std.specs.Prelude.{◌≡◌, ℕ, ◌++◌, List, flat_map};
+// The pages of the entries that are listed, and of their causes, and the pages that are zeros.
+ghost use Rattle.std.specs.Prelude.{◌≡◌, ℕ, ◌++◌, List, filter, flat_map};
+ghost use Rattle.std.specs.List.{range_with_len};
+ghost use Rattle.dbentries.specs.Bits.{has_bit};
 ghost use Rattle.dbmap.specs.declared.faults.Sign.{Sign};
-ghost use Rattle.dbmap.specs.Faults.{cause_page, frame_signs, leading, page_of_value, value_page};
+ghost use Rattle.dbmap.specs.Faults.{cause_page, frame_signs, leading, page_of_value, value_page, zero_signs};
 ghost use Rattle.dbmap.specs.Keeping.{AreNoted};
 
 use crate::fault_notes::FaultNotes;
 use crate::faults::Sign;
-use dbentries::{Cause, Entry, Reported};
+use dbentries::{Cause, Entry, Listing, Reported};
 use dbformat::{Fault, FaultCode};
 use std::alloc::Allocator;
 
@@ -55,7 +57,23 @@ fn note_pages<A: Allocator>(notes: &mut FaultNotes<A>, first: &Reported)
     notes.note(cause_page(first.cause), Sign::Framed);
 }
 
-/// The same of the faults that lead some entries.
+/// Notes those of the first `pages` that are zeros.
+pub(crate) fn note_zeros<A: Allocator>(
+    notes: &mut FaultNotes<A>,
+    listing: &Listing<A>,
+    pages: u32,
+)
+    ensures { (count : ℕ) (signs : List (ℕ × Sign)) → AreNoted count signs notes.old
+        → AreNoted count (signs ++ zero_signs (filter (has_bit listing.now.zeros) (range_with_len 1 pages))) notes.new }
+{
+    for index in 0..pages {
+        if listing.is_zeros(index + 1) {
+            notes.note(index + 1, Sign::Zeros);
+        }
+    }
+}
+
+/// Notes the pages of the faults that lead some entries.
 pub(crate) fn note_listed<A: Allocator>(notes: &mut FaultNotes<A>, listed: &[Entry])
     ensures { (count : ℕ) (signs : List (ℕ × Sign)) → AreNoted count signs notes.old
         → AreNoted count (signs ++ flat_map frame_signs (leading listed.now)) notes.new }

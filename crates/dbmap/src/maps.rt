@@ -12,7 +12,7 @@ use crate::grid::Grid;
 use crate::kept::{ENTRIES, KeptFaults};
 use crate::labels::Labels;
 use crate::legend::Legend;
-use crate::listed::note_listed;
+use crate::listed::{note_listed, note_zeros};
 use crate::map_reporter::MapReporter;
 use crate::picture::{Heading, draw_picture};
 use crate::squares::Squares;
@@ -53,6 +53,7 @@ pub(crate) fn put_map<A: Allocator, O: Out>(
     ensures { PutsOf result (O.held out.old) (O.held out.new) (HasAll desk.now kept.old faults) (λ file V. map_picture file V name.now) }
 {
     note_listed(&mut kept.notes, kept.listing.listed());
+    note_zeros(&mut kept.notes, &kept.listing, desk.geometry().pages);
     kept.tally.count(desk.marks(), &kept.trees);
     let largest = kept.tally.largest(desk.roots().len() + 1);
     let names = TreeNames {
@@ -114,7 +115,7 @@ impl<A: Allocator + Copy, O: Out> Job<A, Desk<A>> for MapJob<'_, O> {
         let trees = PageTrees::new_in(alloc, geometry)?;
         let tally = PageTally::new_in(alloc)?;
         let notes = FaultNotes::new_in(alloc, geometry.pages)?;
-        let listing = Listing::new_in(alloc, ENTRIES, 0)?;
+        let listing = Listing::new_in(alloc, ENTRIES, geometry.pages)?;
         Ok(KeptFaults {
             trees,
             tally,

@@ -42,7 +42,8 @@ fn from_piece(place: Place) -> Piece
 
 impl PageSquare {
     /// Draws it, by the name of the tree that the page is in: its title says what the page is by its number, what comes before its
-    /// tree, the tree, the page that it is reached from, and the codes of its faults.
+    /// tree, the tree, the page that it is reached from, the codes of its faults, and
+    /// whether it is zeros.
     pub(crate) fn draw<O: Out>(
         &self,
         writer: &mut Writer<'_, O>,
@@ -73,6 +74,9 @@ impl PageSquare {
             from_piece(self.place),
         ]);
         faults.draw(writer);
-        writer.write_all(&[Piece::Markup("</title></rect>\n")]);
+        writer.write_all(&[
+            Piece::Markup(faults.zeros()),
+            Piece::Markup("</title></rect>\n"),
+        ]);
     }
 }

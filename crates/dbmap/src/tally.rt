@@ -35,16 +35,6 @@ impl<A: Allocator> Model for PageTally<A> {
     ghost invariant = { HasStartShares };
 }
 
-// Makes all shares empty.
-fn zero<A: Allocator>(starts: &mut Vec<Share, A>)
-    ensures starts { starts.new.items ≡ replicate (vec_len starts.old) no_share }
-    ensures len { vec_len starts.new ≡ vec_len starts.old }
-{
-    for index in 0..starts.len() {
-        starts[index] = Share::default();
-    }
-}
-
 impl<A: Allocator> PageTally<A> {
     /// One without pages, in one growth.
     ///
@@ -65,7 +55,7 @@ impl<A: Allocator> PageTally<A> {
     fn clear(&mut self)
         ensures { self.new ≡ none_tallied }
     {
-        zero(&mut self.starts);
+        self.starts.fill(Share::default());
         self.fixed = 0;
         self.nobody = 0;
     }

@@ -1,5 +1,5 @@
 use Rattle.std.proofs.Common.{rules, ◌≡◌, ℕ, ◌+◌, ◌-◌, ◌&&◌, not, List, ◌++◌, length, count_by, map, take, ap, ap₂, subst, ◌∙◌}
-use Rattle.std.specs.Prelude.{flat_map}
+use Rattle.std.specs.Prelude.{filter, flat_map}
 use Rattle.std.specs.List.{range_with_len}
 use Rattle.dbformat.specs.File.{geometry}
 use Rattle.dbformat.specs.FixedPages.{geometry_of}
@@ -17,7 +17,8 @@ use Rattle.dbsource.specs.HeaderBytes.{HeaderBytes}
 use Rattle.dbowner.specs.Texts.{tree_of_row}
 use Rattle.dbxml.specs.Names.{short_text}
 use Rattle.dbmap.specs.Keeping.{AreNoted, marked_place, shown_tree}
-use Rattle.dbmap.specs.Faults.{fault_signs, frame_signs, is_weak, leading, page_shows, signs_of}
+use Rattle.dbmap.specs.Faults.{fault_signs, first_faults, frame_signs, is_weak, leading, page_shows, signs_of, zero_signs}
+use Rattle.dbmap.specs.declared.faults.Sign.{Sign}
 use Rattle.dbmap.specs.declared.faults.Sign.TheVariants.{Faulty, Framed}
 use Rattle.dbmap.specs.Grids.{grid_of}
 use Rattle.dbmap.specs.Legends.{legend_lines}
@@ -40,10 +41,15 @@ returns g c =
           let desk = known.desk in
           let has = known.kept in
           let leads = ap leading (c.listed.ensures ∙ has.listing.listed) ∙ leading_kept (take 100 (listed_entries file V)) in
-          let notes = c.note_listed.new.notes in
+          let notes = c.note_zeros.new.notes in
+          let strong_noted = subst (λ (xs : List Reported). AreNoted (geometry file).pages (flat_map fault_signs (faults file V) ++ flat_map frame_signs xs)
+          c.note_listed.new.notes) leads (c.note_listed.ensures (geometry file).pages _ has.notes) in
+          let here : c.geometry.result.pages ≡ (geometry file).pages = ap (λ (s : Geometry). s.pages) (c.geometry.ensures.shape ∙ desk.header.shape) in
+          let zeros = ap (λ n. filter (has_bit c.args.kept.now.listing.zeros) (range_with_len 1 n)) here ∙ has.zeros in
           let noted : AreNoted (geometry file).pages (signs_of file V) notes =
-          subst (λ (xs : List Reported). AreNoted (geometry file).pages (flat_map fault_signs (faults file V) ++ flat_map frame_signs xs) notes) leads
-          (c.note_listed.ensures (geometry file).pages _ has.notes) in
+          subst (λ (l : List (ℕ × Sign)). AreNoted (geometry file).pages l notes)
+          (ap (λ ps. (flat_map fault_signs (faults file V) ++ flat_map frame_signs (first_faults (take 100 (listed_entries file V)))) ++ zero_signs ps) zeros)
+          (c.note_zeros.ensures (geometry file).pages _ strong_noted) in
           let marks = c.marks.ensures ∙ desk.marks in
           let tally = c.count.ensures file V (record { survey = desk.survey; marks = marks; trees = has.trees }) in
           let shape = c.geometry-geometry.ensures.shape ∙ desk.header.shape in

@@ -29,12 +29,12 @@ returns-in_err-put_map g c =
           let s = heard.desk.survey in
           let here = desk_kept c.args.desk.now c.look_at_lost.new.desk file V look.desk heard.desk in
           let told = map_hears file V s first c.args.self.now none empty heard.heard in
-          let listed = (way V heard.desk 100 first.kept.now.listing empty.listing told).0 in (
+          let looked = way V heard.desk 100 first.kept.now.listing empty.listing told in (
             tt,
             map_put file V s first c.args.self.now none empty heard.heard g.O.Out.held (λ old. Begins old (g.O.Out.held c.put_map.new.out).bytes) put.all
                 (put.is file V (record {
                   desk = here;
-                  kept = map_keeps file V s first c.args.self.now none empty heard.heard c.look_at_lost.new.self listed;
+                  kept = map_keeps file V s first c.args.self.now none empty heard.heard c.look_at_lost.new.self looked;
                   count = map_counts file V s first c.args.self.now none empty heard.heard;
                 })) put.puts.held,
           ));
@@ -49,12 +49,12 @@ returns g c =
           let s = heard.desk.survey in
           let here = desk_kept c.args.desk.now c.look_at_lost.new.desk file V look.desk heard.desk in
           let told = map_hears file V s first c.args.self.now none empty heard.heard in
-          let listed = (way V heard.desk 100 first.kept.now.listing empty.listing told).0 in (
+          let looked = way V heard.desk 100 first.kept.now.listing empty.listing told in (
             c.of.ensures.count ∙ map_finds file V s first c.args.self.now none empty heard.heard,
             map_put file V s first c.args.self.now none empty heard.heard g.O.Out.held (λ old. Appends old (g.O.Out.held c.put_map.new.out).bytes) put.all
                 (put.is file V (record {
                   desk = here;
-                  kept = map_keeps file V s first c.args.self.now none empty heard.heard c.look_at_lost.new.self listed;
+                  kept = map_keeps file V s first c.args.self.now none empty heard.heard c.look_at_lost.new.self looked;
                   count = map_counts file V s first c.args.self.now none empty heard.heard;
                 })) put.puts.held,
           ));

@@ -15,4 +15,5 @@ returns g c =
       c.place_front.ensures.text,
     ) at c.write_all.ensures in
     let place = rw (c.place_words.ensures.text, c.from_piece.ensures) at c.write_all-2.ensures in
-    wrote_then front (wrote_then c.write_shown.ensures (wrote_then place (wrote_then c.draw.ensures c.write_all-3.ensures)))
+    let end = rw c.zeros.ensures at c.write_all-3.ensures in
+    wrote_then front (wrote_then c.write_shown.ensures (wrote_then place (wrote_then c.draw.ensures end)))
