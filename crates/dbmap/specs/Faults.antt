@@ -90,10 +90,6 @@ code_if has code = if has (Code code) then codes " " ++ code_text code else []
 abbrev pub faults_text : (Sign → Bool) → List ℕ
 faults_text has = if has Faulty then codes ", with" ++ flat_map (code_if has) all_codes else []
 
--- and what that of a page says where it is zeros
-abbrev pub zeros_text : (Sign → Bool) → List ℕ
-zeros_text has = if has Zeros then codes ", all zeros" else []
-
 -- the frame of a square
 abbrev pub frame_of : (Sign → Bool) → Frame
 frame_of has = if has Framed then frame.Strong else (if has Faulty then frame.Weak else frame.None)

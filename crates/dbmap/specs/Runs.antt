@@ -1,7 +1,7 @@
 -- The square of a run of pages, by its pages, how many of them each owner has, and its faults; and how it is divided in six bands where there
 -- are several owners.
 use Rattle.std.specs.Prelude.{ℕ, zero, suc, ◌+◌, ◌-◌, ◌*◌, Bool, true, false, not, nat_lt, List, slice_set, [], ◌∷◌, ◌++◌, get_or, replicate, slice_get, codes, decimal}
-use Rattle.std.specs.Prelude.{◌==◌, if◌then◌else◌}
+use Rattle.std.specs.Prelude.{◌==◌, ◌&&◌, if◌then◌else◌}
 use Rattle.std.specs.Option.{option_map_or}
 use Rattle.std.specs.List.{concat, flat_map, list_any, range_with_len, sum_by}
 use Rattle.dbxml.specs.Pieces.{shown_text}
@@ -10,8 +10,7 @@ use Rattle.dbmap.specs.Marks.{extent, run_pages_text, shade_letter, stroke}
 use Rattle.dbmap.specs.Faults.{faults_text, frame_of}
 use Rattle.dbmap.specs.declared.bands.Bands.{Bands}
 use Rattle.dbmap.specs.declared.owner_shares.OwnerShares.{OwnerShares}
-use Rattle.dbmap.specs.declared.frame.Frame.{Frame}
-use Rattle.dbmap.specs.declared.frame.Frame.TheVariants.{Strong, Weak}
+use Rattle.dbmap.specs.declared.faults.Sign.TheVariants.{Faulty, Framed}
 use Rattle.dbmap.specs.declared.faults.Sign.{Sign}
 use Rattle.dbmap.specs.declared.grid.Width.{Width}
 use Rattle.dbmap.specs.declared.run.RunSquare.{RunSquare}
@@ -97,25 +96,16 @@ band_top bands number = capped_pages (sum_by (λ owner. get_or bands.heights own
 abbrev pub bands_text : RunSquare → Bands → List ℕ
 bands_text r bands = flat_map (λ number. band_text r number (band_top bands number) (get_or bands.heights number 0)) (range_with_len 0 16)
 
--- the frame of a square in bands that begins there
-abbrev pub band_frame : ℕ → List ℕ
-band_frame x = concat (codes "<rect width=\"6\" height=\"6\" stroke=\"#BE0700\" stroke-width=\"2\" x=\"" ∷ decimal x ∷ codes "\" fill=\"none\"/>" ∷ [])
+-- the frame of a square in bands that begins there, if it has one
+abbrev pub band_frame : Bool → ℕ → List ℕ
+band_frame is_framed x =
+    if is_framed then concat (codes "<rect width=\"6\" height=\"6\" stroke=\"#BE0700\" stroke-width=\"2\" x=\"" ∷ decimal x ∷ codes "\" fill=\"none\"/>" ∷ []) else []
 
--- a weak frame lies below the bands, so that they cover its inner half
-abbrev pub frame_below : Frame → ℕ → List ℕ
-frame_below Weak x = band_frame x
-frame_below _ x = []
-
--- and a strong one above them
-abbrev pub frame_above : Frame → ℕ → List ℕ
-frame_above Strong x = band_frame x
-frame_above _ x = []
-
--- the square of pages of several owners, divided in bands
+-- the square of pages of several owners, divided in bands: a weak frame lies below these, and a strong one above them
 unfoldable pub mixed_text : RunSquare → List (List ℕ) → (Sign → Bool) → Bands → List ℕ
 mixed_text r names f bands =
-    codes "<g><title>page" ++ (title_text r names f ++ (codes "</title>" ++ (frame_below (frame_of f) r.x
-    ++ (bands_text r bands ++ (frame_above (frame_of f) r.x ++ codes "</g>\n")))))
+    codes "<g><title>page" ++ (title_text r names f ++ (codes "</title>" ++ (band_frame (f Faulty && not (f Framed)) r.x
+    ++ (bands_text r bands ++ (band_frame (f Framed) r.x ++ codes "</g>\n")))))
 
 -- how many pages it has
 abbrev pub run_pages : RunSquare → ℕ

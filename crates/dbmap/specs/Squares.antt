@@ -6,9 +6,10 @@ use Rattle.dbowner.specs.Texts.{place_from, place_front, place_tree, place_words
 use Rattle.dbowner.specs.declared.place.Place.{Place}
 use Rattle.dbxml.specs.Pieces.{shown_text}
 use Rattle.dbmap.specs.Marks.{extent, inset, outline_tail, run_pages_text, shade_letter, stroke}
-use Rattle.dbmap.specs.Faults.{faults_text, frame_of, zeros_text}
+use Rattle.dbmap.specs.Faults.{faults_text, frame_of}
 use Rattle.dbmap.specs.Owners.{capped_pages, is_overflow, owner_by, shares_by}
 use Rattle.dbmap.specs.declared.faults.Sign.{Sign}
+use Rattle.dbmap.specs.declared.faults.Sign.TheVariants.{Zeros}
 use Rattle.dbmap.specs.declared.grid.Width.{Width}
 use Rattle.dbmap.specs.declared.page.PageSquare.{PageSquare}
 use Rattle.dbmap.specs.Grids.{missing_of, places, places_of, rows, run_of, top_of, x_of}
@@ -28,7 +29,8 @@ page_text s width tree f =
     concat (codes "<rect class=\"" ∷ shade_letter (is_overflow s.place) ∷ decimal s.owner ∷ codes "\" x=\"" ∷ decimal (s.x + inset width (frame_of f))
     ∷ extent width (frame_of f) ∷ stroke width (frame_of f) ∷ codes "><title>page " ∷ decimal s.page ∷ codes ": "
     ∷ place_front s.fixed s.place ∷ [])
-    ++ (shown_text tree 72 ++ (concat (place_words s.place ∷ from_text s.place ∷ []) ++ (faults_text f ++ concat (zeros_text f ∷ codes "</title></rect>\n" ∷ []))))
+    ++ (shown_text tree 72 ++ (concat (place_words s.place ∷ from_text s.place ∷ []) ++ (faults_text f
+    ++ ((if f Zeros then codes ", all zeros" else []) ++ codes "</title></rect>\n"))))
 
 -- which pages an outline is of, and the outline
 abbrev pub outline_pages : Grid → ℕ × ℕ → List ℕ

@@ -3,7 +3,7 @@ ghost use Rattle.std.specs.Prelude.{◌≡◌, ◌<◌, ◌==◌};
 ghost use Rattle.std.specs.List.{flat_map};
 ghost use Rattle.dbformat.specs.Codes.{all_codes};
 ghost use Rattle.dblines.specs.Writing.{Wrote};
-ghost use Rattle.dbmap.specs.Faults.{code_if, faults_text, frame_of, shown, sign_added, sign_bit, zeros_text};
+ghost use Rattle.dbmap.specs.Faults.{code_if, faults_text, frame_of, shown, sign_added, sign_bit};
 
 use crate::frame::Frame;
 use dbformat::FaultCode;
@@ -60,8 +60,8 @@ impl SquareFaults {
         self.bits |= 1 << sign.bit();
     }
 
-    // Whether a page has this sign.
-    fn shows(self, sign: Sign) -> bool
+    /// Whether a page has this sign.
+    pub(crate) fn shows(self, sign: Sign) -> bool
         ensures { result ≡ shown self.bits sign }
     {
         (self.bits >> sign.bit()) & 1 == 1
@@ -95,17 +95,6 @@ impl SquareFaults {
     {
         for code in FaultCode::all() {
             self.draw_code(writer, code);
-        }
-    }
-
-    /// What a title says of a page that is zeros.
-    pub(crate) fn zeros(self) -> &'static str
-        ensures { result.now ≡ zeros_text (shown self.bits) }
-    {
-        if self.shows(Sign::Zeros) {
-            ", all zeros"
-        } else {
-            ""
         }
     }
 

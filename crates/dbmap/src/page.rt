@@ -6,7 +6,7 @@ ghost use Rattle.dbmap.specs.Faults.{shown};
 ghost use Rattle.dbmap.specs.Squares.{from_text, page_text};
 
 use crate::colours::shade_letter;
-use crate::faults::SquareFaults;
+use crate::faults::{Sign, SquareFaults};
 use crate::frame::{extent, inset, stroke};
 use crate::grid::Width;
 use crate::owner_shares::is_overflow;
@@ -74,9 +74,9 @@ impl PageSquare {
             from_piece(self.place),
         ]);
         faults.draw(writer);
-        writer.write_all(&[
-            Piece::Markup(faults.zeros()),
-            Piece::Markup("</title></rect>\n"),
-        ]);
+        if faults.shows(Sign::Zeros) {
+            writer.write_all(&[Piece::Markup(", all zeros")]);
+        }
+        writer.write_all(&[Piece::Markup("</title></rect>\n")]);
     }
 }

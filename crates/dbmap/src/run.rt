@@ -3,13 +3,13 @@ ghost use Rattle.std.specs.Prelude.{◌≡◌, ◌<◌, ◌&&◌, not};
 ghost use Rattle.dblines.specs.Writing.{Wrote};
 ghost use Rattle.dbmap.specs.Faults.{frame_of, shown};
 ghost use Rattle.dbmap.specs.Marks.{run_pages_text};
-ghost use Rattle.dbmap.specs.Runs.{band_frame, band_text, bands_text, frame_above, frame_below, mixed_text, owner_mark, owner_text, owners_text, plain_text};
+ghost use Rattle.dbmap.specs.Runs.{band_frame, band_text, bands_text, mixed_text, owner_mark, owner_text, owners_text, plain_text};
 ghost use Rattle.dbmap.specs.Runs.{run_pages, run_text, title_text, words};
 
 use crate::bands::Bands;
 use crate::colours::shade_letter;
-use crate::faults::SquareFaults;
-use crate::frame::{BAND_FRAME, Frame, extent, stroke};
+use crate::faults::{Sign, SquareFaults};
+use crate::frame::{BAND_FRAME, extent, stroke};
 use crate::grid::Width;
 use crate::labels::Labels;
 use crate::owner_shares::{OWNERS, OwnerShares};
@@ -82,7 +82,8 @@ impl RunSquare {
         writer.write_all(&[Piece::Markup("</title></rect>\n")]);
     }
 
-    // Draws the square of pages of several owners, divided in bands.
+    // Draws the square of pages of several owners, divided in bands. A weak frame lies below these, which cover its inner half, and a
+    // strong one above them.
     fn draw_mixed<O: Out>(
         &self,
         writer: &mut Writer<'_, O>,
@@ -92,44 +93,27 @@ impl RunSquare {
     )
         ensures { Wrote O.held writer.old (mixed_text self.now labels.now.names.items (shown faults.bits) bands.now) writer.new }
     {
-        let frame = faults.frame();
+        let strong = faults.shows(Sign::Framed);
+        let faulty = faults.shows(Sign::Faulty);
         writer.write_all(&[Piece::Markup("<g><title>page")]);
         self.draw_title(writer, labels, faults);
         writer.write_all(&[Piece::Markup("</title>")]);
-        self.draw_frame_below(writer, frame);
+        self.draw_frame(writer, faulty & !strong);
         self.draw_bands(writer, bands);
-        self.draw_frame_above(writer, frame);
+        self.draw_frame(writer, strong);
         writer.write_all(&[Piece::Markup("</g>\n")]);
     }
 
-    // Draws the frame of a square in bands.
-    fn draw_frame<O: Out>(&self, writer: &mut Writer<'_, O>)
-        ensures { Wrote O.held writer.old (band_frame self.now.x) writer.new }
+    // Draws the frame of a square in bands, if it has this one.
+    fn draw_frame<O: Out>(&self, writer: &mut Writer<'_, O>, is_framed: bool)
+        ensures { Wrote O.held writer.old (band_frame is_framed self.now.x) writer.new }
     {
-        writer.write_all(&[
-            Piece::Markup(BAND_FRAME),
-            Piece::Number(self.x as u64),
-            Piece::Markup("\" fill=\"none\"/>"),
-        ]);
-    }
-
-    // Draws what lies below the bands: a weak frame, so that they cover its inner half.
-    fn draw_frame_below<O: Out>(&self, writer: &mut Writer<'_, O>, frame: Frame)
-        ensures { Wrote O.held writer.old (frame_below frame self.now.x) writer.new }
-    {
-        match frame {
-            Frame::Weak => self.draw_frame(writer),
-            Frame::None | Frame::Strong => {}
-        }
-    }
-
-    // Draws what lies above them: a strong frame.
-    fn draw_frame_above<O: Out>(&self, writer: &mut Writer<'_, O>, frame: Frame)
-        ensures { Wrote O.held writer.old (frame_above frame self.now.x) writer.new }
-    {
-        match frame {
-            Frame::Strong => self.draw_frame(writer),
-            Frame::None | Frame::Weak => {}
+        if is_framed {
+            writer.write_all(&[
+                Piece::Markup(BAND_FRAME),
+                Piece::Number(self.x as u64),
+                Piece::Markup("\" fill=\"none\"/>"),
+            ]);
         }
     }
 

@@ -1,41 +1,38 @@
-use Rattle.std.proofs.Common.{◌≡◌, ℕ, ◌+◌, Bool, true, false, cond, List, [], ◌∷◌, ◌++◌, refl, sym, ap, subst, ◌∙◌, arith, append-nil, append_assoc}
-use Rattle.std.specs.Prelude.{filter}
+use Rattle.std.proofs.Common.{◌≡◌, ℕ, ◌+◌, Bool, true, false, cond, List, [], ◌∷◌, ◌++◌, refl, sym, ap, ap₂, subst, ◌∙◌, arith, append-nil, append_assoc}
+use Rattle.std.specs.Prelude.{filter, flat_map}
 use Rattle.std.specs.List.{range_with_len}
-use Rattle.std.proofs.lemmas.List.{map-append}
-use Rattle.std.proofs.lemmas.List.Elements.{filter-append}
-use Rattle.dbsurvey.proofs.Ranges.{range_push}
 use Rattle.dbentries.specs.Bits.{has_bit}
 use Rattle.dbmap.specs.Faults.{zero_signs}
 use Rattle.dbmap.specs.Keeping.{AreNoted}
 use Rattle.dbmap.specs.declared.fault_notes.FaultNotes.{FaultNotes}
 use Rattle.dbmap.specs.declared.faults.Sign.{Sign}
 use Rattle.dbmap.specs.declared.faults.Sign.TheVariants.{Zeros}
+use Rattle.dbmap.proofs.Steps.{flat_more}
 use Rattle.dbmap.proofs.listed.note_zeros.Goals as goal
 use Rattle.dbmap.proofs.listed.note_zeros.Goals.{then-is_zeros, else-is_zeros}
 
-module _ (words : List ℕ) (i : ℕ) where
-  abbrev pages_to : ℕ → List ℕ
-  pages_to n = filter (has_bit words) (range_with_len 1 n)
+module _ (words : List ℕ) where
+  abbrev sign_if : Bool → ℕ → List (ℕ × Sign)
+  sign_if b p = cond b ((p, Zeros) ∷ []) []
+
+  abbrev signs_to : ℕ → List (ℕ × Sign)
+  signs_to n = zero_signs (filter (has_bit words) (range_with_len 1 n))
+
+  picked : (ps : List ℕ) → zero_signs (filter (has_bit words) ps) ≡ flat_map (λ p. sign_if (has_bit words p) p) ps
+  picked [] = refl
+  picked (p ∷ ps) = by_case (has_bit words p) (picked ps)
+    where
+      by_case : {l : List (ℕ × Sign)} (b : Bool) → zero_signs (filter (has_bit words) ps) ≡ l
+          → zero_signs (cond b (p ∷ filter (has_bit words) ps) (filter (has_bit words) ps)) ≡ sign_if b p ++ l
+      by_case true e = ap (λ l. (p, Zeros) ∷ l) e
+      by_case false e = e
 
   -- with one page more, where it has its bit
-  next : (b : Bool) → has_bit words (i + 1) ≡ b → zero_signs (pages_to i) ++ cond b ((i + 1, Zeros) ∷ []) [] ≡ zero_signs (pages_to (i + 1))
-  next b e =
-      let last : 1 + i ≡ i + 1 = omega arith in
-      let more : pages_to (i + 1) ≡ pages_to i ++ cond b ((i + 1) ∷ []) [] =
-      ap (filter (has_bit words)) (range_push 1 i) ∙ filter-append (has_bit words) (range_with_len 1 i) ((1 + i) ∷ [])
-      ∙ ap (λ k. pages_to i ++ filter (has_bit words) (k ∷ [])) last ∙ ap (λ b. pages_to i ++ cond b ((i + 1) ∷ []) []) e in
-      ap (λ l. zero_signs (pages_to i) ++ l) (by_case b)
-      ∙ sym (ap zero_signs more ∙ map-append (λ (p : ℕ). (p, Zeros)) (pages_to i) (cond b ((i + 1) ∷ []) []))
-    where
-      by_case : (b : Bool) → cond b ((i + 1, Zeros) ∷ []) [] ≡ zero_signs (cond b ((i + 1) ∷ []) [])
-      by_case true = refl
-      by_case false = refl
-
-  one : {A : Type 0} (n : FaultNotes A) (count : ℕ) (signs : List (ℕ × Sign)) (b : Bool) → has_bit words (i + 1) ≡ b
-      → AreNoted count ((signs ++ zero_signs (pages_to i)) ++ cond b ((i + 1, Zeros) ∷ []) []) n → AreNoted count (signs ++ zero_signs (pages_to (i + 1))) n
-  one n count signs b e h =
-      subst (λ (l : List (ℕ × Sign)). AreNoted count l n)
-      (append_assoc signs (zero_signs (pages_to i)) (cond b ((i + 1, Zeros) ∷ []) []) ∙ ap (λ l. signs ++ l) (next b e)) h
+  one : {A : Type 0} (n : FaultNotes A) (i count : ℕ) (signs : List (ℕ × Sign)) (b : Bool) → has_bit words (i + 1) ≡ b
+      → AreNoted count ((signs ++ signs_to i) ++ sign_if b (i + 1)) n → AreNoted count (signs ++ signs_to (i + 1)) n
+  one n i count signs b e = subst (λ (l : List (ℕ × Sign)). AreNoted count l n)
+      (append_assoc signs (signs_to i) (sign_if b (i + 1)) ∙ ap (λ l. signs ++ l) (ap₂ (λ l b. l ++ sign_if b (i + 1)) (picked (range_with_len 1 i)) (sym e)
+      ∙ flat_more (λ p. sign_if (has_bit words p) p) 1 i (i + 1) (omega arith) refl ∙ sym (picked (range_with_len 1 (i + 1)))))
 
 pub loop-index-init : goal.loop-index-init
 loop-index-init g c = λ count signs h. subst (λ (l : List (ℕ × Sign)). AreNoted count l c.args.notes.now) (sym (append-nil signs)) h
@@ -44,18 +41,16 @@ pub loop-index-preserved : goal.loop-index-preserved
 loop-index-preserved g c = λ count signs h.
     (let words = c.args.listing.now.zeros in
     let i = c.loop-index.index in
-    let so_far = signs ++ zero_signs (pages_to words i i) in
+    let so_far = signs ++ signs_to words i in
     let bit = sym c.is_zeros.ensures in
+    let before = c.loop-index.invariant count signs h in
     elim c.if-is_zeros.branch [
-      | then-is_zeros w ↦ rw w.notes-is
-          (one words i w.note.new.self count signs true (bit ∙ w.if-is_zeros.true) (w.note.ensures count so_far (c.loop-index.invariant count signs h)))
-      | else-is_zeros w ↦ rw w.notes-is
-          (one words i c.loop-index.notes count signs false (bit ∙ w.if-is_zeros.false)
-          (subst (λ (l : List (ℕ × Sign)). AreNoted count l c.loop-index.notes) (sym (append-nil so_far)) (c.loop-index.invariant count signs h)))
+      | then-is_zeros w ↦ rw w.notes-is (one words w.note.new.self i count signs true (bit ∙ w.if-is_zeros.true) (w.note.ensures count so_far before))
+      | else-is_zeros w ↦ rw w.notes-is (one words c.loop-index.notes i count signs false (bit ∙ w.if-is_zeros.false)
+          (subst (λ (l : List (ℕ × Sign)). AreNoted count l c.loop-index.notes) (sym (append-nil so_far)) before))
     ])
 
 pub returns : goal.returns
 returns g c = λ count signs h.
     (let end : c.loop-index.index ≡ c.args.pages = omega (arith, c.loop-index-test.false, c.loop-index.auto.index-end) in
-    subst (λ n. AreNoted count (signs ++ zero_signs (filter (has_bit c.args.listing.now.zeros) (range_with_len 1 n))) c.loop-index.notes) end
-    (c.loop-index.invariant count signs h))
+    subst (λ n. AreNoted count (signs ++ signs_to c.args.listing.now.zeros n) c.loop-index.notes) end (c.loop-index.invariant count signs h))
