@@ -112,7 +112,7 @@ const FRAMED: usize = FAULTY + 16;
 // 264 bytes for each of 100 entries.
 const ENTRIES: usize = FRAMED + 100 * 264;
 
-// No bits for pages that are zeros: one word of them.
+// A bit a page for those that are zeros.
 const ZEROS: usize = ENTRIES + 16;
 
 // As rows are read, the list of roots takes four rows of 20 bytes, and then 8 bytes of names.
