@@ -107,4 +107,4 @@ page_shows file V sign p = shows (signs_of file V) (λ q. q == p) sign
 
 -- whether a page has the weak frame, by whether it has a fault, and whether it has the strong one
 abbrev pub is_weak : (ℕ → Bool) → (ℕ → Bool) → ℕ → Bool
-is_weak faulty strong p = not (strong p) && faulty p
+is_weak faulty strong p = faulty p && not (strong p)

@@ -85,11 +85,10 @@ impl<A: Allocator> FaultNotes<A> {
         let mut strong = 0u32;
         let mut weak = 0u32;
         for index in 0..self.pages {
-            if self.framed.has(index + 1) {
-                strong += 1;
-            } else if self.faulty.has(index + 1) {
-                weak += 1;
-            }
+            let is_strong = self.framed.has(index + 1);
+            let is_faulty = self.faulty.has(index + 1);
+            strong += u32::from(is_strong);
+            weak += u32::from(is_faulty & !is_strong);
         }
         (strong, weak)
     }

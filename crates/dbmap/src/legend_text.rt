@@ -55,13 +55,7 @@ fn draw_line<O: Out>(
 }
 
 // Draws a text and what follows it, so that they end at x.
-fn draw_right<O: Out>(
-    writer: &mut Writer<'_, O>,
-    x: u32,
-    y: u32,
-    text: Piece,
-    end: &'static str,
-)
+fn draw_right<O: Out>(writer: &mut Writer<'_, O>, x: u32, y: u32, text: Piece, end: &'static str)
     ensures { Wrote O.held writer.old (legends.right_text x y (piece_text text) end.now) writer.new }
 {
     writer.write_all(&[

@@ -58,11 +58,7 @@ fn note_pages<A: Allocator>(notes: &mut FaultNotes<A>, first: &Reported)
 }
 
 /// Notes those of the first `pages` that are zeros.
-pub(crate) fn note_zeros<A: Allocator>(
-    notes: &mut FaultNotes<A>,
-    listing: &Listing<A>,
-    pages: u32,
-)
+pub(crate) fn note_zeros<A: Allocator>(notes: &mut FaultNotes<A>, listing: &Listing<A>, pages: u32)
     ensures { (count : ℕ) (signs : List (ℕ × Sign)) → AreNoted count signs notes.old
         → AreNoted count (signs ++ zero_signs (filter (has_bit listing.now.zeros) (range_with_len 1 pages))) notes.new }
 {

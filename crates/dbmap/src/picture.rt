@@ -124,9 +124,7 @@ fn draw_heading<O: Out>(writer: &mut Writer<'_, O>, heading: &Heading, run: u32)
         "<text x=\"20\" y=\"26\" font-size=\"16\" font-weight=\"bold\">",
     )]);
     writer.write_shown(&heading.file, NAME_WIDTH);
-    writer.write_all(&[Piece::Markup(
-        "</text>\n<text x=\"20\" y=\"46\" fill=\"#444444\">",
-    )]);
+    writer.write_all(&[Piece::Markup("</text>\n<text x=\"20\" y=\"46\" fill=\"#444444\">")]);
     draw_size(writer, heading.geometry);
     draw_faults(writer, heading.faults);
     draw_unit(writer, run);

@@ -69,7 +69,7 @@ returns g c =
           let weak = c.framed-strong.ensures.weak
           ∙ ap (λ n. count_by (is_weak (has_bit notes.faulty) (has_bit notes.framed)) (range_with_len 1 n)) noted.pages
           ∙ same_count (is_weak (has_bit notes.faulty) (has_bit notes.framed)) (is_weak (page_shows file V Faulty) (page_shows file V Framed))
-          (geometry file).pages (λ p l m. ap₂ (λ a b. not a && b) (noted.framed.are p l m) (noted.faulty.are p l m)) in
+          (geometry file).pages (λ p l m. ap₂ (λ a b. a && not b) (noted.faulty.are p l m) (noted.framed.are p l m)) in
           let lines = c.new-legend.ensures
           ∙ ap₂ (λ (t : PagesTallied) ks. legend_lines c.roots-3.result.now.rows t ks c.framed-strong.result.0 c.framed-strong.result.1 c.missing.result) tally
           (c.as_slice-2.ensures.value ∙ largest)
