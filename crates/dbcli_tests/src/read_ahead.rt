@@ -275,11 +275,11 @@ fn most_read(rt: &HostRuntime) -> Result<(Option<u64>, bool), Fail> {
 
 // The count itself is a read of less than a page.
 #[test]
-fn reads_along_by_256_kib_at_most(rt: HostRuntime) -> Result<(), Fail> {
+fn reads_along_by_64_kib_at_most(rt: HostRuntime) -> Result<(), Fail> {
     make_file(&rt, "along.db", 4 * WINDOW)?;
     let (most, are_right) = most_read(&rt)?;
-    let most = most.unwrap_or(262_144);
-    holds!(rt; are_right && (262_144..262_144 + 4096).contains(&most), "along");
+    let most = most.unwrap_or(65_536);
+    holds!(rt; are_right && (65_536..65_536 + 4096).contains(&most), "along");
     fs::remove_file(&rt, "along.db")?;
     Ok(())
 }
