@@ -1,11 +1,12 @@
 #!/bin/bash
 # Measures dbck beside SQLite: speed.sh DBCK [FOLDER [ROUNDS]]. It makes databases of some 64 MiB by the sqlite3 program, which
-# has to have dbstat, in the folder (they stay there, and are used again), and runs five commands on each, in turn: cat,
-# quick_check, dbck check, the rows of dbstat, and dbck stat. Of each the least time of all rounds counts. The files are in the
-# page cache then. It prints a table: milliseconds, the ratios of dbck to SQLite and to cat, and the peak memory of dbck in
-# MiB, by GNU time.
+# has to have dbstat, in the folder (they stay there, and are used again), and runs six commands on each, in turn: cat, a
+# program that reads each page once and adds up its words of eight bytes, quick_check, dbck check, the rows of dbstat, and dbck
+# stat. Of each the least time of all rounds counts. The files are in the page cache then. It prints a table: milliseconds, the
+# ratios of dbck to SQLite, to cat and to the adding program, and the peak memory of dbck in MiB, by GNU time.
 #
-# One of them, shuffled, has some 400 MiB: its rows and the entries of its index came in no order.
+# Two of them are not of one kind of page: mixed has three tables, two indexes and overflow chains; and shuffled, of some 400 MiB,
+# rows and entries of an index that came in no order.
 #
 # As root it prints a second table: the times with nothing of the file in the page cache, in milliseconds, the least and the
 # greatest of a third as many rounds, for cat, quick_check and each command of dbck. A line before it says which disk that was.
@@ -73,6 +74,18 @@ make blobs.db <<SQL
 $settings
 CREATE TABLE t(a INTEGER PRIMARY KEY, b);
 $(numbers 660) INSERT INTO t SELECT i, zeroblob(100000 + i) FROM n;
+SQL
+
+make mixed.db <<SQL
+$settings
+CREATE TABLE customer(id INTEGER PRIMARY KEY, name, email, city);
+CREATE INDEX customer_email ON customer(email);
+CREATE TABLE invoice(id INTEGER PRIMARY KEY, customer, note);
+CREATE INDEX invoice_customer ON invoice(customer);
+CREATE TABLE letter(id INTEGER PRIMARY KEY, invoice, body);
+$(numbers 100000) INSERT INTO customer SELECT i, printf('%030d', i), printf('%08x@example.org', $mixed), printf('%015d', i) FROM n;
+$(numbers 180000) INSERT INTO invoice SELECT i, $mixed % 100000, printf('%0*d', 50 + i % 200, i) FROM n;
+$(numbers 1200) INSERT INTO letter SELECT i, i * 150, zeroblob(10000 + i * 10) FROM n;
 SQL
 
 make shuffled.db <<SQL
