@@ -39,13 +39,13 @@ def schema_row(kind, name, root):
 
 
 class Database:
-    """Pages of one size: an empty schema, and zeros."""
+    """Pages of one size: an empty schema, and zeros. The header has 1 for a size of 65536 bytes."""
 
     def __init__(self, pages, size=512):
         self.size = size
         self.bytes = bytearray(size * pages)
-        self.put(1, 0, b"SQLite format 3\0" + be(size, 2) + bytes([1, 1, 0, 64, 32, 32]))
-        self.put(1, 100, bytes([LEAF_TABLE, 0, 0, 0, 0]) + be(size, 2))
+        self.put(1, 0, b"SQLite format 3\0" + be(size % 65535, 2) + bytes([1, 1, 0, 64, 32, 32]))
+        self.put(1, 100, bytes([LEAF_TABLE, 0, 0, 0, 0]) + be(size % 65536, 2))
 
     def put(self, page, at, piece):
         start = self.size * (page - 1) + at
@@ -273,6 +273,40 @@ def two_looks(_):
     return db
 
 
+def zero_row(_):
+    """A row whose rowid and payload are 0: its cell is zeros, and so is all between it and the head of its page."""
+    db = table(2)
+    db.leaf(2, 0)
+    return db
+
+
+def one_row(_):
+    """A row of one byte, whose cell is 01 01 00 00: what is between it and the head of its page is zeros."""
+    db = table(2)
+    db.rows(2, b"\0")
+    return db
+
+
+def ff_cells(_):
+    """A page of 65536 bytes: 10000 cells, which begin one after the other in the run of ff that fills the page after their pointers."""
+    db = Database(2, 65536)
+    db.schema(("table", "t", 2))
+    pointers = b"".join(be(20008 + cell, 2) for cell in range(10000))
+    db.put(2, 0, bytes([LEAF_TABLE, 0, 0]) + be(10000, 2) + be(20008, 2) + b"\0" + pointers + b"\xff" * 45528)
+    return db
+
+
+def all_ff(_):
+    """A child whose bytes are all ff; and of two pages that nothing refers to one is all ff, and one but for its last byte."""
+    db = table(6)
+    db.interior(2, 4, (3, 5))
+    db.leaf(4, 6)
+    for page in (3, 5, 6):
+        db.put(page, 0, b"\xff" * 512)
+    db.put(6, 511, b"\xfe")
+    return db
+
+
 def two_depths(_):
     """A leaf whose depth is 2 after leaves whose depth is 3."""
     db = table(6)
@@ -289,6 +323,16 @@ def two_chains(_):
     db = table(5)
     db.long_rows(2, (600, 92, 5), (1108, 92, 3))
     db.put(3, 0, be(4))
+    return db
+
+
+def long_schema(_):
+    """A row of the schema, of 600 bytes, that goes on on page 3: its text of SQL is 585 spaces."""
+    db = table(3)
+    row = b"\7" + varint(23) + varint(15) + varint(15) + b"\1" + varint(1183) + b"tablett\2" + b" " * 585
+    db.tree_page(1, LEAF_TABLE, [varint(600) + b"\1" + row[:92] + be(3)])
+    db.leaf(2)
+    db.put(3, 4, row[92:])
     return db
 
 
