@@ -22,6 +22,7 @@ ghost use Rattle.dbformat.specs.Samples.{long_row_file};
 ghost use Rattle.dbformat.specs.Sound.{Sound};
 ghost use Rattle.dbformat.specs.declared.Fault.{Fault};
 
+mod ascii;
 mod codes;
 mod counts;
 mod fixed_pages;
@@ -29,6 +30,7 @@ mod hex;
 mod numbers;
 mod starts;
 
+pub use ascii::shown_byte;
 pub use codes::codes_are_listed;
 pub use counts::Counts;
 pub use hex::{hex_byte, hex_digit};

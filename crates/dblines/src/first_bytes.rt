@@ -6,7 +6,7 @@ ghost use Rattle.dbformat.specs.FirstBytes.{begins_with, hex_column, shown_byte}
 
 use crate::pieces::append;
 use arrayvec::ArrayVec;
-use dbformat::hex_byte;
+use dbformat::{hex_byte, shown_byte};
 
 // A byte in hexadecimal, after a blank.
 fn hex_column(byte: u8) -> [u8; 3]
@@ -14,13 +14,6 @@ fn hex_column(byte: u8) -> [u8; 3]
 {
     let [high, low] = hex_byte(byte);
     [b' ', high, low]
-}
-
-// A byte as ASCII: a full stop where it is not printable.
-fn shown_byte(byte: u8) -> u8
-    ensures { result ≡ shown_byte byte }
-{
-    if byte < 32 || byte > 126 { b'.' } else { byte }
 }
 
 // Adds a byte in hexadecimal, after a blank.
