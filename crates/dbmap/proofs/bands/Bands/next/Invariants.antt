@@ -1,11 +1,7 @@
-use Rattle.std.proofs.Common.{◌≡◌, ◌≤◌}
-use Rattle.dbmap.specs.Owners.{first_most}
+use Rattle.std.proofs.Common.{◌≤◌}
 use Rattle.dbmap.specs.Runs.{claims}
+use Rattle.dbmap.proofs.FirstMost.{IsFirst}
 use Rattle.dbmap.proofs.bands.Bands.next.Given as goal
 
 abbrev pub invariant-loop-number : goal.invariant-loop-number
-invariant-loop-number l = record {
-  next : l.next ≡ first_most (claims l.shares l.all l.self.heights) l.number;
-  most : l.most ≡ claims l.shares l.all l.self.heights l.next;
-  few : l.next ≤ 15;
-}
+invariant-loop-number l = IsFirst (claims l.shares l.all l.self.heights) l.number l.next l.most × (l.next ≤ 15)

@@ -1,4 +1,4 @@
-use Rattle.std.proofs.Common.{◌≡◌, ℕ, ◌+◌, ◌∷◌, ◌++◌, [], ◌||◌, ◌&&◌, not, Bool, true, false, refl, sym, ap, ap₂, ◌∙◌, arith}
+use Rattle.std.proofs.Common.{◌≡◌, ℕ, ◌+◌, List, ◌∷◌, ◌++◌, [], ◌||◌, ◌&&◌, not, Bool, true, false, refl, sym, ap, ap₂, ◌∙◌, arith}
 use Rattle.std.specs.List.{flat_map, list_any, range_with_len}
 use Rattle.std.proofs.Math.Bool.{or-false}
 use Rattle.std.proofs.lemmas.List.Folds.{list_any-append}
@@ -22,12 +22,11 @@ first_next c n =
     ∙ ap not (ap (λ b. list_any (has_pages c) (range_with_len 0 n) || b) (sym (or-false (has_pages c n)))
     ∙ sym (list_any-append (has_pages c) (range_with_len 0 n) (n ∷ [])) ∙ ap (list_any (has_pages c)) (sym next))
 
+abbrev owner_at : OwnerShares → List (List ℕ) → ℕ → List ℕ
+owner_at shares names number = owner_text shares names (is_first shares number) number
+
 pub loop-number-init : goal.loop-number-init
-loop-number-init g c =
-    let shares = c.args.self.now.shares in record {
-      first = refl;
-      drawn = range_none (λ number. owner_text shares c.args.labels.now.names.items (is_first shares number) number) 0 c.args.writer.now refl;
-    }
+loop-number-init g c = record { first = refl; drawn = range_none (owner_at c.args.self.now.shares c.args.labels.now.names.items) 0 c.args.writer.now refl }
 
 pub loop-number-preserved : goal.loop-number-preserved
 loop-number-preserved g c =
@@ -35,13 +34,11 @@ loop-number-preserved g c =
     let number = c.loop-number.number in
     let first = c.loop-number.invariant.first in record {
       first = c.is_still_first-is_first.ensures ∙ ap₂ (λ a b. a && not b) first c.has.ensures ∙ first_next shares number;
-      drawn = range_more (λ number. owner_text shares c.args.labels.now.names.items (is_first shares number) number) 0 _ number
-          c.loop-number.invariant.drawn (rw first at c.draw_owner.ensures) (omega arith) refl;
+      drawn = range_more (owner_at shares c.args.labels.now.names.items) 0 _ number c.loop-number.invariant.drawn
+          (rw first at c.draw_owner.ensures) (omega arith) refl;
     }
 
 pub returns : goal.returns
 returns g c =
-    let shares = c.args.self.now.shares in
     let end : c.loop-number.number ≡ 16 = omega arith in
-    wrote_as (ap (λ n. flat_map (λ number. owner_text shares c.args.labels.now.names.items (is_first shares number) number) (range_with_len 0 n)) end)
-    c.loop-number.invariant.drawn
+    wrote_as (ap (λ n. flat_map (owner_at c.args.self.now.shares c.args.labels.now.names.items) (range_with_len 0 n)) end) c.loop-number.invariant.drawn
