@@ -20,21 +20,26 @@ fn kind_text(kind: PageKind) -> &'static str {
     }
 }
 
+// The geometry is that of the bench, so that the prover sees that it fits the bytes of its page.
+fn print_page(rt: &impl Print, bench: &Bench, number: u32) -> Result<()> {
+    let geometry = bench.geometry();
+    match geometry.fixed(number) {
+        Some(Fixed::Map) => println!(rt; "{number}\tpointer map")?,
+        Some(Fixed::Lock) => println!(rt; "{number}\tlock-byte page")?,
+        None => match PageView::new(bench.page(0), number, geometry.usable) {
+            Ok(view) => println!(rt; "{number}\t{}\t{}", kind_text(view.kind()), view.cells())?,
+            Err(fault) => println!(rt; "{number}\tnot a b-tree page: {fault}")?,
+        },
+    }
+    Ok(())
+}
+
 fn print_pages(rt: &(impl Print + AllocGlobal), source: &mut impl Source) -> Result<()> {
     let header = Header::read(source)?;
     let mut bench = Bench::new(rt.alloc(), header.geometry())?;
     for number in 1..=header.geometry().pages {
         bench.load(0, source, number)?;
-        // The geometry of the bench, so that the prover sees that it fits the bytes of its page.
-        let geometry = bench.geometry();
-        match geometry.fixed(number) {
-            Some(Fixed::Map) => println!(rt; "{number}\tpointer map")?,
-            Some(Fixed::Lock) => println!(rt; "{number}\tlock-byte page")?,
-            None => match PageView::new(bench.page(0), number, geometry.usable) {
-                Ok(view) => println!(rt; "{number}\t{}\t{}", kind_text(view.kind()), view.cells())?,
-                Err(fault) => println!(rt; "{number}\tnot a b-tree page: {fault}")?,
-            },
-        }
+        print_page(rt, &bench, number)?;
     }
     Ok(())
 }
