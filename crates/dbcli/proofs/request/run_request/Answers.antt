@@ -1,3 +1,4 @@
+use Rattle.std.proofs.Common.{refl}
 use Rattle.dbreport.proofs.RunAnswers.{first_failures, refused_unwritten}
 use Rattle.dbsource.proofs.Runs.{read_weaker}
 use Rattle.dbcli.proofs.Explaining.{explain_fails, fail_as_answered}
@@ -42,3 +43,21 @@ returns-in-Map-clause-refused g c = record {
   first = c.map.ensures.refused.unwritten;
   second = refused_unwritten c.map.result c.args.err.now;
 }
+
+pub returns-in-Report-clause-reads : goal.returns-in-Report-clause-reads
+returns-in-Report-clause-reads g c = c.run.ensures.failed.reads
+
+pub returns-in-Report-clause-refused : goal.returns-in-Report-clause-refused
+returns-in-Report-clause-refused g c = c.run.ensures.refused
+
+pub returns-in-Explain-clause-reads : goal.returns-in-Explain-clause-reads
+returns-in-Explain-clause-reads g c = c.explain.ensures.failed.reads
+
+pub returns-in-Explain-clause-second : goal.returns-in-Explain-clause-second
+returns-in-Explain-clause-second g c = λ is. refl
+
+pub returns-in-Map-clause-reads : goal.returns-in-Map-clause-reads
+returns-in-Map-clause-reads g c = c.map.ensures.failed.reads
+
+pub returns-in-Map-clause-second : goal.returns-in-Map-clause-second
+returns-in-Map-clause-second g c = λ is. refl
