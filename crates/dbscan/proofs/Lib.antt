@@ -22,6 +22,7 @@ pub mod SchemaTold
 pub mod SchemaWalks
 pub mod ShortNames
 pub mod StartByStart
+pub mod StartTables
 pub mod Starts
 pub mod StartsRise
 pub mod Tellers

@@ -11,6 +11,7 @@ pub mod Notices
 pub mod Placed
 pub mod Roots
 pub mod Scans
+pub mod StartTable
 pub mod Starts
 pub mod Tellers
 pub mod Telling

@@ -1,0 +1,8 @@
+use Rattle.dbformat.specs.Address.{freelist_start}
+use Rattle.dbscan.specs.StartTable.{most_starts}
+use Rattle.dbscan.proofs.StartTables.{all_rest}
+use Rattle.dbscan.proofs.start_table.StartTable.new_in.Goals as goal
+
+pub returns : goal.returns
+unfolding most_starts
+returns g c = all_rest freelist_start c.args.value _ c.in_ok-trees.ensures.items
