@@ -1,13 +1,12 @@
 -- The summary by the counts of a tally is that of a file.
 use Rattle.std.proofs.Common.{◌≡◌, ℕ, zero, suc, ◌+◌, ◌-◌, ◌<◌, ◌≤◌, inl, inr, Bool, true, false, cond, ◌&&◌, List, [], ◌∷◌, ◌++◌, length, map, take}
-use Rattle.std.proofs.Common.{Some, None, refl, sym, ap, ap₂, subst, ◌∙◌, arith, append-nil, append_assoc}
-use Rattle.std.specs.Prelude.{codes, decimal, count_by, filter, fold, min, nat_le, slice_get, slice_index_or, ◌==◌}
+use Rattle.std.proofs.Common.{refl, sym, ap, ap₂, subst, ◌∙◌, arith, append-nil, append_assoc}
+use Rattle.std.specs.Prelude.{codes, decimal, count_by, filter, fold, min, nat_le, ◌==◌}
 use Rattle.std.specs.List.{enumerate_from, flat_map, range_with_len}
 use Rattle.std.proofs.lemmas.Bool.{eqb-true}
 use Rattle.std.proofs.lemmas.Bool.Decides.{nat_tests}
 use Rattle.std.proofs.lemmas.Grind.{flat_map-append}
 use Rattle.std.proofs.lemmas.List.{take_all}
-use Rattle.std.proofs.lemmas.List.FromFn.{length-map-range_with_len}
 use Rattle.std.proofs.lemmas.Option.{get_or_from_slice_get}
 use Rattle.dbsurvey.specs.Address.{IsIn}
 use Rattle.dbsurvey.specs.Survey.{Link}
@@ -44,14 +43,12 @@ use Rattle.dbentries.specs.Kept.{no_runs, run_added}
 use Rattle.dbentries.specs.Zeros.{AreZeros, zero_pages}
 use Rattle.dbentries.specs.declared.runs.Runs.{Runs}
 use Rattle.dbentries.proofs.Belonging.{runs_kept}
-use Rattle.dbentries.proofs.Numbers.{get-take}
 use Rattle.dbexplain.specs.Summary.{aligned, code_count, code_line, count_text, faulty_pages, is_of_kind, is_part_of_start}
 use Rattle.dbexplain.specs.Summary.{faulty_pages_text, reached_pages, start_count, start_sum_line, start_name, sum_line, summary, trees_text}
 use Rattle.dbexplain.specs.Summary.{whole_count, whole_line, whole_trees, zero_runs_text, zeros_text}
-use Rattle.dbexplain.specs.Sums.{code_sum, freelist_start_count, numbered_sum, start_sum, last_sum, summary_by, tree_counts, trees_by, zeros_sum}
-use Rattle.dbexplain.specs.Tallies.{Tallied, IsTallyTo, counted_start, no_count}
+use Rattle.dbexplain.specs.Sums.{code_sum, numbered_sum, start_sum, last_sum, summary_by, trees_by, zeros_sum}
+use Rattle.dbexplain.specs.Tallies.{Tallied, IsTallyTo, count_at, counted_start, no_count}
 use Rattle.dbexplain.specs.declared.tally.StartCount.{StartCount}
-use Rattle.dbexplain.specs.declared.trees.TreeSum.{TreeSum}
 
 -- ---- counts that stop
 
@@ -81,16 +78,6 @@ same_counts f g [] h = refl
 same_counts f g (x ∷ xs) h =
     count_more f x xs ∙ ap₂ (λ b n. cond b 1 0 + n) (h x (inl refl)) (same_counts f g xs (λ y i. h y (inr i))) ∙ sym (count_more g x xs)
 
--- the first of a list, by what each is
-points : {X : Type 0} (f : ℕ → X) (a n : ℕ) (xs : List X) → ((k : ℕ) → k < n → slice_get xs k ≡ Some (f (a + k))) → take n xs ≡ map f (range_with_len a n)
-points f a zero xs h = refl
-points f a (suc n) [] h = absurd (let e : None ≡ Some (f (a + 0)) = h 0 (omega arith) in cc)
-points f a (suc n) (x ∷ xs) h =
-    let first : x ≡ f (a + 0) = (let e : Some x ≡ Some (f (a + 0)) = h 0 (omega arith) in cc) in
-    let same : a + 0 ≡ a = omega arith in
-    ap₂ (λ y ys. y ∷ ys) (first ∙ ap f same) (points f (a + 1) n xs
-    (λ k l. h (suc k) (omega arith) ∙ ap (λ i. Some (f i)) (let e : a + suc k ≡ a + 1 + k = omega arith in e)))
-
 -- ---- tests
 
 start_is : (k : ℕ) (p : Part) → is_part_of_start k p ≡ true → p ≡ part.Start k
@@ -110,11 +97,6 @@ module _ (file : List ℕ) (V : List Reference) (s : Survey file V) where
 
   line_same : (k : ℕ) → start_sum (counted (length ts)) (name k) (counted_start V ts n k) ≡ start_sum_line file V ts k
   line_same k = sum_same (length ts) (start_count ts k) (codes "in " ++ name k ++ faulty_pages_text (faulty_pages file V ts k) (reached_pages file V k))
-
-  lines_same : (m k : ℕ) → flat_map (numbered_sum (counted (length ts)) name) (enumerate_from k (map (counted_start V ts n) (range_with_len k m)))
-      ≡ flat_map (start_sum_line file V ts) (range_with_len k m)
-  lines_same zero k = refl
-  lines_same (suc m) k = ap₂ (λ a b. a ++ b) (line_same k) (lines_same m (k + 1))
 
   rows_lines : (k : ℕ) (rows : List SchemaRow)
       → flat_map (λ (l : Link Way). start_sum_line file V ts l.step) (map (root_start file) (enumerate_from k rows))
@@ -179,49 +161,32 @@ module _ (file : List ℕ) (V : List Reference) (s : Survey file V) where
         ap₂ (λ a b. a ++ b) (ap₂ (λ a n. sum_line a n text) is.all (get_or_from_slice_get t.codes (code_index c) (counted (code_count ts c)) 0 (is.codes c))
         ∙ sum_same (length ts) (code_count ts c) text) (codes_same cs)
 
-    trees_are : tree_counts rows t ≡ map (counted_start V ts n) (range_with_len 0 (suc (length rows)))
-    trees_are = points (counted_start V ts n) 0 (suc (length rows)) t.starts
-        (λ k l. is.starts k (let w = few in omega (arith, l, w)) ∙ ap (λ i. Some (counted_start V ts n i)) (let e : k ≡ 0 + k = omega arith in e))
+    count_is : (k : ℕ) → k ≤ freelist_start → count_at t k ≡ counted_start V ts n k
+    count_is k l = get_or_from_slice_get t.starts k (counted_start V ts n k) no_count (is.starts k l)
 
-    free_is : freelist_start_count t ≡ counted_start V ts n freelist_start
-    free_is = get_or_from_slice_get t.starts freelist_start (counted_start V ts n freelist_start) no_count (is.starts freelist_start (omega arith))
+    line_is : (k : ℕ) → k ≤ freelist_start → numbered_sum t name k ≡ start_sum_line file V ts k
+    line_is k l = ap₂ (λ n c. start_sum n (name k) c) is.all (count_is k l) ∙ line_same k
 
-    count_at : (k : ℕ) → k ≤ length rows → slice_index_or (tree_counts rows t) k no_count ≡ counted_start V ts n k
-    count_at k l =
-        let w = few in
-        get_or_from_slice_get (tree_counts rows t) k (counted_start V ts n k) no_count
-        (get-take (suc (length rows)) k t.starts (omega (arith, l)) ∙ is.starts k (omega (arith, l, w)))
+    lines_are : (m k : ℕ) → k + m ≤ freelist_start
+        → flat_map (numbered_sum t name) (range_with_len k m) ≡ flat_map (start_sum_line file V ts) (range_with_len k m)
+    lines_are zero k l = refl
+    lines_are (suc m) k l = ap₂ (λ a b. a ++ b) (line_is k (omega (arith, l))) (lines_are m (k + 1) (omega (arith, l)))
 
-    abbrev sum : ℕ → ℕ → TreeSum
-    sum whole all = record { whole = whole; all = all }
-
-    trees_whole : (index : Bool) → trees_by index rows (tree_counts rows t) ≡ whole_trees index rows ts
+    trees_whole : (index : Bool) → trees_by index rows t ≡ whole_trees index rows ts
     trees_whole index =
-        let by_count : ℕ → Bool = λ k. is_of_kind index rows k && ((slice_index_or (tree_counts rows t) k no_count).faults == 0) in
-        let all : length (tree_counts rows t) ≡ suc (length rows) = ap length trees_are
-        ∙ length-map-range_with_len (counted_start V ts n) 0 (suc (length rows)) in
-        let rest : length (tree_counts rows t) - 1 ≡ length rows = omega (arith, all) in
-        ap₂ sum
-        (ap (λ m. count_by by_count (range_with_len 1 m)) rest
-        ∙ same_counts by_count (λ k. is_of_kind index rows k && (start_count ts k == 0)) (range_with_len 1 (length rows))
+        ap (λ whole. record { whole = whole; all = count_by (is_of_kind index rows) (range_with_len 1 (length rows)) })
+        (same_counts (λ k. is_of_kind index rows k && ((count_at t k).faults == 0)) (λ k. is_of_kind index rows k && (start_count ts k == 0))
+        (range_with_len 1 (length rows))
         (λ k i. let l = IsIn-from_range 1 (length rows) k i in
-        ap (λ (c : StartCount). is_of_kind index rows k && (c.faults == 0)) (count_at k (omega (arith, l.1)))
+        ap (λ (c : StartCount). is_of_kind index rows k && (c.faults == 0)) (count_is k (let w = few in omega (arith, l.1, w)))
         ∙ ap (λ b. is_of_kind index rows k && b) (is_zero (start_count ts k))))
-        (ap (λ m. count_by (is_of_kind index rows) (range_with_len 1 m)) rest)
 
     abbrev last_lines : List ℕ
     last_lines = zeros_text (geometry file).page_size (zero_pages file V) ++ trees_text (whole_trees false rows ts) (whole_trees true rows ts)
 
-    last_part : (size : ℕ) (r : Runs) → zeros_sum size r ≡ zeros_text (geometry file).page_size (zero_pages file V) → last_sum size r rows (tree_counts rows t)
+    last_part : (size : ℕ) (r : Runs) → zeros_sum size r ≡ zeros_text (geometry file).page_size (zero_pages file V) → last_sum size r rows t
         ≡ last_lines
     last_part size r zeros = ap₂ (λ a b. a ++ b) zeros (ap₂ trees_text (trees_whole false) (trees_whole true))
-
-    first_part : flat_map (numbered_sum t.all name) (enumerate_from 0 (tree_counts rows t)) ≡ start_sum_line file V ts 0
-        ++ flat_map (start_sum_line file V ts) (range_with_len 1 (length rows))
-    first_part = ap₂ (λ n cs. flat_map (numbered_sum n name) (enumerate_from 0 cs)) is.all trees_are ∙ lines_same (suc (length rows)) 0
-
-    free_part : start_sum t.all (name freelist_start) (freelist_start_count t) ≡ start_sum_line file V ts freelist_start
-    free_part = ap₂ (λ n c. start_sum n (name freelist_start) c) is.all free_is ∙ line_same freelist_start
 
     whole_part : sum_line t.all t.whole (codes "in the whole file") ≡ whole_line ts
     whole_part = ap₂ (λ n k. sum_line n k (codes "in the whole file")) is.all is.whole ∙ sum_same (length ts) (whole_count ts) (codes "in the whole file")
@@ -232,7 +197,7 @@ module _ (file : List ℕ) (V : List Reference) (s : Survey file V) where
         joined
         (ap count_text is.all ∙ count_same (length ts))
         (codes_same all_codes)
-        first_part free_part whole_part (last_part size r zeros)
+        (lines_are (suc (length rows)) 0 (let w = few in omega (arith, w))) (line_is freelist_start (omega arith)) whole_part (last_part size r zeros)
         ∙ parts (count_text (length ts)) (flat_map (code_line ts) all_codes) (start_sum_line file V ts 0)
         (flat_map (start_sum_line file V ts) (range_with_len 1 (length rows)))
         (start_sum_line file V ts freelist_start) (whole_line ts) last_lines

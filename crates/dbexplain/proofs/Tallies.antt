@@ -18,6 +18,7 @@ use Rattle.dbtrace.specs.declared.Cause.{Cause}
 use Rattle.dbtrace.specs.declared.Part.{Part}
 use Rattle.dbtrace.specs.declared.Part.TheVariants as part
 use Rattle.dbtrace.specs.declared.Reported.{Reported}
+use Rattle.dbscan.specs.StartTable.{most_starts}
 use Rattle.dbowner.proofs.Slots.{get_set, get_set_other}
 use Rattle.dbentries.specs.Bits.{bit_set, has_bit}
 use Rattle.dbexplain.specs.Summary.{code_count, is_part_of_start, is_told, is_whole}
@@ -128,12 +129,13 @@ none_told (suc n) (suc k) c l = none_told n k c (omega arith)
 none_told zero k c l = absurd (let f : ⊥ = omega arith in f)
 
 -- where no fault was reported
-pub nothing_told : (pages : ℕ) (t : Tallied) → t.all ≡ 0 → t.codes ≡ replicate 35 0 → t.starts ≡ replicate 65538 no_count → t.whole ≡ 0
+pub nothing_told : (pages : ℕ) (t : Tallied) → t.all ≡ 0 → t.codes ≡ replicate 35 0 → t.starts ≡ replicate most_starts no_count → t.whole ≡ 0
     → pages < 64 * length t.pages → ((p : ℕ) → has_bit t.pages p ≡ false) → IsTallyOf pages [] t
+unfolding most_starts
 nothing_told pages t all codes starts whole room none = record {
   all = all;
   codes = λ c. ap (λ ns. slice_get ns (code_index c)) codes ∙ none_told 35 (code_index c) 0 (slice_get_within all_codes (code_index c) c (listed c));
-  starts = λ k l. ap (λ xs. slice_get xs k) starts ∙ none_told 65538 k no_count (omega arith);
+  starts = λ k l. ap (λ xs. slice_get xs k) starts ∙ none_told most_starts k no_count (omega arith);
   whole = whole;
   room = room;
   bits = λ p l. none p;

@@ -1,6 +1,6 @@
 -- The summary by the counts of a tally.
-use Rattle.std.specs.Prelude.{ℕ, suc, ◌-◌, Bool, true, false, ◌&&◌, List, ◌++◌, take, length, min, count_by, codes, slice_index_or, ◌==◌}
-use Rattle.std.specs.List.{enumerate_from, flat_map, range_with_len}
+use Rattle.std.specs.Prelude.{ℕ, suc, ◌-◌, Bool, true, false, ◌&&◌, List, ◌++◌, take, length, min, count_by, codes, ◌==◌}
+use Rattle.std.specs.List.{flat_map, range_with_len}
 use Rattle.dbformat.specs.Address.{freelist_start}
 use Rattle.dbformat.specs.Codes.{all_codes}
 use Rattle.dbformat.specs.Lines.{code_text, code_words}
@@ -9,7 +9,7 @@ use Rattle.dbformat.specs.declared.Encoding.{Encoding}
 use Rattle.dbformat.specs.declared.FaultCode.{FaultCode}
 use Rattle.dbentries.specs.declared.runs.Runs.{Runs}
 use Rattle.dbexplain.specs.Summary.{aligned, count_text, faulty_pages_text, is_of_kind, start_name, sum_line, trees_text, zero_runs_text}
-use Rattle.dbexplain.specs.Tallies.{Tallied, count_of, no_count}
+use Rattle.dbexplain.specs.Tallies.{Tallied, count_at, count_of}
 use Rattle.dbexplain.specs.declared.tally.StartCount.{StartCount}
 use Rattle.dbexplain.specs.declared.trees.TreeSum.{TreeSum}
 
@@ -26,38 +26,34 @@ abbrev pub start_sum : ℕ → List ℕ → StartCount → List ℕ
 start_sum all name c = sum_line all c.faults (codes "in " ++ name ++ faulty_pages_text c.faulty c.reached)
 
 -- the same of a start by its number
-abbrev pub numbered_sum : ℕ → (ℕ → List ℕ) → ℕ × StartCount → List ℕ
-numbered_sum all name x = start_sum all (name x.0) x.1
+abbrev pub numbered_sum : Tallied → (ℕ → List ℕ) → ℕ → List ℕ
+numbered_sum t name k = start_sum t.all (name k) (count_at t k)
 
--- the counts of the trees: those of the starts but for the freelist's, as many as there are rows, and the schema's
-abbrev pub tree_counts : List SchemaRow → Tallied → List StartCount
-tree_counts rows t = take (suc (length rows)) t.starts
+-- those of the trees, the schema's and one for each row
+abbrev pub tree_sums : Tallied → (ℕ → List ℕ) → List SchemaRow → List ℕ
+tree_sums t name rows = flat_map (numbered_sum t name) (range_with_len 0 (suc (length rows)))
 
--- how many of the trees of this kind have no fault, by the counts of the schema's and of those of the first rows
-abbrev pub trees_by : Bool → List SchemaRow → List StartCount → TreeSum
-trees_by index rows cs = record {
-  whole = count_by (λ k. is_of_kind index rows k && ((slice_index_or cs k no_count).faults == 0)) (range_with_len 1 (length cs - 1));
-  all = count_by (is_of_kind index rows) (range_with_len 1 (length cs - 1));
+-- how many of the trees of this kind have no fault
+abbrev pub trees_by : Bool → List SchemaRow → Tallied → TreeSum
+trees_by index rows t = record {
+  whole = count_by (λ k. is_of_kind index rows k && ((count_at t k).faults == 0)) (range_with_len 1 (length rows));
+  all = count_by (is_of_kind index rows) (range_with_len 1 (length rows));
 }
 
 -- the line of both kinds
-abbrev pub trees_sum : List SchemaRow → List StartCount → List ℕ
-trees_sum rows cs = trees_text (trees_by false rows cs) (trees_by true rows cs)
-
--- that of the freelist
-abbrev pub freelist_start_count : Tallied → StartCount
-freelist_start_count t = slice_index_or t.starts freelist_start no_count
+abbrev pub trees_sum : List SchemaRow → Tallied → List ℕ
+trees_sum rows t = trees_text (trees_by false rows t) (trees_by true rows t)
 
 -- the lines of the pages that are zeros, by what is kept of their runs, and the last line
 abbrev pub zeros_sum : ℕ → Runs → List ℕ
 zeros_sum page_size r = zero_runs_text page_size (take (min r.count 10) r.kept) (r.count - 10)
 
-abbrev pub last_sum : ℕ → Runs → List SchemaRow → List StartCount → List ℕ
-last_sum page_size r rows cs = zeros_sum page_size r ++ trees_sum rows cs
+abbrev pub last_sum : ℕ → Runs → List SchemaRow → Tallied → List ℕ
+last_sum page_size r rows t = zeros_sum page_size r ++ trees_sum rows t
 
 -- the summary
 abbrev pub summary_by : ℕ → Runs → Encoding → List SchemaRow → Tallied → List ℕ
 summary_by page_size r e rows t =
-    count_text t.all ++ (flat_map (code_sum t) all_codes ++ (flat_map (numbered_sum t.all (start_name e rows)) (enumerate_from 0 (tree_counts rows t))
-    ++ (start_sum t.all (start_name e rows freelist_start) (freelist_start_count t) ++ (sum_line t.all t.whole (codes "in the whole file")
-    ++ last_sum page_size r rows (tree_counts rows t)))))
+    count_text t.all ++ (flat_map (code_sum t) all_codes ++ (tree_sums t (start_name e rows) rows
+    ++ (numbered_sum t (start_name e rows) freelist_start ++ (sum_line t.all t.whole (codes "in the whole file")
+    ++ last_sum page_size r rows t))))

@@ -1,5 +1,5 @@
 -- The tally of the faults that were reported: how many there are by code and by start, which pages have one, and how many pages were reached.
-use Rattle.std.specs.Prelude.{◌≡◌, ℕ, ◌+◌, ◌-◌, ◌≤◌, Bool, ◌&&◌, List, [], length, min, count_by, vec_len, Option, Some, None, ◌^◌, slice_get, slice_index, slice_set, slice_index_or, if◌then◌else◌}
+use Rattle.std.specs.Prelude.{◌≡◌, ℕ, ◌+◌, ◌-◌, ◌≤◌, Bool, ◌&&◌, List, [], length, min, count_by, Option, Some, None, ◌^◌, slice_get, slice_index, slice_set, slice_index_or, if◌then◌else◌}
 use Rattle.std.specs.List.{range_with_len}
 use Rattle.dbformat.specs.Address.{freelist_start}
 use Rattle.dbformat.specs.Codes.{code_index}
@@ -25,11 +25,7 @@ pub record Tallied : Type 0 where
 
 -- what the fields hold
 abbrev pub tallied : {A : Type 0} → Inside A → Tallied
-tallied t = record { all = t.all; codes = t.codes; starts = t.starts.items; whole = t.whole; pages = t.pages }
-
--- there is a count for each start
-abbrev pub IsRoomy : {A : Type 0} → Inside A → Type 0
-IsRoomy t = vec_len t.starts ≡ freelist_start + 1
+tallied t = record { all = t.all; codes = t.codes; starts = t.starts; whole = t.whole; pages = t.pages }
 
 -- how many faults with a code were counted
 abbrev pub count_of : Tallied → FaultCode → ℕ
@@ -38,6 +34,10 @@ count_of t code = slice_index t.codes (code_index code)
 -- nothing is counted of a start
 abbrev pub no_count : StartCount
 no_count = record { faults = 0; reached = 0; faulty = 0 }
+
+-- what was counted of start k
+abbrev pub count_at : Tallied → ℕ → StartCount
+count_at t k = slice_index_or t.starts k no_count
 
 -- ---- a fault more
 
@@ -50,7 +50,7 @@ abbrev pub one_fault : StartCount → StartCount
 one_fault c = record c { faults = counted (c.faults + 1) }
 
 abbrev pub part_told : Part → ℕ → Tallied → Tallied
-part_told (part.Start k) page t = record t { starts = slice_set t.starts k (one_fault (slice_index_or t.starts k no_count)); pages = bit_set page t.pages }
+part_told (part.Start k) page t = record t { starts = slice_set t.starts k (one_fault (count_at t k)); pages = bit_set page t.pages }
 part_told _ page t = record t { whole = counted (t.whole + 1) }
 
 abbrev pub fault_told : Tallied → Reported → Tallied
@@ -63,7 +63,7 @@ abbrev pub one_reached_page : Bool → StartCount → StartCount
 one_reached_page faulty c = record c { reached = min (c.reached + 1) (2 ^ 32 - 1); faulty = min (c.faulty + (if faulty then 1 else 0)) (2 ^ 32 - 1) }
 
 abbrev pub start_reached : ℕ → ℕ → Tallied → Tallied
-start_reached k p t = record t { starts = slice_set t.starts k (one_reached_page (has_bit t.pages p) (slice_index_or t.starts k no_count)) }
+start_reached k p t = record t { starts = slice_set t.starts k (one_reached_page (has_bit t.pages p) (count_at t k)) }
 
 -- if it was reached
 abbrev pub page_reached : Option ℕ → ℕ → Tallied → Tallied

@@ -1,15 +1,14 @@
 // The lines of the starts in the summary.
 ghost use Rattle.arrayvec.specs.ArrayVec.{array_vec_len};
-ghost use Rattle.std.specs.Prelude.{◌≡◌, ◌+◌, ◌≤◌, ◌∷◌, [], ◌++◌, length, codes, decimal};
-ghost use Rattle.std.specs.List.{enumerate_from, flat_map};
+ghost use Rattle.std.specs.Prelude.{◌≡◌, ◌∷◌, [], ◌++◌, codes, decimal};
 ghost use Rattle.dbformat.specs.Lines.{line_feed};
 ghost use Rattle.dblines.specs.Writing.{Wrote};
 ghost use Rattle.dbexplain.specs.Summary.{faulty_pages_text, start_name};
-ghost use Rattle.dbexplain.specs.Sums.{numbered_sum, start_sum};
+ghost use Rattle.dbexplain.specs.Sums.{numbered_sum, tree_sums};
 
 use crate::page_lines::put_tree;
 use crate::sums::sum_front;
-use crate::tally::StartCount;
+use crate::tally::Tally;
 use arrayvec::ArrayVec;
 use dbformat::FREELIST_START;
 use dblines::{Writer, append, append_number};
@@ -61,16 +60,16 @@ fn pages_text(faulty: u32, reached: u32) -> ArrayVec<u8, 160>
 pub(crate) fn put_start_sum<A: Allocator, O: Out>(
     writer: &mut Writer<'_, O>,
     names: &TreeNames<'_, A>,
-    all: u64,
+    tally: &Tally<A>,
     start: u32,
-    count: &StartCount,
 )
-    ensures { Wrote O.held writer.old (start_sum all (start_name names.now.encoding names.now.roots.now.rows start) count.now) writer.new }
+    ensures { Wrote O.held writer.old (numbered_sum tally.now (start_name names.now.encoding names.now.roots.now.rows) start) writer.new }
 {
+    let count = tally.start(start);
     if count.faults == 0 {
         return;
     }
-    writer.put(sum_front(all, count.faults).as_slice());
+    writer.put(sum_front(tally.all(), count.faults).as_slice());
     writer.put(b"in ");
     put_name(writer, names, start);
     writer.put(pages_text(count.faulty, count.reached).as_slice());
@@ -80,14 +79,12 @@ pub(crate) fn put_start_sum<A: Allocator, O: Out>(
 pub(crate) fn put_start_sums<A: Allocator, O: Out>(
     writer: &mut Writer<'_, O>,
     names: &TreeNames<'_, A>,
-    all: u64,
-    counts: &[StartCount],
+    tally: &Tally<A>,
 )
-    requires { length counts.now ≤ 65537 }
     ensures { Wrote O.held writer.old
-        (flat_map (numbered_sum all (start_name names.now.encoding names.now.roots.now.rows)) (enumerate_from 0 counts.now)) writer.new }
+        (tree_sums tally.now (start_name names.now.encoding names.now.roots.now.rows) names.now.roots.now.rows) writer.new }
 {
-    for index in 0..counts.len() {
-        put_start_sum(writer, names, all, index as u32, &counts[index]);
+    for start in 0..names.roots.len() + 1 {
+        put_start_sum(writer, names, tally, start);
     }
 }

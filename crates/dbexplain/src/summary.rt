@@ -33,12 +33,11 @@ pub(crate) fn put_summary<A: Allocator, O: Out>(
     let shape = owners.header.geometry();
     let names = owners.names();
     let all = tally.all();
-    let trees = tally.trees(names.roots.len());
     writer.put(count_text(all).as_slice());
     put_code_sums(writer, tally, &FaultCode::all());
-    put_start_sums(writer, &names, all, trees);
-    put_start_sum(writer, &names, all, FREELIST_START, tally.freelist());
+    put_start_sums(writer, &names, tally);
+    put_start_sum(writer, &names, tally, FREELIST_START);
     put_sum(writer, all, tally.whole(), "in the whole file");
     put_zeros(writer, shape, &listing.zero_runs(shape.pages));
-    put_trees(writer, names.roots, trees);
+    put_trees(writer, names.roots, tally);
 }

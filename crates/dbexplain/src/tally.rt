@@ -1,11 +1,10 @@
 // The tally of the faults that were reported.
-ghost use Rattle.std.specs.Prelude.{◌≡◌, ◌<◌, ◌≤◌, [], IfOk, length, suc, take};
-ghost use Rattle.dbexplain.specs.Sums.{freelist_start_count};
-ghost use Rattle.dbexplain.specs.Tallies.{code_told, count_of, fault_told, IsTallyOf, one_reached_page, part_told, start_reached};
+ghost use Rattle.std.specs.Prelude.{◌≡◌, [], IfOk};
+ghost use Rattle.dbexplain.specs.Tallies.{code_told, count_at, count_of, fault_told, IsTallyOf, one_reached_page, part_told, start_reached};
 
 use dbentries::PageBits;
-use dbformat::{FREELIST_START, FaultCode, Geometry};
-use dbscan::STARTS;
+use dbformat::{FaultCode, Geometry};
+use dbscan::StartTable;
 use dbtrace::{Part, Reported};
 use std::alloc::{AllocError, Allocator, Global};
 use std::marker::Model;
@@ -26,7 +25,7 @@ pub struct Tally<A: Allocator = Global> {
     all: u64,
     // By the index of the code.
     codes: [u64; FaultCode::COUNT],
-    starts: Vec<StartCount, A>,
+    starts: StartTable<StartCount, A>,
     whole: u64,
     pages: PageBits<A>,
 }
@@ -36,16 +35,14 @@ impl<A: Allocator> Model for Tally<A> {
 
     ghost Value = { Tallied };
 
-    ghost use Rattle.dbexplain.specs.Tallies.{tallied, IsRoomy};
+    ghost use Rattle.dbexplain.specs.Tallies.{tallied};
 
     ghost view = { tallied };
-
-    ghost invariant = { IsRoomy };
 }
 
 // The counts of a start with one page more, which has a fault or has none.
-fn with_page(count: &StartCount, faulty: bool) -> StartCount
-    ensures { result ≡ one_reached_page faulty count.now }
+fn with_page(count: StartCount, faulty: bool) -> StartCount
+    ensures { result ≡ one_reached_page faulty count }
 {
     StartCount {
         faults: count.faults,
@@ -63,7 +60,7 @@ impl<A: Allocator + Copy> Tally<A> {
     pub fn new_in(alloc: A, geometry: &Geometry) -> Result<Tally<A>, AllocError>
         ensures { IfOk result (IsTallyOf geometry.now.pages []) }
     {
-        let starts = Vec::from_elem(alloc, StartCount::default(), STARTS)?;
+        let starts = StartTable::new_in(alloc, StartCount::default())?;
         let pages = PageBits::new_in(alloc, geometry.pages)?;
         Ok(Tally {
             all: 0,
@@ -84,10 +81,9 @@ impl<A: Allocator> Tally<A> {
             Part::Header | Part::End => self.whole = self.whole.saturating_add(1),
             Part::Start(start) => {
                 self.pages.set(page);
-                let start = start as usize;
-                if start < STARTS {
-                    self.starts[start].faults = self.starts[start].faults.saturating_add(1);
-                }
+                let mut count = self.start(start);
+                count.faults = count.faults.saturating_add(1);
+                self.starts.set(start, count);
             }
         }
     }
@@ -123,20 +119,11 @@ impl<A: Allocator> Tally<A> {
         self.codes[code.index()]
     }
 
-    /// What is counted of each tree, from the schema's on, where the list of roots has `rows` rows.
-    pub(crate) fn trees(&self, rows: u32) -> &[StartCount]
-        requires { rows ≤ 65536 }
-        ensures counts { result.now ≡ take (suc rows) self.now.starts }
-        ensures count { length result.now ≡ suc rows }
+    /// What is counted of a start: nothing of a number after the last one.
+    pub(crate) fn start(&self, start: u32) -> StartCount
+        ensures { result ≡ count_at self.now start }
     {
-        &self.starts[..rows as usize + 1]
-    }
-
-    /// What is counted of the freelist.
-    pub(crate) fn freelist(&self) -> &StartCount
-        ensures { result.now ≡ freelist_start_count self.now }
-    {
-        &self.starts[FREELIST_START as usize]
+        self.starts.get(start).unwrap_or(StartCount::default())
     }
 
     /// How many faults were reported of the whole file.
@@ -150,9 +137,7 @@ impl<A: Allocator> Tally<A> {
     pub(crate) fn count_page(&mut self, start: u32, page: u32)
         ensures { self.new ≡ start_reached start page self.old }
     {
-        let start = start as usize;
-        if start < STARTS {
-            self.starts[start] = with_page(&self.starts[start], self.pages.has(page));
-        }
+        let count = with_page(self.start(start), self.pages.has(page));
+        self.starts.set(start, count);
     }
 }

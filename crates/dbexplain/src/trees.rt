@@ -5,7 +5,7 @@ ghost use Rattle.dblines.specs.Writing.{Wrote};
 ghost use Rattle.dbexplain.specs.Summary.{is_of_kind, share_text, trees_text};
 ghost use Rattle.dbexplain.specs.Sums.{trees_by, trees_sum};
 
-use crate::tally::StartCount;
+use crate::tally::Tally;
 use arrayvec::ArrayVec;
 use dbentries::append_count;
 use dbformat::RowKind;
@@ -32,16 +32,15 @@ fn is_of_kind<A: Allocator>(roots: &RootList<A>, start: u32, index: bool) -> boo
     }
 }
 
-// How many trees of a kind there are, by the counts of the schema's tree and those of the rows.
-fn trees_by<A: Allocator>(roots: &RootList<A>, counts: &[StartCount], index: bool) -> TreeSum
-    requires { (1 ≤ length counts.now) × (length counts.now ≤ 65537) }
-    ensures { result ≡ trees_by index roots.now.rows counts.now }
+// How many trees of a kind there are, and how many of them have no fault.
+fn trees_by<A: Allocator>(roots: &RootList<A>, tally: &Tally<A>, index: bool) -> TreeSum
+    ensures { result ≡ trees_by index roots.now.rows tally.now }
 {
     let mut sum = TreeSum { whole: 0, all: 0 };
-    for start in 1..counts.len() {
-        if is_of_kind(roots, start as u32, index) {
+    for start in 1..roots.len() + 1 {
+        if is_of_kind(roots, start, index) {
             sum.all += 1;
-            if counts[start].faults == 0 {
+            if tally.start(start).faults == 0 {
                 sum.whole += 1;
             }
         }
@@ -75,16 +74,15 @@ fn trees_text(tables: TreeSum, indexes: TreeSum) -> ArrayVec<u8, 160>
     line
 }
 
-/// Writes how many of the tables and of the indexes have no fault, by the counts of the schema's tree and those of the rows.
+/// Writes how many of the tables and of the indexes have no fault.
 pub(crate) fn put_trees<A: Allocator, O: Out>(
     writer: &mut Writer<'_, O>,
     roots: &RootList<A>,
-    counts: &[StartCount],
+    tally: &Tally<A>,
 )
-    requires { (1 ≤ length counts.now) × (length counts.now ≤ 65537) }
-    ensures { Wrote O.held writer.old (trees_sum roots.now.rows counts.now) writer.new }
+    ensures { Wrote O.held writer.old (trees_sum roots.now.rows tally.now) writer.new }
 {
-    let tables = trees_by(roots, counts, false);
-    let indexes = trees_by(roots, counts, true);
+    let tables = trees_by(roots, tally, false);
+    let indexes = trees_by(roots, tally, true);
     writer.put(trees_text(tables, indexes).as_slice());
 }

@@ -1,32 +1,29 @@
-use Rattle.std.proofs.Common.{◌≡◌, ◌+◌, ◌<◌, ◌∙◌, length, get_or, ap, sym, arith}
-use Rattle.std.specs.List.{enumerate_from}
-use Rattle.std.proofs.lemmas.List.FromFn.{get_or-enumerate_from, length-enumerate_from}
+use Rattle.std.proofs.Common.{◌≡◌, suc, length, get_or, sym, ap, arith}
+use Rattle.std.specs.List.{range_with_len}
+use Rattle.std.proofs.lemmas.List.FromFn.{get_or-range_with_len, length-range_with_len}
 use Rattle.dblines.proofs.Writing.{wrote_all, wrote_as, wrote_more, wrote_none}
 use Rattle.dbexplain.specs.Summary.{start_name}
 use Rattle.dbexplain.specs.Sums.{numbered_sum}
-use Rattle.dbexplain.specs.Tallies.{no_count}
 use Rattle.dbexplain.proofs.starts.put_start_sums.Goals as goal
 
-pub loop-index-init : goal.loop-index-init
-loop-index-init g c =
-    wrote_none (numbered_sum c.args.all (start_name c.args.names.now.encoding c.args.names.now.roots.now.rows)) (enumerate_from 0 c.args.counts.now)
-    c.args.writer.now
+pub loop-start-init : goal.loop-start-init
+loop-start-init g c =
+    let rows = c.args.names.now.roots.now.rows in
+    wrote_none (numbered_sum c.args.tally.now (start_name c.args.names.now.encoding rows)) (range_with_len 0 (suc (length rows))) c.args.writer.now
 
-pub loop-index-preserved : goal.loop-index-preserved
-loop-index-preserved g c =
-    let line = numbered_sum c.args.all (start_name c.args.names.now.encoding c.args.names.now.roots.now.rows) in
-    let counts = c.args.counts.now in
-    let i = c.loop-index.index in
-    let all : length (enumerate_from 0 counts) ≡ length counts = length-enumerate_from 0 counts in
-    let from : i ≡ 0 + i = omega arith in
-    let within : i < length (enumerate_from 0 counts) = omega (arith, all, c.loop-index-test.true) in
-    wrote_more line (enumerate_from 0 counts) i (0, no_count) within c.loop-index.invariant
-    (wrote_as (ap (λ k. line (k, get_or counts i no_count)) from ∙ ap line (sym (get_or-enumerate_from 0 counts i (0, no_count) c.loop-index-test.true)))
-    c.put_start_sum.ensures)
+pub loop-start-preserved : goal.loop-start-preserved
+loop-start-preserved g c =
+    let rows = c.args.names.now.roots.now.rows in
+    let line = numbered_sum c.args.tally.now (start_name c.args.names.now.encoding rows) in
+    let trees = range_with_len 0 (suc (length rows)) in
+    let i = c.loop-start.start in
+    let all : length trees ≡ suc (length rows) = length-range_with_len 0 (suc (length rows)) in
+    let this : get_or trees i 0 ≡ i = omega (arith, get_or-range_with_len 0 (suc (length rows)) i 0 (omega arith)) in
+    wrote_more line trees i 0 (omega arith) c.loop-start.invariant (wrote_as (ap line (sym this)) c.put_start_sum.ensures)
 
 pub returns : goal.returns
 returns g c =
-    let line = numbered_sum c.args.all (start_name c.args.names.now.encoding c.args.names.now.roots.now.rows) in
-    let counts = c.args.counts.now in
-    let all : length (enumerate_from 0 counts) ≡ length counts = length-enumerate_from 0 counts in
-    wrote_all line (enumerate_from 0 counts) c.loop-index.index (omega (arith, all, c.loop-index-test.false)) c.loop-index.invariant
+    let rows = c.args.names.now.roots.now.rows in
+    let trees = range_with_len 0 (suc (length rows)) in
+    let all : length trees ≡ suc (length rows) = length-range_with_len 0 (suc (length rows)) in
+    wrote_all (numbered_sum c.args.tally.now (start_name c.args.names.now.encoding rows)) trees c.loop-start.start (omega arith) c.loop-start.invariant

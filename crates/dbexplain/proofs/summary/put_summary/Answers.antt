@@ -1,12 +1,11 @@
-use Rattle.std.proofs.Common.{◌≡◌, suc, take, ap, ap₂, ◌∙◌}
+use Rattle.std.proofs.Common.{ap, ap₂, ◌∙◌}
 use Rattle.std.specs.Prelude.{codes}
-use Rattle.std.specs.List.{enumerate_from, flat_map}
-use Rattle.dbformat.specs.Address.{freelist_start}
+use Rattle.std.specs.List.{flat_map}
 use Rattle.dblines.proofs.Writing.{wrote_as, wrote_then}
 use Rattle.dbscan.specs.Placed.{told_faults}
 use Rattle.dbscan.specs.Roots.{Listed}
-use Rattle.dbexplain.specs.Summary.{count_text, start_name, sum_line}
-use Rattle.dbexplain.specs.Sums.{code_sum, numbered_sum, start_sum, tree_counts, trees_sum}
+use Rattle.dbexplain.specs.Summary.{count_text, sum_line}
+use Rattle.dbexplain.specs.Sums.{code_sum}
 use Rattle.dbexplain.proofs.Summaries.{known_summary, known_zeros}
 use Rattle.dbexplain.proofs.summary.put_summary.Goals as goal
 
@@ -14,18 +13,14 @@ pub returns : goal.returns
 returns g c =
     let t = c.count_pages.new.tally in
     let roots = c.names-names.result.roots.now in
-    let name = start_name c.names-names.result.encoding roots.rows in
-    let all = c.all-all.ensures in
-    let trees : c.trees-trees.result.now ≡ tree_counts roots.rows t =
-    c.trees-trees.ensures.counts ∙ ap (λ n. take (suc n) t.starts) c.len.ensures.count in record {
+    let all = c.all-all.ensures in record {
       all = _;
       wrote =
           wrote_then (wrote_as (c.as_slice.ensures.value ∙ c.count_text.ensures ∙ ap count_text all) c.put.ensures)
           (wrote_then (wrote_as (ap (flat_map (code_sum t)) c.all.ensures) c.put_code_sums.ensures)
-          (wrote_then (wrote_as (ap₂ (λ n cs. flat_map (numbered_sum n name) (enumerate_from 0 cs)) all trees) c.put_start_sums.ensures)
-          (wrote_then (wrote_as (ap₂ (λ n x. start_sum n (name freelist_start) x) all c.freelist.ensures) c.put_start_sum.ensures)
+          (wrote_then c.put_start_sums.ensures (wrote_then c.put_start_sum.ensures
           (wrote_then (wrote_as (ap₂ (λ n w. sum_line n w (codes "in the whole file")) all c.whole.ensures) c.put_sum.ensures)
-          (wrote_then c.put_zeros.ensures (wrote_as (ap (trees_sum roots.rows) trees) c.put_trees.ensures))))));
+          (wrote_then c.put_zeros.ensures c.put_trees.ensures)))));
       is = λ file V h. (
           let o = h.owners in
           known_summary file V o.survey c.args.owners.now.header.now roots.rows c.names-names.result.encoding t c.geometry-shape.result.page_size

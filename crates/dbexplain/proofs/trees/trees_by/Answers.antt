@@ -1,19 +1,19 @@
 use Rattle.std.proofs.Common.{◌≡◌, ℕ, ◌+◌, ◌-◌, ◌≤◌, ◌&&◌, Bool, true, false, cond, List, length, refl, sym, ap, ap₂, ◌∙◌, arith}
-use Rattle.std.specs.Prelude.{count_by, slice_index_or, ◌==◌}
+use Rattle.std.specs.Prelude.{count_by, ◌==◌}
 use Rattle.std.specs.List.{range_with_len}
 use Rattle.std.proofs.lemmas.Bool.Decides.{nat_tests}
 use Rattle.dbsurvey.proofs.Ranges.{count_push}
 use Rattle.dbformat.specs.SchemaRow.{SchemaRow}
 use Rattle.dbexplain.specs.Summary.{is_of_kind}
-use Rattle.dbexplain.specs.Tallies.{no_count}
+use Rattle.dbexplain.specs.Tallies.{Tallied, count_at}
 use Rattle.dbexplain.specs.declared.tally.StartCount.{StartCount}
 use Rattle.dbexplain.specs.declared.trees.TreeSum.{TreeSum}
 use Rattle.dbexplain.proofs.trees.trees_by.Goals as goal
-use Rattle.dbexplain.proofs.trees.trees_by.Goals.{then-is_of_kind+then-counts-start-eq0, then-is_of_kind+else-counts-start-eq0, else-is_of_kind}
+use Rattle.dbexplain.proofs.trees.trees_by.Goals.{then-is_of_kind+then-start-eq0, then-is_of_kind+else-start-eq0, else-is_of_kind}
 
-module _ (index : Bool) (rows : List SchemaRow) (cs : List StartCount) where
+module _ (index : Bool) (rows : List SchemaRow) (counts : Tallied) where
   abbrev is_whole : ℕ → Bool
-  is_whole k = is_of_kind index rows k && ((slice_index_or cs k no_count).faults == 0)
+  is_whole k = is_of_kind index rows k && ((count_at counts k).faults == 0)
 
   -- the sum is that of the starts before this one
   abbrev AreBefore : ℕ → TreeSum → Type 0
@@ -27,7 +27,7 @@ module _ (index : Bool) (rows : List SchemaRow) (cs : List StartCount) where
       ap₂ (λ m b. m + cond b 1 0) is (sym e) ∙ sym (count_push test 1 (start - 1) start (omega (arith, low)))
       ∙ ap (λ m. count_by test (range_with_len 1 m)) (sym last)
 
-  next : (start whole all : ℕ) (a b : Bool) → 1 ≤ start → is_of_kind index rows start ≡ a → ((slice_index_or cs start no_count).faults == 0) ≡ b
+  next : (start whole all : ℕ) (a b : Bool) → 1 ≤ start → is_of_kind index rows start ≡ a → ((count_at counts start).faults == 0) ≡ b
       → AreBefore start (record { whole = whole; all = all }) → AreBefore (start + 1) (record { whole = whole + cond (a && b) 1 0; all = all + cond a 1 0 })
   next start whole all a b low e f is = (
     one_more (is_of_kind index rows) start all a low e is.0,
@@ -48,29 +48,35 @@ module _ (index : Bool) (rows : List SchemaRow) (cs : List StartCount) where
 none_more : (n : ℕ) → n ≡ n + 0
 none_more n = omega arith
 
+same_faults : {c d : StartCount} → c ≡ d → c.faults ≡ d.faults
+same_faults e = ap (λ (c : StartCount). c.faults) e
+
 pub loop-start-preserved : goal.loop-start-preserved
 loop-start-preserved g c =
     let index = c.args.index in
     let rows = c.args.roots.now.rows in
-    let cs = c.args.counts.now in
+    let counts = c.args.tally.now in
     let start = c.loop-start.start in
     let t = c.loop-start.sum in
-    let turn : (a b : Bool) → c.is_of_kind.result ≡ a → ((slice_index_or cs start no_count).faults == 0) ≡ b
-    → AreBefore index rows cs (start + 1) (record { whole = t.whole + cond (a && b) 1 0; all = t.all + cond a 1 0 })
-    = λ a b e f. next index rows cs start t.whole t.all a b (omega (arith, c.loop-start.auto.start)) (sym c.is_of_kind.ensures ∙ e) f c.loop-start.invariant in
+    let turn : (a b : Bool) → c.is_of_kind.result ≡ a → ((count_at counts start).faults == 0) ≡ b
+    → AreBefore index rows counts (start + 1) (record { whole = t.whole + cond (a && b) 1 0; all = t.all + cond a 1 0 })
+    = λ a b e f. next index rows counts start t.whole t.all a b (omega (arith, c.loop-start.auto.start)) (sym c.is_of_kind.ensures ∙ e) f
+    c.loop-start.invariant in
     elim c.if-is_of_kind.branch [
-      | then-is_of_kind+then-counts-start-eq0 w ↦ rw w.sum-is
-          (turn true true w.if-is_of_kind.true (let z = w.if-counts-start-eq0.true in grind (arith, nat_tests, z)))
-      | then-is_of_kind+else-counts-start-eq0 w ↦
-          rw (w.sum-is, none_more t.whole) (turn true false w.if-is_of_kind.true (let z = w.if-counts-start-eq0.false in grind (arith, nat_tests, z)))
+      | then-is_of_kind+then-start-eq0 w ↦ rw w.sum-is
+          (turn true true w.if-is_of_kind.true (let z = w.if-start-eq0.true in let s = same_faults w.start.ensures in grind (arith, nat_tests, z, s)))
+      | then-is_of_kind+else-start-eq0 w ↦
+          rw (w.sum-is, none_more t.whole)
+          (turn true false w.if-is_of_kind.true (let z = w.if-start-eq0.false in let s = same_faults w.start.ensures in grind (arith, nat_tests, z, s)))
       | else-is_of_kind w ↦
-          rw (w.sum-is, none_more t.all, none_more t.whole) (turn false ((slice_index_or cs start no_count).faults == 0) w.if-is_of_kind.false refl)
+          rw (w.sum-is, none_more t.all, none_more t.whole) (turn false ((count_at counts start).faults == 0) w.if-is_of_kind.false refl)
     ]
 
 pub returns : goal.returns
 returns g c =
+    let rows = c.args.roots.now.rows in
     let t = c.loop-start.invariant in
-    let last : c.loop-start.start - 1 ≡ length c.args.counts.now - 1 = omega (arith, c.loop-start-test.false, c.loop-start.auto.start-end, c.requires) in
+    let last : c.loop-start.start - 1 ≡ length rows = omega (arith, c.loop-start.auto.start-end) in
     let sum : ℕ → ℕ → TreeSum = λ whole all. record { whole = whole; all = all } in
-    ap₂ sum (t.1 ∙ ap (λ n. count_by (is_whole c.args.index c.args.roots.now.rows c.args.counts.now) (range_with_len 1 n)) last)
-    (t.0 ∙ ap (λ n. count_by (is_of_kind c.args.index c.args.roots.now.rows) (range_with_len 1 n)) last)
+    ap₂ sum (t.1 ∙ ap (λ n. count_by (is_whole c.args.index rows c.args.tally.now) (range_with_len 1 n)) last)
+    (t.0 ∙ ap (λ n. count_by (is_of_kind c.args.index rows) (range_with_len 1 n)) last)
