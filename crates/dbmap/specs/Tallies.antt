@@ -1,8 +1,7 @@
 -- How many pages each start has, and which trees are the largest.
-use Rattle.std.specs.Prelude.{◌≡◌, ℕ, zero, suc, ◌+◌, Bool, List, [], ◌∷◌, ◌++◌, length, replicate, vec_len, Option, Some, None, slice_set, slice_index_or}
+use Rattle.std.specs.Prelude.{ℕ, zero, suc, ◌+◌, Bool, List, [], ◌∷◌, ◌++◌, length, replicate, Option, Some, None, slice_set, slice_index_or}
 use Rattle.std.specs.Prelude.{◌==◌, if◌then◌else◌}
 use Rattle.std.specs.List.{fold, range_with_len}
-use Rattle.dbformat.specs.Address.{freelist_start}
 use Rattle.dbformat.specs.File.{geometry}
 use Rattle.dbformat.specs.Reference.{Reference}
 use Rattle.dbformat.specs.Starts.{start_at}
@@ -10,6 +9,7 @@ use Rattle.dbowner.specs.Owners.{place_of}
 use Rattle.dbowner.specs.declared.place.Place.{Place}
 use Rattle.dbowner.specs.declared.place.Place.TheVariants as place
 use Rattle.dbscan.specs.Roots.{listed_rows}
+use Rattle.dbscan.specs.StartTable.{most_starts}
 use Rattle.dbmap.specs.Owners.{capped_pages, first_most, is_overflow, no_share, one_page, rank_of, share_sum}
 use Rattle.dbmap.specs.declared.owner_shares.Share.{Share}
 use Rattle.dbmap.specs.declared.tally.PageTally.TheInside.{Inside}
@@ -24,15 +24,7 @@ pub record PagesTallied : Type 0 where
 
 -- what the fields hold
 abbrev pub pages_tallied : {A : Type 0} → Inside A → PagesTallied
-pages_tallied t = record { starts = t.starts.items; fixed = t.fixed; nobody = t.nobody }
-
--- the schema, the root pages that it names, and the freelist
-unfoldable pub start_count : ℕ
-start_count = freelist_start + 1
-
--- there is a share for each start
-abbrev pub HasStartShares : {A : Type 0} → Inside A → Type 0
-HasStartShares t = vec_len t.starts ≡ start_count
+pages_tallied t = record { starts = t.starts; fixed = t.fixed; nobody = t.nobody }
 
 -- what start k has, and how many pages
 abbrev pub share_at : List Share → ℕ → Share
@@ -43,7 +35,7 @@ pages_at starts k = (share_at starts k).pages
 
 -- no page is counted
 abbrev pub none_tallied : PagesTallied
-none_tallied = record { starts = replicate start_count no_share; fixed = 0; nobody = 0 }
+none_tallied = record { starts = replicate most_starts no_share; fixed = 0; nobody = 0 }
 
 -- one more page of a start
 abbrev pub start_counted : ℕ → Bool → PagesTallied → PagesTallied

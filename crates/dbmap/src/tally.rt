@@ -1,5 +1,5 @@
 // How many pages each tree has.
-ghost use Rattle.std.specs.Prelude.{◌≡◌, ◌==◌, ◌≤◌, ℕ, List, position, replicate, vec_len};
+ghost use Rattle.std.specs.Prelude.{◌≡◌, ◌==◌, ◌≤◌, ℕ, List, position};
 ghost use Rattle.dbformat.specs.Reference.{Reference};
 ghost use Rattle.dbmap.specs.Owners.{IsOf, no_share, rank_of};
 ghost use Rattle.dbmap.specs.Tallies.{largest_trees, left_pages, next_start, none_tallied, others, page_counted, pages_at, share_at, start_counted, tally_of};
@@ -7,7 +7,7 @@ ghost use Rattle.dbmap.specs.Tallies.{largest_trees, left_pages, next_start, non
 use crate::owner_shares::{Share, is_overflow};
 use arrayvec::ArrayVec;
 use dbowner::{PageTrees, Place, place_of};
-use dbscan::STARTS;
+use dbscan::StartTable;
 use dbwalk::Marks;
 use std::alloc::{AllocError, Allocator, Global};
 use std::marker::Model;
@@ -18,7 +18,7 @@ pub(crate) const COLOURED: usize = 12;
 /// How many pages each start has, how many have a fixed use, and how many are nobody's.
 #[derive(Drop)]
 pub struct PageTally<A: Allocator = Global> {
-    starts: Vec<Share, A>,
+    starts: StartTable<Share, A>,
     fixed: u32,
     nobody: u32,
 }
@@ -28,11 +28,9 @@ impl<A: Allocator> Model for PageTally<A> {
 
     ghost Value = { PagesTallied };
 
-    ghost use Rattle.dbmap.specs.Tallies.{pages_tallied, HasStartShares};
+    ghost use Rattle.dbmap.specs.Tallies.{pages_tallied};
 
     ghost view = { pages_tallied };
-
-    ghost invariant = { HasStartShares };
 }
 
 impl<A: Allocator> PageTally<A> {
@@ -41,9 +39,8 @@ impl<A: Allocator> PageTally<A> {
     /// # Errors
     ///
     /// [`AllocError`] where the growth was refused.
-    #[tactic(auto, unfolding(crate::specs::Tallies::start_count))]
     pub(crate) fn new_in(alloc: A) -> Result<PageTally<A>, AllocError> {
-        let starts = Vec::from_elem(alloc, Share::default(), STARTS)?;
+        let starts = StartTable::new_in(alloc, Share::default())?;
         Ok(PageTally {
             starts,
             fixed: 0,
@@ -87,22 +84,16 @@ impl<A: Allocator> PageTally<A> {
     fn add_to(&mut self, start: u32, is_overflow: bool)
         ensures { self.new ≡ start_counted start is_overflow self.old }
     {
-        let index = start as usize;
-        if index < self.starts.len() {
-            let mut share = self.starts[index];
-            share.add(is_overflow);
-            self.starts[index] = share;
-        }
+        let mut share = self.share(start);
+        share.add(is_overflow);
+        self.starts.set(start, share);
     }
 
     /// What a start has.
     pub(crate) fn share(&self, start: u32) -> Share
         ensures { result ≡ share_at self.now.starts start }
     {
-        match self.starts.get(start as usize) {
-            Some(share) => *share,
-            None => Share::default(),
-        }
+        self.starts.get(start).unwrap_or(Share::default())
     }
 
     /// How many pages have a fixed use.
