@@ -1,18 +1,15 @@
-use Rattle.std.proofs.Common.{◌≡◌, ℕ, ◌+◌, List, [], ◌∷◌, ◌++◌, length, cond, add-one, sym, ap, ap₂, ◌∙◌, arith, length-append}
-use Rattle.std.specs.Prelude.{◌==◌}
+use Rattle.std.proofs.Common.{◌≡◌, ℕ, List, [], ◌∷◌, ◌++◌, length, add-one, sym, ap, ap₂, ◌∙◌, arith, length-append}
 use Rattle.dbmap.specs.Tallies.{largest_trees, left_pages, next_start, one_tree_more, pages_at}
-use Rattle.dbmap.proofs.FaultBits.{unequal}
+use Rattle.std.proofs.lemmas.Bool.Decides.{nat_tests}
 use Rattle.dbmap.proofs.tally.PageTally.largest.Goals as goal
 use Rattle.dbmap.proofs.tally.PageTally.largest.Goals.{else-left-ne0, then-left-ne0}
 
 module _ (pages : ℕ → ℕ) (n : ℕ) (taken : List ℕ) (left : ℕ) (e : left ≡ left_pages pages taken (next_start pages n taken)) where
   found : (left ≡ 0 → ⊥) → taken ++ next_start pages n taken ∷ [] ≡ one_tree_more pages n taken
-  found some =
-      ap (λ b. cond b taken (taken ++ next_start pages n taken ∷ [])) (sym (unequal left 0 some))
-      ∙ ap (λ m. cond (m == 0) taken (taken ++ next_start pages n taken ∷ [])) e
+  found some = grind (arith, nat_tests)
 
   not_found : left ≡ 0 → taken ≡ one_tree_more pages n taken
-  not_found none = ap (λ m. cond (m == 0) taken (taken ++ next_start pages n taken ∷ [])) (sym none ∙ e)
+  not_found none = grind (arith, nat_tests)
 
 pub loop-init : goal.loop-init
 unfolding largest_trees
@@ -30,16 +27,12 @@ loop-preserved g c =
     let more = ap (one_tree_more pages n) at.starts ∙ ap (largest_trees pages n) (sym (add-one c.loop.counter)) in
     elim c.if-left-ne0.branch [
       | then-left-ne0 w ↦ (
-          let pushed : c.if-left-ne0.largest.items ≡ ts ++ c.next-next.result ∷ [] = ap (λ l. l.items) w.largest-is ∙ w.push.ensures.items in
-          let many : length c.if-left-ne0.largest.items ≡ length ts + 1 = ap length pushed ∙ length-append ts (c.next-next.result ∷ []) in
-          record {
+          let pushed = ap (λ l. l.items) w.largest-is ∙ w.push.ensures.items in record {
             starts = pushed ∙ ap (λ k. ts ++ k ∷ []) next ∙ found pages n ts c.left.result left w.if-left-ne0.true ∙ more;
-            few = omega (arith, many, at.few);
+            few = omega (arith, ap length pushed ∙ length-append ts (c.next-next.result ∷ []), at.few);
           })
-      | else-left-ne0 w ↦ (
-          let same = ap (λ l. l.items) w.largest-is in
-          record {
-            starts = same ∙ not_found pages n ts c.left.result left w.if-left-ne0.false ∙ more;
-            few = omega (arith, ap length same, at.few);
-          })
+      | else-left-ne0 w ↦ record {
+        starts = ap (λ l. l.items) w.largest-is ∙ not_found pages n ts c.left.result left w.if-left-ne0.false ∙ more;
+        few = omega (arith, ap (λ l. length l.items) w.largest-is, at.few);
+      }
     ]

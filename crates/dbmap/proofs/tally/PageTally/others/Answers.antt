@@ -1,27 +1,22 @@
-use Rattle.std.proofs.Common.{◌≡◌, ℕ, ◌+◌, List, cond, add-one, sym, ap, ap₂, ◌∙◌, arith}
-use Rattle.std.specs.Prelude.{◌==◌}
+use Rattle.std.proofs.Common.{◌≡◌, ℕ, ◌+◌, List, add-one, sym, ap, ap₂, ◌∙◌, arith}
 use Rattle.dbmap.specs.Owners.{capped_pages, share_sum}
 use Rattle.dbmap.specs.Tallies.{left_pages, other_counted, others, pages_at, share_at}
 use Rattle.dbmap.specs.declared.owner_shares.Share.{Share}
-use Rattle.dbmap.proofs.FaultBits.{unequal}
+use Rattle.std.proofs.lemmas.Bool.Decides.{nat_tests}
 use Rattle.dbmap.proofs.tally.PageTally.others.Goals as goal
 use Rattle.dbmap.proofs.tally.PageTally.others.Goals.{else-left-ne0, then-left-ne0}
 
 module _ (starts : List Share) (largest : List ℕ) where
   counted : (k left : ℕ) (s : ℕ × Share) → left ≡ left_pages (pages_at starts) largest k → (left ≡ 0 → ⊥)
       → (capped_pages (s.0 + 1), share_sum s.1 (share_at starts k)) ≡ other_counted starts largest k s
-  counted k left s e some =
-      ap (λ b. cond b s (capped_pages (s.0 + 1), share_sum s.1 (share_at starts k))) (sym (unequal left 0 some))
-      ∙ ap (λ n. cond (n == 0) s (capped_pages (s.0 + 1), share_sum s.1 (share_at starts k))) e
+  counted k left s e some = grind (arith, nat_tests)
 
   passed : (k left : ℕ) (s : ℕ × Share) → left ≡ left_pages (pages_at starts) largest k → left ≡ 0 → s ≡ other_counted starts largest k s
-  passed k left s e none = ap (λ n. cond (n == 0) s (capped_pages (s.0 + 1), share_sum s.1 (share_at starts k))) (sym none ∙ e)
+  passed k left s e none = grind (arith, nat_tests)
 
 pub loop-start-init : goal.loop-start-init
 unfolding others
-loop-start-init g c =
-    let none = c.default-all.ensures in
-    (λ i. (0, record { pages = none.0 i; overflow = none.1 i }))
+loop-start-init g c = λ i. (0, record { pages = c.default-all.ensures.0 i; overflow = c.default-all.ensures.1 i })
 
 pub loop-start-preserved : goal.loop-start-preserved
 unfolding others
