@@ -80,10 +80,15 @@ fn print_rows(rt: &(impl Print + AllocGlobal), desk: &Desk, rows: &RowCounts) ->
     Ok(())
 }
 
+/// Prints a line for each table of a file.
+fn print_tables(rt: &(impl Print + AllocGlobal), source: &mut impl Source) -> Result<()> {
+    let mut desk = Desk::new(rt.alloc(), Header::read(source)?)?;
+    let rows = count_rows(rt.alloc(), &mut desk, source)?;
+    print_rows(rt, &desk, &rows)
+}
+
 fn main(rt: HostRuntime) -> Result<()> {
     let path = env::args(&rt)?.nth(1).context("usage: dbrows FILE")?;
     let mut source = FileSource::open(&rt, path.as_str()).context(format_args!("opening {path}"))?;
-    let mut desk = Desk::new(rt.alloc(), Header::read(&mut source)?)?;
-    let rows = count_rows(rt.alloc(), &mut desk, &mut source)?;
-    print_rows(&rt, &desk, &rows)
+    print_tables(&rt, &mut source)
 }
