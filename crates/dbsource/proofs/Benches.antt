@@ -1,14 +1,16 @@
 -- A level of a bench that was written through its slice.
-use Rattle.std.proofs.Common.{◌≡◌, ℕ, ◌<◌, ◌++◌, List, length, vec_len, map, take, drop, set, refl, ◌∙◌, arith, rules, Vec, nat_lt, true, [], ◌∷◌, zero, suc}
+use Rattle.std.proofs.Common.{◌≡◌, ℕ, ◌<◌, ◌++◌, List, length, vec_len, map, take, drop, set, get_or, refl, sym, ap, ◌∙◌, arith, rules, Vec, nat_lt, true, [], ◌∷◌, zero, suc}
 use Rattle.std.proofs.lemmas.Grind.{common_steps}
 use Rattle.std.proofs.lemmas.List.{map-set}
 use Rattle.std.proofs.lemmas.List.Elements.{All-set, All-append}
 use Rattle.std.proofs.Math.ListN.{length-set}
 use Rattle.std.specs.Vec.{with_items}
 use Rattle.dbformat.specs.declared.Geometry.{Geometry}
-use Rattle.dbsource.specs.Bench.{Pages, with_level, AreWhole}
+use Rattle.dbsource.specs.Bench.{Pages, pages, with_level, AreWhole}
 use Rattle.dbsource.specs.declared.bench.Bench.TheInside.{Inside}
-use Rattle.std.specs.Prelude.{All}
+use Rattle.std.specs.Prelude.{All, Some, slice_get}
+use Rattle.std.specs.Option.{option_map}
+use Rattle.std.proofs.lemmas.Option.{slice_get-map, slice_get_read}
 use Rattle.std.proofs.lemmas.Bool.Decides.{nat_tests}
 
 abbrev bench_of : Geometry → List (List ℕ) → List ℕ → List ℕ → Pages
@@ -24,6 +26,15 @@ whole_after b i v bytes w h = record {
   chain = w.chain;
   uses = w.uses;
 }
+
+-- a buffer that was read from the levels holds the bytes of that level, as many as a page has
+pub level_is : {A : Type 0} (b : Inside A) (xs : List (Vec ℕ A)) (i : ℕ) (v : Vec ℕ A) → AreWhole b → xs ≡ b.levels.items → i < length xs → v ≡ get_or xs i v
+    → (slice_get (pages b).levels i ≡ Some v.items) × (length v.items ≡ b.geometry.page_size)
+level_is b xs i v w e h k =
+    let at : slice_get b.levels.items i ≡ Some v = rw (← e) (slice_get_read xs (length xs) i v refl h k) in (
+      slice_get-map (λ x. x.items) b.levels.items i ∙ ap (option_map (λ x. x.items)) at,
+      sym v.ok.0 ∙ ap (λ x. vec_len x) (k ∙ ap (λ l. get_or l i v) e) ∙ w.levels i v (rw (← e) h),
+    )
 
 All-one : {X : Type 0} (P : X → Type 0) (x : X) → P x → All P (x ∷ [])
 All-one P x k zero d h = k
