@@ -24,3 +24,6 @@ returns-in-Some-clause-level g c =
           c.read_at.new.buf below (c.read_at.auto.buf ∙ ap length c.as_mut_slice.ensures.value));
       holds = rw (← c.self.view_is) (c.read_at.ensures.trail, c.read_at.ensures.bytes);
     }
+
+pub invariant_of-self-in-None : goal.invariant_of-self-in-None
+invariant_of-self-in-None g c = let i = c.self.invariant in record { range = i.range; count = i.count; levels = i.levels; chain = i.chain; uses = i.uses }
