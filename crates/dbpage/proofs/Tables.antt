@@ -77,18 +77,19 @@ module _ (old mid : List ℕ) (from at to : ℕ) (start : from ≤ at) (more : a
     ];
   }
 
-  pub HasMarked_more : HasMarked mid at to → HasMarked old from to
-  HasMarked_more has = record {
+  -- a marked byte of the second part, or of its beginning, is one of the range
+  pub HasMarked_more : (end : ℕ) → end ≤ to → HasMarked mid at end → HasMarked old from to
+  HasMarked_more end within has = record {
     byte = has.byte;
     from_on = omega (arith, has.from_on);
-    below = has.below;
+    below = omega (arith, has.below);
     marked = sym (first.others has.byte (outside from at has.byte (inr has.from_on))) ∙ has.marked;
   }
 
   pub either_more : (b : Bool) (new : List ℕ) → MatchBool b (Marks mid at to new) (HasMarked mid at to)
       → MatchBool b (Marks old from to new) (HasMarked old from to)
   either_more true new h = Marks_more new h
-  either_more false new h = HasMarked_more h
+  either_more false new h = HasMarked_more to (omega arith) h
 
 -- the table after a part of it is changed
 module _ (table part : List ℕ) (from len : ℕ) (fits : from + len ≤ length table) (whole : length part ≡ len) where
