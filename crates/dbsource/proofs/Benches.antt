@@ -1,5 +1,6 @@
 -- A level of a bench that was written through its slice.
-use Rattle.std.proofs.Common.{◌≡◌, ℕ, ◌<◌, ◌++◌, List, length, vec_len, map, take, drop, set, get_or, refl, sym, ap, ◌∙◌, arith, rules, Vec, nat_lt, true, [], ◌∷◌, zero, suc}
+use Rattle.std.proofs.Common.{◌≡◌, ℕ, ◌<◌, ◌++◌, List, length, vec_len, map, take, drop, set, get_or, refl, sym, ap, ◌∙◌, arith, rules, Vec, nat_lt, true}
+use Rattle.std.proofs.Common.{[], ◌∷◌, zero, suc}
 use Rattle.std.proofs.lemmas.Grind.{common_steps}
 use Rattle.std.proofs.lemmas.List.{map-set}
 use Rattle.std.proofs.lemmas.List.Elements.{All-set, All-append}
