@@ -1,12 +1,15 @@
-use Rattle.std.proofs.Common.{rules, arith, ◌≡◌, ◌+◌, ◌-◌, [], ◌∷◌, set, Ok, Err, refl, sym, ap, subst, ◌∙◌}
+use Rattle.std.proofs.Common.{rules, arith, ◌≡◌, ℕ, Some, None, ◌+◌, ◌-◌, [], ◌∷◌, set, Ok, Err, refl, sym, ap, subst, ◌∙◌}
+use Rattle.std.specs.Prelude.{IfSome, ◌==◌}
+use Rattle.std.proofs.lemmas.Bool.{cond_both}
 use Rattle.std.proofs.lemmas.Result.{err_from_is_err_and}
 use Rattle.dbsurvey.specs.Story.{Go}
 use Rattle.dbformat.specs.Numbers.{u32_at}
 use Rattle.dbsource.specs.declared.error.RunError.TheVariants.{ReadFailed}
 use Rattle.dbwalk.specs.Entered.{Enters}
 use Rattle.dbwalk.specs.Done.{IsLeft}
+use Rattle.dbmarks.specs.declared.marks.Mark.TheVariants.{Trunk}
 use Rattle.dbmarks.specs.Marking.{IsUse, is_none, unmarked_pages}
-use Rattle.dbwalk.specs.Trunks.{TrunkTurns, next_step}
+use Rattle.dbwalk.specs.Trunks.{TrunkTurns, next_step, trunk_step}
 use Rattle.dbformat.specs.Reference.{bytes_left}
 use Rattle.dbwalk.proofs.Chaining.ChainTurns.{if_some_all}
 use Rattle.dbwalk.proofs.FreeTrunks.{trunk_refused, trunk_unread, next_turned}
@@ -94,3 +97,26 @@ returns-clause-log g c =
     (sym (c.next_trunk.ensures ∙ ap (λ b. next_step (u32_at 0 b) c.args.step.page c.in_ok-item.item) b))
     (next_turned g.K.Sink.takes g.K.Sink.drops file W d before on.d c.args.step.page c.in_ok-item.item o.0 c.open_trunk.new.marks c.open_trunk.new.sink
     on.step.page o.1))
+
+pub enter-requires : goal.enter-requires
+enter-requires g c = rw c.requires (omega arith)
+
+pub load-requires : goal.load-requires
+load-requires g c = (search rules, (omega arith, (c.in_ok-enter.ensures.page (search rules)).0))
+
+pub open_trunk-requires : goal.open_trunk-requires
+open_trunk-requires g c =
+    let r = c.geometry-usable.ensures.range in
+    let e = ap (λ s. s.page_size) c.geometry-usable.ensures.value in
+    record { usable = (omega (arith, r.usable), omega (arith, r.usable, r.page_size), omega (arith, r.usable, e, c.page-bytes.ensures.len)) }
+
+pub next_trunk-requires : goal.next_trunk-requires
+next_trunk-requires g c =
+    omega (arith, c.geometry-usable.ensures.range.page_size.0, ap (λ s. s.page_size) c.geometry-usable.ensures.value, c.page-bytes.ensures.len)
+
+-- the next step is to a trunk
+next_marked : (page from item : ℕ) → IfSome (next_step page from item) (λ next. next.mark ≡ Trunk)
+next_marked page from item = cond_both (page == 0) None (Some (trunk_step page from item)) (λ o. IfSome o (λ next. next.mark ≡ Trunk)) (λ _. tt) (λ _. refl)
+
+pub returns-clause-trunk : goal.returns-clause-trunk
+returns-clause-trunk g c = rw c.next_trunk.ensures (next_marked _ _ _)
