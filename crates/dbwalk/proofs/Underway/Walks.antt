@@ -17,6 +17,11 @@ tree_error start e (inl w) none = inl (inr w)
 tree_error zero e (inr m) none = inr (m, refl)
 tree_error (suc n) e (inr m) none = absurd (none (omega arith))
 
+-- no error of a sink or of memory is one of the source
+pub unread : {e : RunError} {m n : ℕ} → IsWriteOrMemory e → n ≡ m → n ≡ failures_after {A = Unit {0}} is_read_failed (Err e) m
+unread (inl w) h = rw w h
+unread (inr m) h = rw m h
+
 pub none_refused : {A : Type 0} (r : Result A RunError) (n : ℕ) → IfErr r IsReadOrWrite → n ≡ failures_after is_out_of_memory r n
 none_refused (Ok a) n h = refl
 none_refused (Err e) n (inl h) = cc
@@ -74,6 +79,14 @@ module _ {A S K T : Type 0} (told : S → SourceState) (held : K → SinkState) 
       → Walked {R = R} told held refusals (Err e) g g' old new → Walked told held refusals r g g' old new
   walked_as {g = g} {g' = g'} {old = old} {new = new} q w =
       subst (λ r. Walked told held refusals r g g' old new) (sym q) (walked_by (same_of w) w.shape w.reads w.writes w.refused w.only w.others)
+
+  -- an error of the source or of the sink
+  pub walked_err : {R : Type 0} {r : Result R RunError} {e : RunError} {g h : Geometry} {old new : TreeWalk A S K T} → r ≡ Err e → IsReadOrWrite e → IsSame old new
+      → h ≡ g → (told new.source.now).failures ≡ failures_after {A = Unit {0}} is_read_failed (Err e) (told old.source.now).failures
+      → SinkAfter {A = Unit {0}} is_write_failed (Err e) (held old.sink.now) (held new.sink.now) → refusals new.taker.now ≡ refusals old.taker.now
+      → (1 ≤ old.tree.start → new.taker.now ≡ old.taker.now) → Walked told held refusals r g h old new
+  walked_err {e = e} q only same shape reads writes kept others = walked_as {R = Unit {0}} q
+      (walked_by same shape reads writes (kept ∙ none_refused {A = Unit {0}} (Err e) _ only) (inl only) others)
 
   -- and so where there is none
   pub walked_as_ok : {R Q : Type 0} {a : R} {b : Q} {g g' : Geometry} {old new : TreeWalk A S K T} → Walked told held refusals (Ok a) g g' old new

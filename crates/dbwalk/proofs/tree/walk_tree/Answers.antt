@@ -2,6 +2,7 @@ use Rattle.std.proofs.Common.{rules, ◌≡◌, ◌-◌, ◌<◌, ◌≤◌, [],
 use Rattle.std.specs.Prelude.{List, IfErr}
 use Rattle.std.proofs.lemmas.Result.{err_from_is_err_and}
 use Rattle.dbformat.specs.File.{geometry, page_bytes}
+use Rattle.dbformat.specs.FixedPages.{IsPageNumber}
 use Rattle.dbformat.specs.Header.{encoding}
 use Rattle.dbformat.specs.Reference.{Reference}
 use Rattle.dbsource.specs.Bench.{bytes_at}
@@ -162,3 +163,10 @@ returns-clause-others g c = λ l.
     let m = subst (λ k. 1 ≤ k) (sym c.new-tree.ensures.names.0) l in
     let same : c.taker-1.given.0 ≡ c.walk_pages.new.self.taker.now = search rules in
     (same ∙ c.walk_pages.ensures.walked.others m, without_memory c.new-tree.result.start c.walk_pages.result m c.walk_pages.ensures.walked.only)
+
+pub load-requires : goal.load-requires
+load-requires g c = (search rules, (omega arith, subst (λ p. 1 ≤ p) c.tree_step-step.ensures.page (c.in_ok-enter.ensures.page (search rules)).0))
+
+pub walk_pages-requires : goal.walk_pages-requires
+walk_pages-requires g c =
+    (search rules, (subst IsPageNumber c.tree_step-step.ensures.page (c.in_ok-enter.ensures.page (search rules)).1, c.new-tree.ensures.nothing))

@@ -1,7 +1,9 @@
-use Rattle.std.proofs.Common.{rules, ◌≡◌, ◌+◌, ◌-◌, ◌*◌, ◌<◌, [], ◌∷◌, false, set, Result, Ok, Err, refl, sym, ap, subst, arith, ◌∙◌}
+use Rattle.std.proofs.Common.{rules, ◌≡◌, ◌+◌, ◌-◌, ◌*◌, ◌<◌, ◌≤◌, [], ◌∷◌, false, inl, inr, set, Result, Ok, Err, refl, sym, ap, subst, arith, ◌∙◌}
 use Rattle.std.specs.Prelude.{slice_get}
+use Rattle.std.proofs.lemmas.Bool.{false≢true}
 use Rattle.std.proofs.lemmas.Result.{err_from_is_err_and}
 use Rattle.dbformat.specs.File.{page_bytes}
+use Rattle.dbformat.specs.FixedPages.{IsPageNumber}
 use Rattle.dbformat.specs.Log.{range, page_range}
 use Rattle.dbsurvey.specs.Story.{Go}
 use Rattle.dbsource.specs.Answers.{IsRangeOf}
@@ -9,7 +11,9 @@ use Rattle.dbsource.specs.declared.error.RunError.{RunError}
 use Rattle.dbsource.specs.declared.error.RunError.TheVariants.{ReadFailed}
 use Rattle.dbsource.specs.declared.source.ReadFailed as source_error
 use Rattle.dbsource.proofs.Logs.{has_one}
+use Rattle.dbsource.specs.Errors.{is_write_failed}
 use Rattle.dbwalk.specs.Entered.{Enters}
+use Rattle.dbwalk.specs.Telling.{SinkAfter}
 use Rattle.dbmarks.specs.Marking.{unmarked_pages}
 use Rattle.dbwalk.proofs.Telling.Lefts.{tree_refusal}
 use Rattle.dbwalk.proofs.Chaining.Overflows.{page_read}
@@ -19,9 +23,8 @@ use Rattle.dbwalk.specs.Underway.{HasDone, IsEntered, done_below, entered}
 use Rattle.dbwalk.specs.Watching.{watches, fails}
 use Rattle.dbwalk.proofs.Underway.Visits.{done_refused, refused_handed, entered_past, entered_err, unread}
 use Rattle.dbwalk.proofs.Pages.Levels.{geometry_kept, read_there, below_kept, keeps_fewer, if_ok_all}
-use Rattle.std.proofs.lemmas.Grind.{common_steps}
 use Rattle.std.proofs.lemmas.Result.{IfOk-weaker}
-use Rattle.dbwalk.proofs.Underway.Walks.{walked_behind, walked_by}
+use Rattle.dbwalk.proofs.Underway.Walks.{walked_behind, walked_by, walked_err}
 use Rattle.dbwalk.proofs.tree_walk.TreeWalk.enter_page.Goals as goal
 
 pub returns-in_err-enter-clause-log : goal.returns-in_err-enter-clause-log
@@ -140,13 +143,22 @@ returns-clause-log g c =
     × IsEntered file from d c.visit_page.result c.visit_page.new.bench.levels) (sym n.2)
     (done (same ∙ e) coded from d c.args.from c.args.item candidate there next n.0 n.1 at.1 at.2 bound))
 
+pub returns-in_err-enter-clause-walked : goal.returns-in_err-enter-clause-walked
+returns-in_err-enter-clause-walked g c =
+    let q = err_from_is_err_and c.from_residual.result c.from_residual.ensures.1 in
+    let f = c.in_err-enter.ensures.after_error.0 in
+    walked_err g.S.Source.held g.K.Sink.held g.T.Taker.refusals (q.1 ∙ ap Err (q.2 ∙ f)) (inr refl) (refl, refl, refl, refl, refl, refl, refl) refl refl
+    (subst (λ e. SinkAfter {A = Unit {0}} is_write_failed (Err e) (g.K.Sink.held c.args.self.now.sink.now) (g.K.Sink.held c.enter.new.sink)) f
+    c.in_err-enter.ensures.writes) refl (λ l. refl)
+
 pub returns-in_err-load-clause-walked : goal.returns-in_err-load-clause-walked
 returns-in_err-load-clause-walked g c =
+    let q = err_from_is_err_and c.from_residual-in_err-load.result c.from_residual-in_err-load.ensures.1 in
     let low = c.tree_step-step.ensures.shallow (c.in_ok-enter.ensures.shallow (search rules)) in
     let change = c.load.ensures.level in
-    walked_by g.S.Source.held g.K.Sink.held g.T.Taker.refusals (refl, refl, refl, refl, refl, refl, refl)
-    (geometry_kept c.args.bench.now c.load.new.self c.len-level.result low change.bytes change.only) (grind (arith, common_steps))
-    (grind (arith, common_steps)) (grind (arith, common_steps)) (grind (arith, common_steps)) (λ l. refl)
+    walked_err g.S.Source.held g.K.Sink.held g.T.Taker.refusals {e = ReadFailed} (q.1 ∙ ap Err q.2) (inl refl) (refl, refl, refl, refl, refl, refl, refl)
+    (geometry_kept c.args.bench.now c.load.new.self c.len-level.result low change.bytes change.only) c.in_err-load.ensures.count
+    c.in_ok-enter.ensures.writes refl (λ l. refl)
 
 pub returns-clause-walked : goal.returns-clause-walked
 returns-clause-walked g c =
@@ -161,3 +173,19 @@ pub returns-clause-open : goal.returns-clause-open
 returns-clause-open g c =
     let low = subst (λ n. n < 20) c.len-level.ensures.value (c.tree_step-step.ensures.shallow (c.in_ok-enter.ensures.shallow (search rules))) in
     IfOk-weaker c.visit_page.result _ _ (λ yes h is. (low, h is)) c.visit_page.ensures.«open»
+
+pub load-requires : goal.load-requires
+load-requires g c =
+    let low = c.tree_step-step.ensures.shallow (c.in_ok-enter.ensures.shallow (search rules)) in
+    (search rules, (omega (arith, low), subst (λ p. 1 ≤ p) c.tree_step-step.ensures.page (c.in_ok-enter.ensures.page (search rules)).0))
+
+pub visit_page-requires : goal.visit_page-requires
+visit_page-requires g c =
+    let low = c.tree_step-step.ensures.shallow (c.in_ok-enter.ensures.shallow (search rules)) in
+    (search rules, (subst (λ n. n < 20) c.len-level.ensures.value low,
+    subst IsPageNumber c.tree_step-step.ensures.page (c.in_ok-enter.ensures.page (search rules)).1))
+
+pub returns-then-not-branch-clause-fewer : goal.returns-then-not-branch-clause-fewer
+returns-then-not-branch-clause-fewer g c =
+    let e = ap unmarked_pages (c.in_ok-enter.ensures.unmarked c.if-not-branch.true) in
+    (omega (arith, e), λ is. absurd (false≢true is))

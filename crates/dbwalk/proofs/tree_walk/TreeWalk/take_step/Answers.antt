@@ -1,4 +1,4 @@
-use Rattle.std.proofs.Common.{rules, Some, ◌/◌, ◌≤◌, false, Err, refl, ap, subst, arith, ◌∙◌, w64}
+use Rattle.std.proofs.Common.{rules, Some, ◌/◌, ◌≤◌, false, inr, Err, refl, ap, subst, arith, ◌∙◌, w64}
 use Rattle.std.specs.Prelude.{slice_get}
 use Rattle.std.proofs.lemmas.Int.{to_z-of_z}
 use Rattle.dbformat.specs.Payload.{most_payload}
@@ -19,8 +19,7 @@ use Rattle.dbwalk.proofs.Underway.TreeSteps.{aside_done, by_other}
 use Rattle.dbwalk.proofs.Underway.Handing.{found_moves, found_stops}
 use Rattle.dbwalk.proofs.Underway.TreeTurns.{next_here, turned_behind, turned_empty, turned_key, stopped_key, chained, chain_is, chain_next, turned_chain}
 use Rattle.dbwalk.proofs.Underway.TreeTurns.{turn_failed}
-use Rattle.std.proofs.lemmas.Grind.{common_steps}
-use Rattle.dbwalk.proofs.Underway.Walks.{none_refused, read_or_write, walked_by}
+use Rattle.dbwalk.proofs.Underway.Walks.{none_refused, read_or_write, walked_by, walked_err}
 use Rattle.dbwalk.proofs.tree_walk.TreeWalk.take_step.Goals as goal
 
 pub stepped-requires : goal.stepped-requires
@@ -169,8 +168,10 @@ returns-in-Chain-clause-log g c = has_weaker _ _ c.walk_unfed.ensures.log (λ lo
 
 pub returns-in_err-tell_key-in-Key-clause-walked : goal.returns-in_err-tell_key-in-Key-clause-walked
 returns-in_err-tell_key-in-Key-clause-walked g c =
-    walked_by g.S.Source.held g.K.Sink.held g.T.Taker.refusals (refl, refl, refl, refl, refl, c.tell_key.ensures.others.0, c.tell_key.ensures.others.1) refl
-    (grind (arith, common_steps)) (grind (arith, common_steps)) (grind (arith, common_steps)) (grind (arith, common_steps)) (λ l. refl)
+    let q = err_from_is_err_and c.from_residual.result c.from_residual.ensures.1 in
+    let same = c.tell_key.ensures.others in
+    walked_err g.S.Source.held g.K.Sink.held g.T.Taker.refusals {e = WriteFailed} (q.1 ∙ ap Err q.2) (inr refl)
+    (refl, refl, refl, refl, refl, same.0, same.1) refl refl c.in_err-tell_key-in-Key.ensures.told.count refl (λ l. refl)
 
 pub returns-in-Chain-clause-walked : goal.returns-in-Chain-clause-walked
 returns-in-Chain-clause-walked g c =

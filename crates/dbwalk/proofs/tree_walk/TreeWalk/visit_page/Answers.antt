@@ -1,4 +1,4 @@
-use Rattle.std.proofs.Common.{length, false, Ok, Err, refl, sym, ap, subst, ◌∙◌}
+use Rattle.std.proofs.Common.{rules, ◌<◌, length, false, inr, Ok, Err, refl, sym, ap, subst, ◌∙◌}
 use Rattle.std.proofs.lemmas.Result.{err_from_is_err_and}
 use Rattle.dbformat.specs.Cell.{count}
 use Rattle.dbformat.proofs.Looping.{none_at_damage}
@@ -14,7 +14,7 @@ use Rattle.dbwalk.proofs.Pages.PageVisits.{found_interior, found_damage, found_l
 use Rattle.dbwalk.proofs.Underway.CellSteps.{other_start, leaf_passed}
 use Rattle.dbwalk.proofs.Underway.Visits.{visited, visit_then, visit_alone, visit_stops, entered_past, entered_err, visited_before, page_moves, page_stops}
 use Rattle.dbwalk.proofs.Underway.Visits.{visited_at}
-use Rattle.dbwalk.proofs.Underway.Walks.{walked_as, walked_behind, walked_by}
+use Rattle.dbwalk.proofs.Underway.Walks.{walked_as, walked_behind, walked_by, walked_err}
 use Rattle.dbwalk.proofs.tree_walk.TreeWalk.visit_page.Goals as goal
 
 pub returns-in_err-tell_page-clause-log : goal.returns-in_err-tell_page-clause-log
@@ -144,3 +144,14 @@ returns-in_err-walk_leaf-in-Leaf-clause-walked g c =
     (walked_by g.S.Source.held g.K.Sink.held g.T.Taker.refusals
     (refl, refl, refl, refl, refl, same.0 ∙ c.tell_page.ensures.tree.0, same.1 ∙ c.tell_page.ensures.tree.1) c.tell_page.ensures.bench.0 refl
     c.in_ok-tell_page.ensures.writes refl tt (λ l. refl)))
+
+pub returns-in_err-tell_page-clause-walked : goal.returns-in_err-tell_page-clause-walked
+returns-in_err-tell_page-clause-walked g c =
+    let q = err_from_is_err_and c.from_residual.result c.from_residual.ensures.1 in
+    let same = c.tell_page.ensures.tree in
+    walked_err g.S.Source.held g.K.Sink.held g.T.Taker.refusals {e = WriteFailed} (q.1 ∙ ap Err q.2) (inr refl)
+    (refl, refl, refl, refl, refl, same.0, same.1) c.tell_page.ensures.bench.0 refl c.in_err-tell_page.ensures.writes refl (λ l. refl)
+
+pub walk_leaf-requires : goal.walk_leaf-requires
+walk_leaf-requires g c =
+    (search rules, (subst (λ p. length p.items < 20) (sym (c.pass_over.ensures.others.3 ∙ c.tell_page.ensures.tree.3)) c.requires.level, c.requires.page))

@@ -1,18 +1,19 @@
-use Rattle.std.proofs.Common.{arith, ◌≡◌, ◌≤◌, false, Option, Some, None, Result, Ok, Err, refl, sym, ap, subst, ◌∙◌}
+use Rattle.std.proofs.Common.{◌≡◌, ◌≤◌, false, inr, Option, Some, None, Result, Ok, Err, refl, sym, ap, subst, ◌∙◌}
 use Rattle.std.specs.Prelude.{is_some}
 use Rattle.dbbytes.specs.declared.sieve.RowSieve.{RowSieve}
 use Rattle.dbsource.specs.declared.error.RunError.{RunError}
 use Rattle.std.proofs.lemmas.Result.{err_from_is_err_and}
 use Rattle.dbformat.specs.File.{page_bytes}
+use Rattle.dbsource.specs.Errors.{is_write_failed}
 use Rattle.dbsource.specs.declared.error.RunError.TheVariants.{WriteFailed}
 use Rattle.dbsource.proofs.Logs.{has_weaker}
 use Rattle.dbsurvey.specs.Moves.{Moves, Stops}
 use Rattle.dbwalk.specs.LeafCells.{late_told, top_after}
+use Rattle.dbwalk.specs.Telling.{SinkAfter}
 use Rattle.dbwalk.proofs.Leaves.LeafErrands.{past_cell, seen_here, rowid_here, cell_here}
 use Rattle.dbwalk.proofs.Underway.Handing.{stopped_as, found_moves, found_stops}
 use Rattle.dbwalk.proofs.Underway.LeafCellRuns.{chain_stops, row_told, row_stops, key_done}
-use Rattle.std.proofs.lemmas.Grind.{common_steps}
-use Rattle.dbwalk.proofs.Underway.Walks.{tree_error, walked_as, walked_by}
+use Rattle.dbwalk.proofs.Underway.Walks.{tree_error, unread, walked_as, walked_by, walked_err}
 use Rattle.dbwalk.proofs.tree_walk.TreeWalk.walk_leaf_cell.Goals as goal
 
 gone : (o : Option RowSieve) → is_some o ≡ false → o ≡ None
@@ -100,9 +101,11 @@ returns-clause-log g c = has_weaker _ _ c.in_ok-walk_overflow.ensures.log (λ lo
     ))
 
 pub returns-in_err-walk_overflow-clause-walked : goal.returns-in_err-walk_overflow-clause-walked
-returns-in_err-walk_overflow-clause-walked g c = walked_by g.S.Source.held g.K.Sink.held g.T.Taker.refusals (refl, refl, refl, refl, refl, refl, refl)
-    c.walk_overflow.ensures.kept.0 (grind (arith, common_steps)) (grind (arith, common_steps)) (grind (arith, common_steps)) (grind (arith, common_steps))
-    (λ l. refl)
+returns-in_err-walk_overflow-clause-walked g c =
+    let q = err_from_is_err_and c.from_residual.result c.from_residual.ensures.1 in
+    let e = c.in_err-walk_overflow.ensures in
+    walked_err g.S.Source.held g.K.Sink.held g.T.Taker.refusals (q.1 ∙ ap Err q.2) e.only (refl, refl, refl, refl, refl, refl, refl)
+    c.walk_overflow.ensures.kept.0 e.reads e.writes refl (λ l. refl)
 
 -- without a sieve nothing can fail there
 pub returns-in_err-tell_row-clause-walked : goal.returns-in_err-tell_row-clause-walked
@@ -113,17 +116,24 @@ returns-in_err-tell_row-clause-walked g c =
     (e.none (gone c.walk_overflow.new.sieve (c.walk_overflow.ensures.kept.2 ∙ ap is_some (c.begin_row.ensures.other later ∙ c.requires.empty later)))).0 in
     walked_as g.S.Source.held g.K.Sink.held g.T.Taker.refusals {R = Unit {0}} (q.1 ∙ ap Err q.2)
     (walked_by g.S.Source.held g.K.Sink.held g.T.Taker.refusals (refl, refl, refl, refl, refl, refl, refl) c.walk_overflow.ensures.kept.0
-    (grind (arith, common_steps)) (grind (arith, common_steps)) (grind (arith, common_steps))
+    (unread e.only c.in_ok-walk_overflow.ensures.reads)
+    (subst (λ s. SinkAfter {A = Unit {0}} is_write_failed (Err c.in_err-tell_row.field-0.0) s (g.K.Sink.held c.tell_row.new.sink))
+    c.in_ok-walk_overflow.ensures.writes e.writes) e.refusals
     (tree_error c.args.self.now.tree.start c.in_err-tell_row.field-0.0 e.only none) (λ l. absurd (none l)))
   where
     failed : {e : RunError} → ◌≡◌ {A = Result (Unit {0}) RunError} (Err e) (Ok tt) → ⊥
     failed e = cc
 
 pub returns-in_err-tell_rowid-clause-walked : goal.returns-in_err-tell_rowid-clause-walked
-returns-in_err-tell_rowid-clause-walked g c = walked_by g.S.Source.held g.K.Sink.held g.T.Taker.refusals
-    (refl, refl, refl, refl, refl, c.tell_rowid.ensures.others.0, c.tell_rowid.ensures.others.1) c.walk_overflow.ensures.kept.0 (grind (arith, common_steps))
-    (grind (arith, common_steps)) (grind (arith, common_steps)) (grind (arith, common_steps))
-    (λ later. (c.in_ok-tell_row.ensures.none (gone c.walk_overflow.new.sieve
+returns-in_err-tell_rowid-clause-walked g c =
+    let q = err_from_is_err_and c.from_residual-in_err-tell_rowid.result c.from_residual-in_err-tell_rowid.ensures.1 in
+    let e = c.in_ok-tell_row.ensures in
+    walked_err g.S.Source.held g.K.Sink.held g.T.Taker.refusals {e = WriteFailed} (q.1 ∙ ap Err q.2) (inr refl)
+    (refl, refl, refl, refl, refl, c.tell_rowid.ensures.others.0, c.tell_rowid.ensures.others.1) c.walk_overflow.ensures.kept.0
+    c.in_ok-walk_overflow.ensures.reads
+    (subst (λ s. SinkAfter {A = Unit {0}} is_write_failed (Err WriteFailed) s (g.K.Sink.held c.tell_rowid.new.sink))
+    (e.writes ∙ c.in_ok-walk_overflow.ensures.writes) c.in_err-tell_rowid.ensures.told.count) e.refusals
+    (λ later. (e.none (gone c.walk_overflow.new.sieve
     (c.walk_overflow.ensures.kept.2 ∙ ap is_some (c.begin_row.ensures.other later ∙ c.requires.empty later)))).2)
 
 pub returns-clause-empty : goal.returns-clause-empty
