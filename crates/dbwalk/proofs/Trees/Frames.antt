@@ -1,11 +1,12 @@
 -- Frames: the pages at their levels, on any source and of a file, a bound on the turns that they still take, the way to the
 -- page after them, and a step of the last.
-use Rattle.std.proofs.Common.{◌≡◌, ℕ, suc, ◌+◌, ◌<◌, List, [], ◌∷◌, ◌++◌, length, Some, refl, ap, arith, ◌∙◌, ◌-◌, ◌*◌, ◌≤◌, Result, Ok, Err, sym, subst}
+use Rattle.std.proofs.Common.{◌≡◌, ℕ, suc, ◌+◌, ◌<◌, List, [], ◌∷◌, ◌++◌, length, Some, refl, ap, arith, ◌∙◌, ◌-◌, ◌*◌, ◌≤◌, Result, Ok, Err, sym, subst, take}
 use Rattle.dbformat.specs.Address.{child_step, cell_of_step}
 use Rattle.dbformat.specs.File.{page_bytes}
 use Rattle.std.specs.Prelude.{slice_get, OnOk}
 use Rattle.dbwalk.specs.Walking.{AreCalls, AreRead, IsOpen, AreOpen, frames_cost, cost, path_of}
 use Rattle.dbwalk.specs.declared.steps.StackFrame.{StackFrame}
+use Rattle.std.proofs.lemmas.Grind.{common_steps}
 use Rattle.std.proofs.lemmas.List.{map-append, length-map, length-append}
 use Rattle.dbformat.specs.FixedPages.{most_pages, IsPageNumber}
 use Rattle.dbformat.specs.Cell.{count}
@@ -18,6 +19,14 @@ use Rattle.dbwalk.specs.declared.steps.Next.{Next}
 use Rattle.dbwalk.specs.declared.steps.Next.TheVariants.{End, Nothing, Key, Chain, Child}
 
 -- Frames and the pages at their levels, as a turn changes them.
+
+-- what is found at a step, unless it is the end
+abbrev IsOn : Next → Type 0
+IsOn End = ⊥
+IsOn _ = Unit
+
+pub goes_on : (n : Next) → IsOn n → n ≡ End → ⊥
+goes_on n on e = subst IsOn e on
 
 -- lists that end alike
 
@@ -173,6 +182,10 @@ pub path_last : (items fs : List StackFrame) (f : StackFrame) (path : List ℕ) 
     → (gs : List StackFrame) (g : StackFrame) → items ≡ gs ++ (g ∷ []) → path ≡ path_of gs
 path_last items fs f path e p gs g h = p ∙ ap path_of (last_same fs gs f g (sym e ∙ h)).0
 
+-- its last child is taken off
+pub path_popped : (path : List ℕ) (n : ℕ) (old new : List ℕ) → old ≡ path ++ (n ∷ []) → new ≡ take (length old - 1) old → new ≡ path
+path_popped path n old new e t = grind (arith, common_steps)
+
 -- The step of the last frame.
 
 -- the page at the last frame's level
@@ -245,6 +258,9 @@ module _ (fs : List StackFrame) (f g : StackFrame) (on : g.next ≡ suc f.next) 
       let d = length-append fs (g ∷ []) in
       let e = path_length fs in
       omega arith
+
+  pub as_short : {items : List StackFrame} → items ≡ fs ++ (g ∷ []) → length children < 20 → length items < 20
+  as_short are low = subst (λ n. n < 20) (sym (ap length are ∙ as_deep)) low
 
   pub way_on : children ≡ path_of (fs ++ (g ∷ []))
   way_on = ways ∙ ap (λ s. path_of fs ++ (cell_of_step s ∷ [])) (let e : f.next ≡ g.next - 1 = omega arith in e) ∙ sym (path_push fs g)

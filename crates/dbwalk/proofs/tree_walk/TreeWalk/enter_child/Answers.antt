@@ -1,12 +1,13 @@
-use Rattle.std.proofs.Common.{rules, ◌≡◌, ℕ, ℤ, Option, ◌+◌, ◌/◌, ◌++◌, [], ◌∷◌, length, Err, refl, sym, ap, subst, arith, ◌∙◌}
+use Rattle.std.proofs.Common.{rules, ◌≡◌, ℕ, ℤ, Option, ◌+◌, ◌<◌, ◌/◌, ◌++◌, [], ◌∷◌, length, Err, refl, sym, ap, subst, arith, ◌∙◌}
 use Rattle.std.specs.Prelude.{Bool}
 use Rattle.std.proofs.lemmas.Result.{err_from_is_err_and}
 use Rattle.dbformat.specs.FixedPages.{IsPageNumber}
 use Rattle.dbsource.proofs.Logs.{has_weaker}
 use Rattle.dbwalk.specs.Walking.{IsOpen, AreOpen}
-use Rattle.dbwalk.proofs.Trees.Frames.{open_push, ends_on, ends_enter, path_last, at_step, step_on, as_deep, way_on}
+use Rattle.dbwalk.proofs.Trees.Frames.{open_push, ends_on, ends_enter, path_last, at_step, step_on, as_deep, as_short, way_on, goes_on, path_length, path_popped}
 use Rattle.dbwalk.specs.Underway.{tree_walk}
 use Rattle.dbwalk.specs.Watching.{StopsAt, fails}
+use Rattle.dbwalk.specs.declared.steps.Next.TheVariants.{Child}
 use Rattle.dbwalk.specs.declared.steps.StackFrame.{StackFrame}
 use Rattle.dbwalk.proofs.Underway.TreeSteps.{by_other}
 use Rattle.dbwalk.proofs.Underway.TreeTurns.{next_here, child_asked, child_passed, child_stopped, child_entered, turn_failed}
@@ -48,7 +49,7 @@ returns-then-not-branch-clause-open g c =
     let deep = as_deep c.args.frames.now.items c.args.frame c.stepped.result c.stepped.ensures.next c.push-2.new.self.items
     (c.push-2.ensures.items ∙ ap (λ l. l ++ (c.args.frame.next / 3 ∷ [])) c.requires.path) in
     step_on c.args.frames.now.items c.args.frame (at_step c.args.frames.now.items c.args.frame c.requires.«open» c.requires.step) c.stepped.result
-    c.stepped.ensures.page c.stepped.ensures.next (λ x. cc) c.push.ensures.items n.bench.geometry.usable n.self.tree.kind n.bench.levels
+    c.stepped.ensures.page c.stepped.ensures.next (goes_on (Child _ _) tt) c.push.ensures.items n.bench.geometry.usable n.self.tree.kind n.bench.levels
     (ap (λ s. s.usable) c.enter_page.ensures.walked.shape) c.enter_page.ensures.walked.kind (λ m l. c.enter_page.ensures.levels m (omega arith))
 
 pub returns-then-not-branch-clause-ends : goal.returns-then-not-branch-clause-ends
@@ -84,7 +85,7 @@ returns-clause-open g c =
     (open_push n.bench.geometry.usable n.self.tree.kind n.bench.levels 0 (c.args.frames.now.items ++ (c.stepped.result ∷ []))
     (frame_of c.args.page c.or-up_to.result)
     (step_on c.args.frames.now.items c.args.frame (at_step c.args.frames.now.items c.args.frame c.requires.«open» c.requires.step) c.stepped.result
-    c.stepped.ensures.page c.stepped.ensures.next (λ x. cc) refl n.bench.geometry.usable n.self.tree.kind n.bench.levels
+    c.stepped.ensures.page c.stepped.ensures.next (goes_on (Child _ _) tt) refl n.bench.geometry.usable n.self.tree.kind n.bench.levels
     (ap (λ s. s.usable) c.enter_page.ensures.walked.shape) c.enter_page.ensures.walked.kind (λ m l. c.enter_page.ensures.levels m (omega arith)))
     (subst (λ m. IsOpen n.bench.geometry.usable n.self.tree.kind n.bench.levels m c.args.page 0)
     (let z : length c.push-2.new.self.items ≡ 0 + length (c.args.frames.now.items ++ (c.stepped.result ∷ [])) = omega arith in z) opened))
@@ -128,3 +129,22 @@ returns-in_err-enter_page-clause-walked g c =
     walked_as g.S.Source.held g.K.Sink.held g.T.Taker.refusals {R = Bool} (q.1 ∙ ap Err q.2)
     (walked_behind g.S.Source.held g.K.Sink.held g.T.Taker.refusals {R = Unit {0}} {a = tt} c.in_err-enter_page.ensures.walked
     (walked_by g.S.Source.held g.K.Sink.held g.T.Taker.refusals (refl, refl, refl, refl, refl, refl, refl) refl refl refl refl tt (λ l. refl)))
+
+pub push-requires-2 : goal.push-requires-2
+push-requires-2 g c = (search rules, subst (λ n. n < 20) (sym (ap length c.requires.path ∙ path_length c.args.frames.now.items)) c.requires.few)
+
+pub push-requires-3 : goal.push-requires-3
+push-requires-3 g c = (search rules, as_short c.args.frames.now.items c.args.frame c.stepped.result c.stepped.ensures.next c.push-2.new.self.items
+    (c.push-2.ensures.items ∙ ap (λ l. l ++ (c.args.frame.next / 3 ∷ [])) c.requires.path) c.push.ensures.items
+    (c.in_ok-enter_page.ensures.«open» (search rules)).0)
+
+pub returns-clause-few : goal.returns-clause-few
+returns-clause-few g c =
+    let low = as_short c.args.frames.now.items c.args.frame c.stepped.result c.stepped.ensures.next c.push-2.new.self.items
+    (c.push-2.ensures.items ∙ ap (λ l. l ++ (c.args.frame.next / 3 ∷ [])) c.requires.path) c.push.ensures.items
+    (c.in_ok-enter_page.ensures.«open» (search rules)).0 in
+    omega (arith, low, c.push-3.ensures.len)
+
+pub returns-then-not-branch-clause-path : goal.returns-then-not-branch-clause-path
+returns-then-not-branch-clause-path g c = path_last _ _ _ _ c.push.ensures.items
+    (path_popped _ _ _ _ (ap (λ p. p.items) c.enter_page.ensures.path ∙ c.push-2.ensures.items) c.pop.ensures.rest ∙ c.requires.path)

@@ -10,10 +10,12 @@ use Rattle.dbsource.specs.Bench.{Pages}
 use Rattle.dbsource.proofs.Logs.{has_weaker}
 use Rattle.dbmarks.proofs.Readings.{log_none}
 use Rattle.dbsource.specs.declared.error.RunError.TheVariants.{WriteFailed}
-use Rattle.dbwalk.proofs.Trees.Frames.{ends_behind, ends_on, on_ok_all, next_at, at_step, step_on}
+use Rattle.dbwalk.proofs.Trees.Frames.{ends_behind, ends_on, on_ok_all, next_at, at_step, goes_on, path_last, path_popped, path_push, step_on}
 use Rattle.dbwalk.proofs.Leaves.LeafCells.{cell_size}
 use Rattle.dbwalk.proofs.Pages.Levels.{keeps_fewer}
 use Rattle.dbwalk.specs.Underway.{tree_walk}
+use Rattle.dbwalk.specs.Walking.{path_of}
+use Rattle.dbwalk.specs.declared.steps.Next.TheVariants.{Chain, Key, Nothing}
 use Rattle.dbwalk.specs.Watching.{StopsAt, fails}
 use Rattle.dbwalk.proofs.Underway.TreeSteps.{aside_done, by_other}
 use Rattle.dbwalk.proofs.Underway.Handing.{found_moves, found_stops}
@@ -62,7 +64,7 @@ returns-in-End-clause-log g c = log_none c.args.bench.now.geometry.page_size c.a
 pub returns-in-Nothing-clause-open : goal.returns-in-Nothing-clause-open
 returns-in-Nothing-clause-open g c = step_on c.args.frames.now.items c.args.frame
     (at_step c.args.frames.now.items c.args.frame c.requires.«open» (next_at refl c.in-Nothing.is c.requires.step)) c.stepped.result c.stepped.ensures.page
-    c.stepped.ensures.next (λ x. cc) c.push.ensures.items c.args.bench.now.geometry.usable c.args.self.now.tree.kind c.args.bench.now.levels refl refl
+    c.stepped.ensures.next (goes_on Nothing tt) c.push.ensures.items c.args.bench.now.geometry.usable c.args.self.now.tree.kind c.args.bench.now.levels refl refl
     (λ n l. refl)
 
 pub returns-in-Nothing-clause-ends : goal.returns-in-Nothing-clause-ends
@@ -101,7 +103,7 @@ returns-in_err-tell_key-in-Key-clause-log g c = log_none c.args.bench.now.geomet
 pub returns-in_ok-tell_key-in-Key-clause-open : goal.returns-in_ok-tell_key-in-Key-clause-open
 returns-in_ok-tell_key-in-Key-clause-open g c = step_on c.args.frames.now.items c.args.frame
     (at_step c.args.frames.now.items c.args.frame c.requires.«open» (next_at refl c.in-Key.is c.requires.step)) c.stepped-in-Key.result
-    c.stepped-in-Key.ensures.page c.stepped-in-Key.ensures.next (λ x. cc) c.push-in-Key.ensures.items c.args.bench.now.geometry.usable c.tell_key.new.self.kind
+    c.stepped-in-Key.ensures.page c.stepped-in-Key.ensures.next (goes_on (Key _) tt) c.push-in-Key.ensures.items c.args.bench.now.geometry.usable c.tell_key.new.self.kind
     c.args.bench.now.levels refl c.tell_key.ensures.others.1 (λ n l. refl)
 
 pub returns-in_ok-tell_key-in-Key-clause-ends : goal.returns-in_ok-tell_key-in-Key-clause-ends
@@ -134,7 +136,7 @@ returns-in-Chain-clause-open g c =
     let same = c.walk_unfed.ensures.bench in
     on_ok_all c.walk_unfed.result (step_on c.args.frames.now.items c.args.frame
     (at_step c.args.frames.now.items c.args.frame c.requires.«open» (next_at refl c.in-Chain.is c.requires.step)) c.stepped-in-Chain.result
-    c.stepped-in-Chain.ensures.page c.stepped-in-Chain.ensures.next (λ x. cc) c.push-in-Chain.ensures.items n.geometry.usable c.args.self.now.tree.kind
+    c.stepped-in-Chain.ensures.page c.stepped-in-Chain.ensures.next (goes_on (Chain _ _ _) tt) c.push-in-Chain.ensures.items n.geometry.usable c.args.self.now.tree.kind
     n.levels (ap (λ (p : Pages). p.geometry.usable) same) refl (λ m l. ap (λ (p : Pages). slice_get p.levels m) same))
 
 pub returns-in-Chain-clause-ends : goal.returns-in-Chain-clause-ends
@@ -179,3 +181,24 @@ returns-in-Chain-clause-walked g c =
     walked_by g.S.Source.held g.K.Sink.held g.T.Taker.refusals (refl, refl, refl, refl, refl, refl, refl) (ap (λ (p : Pages). p.geometry) done.bench) done.reads
     done.writes (none_refused c.walk_unfed.result (g.T.Taker.refusals c.args.self.now.taker.now) done.only)
     (read_or_write c.args.self.now.tree.start c.walk_unfed.result done.only) (λ l. refl)
+
+pub enter_child-requires : goal.enter_child-requires
+enter_child-requires g c =
+    let r = c.requires in
+    (search rules, (r.few, (r.«open», (r.path, next_at refl c.in-Child.is r.step))))
+
+pub returns-in-End-clause-path : goal.returns-in-End-clause-path
+returns-in-End-clause-path g c = λ fs f e. path_popped _ _ _ _ (c.requires.path ∙ ap path_of e ∙ path_push fs f) c.pop.ensures.rest
+
+pub returns-in-Nothing-clause-path : goal.returns-in-Nothing-clause-path
+returns-in-Nothing-clause-path g c = path_last _ _ _ _ c.push.ensures.items c.requires.path
+
+pub returns-in_ok-tell_key-in-Key-clause-path : goal.returns-in_ok-tell_key-in-Key-clause-path
+returns-in_ok-tell_key-in-Key-clause-path g c =
+    path_last _ _ _ _ c.push-in-Key.ensures.items (ap (λ p. p.items) c.tell_key.ensures.others.3 ∙ c.requires.path)
+
+pub returns-in-Chain-clause-path : goal.returns-in-Chain-clause-path
+returns-in-Chain-clause-path g c = on_ok_all c.walk_unfed.result (path_last _ _ _ _ c.push-in-Chain.ensures.items c.requires.path)
+
+pub returns-in-Chain-clause-few : goal.returns-in-Chain-clause-few
+returns-in-Chain-clause-few g c = on_ok_all c.walk_unfed.result (omega (arith, c.push-in-Chain.ensures.len, c.requires.few))
