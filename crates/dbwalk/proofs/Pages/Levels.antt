@@ -6,10 +6,16 @@ use Rattle.std.specs.Option.{option_map_or}
 use Rattle.std.proofs.lemmas.Bool.Decides.{nat_tests}
 use Rattle.std.proofs.lemmas.List.{length-map}
 use Rattle.std.proofs.lemmas.List.Sums.{sum_by-cons}
+use Rattle.dbformat.specs.FixedPages.{IsInRange}
+use Rattle.dbformat.specs.declared.Geometry.{Geometry}
 use Rattle.dbsource.specs.Bench.{Pages, with_level}
 use Rattle.dbmarks.specs.Marking.{page_mark, is_none, unmarked_pages, cleared, KeepsMarks}
 use Rattle.dbmarks.specs.declared.marks.Mark.{Mark}
 use Rattle.dbwalk.specs.Found.{HasPageAt}
+
+-- a page has all usable bytes
+pub whole_page : {g h : Geometry} {n : ℕ} → g ≡ h → IsInRange g → n ≡ h.page_size → g.usable ≤ n
+whole_page e range l = omega (arith, range.usable, ap (λ g. g.page_size) e)
 
 get_set : {X : Type 0} (xs : List X) (i : ℕ) (x y : X) → slice_get (set xs i x) i ≡ Some y → y ≡ x
 get_set [] i x y e = cc

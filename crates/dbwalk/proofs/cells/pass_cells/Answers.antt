@@ -3,6 +3,7 @@ use Rattle.dbformat.specs.Cell.{count}
 use Rattle.dbsource.specs.Bench.{bytes_at}
 use Rattle.dbwalk.specs.LeafCells.{AreRisingFrom}
 use Rattle.dbwalk.proofs.Leaves.LeafCells.{seen, same_view}
+use Rattle.dbwalk.proofs.Pages.Levels.{whole_page}
 use Rattle.dbwalk.proofs.cells.pass_cells.Goals as goal
 
 pub returns-clause-passed : goal.returns-clause-passed
@@ -19,3 +20,6 @@ returns-clause-passed g c =
           subst (λ v. (rise.end ≤ count v) × AreRisingFrom c.args.page v c.args.from (rise.end - c.args.from) t.greatest rise.greatest) same
           (c.rise_from-rise.ensures.within.1, c.rise_from-rise.ensures.rising);
     }
+
+pub undamaged-requires-clause-whole : goal.undamaged-requires-clause-whole
+undamaged-requires-clause-whole g c = whole_page c.geometry-usable.ensures.value c.geometry-usable.ensures.range c.page.ensures.len

@@ -85,3 +85,6 @@ returns-clause-log g c =
     (ap (λ s. s - 4) u) n ((v e).told (on.visited ++ (on.d ∷ [])) on.d on.step.page on.left on.on
     (head_visited file c.args.chain.now on.visited c.args.place.number on.d on.on on.head)) l (v e).next c.visit_overflow.new.sieve
     ((v e).fed on.d on.step.page on.left))
+
+pub visit_overflow-requires : goal.visit_overflow-requires
+visit_overflow-requires g c = (search rules, ((c.in_ok-enter.ensures.page (search rules)).0, c.requires.place.counted))

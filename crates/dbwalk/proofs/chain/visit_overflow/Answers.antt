@@ -1,4 +1,4 @@
-use Rattle.std.proofs.Common.{◌+◌, false, Ok, Err, sym, ap, ap₂, subst, ◌∙◌}
+use Rattle.std.proofs.Common.{◌+◌, false, Ok, Err, arith, sym, ap, ap₂, subst, ◌∙◌}
 use Rattle.std.proofs.lemmas.Result.{err_from_is_err_and}
 use Rattle.dbsurvey.specs.Moves.{Moves}
 use Rattle.dbformat.specs.File.{page_bytes}
@@ -16,6 +16,7 @@ use Rattle.dbtrace.specs.declared.Cause.TheVariants as cause
 use Rattle.dbwalk.proofs.Chaining.Heads.{head_cause}
 use Rattle.dbwalk.proofs.Chaining.Overflows.{page_read, told_is, moves_none}
 use Rattle.dbmarks.proofs.Readings.{log_load}
+use Rattle.dbwalk.proofs.Pages.Levels.{whole_page}
 use Rattle.dbwalk.proofs.chain.visit_overflow.Goals as goal
 
 pub returns-in_err-load-clause-log : goal.returns-in_err-load-clause-log
@@ -81,3 +82,13 @@ returns-clause-log g c =
           ∙ sym (held_is file d c.args.left l))
           c.feed_page.ensures.fed;
     })
+
+pub next_page-next-requires : goal.next_page-next-requires
+next_page-next-requires g c =
+    let range = c.geometry-usable.ensures.range in
+    (omega (arith, range.usable), whole_page c.geometry-usable.ensures.value range c.page.ensures.len)
+
+pub feed_page-requires : goal.feed_page-requires
+feed_page-requires g c =
+    let range = c.geometry-usable.ensures.range in
+    (omega (arith, range.usable), whole_page c.geometry-usable.ensures.value range c.page-2.ensures.len)

@@ -51,3 +51,6 @@ returns-clause-log g c = log_then _ _ (ap (λ b. b.geometry.page_size) c.loop-ne
     subst (λ o. Turns g.K.Sink.takes g.K.Sink.drops file W d c.args.sink.now c.args.chain.now (Ok o) c.enter_overflow.new.marks c.enter_overflow.new.sink
     c.args.sieve.now c.enter_overflow.new.sieve) c.in_default.is
     (turned (ap (λ b. b.geometry) c.loop-next.invariant.bench ∙ e) W d c.args.sink.now c.args.sieve.now (way e W d h next m)))
+
+pub loop-next-smaller : goal.loop-next-smaller
+loop-next-smaller g c = (subst (λ o. IfSome o (λ next. IsPlace next × (next.left < c.loop-next.place.left))) c.in-Some.is c.in_ok-next.ensures.next).1

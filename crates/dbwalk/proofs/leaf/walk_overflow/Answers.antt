@@ -1,4 +1,6 @@
-use Rattle.std.proofs.Common.{refl, sym, subst}
+use Rattle.std.proofs.Common.{rules, ◌≤◌, refl, sym, subst}
+use Rattle.std.specs.Prelude.{IfSome}
+use Rattle.dbformat.specs.Payload.{most_payload}
 use Rattle.dbsource.proofs.Logs.{has_weaker}
 use Rattle.dbsurvey.specs.InOrder.{IsPast}
 use Rattle.dbwalk.specs.Done.{IsDone}
@@ -26,3 +28,6 @@ returns-in-Some-clause-log g c = has_weaker _ _ c.walk_chain.ensures.log (λ log
       on_ok c.walk_chain.result k.1 (feeds_chain file U d c.args.i c.in-Some.first c.in-Some.left c.args.cell.overflow c.args.sieve.now c.walk_chain.new.sieve
           c.in-Some.is next),
     ))
+
+pub walk_chain-requires : goal.walk_chain-requires
+walk_chain-requires g c = (search rules, (c.requires.0, subst (λ o. IfSome o (λ o. o.1 ≤ most_payload)) c.in-Some.is c.requires.1))

@@ -1,4 +1,4 @@
-use Rattle.std.proofs.Common.{rules, ℤ, Option, ◌+◌, sym, ap, ◌∙◌}
+use Rattle.std.proofs.Common.{rules, ℤ, Option, ◌+◌, arith, sym, ap, ◌∙◌}
 use Rattle.std.proofs.lemmas.Result.{err_from_is_err_and}
 use Rattle.std.specs.Prelude.{slice_get}
 use Rattle.dbformat.specs.Head.{undamaged}
@@ -6,6 +6,7 @@ use Rattle.dbtrace.specs.Progress.{key_value}
 use Rattle.dbtrace.specs.declared.RowidBounds.{RowidBounds}
 use Rattle.dbwalk.specs.Found.{damage_fault}
 use Rattle.dbwalk.specs.declared.page_report.PageFound.TheVariants.{Damaged, Interior, Leaf}
+use Rattle.dbwalk.proofs.Pages.Levels.{whole_page}
 use Rattle.dbwalk.proofs.Pages.PageVisits.{exit_damaged, exit_damaged_stop, exit_stop, exit_interior, exit_leaf, exit_leaf_stop}
 use Rattle.dbwalk.proofs.page_report.tell_page.Goals as goal
 
@@ -123,3 +124,31 @@ returns-clause-open g c =
       };
       span = c.in_ok-keys-in-Ok.ensures.keys;
     }
+
+pub returns-then-is_interior-clause-open : goal.returns-then-is_interior-clause-open
+returns-then-is_interior-clause-open g c = record {
+  low = c.requires.page;
+  bytes = c.uses-uses.result.0.now;
+  there = ap (slice_get c.args.bench.now.levels) (sym c.len-level.ensures.value) ∙ c.uses-uses.ensures.page;
+  view = c.in-Ok.view;
+  viewed = ap (λ s. undamaged c.args.tree.now.kind c.args.page s.usable c.uses-uses.result.0.now) (sym c.geometry-usable.ensures.value) ∙ c.in-Ok.ensures.view;
+  interior = search rules;
+  within = omega arith;
+}
+
+pub returns-in-Err-clause-open : goal.returns-in-Err-clause-open
+returns-in-Err-clause-open g c = record {
+  bytes = c.uses-uses.result.0.now;
+  there = ap (slice_get c.args.bench.now.levels) (sym c.len-level.ensures.value) ∙ c.uses-uses.ensures.page;
+  viewed = ap (λ s. undamaged c.args.tree.now.kind c.args.page s.usable c.uses-uses.result.0.now) (sym c.geometry-usable.ensures.value) ∙ c.in-Err.ensures.view;
+}
+
+pub undamaged-requires-clause-whole : goal.undamaged-requires-clause-whole
+undamaged-requires-clause-whole g c = whole_page c.geometry-usable.ensures.value c.geometry-usable.ensures.range c.uses-uses.ensures.len.0
+
+pub tell_damaged-requires-clause-whole : goal.tell_damaged-requires-clause-whole
+tell_damaged-requires-clause-whole g c = whole_page c.geometry-usable.ensures.value c.geometry-usable.ensures.range c.uses-uses.ensures.len.0
+
+pub tell_undamaged-requires-clause-room : goal.tell_undamaged-requires-clause-room
+tell_undamaged-requires-clause-room g c =
+    rw c.in-Ok.ensures.of.1 (whole_page c.geometry-usable.ensures.value c.geometry-usable.ensures.range c.uses-uses.ensures.len.1)

@@ -1,6 +1,7 @@
 use Rattle.std.proofs.Common.{◌≤◌, None, Some, refl, ap, arith}
 use Rattle.dbwalk.specs.declared.steps.Next.TheVariants.{End, Nothing}
 use Rattle.dbwalk.proofs.Leaves.LeafCells.{none_seen, has_next, at_step}
+use Rattle.dbwalk.proofs.Pages.Levels.{whole_page}
 use Rattle.dbwalk.proofs.steps.step_of.Goals as goal
 
 pub returns-in_default-clause-next : goal.returns-in_default-clause-next
@@ -29,3 +30,6 @@ returns-clause-next g c =
     s c.next_from-next.result.1
     (λ v e. at_step c.in-Ok.view v e c.geometry-usable.result.usable most c.in-Ok.ensures.of.1 c.cells.result c.cells.ensures.number c.cells.ensures.few s s
     refl c.next_from-next.result.1 c.next_from-next.ensures.next)
+
+pub undamaged-requires-clause-whole : goal.undamaged-requires-clause-whole
+undamaged-requires-clause-whole g c = whole_page c.geometry-usable.ensures.value c.geometry-usable.ensures.range c.page.ensures.len

@@ -134,9 +134,12 @@ pub push-requires-2 : goal.push-requires-2
 push-requires-2 g c = (search rules, subst (λ n. n < 20) (sym (ap length c.requires.path ∙ path_length c.args.frames.now.items)) c.requires.few)
 
 pub push-requires-3 : goal.push-requires-3
-push-requires-3 g c = (search rules, as_short c.args.frames.now.items c.args.frame c.stepped.result c.stepped.ensures.next c.push-2.new.self.items
-    (c.push-2.ensures.items ∙ ap (λ l. l ++ (c.args.frame.next / 3 ∷ [])) c.requires.path) c.push.ensures.items
-    (c.in_ok-enter_page.ensures.«open» (search rules)).0)
+push-requires-3 g c = (
+  search rules,
+  as_short c.args.frames.now.items c.args.frame c.stepped.result c.stepped.ensures.next c.push-2.new.self.items
+      (c.push-2.ensures.items ∙ ap (λ l. l ++ (c.args.frame.next / 3 ∷ [])) c.requires.path) c.push.ensures.items
+      (c.in_ok-enter_page.ensures.«open» (search rules)).0,
+)
 
 pub returns-clause-few : goal.returns-clause-few
 returns-clause-few g c =

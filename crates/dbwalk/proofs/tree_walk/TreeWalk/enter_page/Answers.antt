@@ -181,9 +181,13 @@ load-requires g c =
 
 pub visit_page-requires : goal.visit_page-requires
 visit_page-requires g c =
-    let low = c.tree_step-step.ensures.shallow (c.in_ok-enter.ensures.shallow (search rules)) in
-    (search rules, (subst (λ n. n < 20) c.len-level.ensures.value low,
-    subst IsPageNumber c.tree_step-step.ensures.page (c.in_ok-enter.ensures.page (search rules)).1))
+    let low = c.tree_step-step.ensures.shallow (c.in_ok-enter.ensures.shallow (search rules)) in (
+      search rules,
+      (
+        subst (λ n. n < 20) c.len-level.ensures.value low,
+        subst IsPageNumber c.tree_step-step.ensures.page (c.in_ok-enter.ensures.page (search rules)).1,
+      ),
+    )
 
 pub returns-then-not-branch-clause-fewer : goal.returns-then-not-branch-clause-fewer
 returns-then-not-branch-clause-fewer g c =

@@ -149,3 +149,7 @@ returns-clause-levels g c = c.loop-i.invariant.levels
 
 pub returns-clause-tree : goal.returns-clause-tree
 returns-clause-tree g c = c.loop-i.invariant.tree
+
+pub pass_cells-i-requires-in-loop-i : goal.pass_cells-i-requires-in-loop-i
+pass_cells-i-requires-in-loop-i g c =
+    (search rules, subst (λ p. length p.items < 20) (sym (c.in_ok-walk_leaf_cell.ensures.tree.3 ∙ c.loop-i.invariant.tree.3)) c.requires.level)

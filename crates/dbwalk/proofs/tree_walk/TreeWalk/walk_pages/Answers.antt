@@ -154,3 +154,6 @@ returns-in_err-take_step-clause-walked g c =
 
 pub returns-clause-walked : goal.returns-clause-walked
 returns-clause-walked g c = c.loop-frame.invariant.walked
+
+pub push-requires : goal.push-requires
+push-requires g c = (search rules, omega (arith, ap length c.new-frames.ensures))
