@@ -81,8 +81,8 @@ module _ {A S K T : Type 0} (told : S → SourceState) (held : K → SinkState) 
       subst (λ r. Walked told held refusals r g g' old new) (sym q) (walked_by (same_of w) w.shape w.reads w.writes w.refused w.only w.others)
 
   -- an error of the source or of the sink
-  pub walked_err : {R : Type 0} {r : Result R RunError} {e : RunError} {g h : Geometry} {old new : TreeWalk A S K T} → r ≡ Err e → IsReadOrWrite e → IsSame old new
-      → h ≡ g → (told new.source.now).failures ≡ failures_after {A = Unit {0}} is_read_failed (Err e) (told old.source.now).failures
+  pub walked_err : {R : Type 0} {r : Result R RunError} {e : RunError} {g h : Geometry} {old new : TreeWalk A S K T} → r ≡ Err e → IsReadOrWrite e
+      → IsSame old new → h ≡ g → (told new.source.now).failures ≡ failures_after {A = Unit {0}} is_read_failed (Err e) (told old.source.now).failures
       → SinkAfter {A = Unit {0}} is_write_failed (Err e) (held old.sink.now) (held new.sink.now) → refusals new.taker.now ≡ refusals old.taker.now
       → (1 ≤ old.tree.start → new.taker.now ≡ old.taker.now) → Walked told held refusals r g h old new
   walked_err {e = e} q only same shape reads writes kept others = walked_as {R = Unit {0}} q

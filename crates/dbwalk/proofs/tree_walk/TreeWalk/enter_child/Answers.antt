@@ -4,7 +4,8 @@ use Rattle.std.proofs.lemmas.Result.{err_from_is_err_and}
 use Rattle.dbformat.specs.FixedPages.{IsPageNumber}
 use Rattle.dbsource.proofs.Logs.{has_weaker}
 use Rattle.dbwalk.specs.Walking.{IsOpen, AreOpen}
-use Rattle.dbwalk.proofs.Trees.Frames.{open_push, ends_on, ends_enter, path_last, at_step, step_on, as_deep, as_short, way_on, goes_on, path_length, path_popped}
+use Rattle.dbwalk.proofs.Trees.Frames.{open_push, ends_on, ends_enter, path_last, at_step, step_on, as_deep, as_short, way_on, goes_on}
+use Rattle.dbwalk.proofs.Trees.Frames.{path_length, path_popped}
 use Rattle.dbwalk.specs.Underway.{tree_walk}
 use Rattle.dbwalk.specs.Watching.{StopsAt, fails}
 use Rattle.dbwalk.specs.declared.steps.Next.TheVariants.{Child}

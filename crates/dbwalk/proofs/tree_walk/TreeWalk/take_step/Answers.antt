@@ -64,8 +64,8 @@ returns-in-End-clause-log g c = log_none c.args.bench.now.geometry.page_size c.a
 pub returns-in-Nothing-clause-open : goal.returns-in-Nothing-clause-open
 returns-in-Nothing-clause-open g c = step_on c.args.frames.now.items c.args.frame
     (at_step c.args.frames.now.items c.args.frame c.requires.«open» (next_at refl c.in-Nothing.is c.requires.step)) c.stepped.result c.stepped.ensures.page
-    c.stepped.ensures.next (goes_on Nothing tt) c.push.ensures.items c.args.bench.now.geometry.usable c.args.self.now.tree.kind c.args.bench.now.levels refl refl
-    (λ n l. refl)
+    c.stepped.ensures.next (goes_on Nothing tt) c.push.ensures.items c.args.bench.now.geometry.usable c.args.self.now.tree.kind c.args.bench.now.levels refl
+    refl (λ n l. refl)
 
 pub returns-in-Nothing-clause-ends : goal.returns-in-Nothing-clause-ends
 returns-in-Nothing-clause-ends g c = ends_on c.args.self.now.marks.now c.args.self.now.marks.now c.args.frames.now.items c.args.frame c.stepped.result
@@ -103,8 +103,8 @@ returns-in_err-tell_key-in-Key-clause-log g c = log_none c.args.bench.now.geomet
 pub returns-in_ok-tell_key-in-Key-clause-open : goal.returns-in_ok-tell_key-in-Key-clause-open
 returns-in_ok-tell_key-in-Key-clause-open g c = step_on c.args.frames.now.items c.args.frame
     (at_step c.args.frames.now.items c.args.frame c.requires.«open» (next_at refl c.in-Key.is c.requires.step)) c.stepped-in-Key.result
-    c.stepped-in-Key.ensures.page c.stepped-in-Key.ensures.next (goes_on (Key _) tt) c.push-in-Key.ensures.items c.args.bench.now.geometry.usable c.tell_key.new.self.kind
-    c.args.bench.now.levels refl c.tell_key.ensures.others.1 (λ n l. refl)
+    c.stepped-in-Key.ensures.page c.stepped-in-Key.ensures.next (goes_on (Key _) tt) c.push-in-Key.ensures.items c.args.bench.now.geometry.usable
+    c.tell_key.new.self.kind c.args.bench.now.levels refl c.tell_key.ensures.others.1 (λ n l. refl)
 
 pub returns-in_ok-tell_key-in-Key-clause-ends : goal.returns-in_ok-tell_key-in-Key-clause-ends
 returns-in_ok-tell_key-in-Key-clause-ends g c = ends_on c.args.self.now.marks.now c.args.self.now.marks.now c.args.frames.now.items c.args.frame
@@ -136,8 +136,8 @@ returns-in-Chain-clause-open g c =
     let same = c.walk_unfed.ensures.bench in
     on_ok_all c.walk_unfed.result (step_on c.args.frames.now.items c.args.frame
     (at_step c.args.frames.now.items c.args.frame c.requires.«open» (next_at refl c.in-Chain.is c.requires.step)) c.stepped-in-Chain.result
-    c.stepped-in-Chain.ensures.page c.stepped-in-Chain.ensures.next (goes_on (Chain _ _ _) tt) c.push-in-Chain.ensures.items n.geometry.usable c.args.self.now.tree.kind
-    n.levels (ap (λ (p : Pages). p.geometry.usable) same) refl (λ m l. ap (λ (p : Pages). slice_get p.levels m) same))
+    c.stepped-in-Chain.ensures.page c.stepped-in-Chain.ensures.next (goes_on (Chain _ _ _) tt) c.push-in-Chain.ensures.items n.geometry.usable
+    c.args.self.now.tree.kind n.levels (ap (λ (p : Pages). p.geometry.usable) same) refl (λ m l. ap (λ (p : Pages). slice_get p.levels m) same))
 
 pub returns-in-Chain-clause-ends : goal.returns-in-Chain-clause-ends
 returns-in-Chain-clause-ends g c =
