@@ -204,8 +204,8 @@ const ENTRIES: usize = DESK + 100 * 264;
 // A bit a page for those that are zeros.
 const ZEROS: usize = ENTRIES + 16;
 
-// 16 bytes for each of 65538 starts, and a bit a page.
-const STARTS: usize = ZEROS + 65538 * 16;
+// 16 bytes for each of 65537 starts, all but the freelist's; and a bit a page.
+const STARTS: usize = ZEROS + 65537 * 16;
 
 const FAULTY: usize = STARTS + 16;
 

@@ -98,10 +98,10 @@ const DESK: usize = 22 * 512 + 32;
 // Four bytes a page for the trees.
 const TREES: usize = DESK + 32;
 
-// 8 bytes for each of 65538 starts.
-const TALLY: usize = TREES + 65538 * 8;
+// 8 bytes for each of 65537 starts, all but the freelist's. The heap gives units of 16 bytes.
+const TALLY: usize = TREES + 65537 * 8 + 8;
 
-// 8 bytes for each of 7 squares. The heap gives units of 16 bytes.
+// 8 bytes for each of 7 squares.
 const SQUARES: usize = TALLY + 64;
 
 // And a bit a page for those with a fault, and one for those with the strong frame.
