@@ -7,7 +7,9 @@
 
 use anyhow::{Context, Result};
 use dbbytes::{WriteFailed, name_text};
-use dbscan::{Desk, Header, Marks, Notice, PageKind, PageType, Reporter, RowKind, STARTS, scan};
+use dbscan::{
+    Desk, Header, Marks, Notice, PageKind, PageType, Reporter, RowKind, StartTable, scan,
+};
 use dbsource::{FileSource, Geometry, MemOut, Source};
 use std::alloc::{Allocator, Global};
 use std::env;
@@ -15,7 +17,7 @@ use std::env;
 /// How many rows there are at each start.
 #[derive(Drop)]
 struct RowCounts {
-    starts: Vec<u64>,
+    starts: StartTable<u64>,
 }
 
 impl Reporter for RowCounts {
@@ -34,9 +36,8 @@ impl Reporter for RowCounts {
                 PageType::Tree(_) => page.counts.ncell,
                 PageType::Damaged | PageType::Overflow => 0,
             };
-            if let Some(count) = self.starts.get_mut(start.number() as usize) {
-                *count = count.saturating_add(rows);
-            }
+            let count = self.starts.get(start.number()).unwrap_or(0);
+            self.starts.set(start.number(), count.saturating_add(rows));
         }
         Ok(())
     }
@@ -53,7 +54,7 @@ impl Reporter for RowCounts {
 /// Scans a file, and counts the rows at each start.
 fn count_rows(alloc: Global, desk: &mut Desk, source: &mut impl Source) -> Result<RowCounts> {
     let mut rows = RowCounts {
-        starts: vec![in alloc; 0; STARTS]?,
+        starts: StartTable::new_in(alloc, 0)?,
     };
     desk.renew();
     scan(desk, source, &mut rows)?;
@@ -67,7 +68,7 @@ fn print_rows(rt: &(impl Print + AllocGlobal), desk: &Desk, rows: &RowCounts) ->
             continue;
         };
         if row.kind == RowKind::Table {
-            let count = rows.starts.get(start as usize).copied().unwrap_or(0);
+            let count = rows.starts.get(start).unwrap_or(0);
             let mut name = MemOut::new(rt.alloc());
             name_text(
                 row.name.unwrap_or(b"?"),

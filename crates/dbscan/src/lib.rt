@@ -42,7 +42,7 @@ pub use placed::{faults_are_of_reached_pages, faults_are_told_with_their_causes}
 pub use reporter::Reporter;
 pub use roots::RootList;
 pub use scans::scan;
-pub use start::{STARTS, Start};
+pub use start::Start;
 pub use start_table::StartTable;
 pub use tell::tell_header;
 pub use walks::walk_starts;

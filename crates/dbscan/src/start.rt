@@ -6,9 +6,6 @@ ghost use Rattle.dbscan.specs.Starts.{at_freelist, at_schema};
 use dbformat::{FREELIST_START, SCHEMA_START};
 use std::marker::Model;
 
-/// How many starts a file may have: the schema, 65536 roots, and the freelist.
-pub const STARTS: usize = FREELIST_START as usize + 1;
-
 /// A start of a file: the schema, a root that it names, or the freelist.
 #[derive(Drop)]
 pub struct Start<'a> {
