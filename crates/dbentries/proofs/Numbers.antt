@@ -1,6 +1,6 @@
 -- A list with one element changed.
 use Rattle.std.proofs.Common.{◌≡◌, ℕ, zero, suc, ◌<◌, ◌≤◌, List, [], ◌∷◌, length, map, take, drop, get_or, set, refl, ap, arith}
-use Rattle.std.specs.List.{sum_by, slice_get}
+use Rattle.std.specs.List.{sum_by}
 use Rattle.std.proofs.lemmas.List.Sums.{sum_by-cons}
 use Rattle.dbentries.specs.Listing.{changed_at}
 
@@ -50,11 +50,3 @@ pub changed-set : {X : Type 0} (f : X → X) (i : ℕ) (xs : List X) (d : X) →
 changed-set f i [] d h = refl
 changed-set f zero (x ∷ xs) d h = refl
 changed-set f (suc i) (x ∷ xs) d h = ap (λ l. x ∷ l) (changed-set f i xs d (omega arith))
-
--- what is found in a part of a list
-pub get-take : {X : Type 0} (n i : ℕ) (xs : List X) → i < n → slice_get (take n xs) i ≡ slice_get xs i
-get-take zero i [] h = refl
-get-take (suc n) i [] h = refl
-get-take zero i (x ∷ xs) h = absurd (let no : ⊥ = omega arith in no)
-get-take (suc n) zero (x ∷ xs) h = refl
-get-take (suc n) (suc i) (x ∷ xs) h = get-take n i xs (omega arith)
