@@ -97,6 +97,26 @@ $(numbers 2380000) INSERT INTO t
     SELECT $mixed, printf('%08x-%08x', i * 2246822519 % 4294967296, i), printf('%0*d', 50 + i % 100, i) FROM n;
 SQL
 
+# The adding program: it reads each page of 4096 bytes once, and adds up its words of eight bytes.
+cat > "$folder/add.c" <<'END'
+#include <fcntl.h>
+#include <stdint.h>
+#include <stdio.h>
+#include <unistd.h>
+
+int main(int count, char **words)
+{
+    static uint64_t page[512];
+    uint64_t sum = count;
+    int file = open(words[1], O_RDONLY);
+    for (off_t at = 0; pread(file, page, sizeof page, at) == sizeof page; at += sizeof page)
+        for (int word = 0; word < 512; word++)
+            sum += page[word];
+    printf("%llx\n", (unsigned long long)sum);
+}
+END
+cc -O2 -o "$folder/add" "$folder/add.c"
+
 # The present time, in microseconds.
 now() {
     echo "${EPOCHREALTIME/./}"
@@ -146,20 +166,21 @@ memory() {
 }
 
 sqlite3 --version | cut -d ' ' -f 1,2
-echo '| File | MiB | cat | quick_check | check | to it | to cat | dbstat | stat | to it | memory |'
-echo '|---|---|---|---|---|---|---|---|---|---|---|'
+echo '| File | MiB | cat | adding | quick_check | check | to it | to cat | to adding | dbstat | stat | to it | memory |'
+echo '|---|---|---|---|---|---|---|---|---|---|---|---|---|'
 for file in "$folder"/*.db; do
     time=()
     for _ in $(seq "$rounds"); do
         least cat cat "$file"
+        least adding "$folder/add" "$file"
         least quick sqlite3 "$file" 'PRAGMA quick_check'
         least check "$dbck" check "$file"
         least dbstat sqlite3 "$file" 'SELECT * FROM dbstat'
         least stat "$dbck" stat "$file"
     done
-    printf '| %s | %d | %s | %s | %s | %s | %s | %s | %s | %s | %s, %s |\n' "$(basename "$file" .db)" \
-        $(($(stat -c %s "$file") / 1048576)) "$(millis cat)" "$(millis quick)" "$(millis check)" "$(ratio check quick)" \
-        "$(ratio check cat)" "$(millis dbstat)" "$(millis stat)" "$(ratio stat dbstat)" "$(memory check "$file")" "$(memory stat "$file")"
+    printf '| %s | %d | %s | %s | %s | %s | %s | %s | %s | %s | %s | %s | %s, %s |\n' "$(basename "$file" .db)" \
+        $(($(stat -c %s "$file") / 1048576)) "$(millis cat)" "$(millis adding)" "$(millis quick)" "$(millis check)" "$(ratio check quick)" \
+        "$(ratio check cat)" "$(ratio check adding)" "$(millis dbstat)" "$(millis stat)" "$(ratio stat dbstat)" "$(memory check "$file")" "$(memory stat "$file")"
 done
 
 if ! { [ "$(id -u)" = 0 ] && echo 3 > /proc/sys/vm/drop_caches; } 2> /dev/null; then
