@@ -97,7 +97,7 @@ $(numbers 2380000) INSERT INTO t
     SELECT $mixed, printf('%08x-%08x', i * 2246822519 % 4294967296, i), printf('%0*d', 50 + i % 100, i) FROM n;
 SQL
 
-# The adding program: it reads each page of 4096 bytes once, and adds up its words of eight bytes.
+# The adding program, made by cc: it reads each page of 4096 bytes once, and adds up its words of eight bytes.
 cat > "$folder/add.c" <<'END'
 #include <fcntl.h>
 #include <stdint.h>
@@ -107,7 +107,7 @@ cat > "$folder/add.c" <<'END'
 int main(int count, char **words)
 {
     static uint64_t page[512];
-    uint64_t sum = count;
+    uint64_t sum = 0;
     int file = open(words[1], O_RDONLY);
     for (off_t at = 0; pread(file, page, sizeof page, at) == sizeof page; at += sizeof page)
         for (int word = 0; word < 512; word++)
