@@ -34,7 +34,7 @@ use Rattle.dbscan.specs.Roots.{AreListed, listed_rows}
 use Rattle.dbtrace.specs.declared.Part.{Part}
 use Rattle.dbtrace.specs.declared.Part.TheVariants as part
 use Rattle.dbtrace.specs.declared.Reported.{Reported}
-use Rattle.dbformat.proofs.BelowStarts.{length_taken, rows_start}
+use Rattle.dbformat.proofs.BelowStarts.{before_freelist, length_taken, rows_start}
 use Rattle.dbscan.specs.Placed.{told_faults}
 use Rattle.dbscan.proofs.Reached.{of_starts}
 use Rattle.dbentries.specs.Lines.{indented}
@@ -85,6 +85,12 @@ start_is k part.Header e = cc
 start_is k (part.Start j) e = ap part.Start (eqb-true j k e)
 start_is k part.End e = cc
 
+at_most : (k n : ℕ) → k < n → k ≤ n
+at_most k n h = omega arith
+
+room : (k n : ℕ) → k < n → 0 + suc k ≤ n
+room k n h = omega arith
+
 module _ (file : List ℕ) (V : List Reference) (s : Survey file V) where
   abbrev ts : List Reported
   ts = told_faults file V
@@ -120,19 +126,22 @@ module _ (file : List ℕ) (V : List Reference) (s : Survey file V) where
   none_free : freelist_starts file ≡ [] → start_count ts freelist_start ≡ 0
   none_free none = count_none (λ (t : Reported). is_part_of_start freelist_start t.part) ts (λ t i. by_case t i (is_part_of_start freelist_start t.part) refl)
     where
-      no_step : (l : Link Way) → IsIn l (schema_link ∷ (map (root_start file) (enumerate_from 1 rows) ++ freelist_starts file)) → freelist_start ≡ l.step → ⊥
-      no_step l (inl e) f = let d : l.step ≡ 0 = ap (λ (l : Link Way). l.step) e in let x : ⊥ = omega (arith, d, f) in x
-      no_step l (inr i) f = elim (IsIn-cases l (map (root_start file) (enumerate_from 1 rows)) (freelist_starts file) i) [
-        | inl j ↦ (let h = (rows_start file 1 rows l j).1 in let w = few in let x : ⊥ = omega (arith, h, w, f) in x)
-        | inr j ↦ subst (IsIn l) none j
+      before : (l : Link Way) → IsIn l (schema_link ∷ (map (root_start file) (enumerate_from 1 rows) ++ freelist_starts file)) → l.step < freelist_start
+      before l (inl e) = subst (λ k. k < freelist_start) (sym (ap (λ (l : Link Way). l.step) e)) (before_freelist 0 0 (omega arith) (omega arith))
+      before l (inr i) = elim (IsIn-cases l (map (root_start file) (enumerate_from 1 rows)) (freelist_starts file) i) [
+        | inl j ↦ before_freelist l.step (length rows) (rows_start file 1 rows l j).1 few
+        | inr j ↦ absurd (subst (IsIn l) none j)
       ]
+
+      not_both : (a b : ℕ) → a ≡ b → b < a → ⊥
+      not_both a b e l = omega arith
 
       by_case : (t : Reported) → IsIn t ts → (b : Bool) → is_part_of_start freelist_start t.part ≡ b → is_part_of_start freelist_start t.part ≡ false
       by_case t i false e = e
       by_case t i true e =
           let at = (of_starts file V s t i freelist_start (start_is freelist_start t.part e)).start in
           let m = IsIn-from_map (λ (l : Link Way). l.step) (starts file V) freelist_start at in
-          absurd (no_step m.0 (subst (IsIn m.0) starts_are m.1) m.2)
+          absurd (not_both freelist_start m.0.step m.2 (before m.0 (subst (IsIn m.0) starts_are m.1)))
 
   free_line : start_sum_line file V ts freelist_start ≡ flat_map (λ (l : Link Way). start_sum_line file V ts l.step) (freelist_starts file)
   free_line = by_case (first_trunk file == 0) none_free
@@ -178,7 +187,7 @@ module _ (file : List ℕ) (V : List Reference) (s : Survey file V) where
         (same_counts (λ k. is_of_kind index rows k && ((count_at t k).faults == 0)) (λ k. is_of_kind index rows k && (start_count ts k == 0))
         (range_with_len 1 (length rows))
         (λ k i. let l = IsIn-from_range 1 (length rows) k i in
-        ap (λ (c : StartCount). is_of_kind index rows k && (c.faults == 0)) (count_is k (let w = few in omega (arith, l.1, w)))
+        ap (λ (c : StartCount). is_of_kind index rows k && (c.faults == 0)) (count_is k (at_most k freelist_start (before_freelist k (length rows) l.1 few)))
         ∙ ap (λ b. is_of_kind index rows k && b) (is_zero (start_count ts k))))
 
     abbrev last_lines : List ℕ
@@ -197,7 +206,8 @@ module _ (file : List ℕ) (V : List Reference) (s : Survey file V) where
         joined
         (ap count_text is.all ∙ count_same (length ts))
         (codes_same all_codes)
-        (lines_are (suc (length rows)) 0 (let w = few in omega (arith, w))) (line_is freelist_start (omega arith)) whole_part (last_part size r zeros)
+        (lines_are (suc (length rows)) 0 (room (length rows) freelist_start (before_freelist (length rows) (length rows) (omega arith) few)))
+        (line_is freelist_start (omega arith)) whole_part (last_part size r zeros)
         ∙ parts (count_text (length ts)) (flat_map (code_line ts) all_codes) (start_sum_line file V ts 0)
         (flat_map (start_sum_line file V ts) (range_with_len 1 (length rows)))
         (start_sum_line file V ts freelist_start) (whole_line ts) last_lines

@@ -50,14 +50,21 @@ free_start file l i = by_case (first_trunk file == 0) i
     by_case false (inl e) = (ap (λ l. l.role.role) e, ap (λ l. l.step) e)
     by_case false (inr i) = absurd i
 
+-- the starts of rows are before the freelist's
+pub before_freelist : (k n : ℕ) → k < 1 + n → n ≤ last_root_start → k < freelist_start
+before_freelist k n h few = omega arith
+
 each_start : (file : List ℕ) (V : List Reference) (l : Link Way) → IsIn l (starts file V) → IsAtStart l.step l.role.role
 unfolding later_starts
-each_start file V l (inl e) = inr (ap (λ l. is_root l.role.role) e, let d : l.step ≡ 0 = ap (λ l. l.step) e in omega arith)
+each_start file V l (inl e) = inr (
+  ap (λ l. is_root l.role.role) e,
+  subst (λ k. k < freelist_start) (sym (ap (λ l. l.step) e)) (before_freelist 0 0 (omega arith) (omega arith)),
+)
 each_start file V l (inr i) =
     let rows = rooted_rows (schema file (under schema_start V)) in
     elim (IsIn-cases l (root_starts file rows) (freelist_starts file) i) [
-      | inl j ↦ (let h = rows_start file 1 (take last_root_start rows) l j in let few = length_taken last_root_start rows in let d =
-          h.1 in inr (h.0, omega arith))
+      | inl j ↦ (let h = rows_start file 1 (take last_root_start rows) l j in
+          inr (h.0, before_freelist l.step (length (take last_root_start rows)) h.1 (length_taken last_root_start rows)))
       | inr j ↦ inl (free_start file l j)
     ]
 

@@ -1,8 +1,8 @@
 -- The verdict of a list of faults is that of their count; and the text of a check with a fault is not the line `ok`.
-use Rattle.std.proofs.Common.{◌≡◌, ℕ, zero, suc, false, cond, List, [], ◌∷◌, ◌++◌, length, take, drop, refl, ap, arith}
+use Rattle.std.proofs.Common.{◌≡◌, ℕ, zero, suc, false, cond, List, [], ◌∷◌, ◌++◌, length, take, drop, refl, ap, append_assoc, arith}
 use Rattle.std.specs.Prelude.{flat_map, ◌==◌}
 use Rattle.std.proofs.lemmas.Bool.Decides.{nat_tests}
-use Rattle.dbformat.specs.Lines.{counted, fault_line, more_line, ok_line}
+use Rattle.dbformat.specs.Lines.{code_text, counted, fault_line, more_line, ok_line}
 use Rattle.dbformat.specs.Report.{check_text, more_text, verdict, verdict_of}
 use Rattle.dbformat.specs.declared.Fault.{Fault}
 use Rattle.dbformat.specs.declared.FaultCode.{FaultCode}
@@ -16,14 +16,15 @@ pub verdict_counted : (fs : List Fault) → verdict_of (counted (length fs)) ≡
 verdict_counted [] = refl
 verdict_counted (f ∷ fs) = ap (λ b. cond b Clean (Faulty (counted (suc (length fs))))) (not_none (length fs))
 
--- no line of a fault begins with the letter that the line `ok` begins with
+-- no code begins with the letter that the line `ok` begins with
+code_not_ok : (code : FaultCode) (rest : List ℕ) → code_text code ++ rest ≡ ok_line → ⊥
+code_not_ok H01 rest e = cc
+code_not_ok _ rest e = cc
+
+-- and a line of a fault begins with its code
 line_not_ok : (f : Fault) (lines more : List ℕ) → (fault_line f ++ lines) ++ more ≡ ok_line → ⊥
 unfolding fault_line
-line_not_ok f lines more e = by_code f.code refl
-  where
-    by_code : (code : FaultCode) → f.code ≡ code → ⊥
-    by_code H01 h = let k = rw h at e in cc
-    by_code _ h = let k = rw h at e in cc
+line_not_ok f lines more e = let h = simp append_assoc at e in code_not_ok f.code _ h
 
 pub faults_not_ok : (limit : ℕ) (f : Fault) (fs : List Fault) → check_text limit (f ∷ fs) ≡ ok_line → ⊥
 unfolding more_line

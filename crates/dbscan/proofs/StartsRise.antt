@@ -73,15 +73,16 @@ later_rises file (row ∷ rows) k W few =
           ],
     )
 
+-- the rows that have starts
+few : (rows : List SchemaRow) → 1 + length (take last_root_start rows) ≤ freelist_start
+few rows = let l = length-take last_root_start rows in omega (arith, l)
+
 pub starts_rise : (file : List ℕ) (V : List Reference) → StartsRise (start_notices file V)
 starts_rise file V =
     let rows = listed_rows file V in
     let U = [] ++ visited_below file [] (Go schema_reference ∷ []) in
     let rest = later_rises file rows 1 U (few (rooted_rows (schema file V))) in
     tree_rises at_schema file [] schema_reference (later_notices file U (enumerate_from 1 rows)) rest.0 (λ k i. omega arith)
-  where
-    few : (rows : List SchemaRow) → 1 + length (take last_root_start rows) ≤ freelist_start
-    few rows = let l = length-take last_root_start rows in omega (arith, l)
 
 -- ---- and each is a start
 
@@ -107,5 +108,5 @@ pub are_starts : (file : List ℕ) (V : List Reference) → AreStarts (start_not
 are_starts file V =
     let rows = listed_rows file V in
     let U = [] ++ visited_below file [] (Go schema_reference ∷ []) in
-    let l = length-take last_root_start (rooted_rows (schema file V)) in
-    tree_starts at_schema file [] schema_reference (later_notices file U (enumerate_from 1 rows)) (omega arith) (later_starts file rows 1 U (omega (arith, l)))
+    tree_starts at_schema file [] schema_reference (later_notices file U (enumerate_from 1 rows)) (omega arith)
+    (later_starts file rows 1 U (few (rooted_rows (schema file V))))
