@@ -52,22 +52,25 @@ pub(crate) fn put_map<A: Allocator, O: Out>(
 ) -> Result<(), WriteFailed>
     ensures { PutsOf result (O.held out.old) (O.held out.new) (HasAll desk.now kept.old faults) (λ file V. map_picture file V name.now) }
 {
-    note_listed(&mut kept.notes, kept.listing.listed());
-    note_zeros(&mut kept.notes, &kept.listing, desk.geometry().pages);
-    kept.tally.count(desk.marks(), &kept.trees);
-    let largest = kept.tally.largest(desk.roots().len() + 1);
-    let names = TreeNames {
-        encoding: desk.header().encoding(),
-        roots: desk.roots(),
-    };
     let geometry = desk.geometry();
-    let grid = Grid::new(geometry.pages, stated_pages(desk.header()));
+    let header = desk.header();
+    let marks = desk.marks();
+    let roots = desk.roots();
+    note_listed(&mut kept.notes, kept.listing.listed());
+    note_zeros(&mut kept.notes, &kept.listing, geometry.pages);
+    kept.tally.count(marks, &kept.trees);
+    let largest = kept.tally.largest(roots.len() + 1);
+    let names = TreeNames {
+        encoding: header.encoding(),
+        roots,
+    };
+    let grid = Grid::new(geometry.pages, stated_pages(header));
     let labels = Labels::new(&names, largest.as_slice());
     let (strong, weak) = kept.notes.framed();
     let legend = Legend::new(
         &kept.tally,
         largest.as_slice(),
-        desk.roots(),
+        roots,
         strong,
         weak,
         grid.missing(),
@@ -78,8 +81,8 @@ pub(crate) fn put_map<A: Allocator, O: Out>(
         faults,
     };
     let squares = Squares {
-        header: desk.header(),
-        marks: desk.marks(),
+        header,
+        marks,
         trees: &kept.trees,
         names,
         notes: &kept.notes,

@@ -44,26 +44,28 @@ returns g c =
           let notes = c.note_zeros.new.notes in
           let strong_noted = subst (λ (xs : List Reported). AreNoted (geometry file).pages (flat_map fault_signs (faults file V) ++ flat_map frame_signs xs)
           c.note_listed.new.notes) leads (c.note_listed.ensures (geometry file).pages _ has.notes) in
-          let here : c.geometry.result.pages ≡ (geometry file).pages = ap (λ (s : Geometry). s.pages) (c.geometry.ensures.shape ∙ desk.header.shape) in
+          let shape = c.geometry-geometry.ensures.shape ∙ desk.header.shape in
+          let here : c.geometry-geometry.result.pages ≡ (geometry file).pages = ap (λ (s : Geometry). s.pages) shape in
           let zeros = ap (λ n. filter (has_bit c.args.kept.now.listing.zeros) (range_with_len 1 n)) here ∙ has.zeros in
           let noted : AreNoted (geometry file).pages (signs_of file V) notes =
           subst (λ (l : List (ℕ × Sign)). AreNoted (geometry file).pages l notes)
           (ap (λ ps. (flat_map fault_signs (faults file V) ++ flat_map frame_signs (first_faults (take 100 (listed_entries file V)))) ++ zero_signs ps) zeros)
           (c.note_zeros.ensures (geometry file).pages _ strong_noted) in
-          let marks = c.marks.ensures ∙ desk.marks in
+          let marks = c.marks-marks.ensures ∙ desk.marks in
           let tally = c.count.ensures file V (record { survey = desk.survey; marks = marks; trees = has.trees }) in
-          let shape = c.geometry-geometry.ensures.shape ∙ desk.header.shape in
+          let kept : List SchemaRow = c.roots-roots.result.now.rows in
+          let rows : kept ≡ listed_rows file V = ap (λ (l : Listed). l.rows) c.roots-roots.ensures ∙ desk.rows in
           let largest : c.largest-largest.result.items ≡ largest_of file V = c.largest-largest.ensures
           ∙ ap₂ (λ (t : PagesTallied) n. largest_trees (pages_at t.starts) n 12) tally
-          (ap (λ n. n + 1) c.len.ensures.count ∙ ap (λ (rows : List SchemaRow). length rows + 1) (ap (λ (l : Listed). l.rows) c.roots.ensures ∙ desk.rows)) in
+          (ap (λ n. n + 1) c.len.ensures.count ∙ ap (λ (rows : List SchemaRow). length rows + 1) rows) in
           let grid = c.new-grid.ensures ∙ ap₂ grid_of (ap (λ (s : Geometry). s.pages) shape)
-          (c.stated_pages.ensures ∙ ap (λ (h : HeaderBytes). stated_of h.bytes) c.header-2.ensures.value ∙ ap stated_of desk.header.begins) in
+          (c.stated_pages.ensures ∙ ap (λ (h : HeaderBytes). stated_of h.bytes) c.header-header.ensures.value ∙ ap stated_of desk.header.begins) in
           let shorten : (ℕ → List ℕ) → ℕ → List ℕ = λ names start. short_text (names start) in
-          let tree = ap shorten (ap₂ tree_of_row (c.encoding.ensures ∙ ap (λ (h : HeaderBytes). encoding h.bytes) c.header.ensures.value)
-          (ap (λ (l : Listed). l.rows) c.roots-2.ensures) ∙ known_trees file V c.args.desk.now.header c.args.desk.now.roots.rows desk.header desk.rows) in
-          let names = c.new-labels.ensures ∙ ap (map (shown_tree c.encoding.result c.roots-2.result.now.rows)) c.as_slice.ensures.value
+          let tree = ap shorten (ap₂ tree_of_row (c.encoding.ensures ∙ ap (λ (h : HeaderBytes). encoding h.bytes) c.header-header.ensures.value)
+          (ap (λ (l : Listed). l.rows) c.roots-roots.ensures) ∙ known_trees file V c.args.desk.now.header c.args.desk.now.roots.rows desk.header desk.rows) in
+          let names = c.new-labels.ensures ∙ ap (map (shown_tree c.encoding.result kept)) c.as_slice.ensures.value
           ∙ ap₂ map tree largest in
-          let fixed = ap (λ (h : HeaderBytes). geometry_of h.bytes h.file_len) c.header-3.ensures.value ∙ desk.header.shape in
+          let fixed = ap (λ (h : HeaderBytes). geometry_of h.bytes h.file_len) c.header-header.ensures.value ∙ desk.header.shape in
           let strong = c.framed-strong.ensures.strong ∙ ap (λ n. count_by (has_bit notes.framed) (range_with_len 1 n)) noted.pages
           ∙ same_count (has_bit notes.framed) (page_shows file V Framed) (geometry file).pages noted.framed.are in
           let weak = c.framed-strong.ensures.weak
@@ -71,20 +73,20 @@ returns g c =
           ∙ same_count (is_weak (has_bit notes.faulty) (has_bit notes.framed)) (is_weak (page_shows file V Faulty) (page_shows file V Framed))
           (geometry file).pages (λ p l m. ap₂ (λ a b. a && not b) (noted.faulty.are p l m) (noted.framed.are p l m)) in
           let lines = c.new-legend.ensures
-          ∙ ap₂ (λ (t : PagesTallied) ks. legend_lines c.roots-3.result.now.rows t ks c.framed-strong.result.0 c.framed-strong.result.1 c.missing.result) tally
+          ∙ ap₂ (λ (t : PagesTallied) ks. legend_lines kept t ks c.framed-strong.result.0 c.framed-strong.result.1 c.missing.result) tally
           (c.as_slice-2.ensures.value ∙ largest)
           ∙ ap (λ rows. legend_lines rows (tally_of file V) (largest_of file V) c.framed-strong.result.0 c.framed-strong.result.1 c.missing.result)
-          (ap (λ (l : Listed). l.rows) c.roots-3.ensures ∙ desk.rows)
+          rows
           ∙ ap (legend_lines (listed_rows file V) (tally_of file V) (largest_of file V) c.framed-strong.result.0 c.framed-strong.result.1)
           (c.missing.ensures ∙ ap (λ (g : Grid). g.stated - g.pages) grid)
           ∙ ap₂ (λ s w. legend_lines (listed_rows file V) (tally_of file V) (largest_of file V) s w (stated_of (take 100 file) - (geometry file).pages))
           strong weak in
-          c.draw_picture.ensures.is file V (record { survey = desk.survey; marks = c.marks-2.ensures ∙ desk.marks; trees = has.trees })
+          c.draw_picture.ensures.is file V (record { survey = desk.survey; marks = marks; trees = has.trees })
           ∙ (λ i. picture_text (record { file = c.shown_file.ensures i; geometry = shape i; faults = known.count i })
           (record {
             grid = grid i;
             shape = fixed i;
-            place = λ p. (ap (λ m. marked_place m p) (c.marks-2.ensures ∙ desk.marks) ∙ place_is file V desk.survey p) i;
+            place = λ p. (ap (λ m. marked_place m p) marks ∙ place_is file V desk.survey p) i;
             start = start_at V;
             largest = largest i;
             names = names i;
