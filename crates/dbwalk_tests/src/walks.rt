@@ -1,6 +1,5 @@
 // Walks over whole files.
 mod freelists;
-mod hostile;
 mod quiet;
 mod schemas;
 mod trees;
