@@ -190,8 +190,48 @@ has_lines() {
         }' "$1" "$work/out"
 }
 
+# part TEXT NAME: what a text of tests/small/stat.txt has after the line `-- NAME`, or before any such line its faults. Its tabs are written `|`.
+part() {
+    awk -v wanted="$2" 'BEGIN { part = "faults" } /^-- / { part = substr($0, 4); next } part == wanted' "$1" | tr '|' '\t'
+}
+
+# wrote OUT ERR STATUS: whether the last run wrote what these files have, and ended so.
+wrote() {
+    cmp -s "$1" "$work/out" && cmp -s "$2" "$work/err" && [ "$status" = "$3" ]
+}
+
+# each_form DATABASE NAME: a check, and the forms of stat whose rows the text beside the database has. The rows of other pages come last.
+each_form() {
+    local form wanted=1 words
+    part "$1.text" faults > "$work/faults"
+    cp "$work/faults" "$work/lines"
+    if [ "$(< "$work/faults")" = ok ]; then
+        wanted=0
+        : > "$work/lines"
+    fi
+    : > "$work/nothing"
+    run check "$1.db"
+    count "check $2" wrote "$work/faults" "$work/nothing" "$wanted"
+    part "$1.text" pages | grep $'^-\t-\t' > "$work/others"
+    for form in pages trees; do
+        part "$1.text" "$form" | grep -v $'^-\t-\t' > "$work/rows"
+        [ -s "$work/rows" ] || continue
+        words=()
+        [ "$form" = pages ] || words=(--aggregate)
+        run stat "${words[@]}" "$1.db"
+        count "stat of $form, $2" wrote "$work/rows" "$work/lines" "$wanted"
+        cat "$work/others" >> "$work/rows"
+        run stat --all "${words[@]}" "$1.db"
+        count "stat of $form and other pages, $2" wrote "$work/rows" "$work/lines" "$wanted"
+    done
+}
+
 # Small databases, most with one damage each.
 if command -v python3 > "$work/out"; then
+    tests/small/make.py tests/small/stat.txt "$work/small" > "$work/list"
+    while IFS='|' read -r number _ name; do
+        each_form "$work/small/$number" "$name"
+    done < "$work/list"
     tests/small/make.py tests/small/explain.txt "$work/small" > "$work/list"
     while IFS='|' read -r number limit name; do
         run explain --limit "$limit" "$work/small/$number.db"
@@ -208,6 +248,7 @@ if command -v python3 > "$work/out"; then
     done < "$work/list"
 else
     leave_out $((2 * $(grep -c '^== ' tests/small/explain.txt) + $(grep -c '^== ' tests/small/map.txt) + 1)) python3
+    leave_out $(($(grep -c '^== ' tests/small/stat.txt) + 2 * $(grep -c '^-- ' tests/small/stat.txt))) python3
 fi
 
 # Pictures, with the name of the file and no line of a fault.

@@ -1,9 +1,10 @@
 #!/usr/bin/env python3
 """Makes small databases, most with one damage each: make.py TEXT FOLDER.
 
-TEXT is explain.txt or map.txt beside this file, which has a block for each: a line `== NAME PAGES: CHANGES`, what is known of it in lines
-that begin with `#`, perhaps a line `--limit N`, and then what `explain` is to write, or the lines that its picture is to have, in their
-order. NAME is a function below. PAGES, which may be left out, is how many pages it has, or is cut or filled to with zeros. CHANGES are
+TEXT is explain.txt, map.txt or stat.txt beside this file, which has a block for each: a line `== NAME PAGES: CHANGES`, what is known of it
+in lines that begin with `#`, perhaps a line `--limit N`, and then what `explain` is to write; or the lines that its picture is to have, in
+their order; or what `check` is to write, and perhaps the rows of `stat`: after `-- pages` those of all pages, and after `-- trees` those of
+trees, with each tab written `|`. NAME is a function below. PAGES, which may be left out, is how many pages it has, or is cut or filled to with zeros. CHANGES are
 bytes that are written over it: `2 508 0000ffff` on page 2 from byte 508 on. Each database is FOLDER/K.db and its text FOLDER/K.text; of
 each a line `K|limit|NAME PAGES: CHANGES` is printed.
 """
@@ -111,6 +112,11 @@ def smallest(pages):
     return Database(pages)
 
 
+def one_table(_):
+    """A row of the schema, and zeros for its root."""
+    return table(2)
+
+
 def two_leaves(_):
     db = table(4)
     db.interior(2, 4, (3, 5))
@@ -134,9 +140,74 @@ def shared_bytes(_):
     return db
 
 
+def full_page(_):
+    """A leaf of 84 cells, each of two bytes of the pointers and four of the content."""
+    db = table(2)
+    db.leaf(2, *range(84))
+    return db
+
+
+def utf_16(_):
+    """A row of the schema in UTF-16, big end first, whose name has a tab."""
+    db = Database(2)
+    db.put(1, 44, be(4))
+    db.put(1, 56, be(3))
+    texts = [text.encode("utf-16-be") for text in ("table", "a\tb", "t")]
+    db.rows(1, b"\6" + b"".join(varint(2 * len(text) + 13) for text in texts) + b"\1\0" + b"".join(texts) + b"\2")
+    db.leaf(2)
+    return db
+
+
+def index(_):
+    """An index of two leaves; the key between them is of 600 bytes, of which 508 are on page 5."""
+    db = Database(5)
+    db.schema(("index", "t", 2))
+    db.tree_page(2, INTERIOR_INDEX, [be(3) + varint(600) + bytes(92) + be(5)], 4)
+    db.leaf_index(3, bytes(7))
+    db.leaf_index(4, bytes(7))
+    return db
+
+
+def own_child(_):
+    """A page that is its own child twice."""
+    db = Database(1)
+    db.interior(1, 1, (1, 5))
+    return db
+
+
+def parent_as_child(_):
+    db = Database(2)
+    db.interior(1, 2)
+    db.interior(2, 1)
+    return db
+
+
 def freelist(_):
     db = Database(3)
     db.freelist(2, 2, 3)
+    return db
+
+
+def full_trunk(_):
+    """A trunk, page 2, that is full: its leaves are the 126 pages after it."""
+    db = Database(128)
+    db.freelist(2, 127, *range(3, 129))
+    return db
+
+
+def own_trunk(_):
+    """A trunk that names itself as the next."""
+    db = Database(2)
+    db.freelist(2, 1)
+    db.put(2, 0, be(2))
+    return db
+
+
+def mapped_freelist(_):
+    """A trunk and its leaf after a pointer map."""
+    db = Database(4)
+    db.freelist(3, 2, 4)
+    db.map(1, (2, 0), (2, 0))
     return db
 
 
@@ -145,6 +216,15 @@ def long_row(pages):
     db = Database(pages)
     db.schema(("table", "t", 2))
     db.long_rows(2, (600, 92, 3))
+    return db
+
+
+def long_chain(_):
+    """A row of 9236 bytes whose overflow pages are the 18 after its page."""
+    db = table(20)
+    db.long_rows(2, (9236, 92, 3))
+    for page in range(3, 20):
+        db.put(page, 0, be(page + 1))
     return db
 
 
@@ -468,11 +548,12 @@ def content(text):
     name, _, pages = front.partition(" ")
     pages = int(pages or 0)
     db = globals()[name.replace("-", "_")](pages)
+    length = db.size * pages if pages else len(db.bytes)
+    db.bytes = db.bytes[:length].ljust(length, b"\0")
     for change in filter(None, changes.split(",")):
         page, at, digits = change.split(maxsplit=2)
         db.put(int(page), int(at), bytes.fromhex(digits))
-    length = db.size * pages if pages else len(db.bytes)
-    return bytes(db.bytes[:length].ljust(length, b"\0"))
+    return bytes(db.bytes)
 
 
 def main():

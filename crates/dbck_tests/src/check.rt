@@ -1,5 +1,3 @@
-// Checks of whole files beside the tables: cut files, limits, and files that are made for one test.
+// Checks of whole files beside the tables: cut files, and more roots than are taken.
 mod first_page;
-mod freelists;
 mod many_roots;
-mod trees;

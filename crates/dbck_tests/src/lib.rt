@@ -7,8 +7,6 @@ mod check;
 #[cfg(test)]
 mod explain;
 #[cfg(test)]
-mod files;
-#[cfg(test)]
 mod map;
 #[cfg(test)]
 mod parts;

@@ -1,9 +1,5 @@
-// Pages that are drawn from a counter, and a source that gives other bytes at each read.
-ghost use Rattle.dbsource.specs.Sources.{any_length, no_step, untold_source};
-
+// Pages that are drawn from a counter.
 use crate::bytes::patch;
-use arrayvec::ArrayVec;
-use dbsource::{Failures, ReadFailed, Source};
 
 // The next counter.
 fn next_drawn(drawn: u32) -> u32 {
@@ -47,57 +43,4 @@ pub fn draw(buf: &mut [u8], head_at: usize, from: u32) -> u32 {
         }
     }
     drawn
-}
-
-/// Other bytes at each read, drawn from a counter that goes on. If there are first bytes, the first read gets these. It
-/// has no told bytes, and keeps the offsets of its reads.
-#[derive(Drop)]
-pub struct DrawnSource<'a> {
-    first: &'a [u8],
-    len: u64,
-    drawn: u32,
-    offsets: ArrayVec<u64, 256>,
-    failures: Failures,
-}
-
-impl<'a> DrawnSource<'a> {
-    /// A source of this length.
-    pub fn new(first: &'a [u8], len: u64, drawn: u32) -> DrawnSource<'a> {
-        DrawnSource {
-            first,
-            len,
-            drawn,
-            offsets: ArrayVec::new(),
-            failures: Failures::new(),
-        }
-    }
-
-    /// The offsets of the reads.
-    pub fn offsets(&self) -> &[u64] {
-        self.offsets.as_slice()
-    }
-}
-
-impl Source for DrawnSource<'_> {
-    ghost held = { λ s. record untold_source { failures = s.failures } };
-
-    ghost step = { no_step };
-
-    ghost lengths = { any_length };
-
-    fn len(&mut self) -> Result<u64, ReadFailed> {
-        Ok(self.len)
-    }
-
-    fn read_at(&mut self, offset: u64, buf: &mut [u8]) -> Result<(), ReadFailed> {
-        let is_first = self.offsets.is_empty();
-        let _ = self.offsets.try_push(offset);
-        if is_first && !self.first.is_empty() {
-            patch(buf, 0, self.first);
-        } else {
-            let head_at = if offset == 0 { 100 } else { 0 };
-            self.drawn = draw(buf, head_at, self.drawn);
-        }
-        Ok(())
-    }
 }

@@ -30,7 +30,7 @@ mod tree_page;
 
 pub use bytes::{bytes_of, patch, write_bytes};
 pub use dbsource::Source;
-pub use drawn::{DrawnSource, draw};
+pub use drawn::draw;
 pub use holds::{Text, expecting, holding};
 pub use records::{Record, schema_row, varint};
 pub use samples::Sample;

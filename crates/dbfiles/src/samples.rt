@@ -18,32 +18,16 @@ pub enum Sample {
     Mapped,
     /// A table of two leaves, with the rowids 5 and 6.
     TwoLeaves,
-    /// A table whose leaf has two cells that share three bytes, beside three that no cell holds.
-    SharedBytes,
     /// Two rows of the schema that name one root.
     SharedRoot,
     /// An index of two leaves, whose key between them is of 600 bytes, of which 508 are on page 5.
     Index,
-    /// An interior page that is its own child twice, with the key 5.
-    OwnChild,
-    /// A child that names its parent.
-    ParentAsChild,
-    /// A row of the schema in UTF-16, big end first, whose name has a control character.
-    Utf16,
     /// A row of the schema whose SQL is mostly on page 3, and its table on page 2.
     LongSql,
     /// A trunk and its leaf, in a file with a pointer map.
     MappedFreelist,
     /// A trunk, page 2, and its leaf.
     Freelist,
-    /// The only trunk names itself as the next.
-    OwnTrunk,
-    /// In a file with a pointer map the root of a table is the last page, after the only trunk.
-    RootLast,
-    /// The same with the root before the trunk.
-    RootFirst,
-    /// A table whose leaf is full: 84 cells, each of two bytes of the pointers and four of the content.
-    FullPage,
     /// A schema of as many levels as there are pages, each but the last an interior page without cells whose right child is the next.
     Ladder,
     /// A trunk, page 2, that is full: its leaves are the 126 pages after it.
@@ -64,19 +48,11 @@ impl Sample {
             "LongRow" => Sample::LongRow,
             "Mapped" => Sample::Mapped,
             "TwoLeaves" => Sample::TwoLeaves,
-            "SharedBytes" => Sample::SharedBytes,
             "SharedRoot" => Sample::SharedRoot,
             "Index" => Sample::Index,
-            "OwnChild" => Sample::OwnChild,
-            "ParentAsChild" => Sample::ParentAsChild,
-            "Utf16" => Sample::Utf16,
             "LongSql" => Sample::LongSql,
             "MappedFreelist" => Sample::MappedFreelist,
             "Freelist" => Sample::Freelist,
-            "OwnTrunk" => Sample::OwnTrunk,
-            "RootLast" => Sample::RootLast,
-            "RootFirst" => Sample::RootFirst,
-            "FullPage" => Sample::FullPage,
             "Ladder" => Sample::Ladder,
             "FullTrunk" => Sample::FullTrunk,
             "Forest" => Sample::Forest,
@@ -99,19 +75,11 @@ impl Sample {
             Sample::LongRow => long_row(&mut file, 2),
             Sample::Mapped => mapped(&mut file),
             Sample::TwoLeaves => two_leaves(&mut file),
-            Sample::SharedBytes => shared_bytes(&mut file),
             Sample::SharedRoot => shared_root(&mut file),
             Sample::Index => index(&mut file),
-            Sample::OwnChild => drop(file.interior_table(1, 1).key(1, 5)),
-            Sample::ParentAsChild => parent_as_child(&mut file),
-            Sample::Utf16 => utf_16(&mut file),
             Sample::LongSql => long_sql(&mut file),
             Sample::MappedFreelist => mapped_freelist(&mut file),
             Sample::Freelist => freelist(&mut file),
-            Sample::OwnTrunk => own_trunk(&mut file),
-            Sample::RootLast => root_beside_trunk(&mut file, 4, 3),
-            Sample::RootFirst => root_beside_trunk(&mut file, 3, 4),
-            Sample::FullPage => large::full_page(&mut file),
             Sample::Ladder => large::ladder(&mut file, pages),
             Sample::FullTrunk => large::full_trunk(&mut file),
             Sample::Forest => large::forest(&mut file),
@@ -143,14 +111,6 @@ fn two_leaves(file: &mut TestFile) {
     file.leaf_table(4).cell(6, &[]);
 }
 
-// The cells from 491 and from 500 on are of 12 bytes each.
-fn shared_bytes(file: &mut TestFile) {
-    file.schema(&[schema_row(b"table", b"t", 2)]);
-    file.hex(2, 0, "0d 0000 0002 01e8 00 01eb 01f4");
-    file.hex(2, 491, "0a 01");
-    file.hex(2, 500, "0a 02");
-}
-
 fn shared_root(file: &mut TestFile) {
     file.schema(&[schema_row(b"table", b"t", 2), schema_row(b"table", b"t", 2)]);
     file.leaf_table(2);
@@ -163,24 +123,6 @@ fn index(file: &mut TestFile) {
     file.leaf_index(3).index_cell(&[0; 7]);
     file.leaf_index(4).index_cell(&[0; 7]);
     file.overflow(5, 0, &[0; 508]);
-}
-
-fn parent_as_child(file: &mut TestFile) {
-    file.interior_table(1, 2);
-    file.interior_table(2, 1);
-}
-
-// The type `table`, the name `a`, a tab and `b`, and the table's name `t`.
-fn utf_16(file: &mut TestFile) {
-    let row = Record::new()
-        .text(b"\0t\0a\0b\0l\0e")
-        .text(b"\0a\0\x09\0b")
-        .text(b"\0t")
-        .byte(2)
-        .null();
-    file.schema(&[row]);
-    file.number(56, 3);
-    file.leaf_table(2);
 }
 
 // 7 bytes of header, 8 of the first four columns, and 585 of SQL.
@@ -207,23 +149,4 @@ fn mapped_freelist(file: &mut TestFile) {
 fn freelist(file: &mut TestFile) {
     file.freelist(2, 2);
     file.trunk(2, 0, &[3]);
-}
-
-fn own_trunk(file: &mut TestFile) {
-    file.freelist(2, 1);
-    file.trunk(2, 2, &[]);
-}
-
-// A table's empty root and the only trunk, one on page 3 and one on page 4, after the map.
-fn root_beside_trunk(file: &mut TestFile, root: u8, trunk: u32) {
-    file.schema(&[schema_row(b"table", b"t", root)]);
-    file.freelist(trunk, 1);
-    let entries = if root == 3 {
-        [(1, 0), (2, 0)]
-    } else {
-        [(2, 0), (1, 0)]
-    };
-    file.map(u32::from(root), &entries);
-    file.leaf_table(u32::from(root));
-    file.trunk(trunk, 0, &[]);
 }

@@ -1,7 +1,7 @@
-// Desks that are used more than once, and sources that answer other bytes at each read.
+// Desks that are used more than once.
 use crate::runs::{Found, check_of, found_of, is_found, is_same, stat_of};
 use crate::support::cases::file_of;
-use dbfiles::{DrawnSource, TestFile, holds};
+use dbfiles::holds;
 use dbreport::{Command, Desk, Verdict, run_on, told_files_are_run};
 use dbsource::{Header, MemOut, MemSource, OpenError, RunError, told_files_are_read};
 use std::alloc::Global;
@@ -76,56 +76,6 @@ fn a_desk_serves_both_commands(rt: HostRuntime) -> Result<(), Fail> {
         let mut desk = Desk::new(rt.alloc(), header)?;
         serves_both(&rt, rt.alloc(), &mut desk, file.as_slice());
     }
-    Ok(())
-}
-
-// Whether a read of this number, which is not the first, is of a whole page of a file of 64, and of none that was read before.
-fn is_of_new_page(offsets: &[u64], number: usize) -> bool {
-    let offset = offsets.get(number).copied().unwrap_or(1);
-    let mut is_new = offset % 512 == 0 && offset < 32768;
-    for other in offsets.iter().take(number).skip(1) {
-        is_new = is_new && *other != offset;
-    }
-    is_new
-}
-
-// Whether reads are of the header, and then of pages, of each once at most.
-fn are_of_pages(offsets: &[u64]) -> bool {
-    let mut are_new = offsets.first() == Some(&0);
-    for number in 1..offsets.len() {
-        are_new = are_new && is_of_new_page(offsets, number);
-    }
-    are_new
-}
-
-// How many reads a run over such a header and drawn bytes makes, where it finds faults, and reads no page twice after the
-// header, nor any part of one; and else 0.
-fn drawn_reads(alloc: Global, header: &[u8], drawn: u32) -> usize {
-    let mut source = DrawnSource::new(header, 32768, drawn);
-    let found = found_of(alloc, check_of(100), &mut source);
-    let is_faulty = found.answer.is_ok() && found.answer != Ok(Verdict::Clean);
-    if is_faulty && are_of_pages(source.offsets()) {
-        source.offsets().len()
-    } else {
-        0
-    }
-}
-
-// The header of 64 pages with a pointer map and a freelist, and then other bytes at each read: no page is read twice after
-// the header, and the call returns.
-#[test]
-fn reads_no_page_twice(rt: HostRuntime) -> Result<(), Fail> {
-    let mut header = TestFile::new(rt.alloc(), 512, 2)?;
-    header.freelist(5, 0);
-    header.map(1, &[]);
-    let header = header.into_bytes();
-    let mut reads: usize = 0;
-    for drawn in 0..100u32 {
-        let found = drawn_reads(rt.alloc(), header.as_slice(), drawn);
-        holds!(rt; found > 0, drawn);
-        reads = reads.wrapping_add(found);
-    }
-    holds!(rt; reads > 1000, reads);
     Ok(())
 }
 

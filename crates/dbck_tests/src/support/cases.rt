@@ -2,7 +2,7 @@
 use crate::runs::{check_of, found_of, stat_of};
 use dbfiles::TestFile;
 use dbreport::{Command, Verdict};
-use dbsource::{ByteRange, MemSource};
+use dbsource::MemSource;
 use std::alloc::{AllocError, Global};
 
 /// The bytes of a file that one text describes, as [`TestFile::of`] has it.
@@ -34,31 +34,6 @@ pub(crate) fn command_of(text: &str) -> Command {
         "all pages" => stat_of(false, true),
         _ => stat_of(true, true),
     }
-}
-
-// The range of page p, of 512 bytes.
-fn page_range(p: u32) -> ByteRange {
-    ByteRange {
-        offset: u64::from(p).wrapping_sub(1).wrapping_mul(512),
-        len: 512,
-    }
-}
-
-/// Whether the header and then these pages were asked for, each of 512 bytes.
-pub(crate) fn are_asked(ranges: &[ByteRange], pages: &str) -> bool {
-    let header = ByteRange {
-        offset: 0,
-        len: 100,
-    };
-    let mut count: usize = 1;
-    for page in pages.split_whitespace() {
-        let range = page_range(page.parse::<u32>().unwrap_or(0));
-        if ranges.get(count) != Some(&range) {
-            return false;
-        }
-        count = count.wrapping_add(1);
-    }
-    ranges.first() == Some(&header) && ranges.len() == count
 }
 
 /// Whether some bytes are a beginning of a text in which each tab is written `|`.

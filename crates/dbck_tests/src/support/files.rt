@@ -14,13 +14,6 @@ pub(crate) const LONG_ROW_ROWS: &str = "sqlite_schema|/|1|leaf|1|14|386|14|0|512
     t|/|2|leaf|1|92|403|600|512|512\n\
     t|/000+000000|3|overflow|0|508|0|0|1024|512\n";
 
-/// The rows of the sample of an index, in which each tab is written `|`: the chain of a cell comes before its child.
-pub(crate) const INDEX_ROWS: &str = "sqlite_schema|/|1|leaf|1|14|386|14|0|512\n\
-    t|/|2|internal|1|92|396|600|512|512\n\
-    t|/000+000000|5|overflow|0|508|0|0|2048|512\n\
-    t|/000/|3|leaf|1|7|494|7|1024|512\n\
-    t|/001/|4|leaf|1|7|494|7|1536|512\n";
-
 /// The rows of a ladder of 20 pages, in which each tab is written `|`. Free on a page is what lies between the pointer array,
 /// which ends at byte 112 of page 1, at 12 of an interior page and at 8 of the leaf, and byte 512.
 pub(crate) const DEEP_ROWS: &str = "sqlite_schema|/|1|internal|0|0|400|0|0|512\n\

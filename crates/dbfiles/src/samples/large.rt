@@ -2,14 +2,6 @@
 use crate::records::schema_row;
 use crate::test_file::TestFile;
 
-pub(crate) fn full_page(file: &mut TestFile) {
-    file.schema(&[schema_row(b"table", b"t", 2)]);
-    let mut leaf = file.leaf_table(2);
-    for rowid in 0..84u64 {
-        leaf = leaf.cell(rowid, &[]);
-    }
-}
-
 pub(crate) fn ladder(file: &mut TestFile, pages: u32) {
     for page in 1..pages {
         file.interior_table(page, page.wrapping_add(1));
