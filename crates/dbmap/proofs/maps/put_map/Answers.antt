@@ -63,8 +63,7 @@ returns g c =
           let shorten : (ℕ → List ℕ) → ℕ → List ℕ = λ names start. short_text (names start) in
           let tree = ap shorten (ap₂ tree_of_row (c.encoding.ensures ∙ ap (λ (h : HeaderBytes). encoding h.bytes) c.header-header.ensures.value)
           (ap (λ (l : Listed). l.rows) c.roots-roots.ensures) ∙ known_trees file V c.args.desk.now.header c.args.desk.now.roots.rows desk.header desk.rows) in
-          let names = c.new-labels.ensures ∙ ap (map (shown_tree c.encoding.result kept)) c.as_slice.ensures.value
-          ∙ ap₂ map tree largest in
+          let names = c.new-labels.ensures ∙ ap (map (shown_tree c.encoding.result kept)) c.as_slice.ensures.value ∙ ap₂ map tree largest in
           let fixed = ap (λ (h : HeaderBytes). geometry_of h.bytes h.file_len) c.header-header.ensures.value ∙ desk.header.shape in
           let strong = c.framed-strong.ensures.strong ∙ ap (λ n. count_by (has_bit notes.framed) (range_with_len 1 n)) noted.pages
           ∙ same_count (has_bit notes.framed) (page_shows file V Framed) (geometry file).pages noted.framed.are in
@@ -76,8 +75,7 @@ returns g c =
           ∙ ap₂ (λ (t : PagesTallied) ks. legend_lines kept t ks c.framed-strong.result.0 c.framed-strong.result.1 c.missing.result) tally
           (c.as_slice-2.ensures.value ∙ largest)
           ∙ ap (λ rows. legend_lines rows (tally_of file V) (largest_of file V) c.framed-strong.result.0 c.framed-strong.result.1 c.missing.result)
-          rows
-          ∙ ap (legend_lines (listed_rows file V) (tally_of file V) (largest_of file V) c.framed-strong.result.0 c.framed-strong.result.1)
+          rows ∙ ap (legend_lines (listed_rows file V) (tally_of file V) (largest_of file V) c.framed-strong.result.0 c.framed-strong.result.1)
           (c.missing.ensures ∙ ap (λ (g : Grid). g.stated - g.pages) grid)
           ∙ ap₂ (λ s w. legend_lines (listed_rows file V) (tally_of file V) (largest_of file V) s w (stated_of (take 100 file) - (geometry file).pages))
           strong weak in
