@@ -135,6 +135,8 @@ lines=$(seq -f 'N01 page %.0f item 0 value 0: page is not in use' 2 1000)
 expect 1 "$lines"$'\n' '' check --limit 999 "$work/unused.db"
 expect 1 "$(head -n 998 <<< "$lines")"$'\nmore 1\n' '' check --limit 998 "$work/unused.db"
 expect 1 "$(head -n 100 <<< "$lines")"$'\nmore 899\n' '' check "$work/unused.db"
+# The limit is of the lines of a check alone.
+expect 1 "$page" "$lines"$'\n' stat "$work/unused.db"
 # Explained they are one entry.
 below=$'    page 2 at byte 512: in no tree, overflow chain or freelist\n    all zeros\n    and 998 more pages like it: 3 to 1000\n'
 expect 1 "$(head -n 1 <<< "$lines")"$'\n'"$below"$'999 faults\n    999 N01 page is not in use\n    999 in the whole file\n    pages 2 to 1000 are zeros: bytes 512 to 511999\n    0 of 0 tables and 0 of 0 indexes without a fault\n' '' \
@@ -190,7 +192,8 @@ has_lines() {
         }' "$1" "$work/out"
 }
 
-# part TEXT NAME: what a text of tests/small/stat.txt has after the line `-- NAME`, or before any such line its faults. Its tabs are written `|`.
+# part TEXT NAME: what a text of tests/small/stat.txt has after the line `-- NAME`, with the tabs that it writes `|`; and before any such
+# line its faults.
 part() {
     awk -v wanted="$2" 'BEGIN { part = "faults" } /^-- / { part = substr($0, 4); next } part == wanted' "$1" | tr '|' '\t'
 }
@@ -202,16 +205,13 @@ wrote() {
 
 # each_form DATABASE NAME: a check, and the forms of stat whose rows the text beside the database has. The rows of other pages come last.
 each_form() {
-    local form wanted=1 words
+    local form lines=$work/faults wanted=1 words
     part "$1.text" faults > "$work/faults"
-    cp "$work/faults" "$work/lines"
     if [ "$(< "$work/faults")" = ok ]; then
-        wanted=0
-        : > "$work/lines"
+        lines=/dev/null wanted=0
     fi
-    : > "$work/nothing"
     run check "$1.db"
-    count "check $2" wrote "$work/faults" "$work/nothing" "$wanted"
+    count "check $2" wrote "$work/faults" /dev/null "$wanted"
     part "$1.text" pages | grep $'^-\t-\t' > "$work/others"
     for form in pages trees; do
         part "$1.text" "$form" | grep -v $'^-\t-\t' > "$work/rows"
@@ -219,10 +219,10 @@ each_form() {
         words=()
         [ "$form" = pages ] || words=(--aggregate)
         run stat "${words[@]}" "$1.db"
-        count "stat of $form, $2" wrote "$work/rows" "$work/lines" "$wanted"
+        count "stat of $form, $2" wrote "$work/rows" "$lines" "$wanted"
         cat "$work/others" >> "$work/rows"
         run stat --all "${words[@]}" "$1.db"
-        count "stat of $form and other pages, $2" wrote "$work/rows" "$work/lines" "$wanted"
+        count "stat of $form and other pages, $2" wrote "$work/rows" "$lines" "$wanted"
     done
 }
 

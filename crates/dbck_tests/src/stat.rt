@@ -1,4 +1,4 @@
-// Statistics of whole files beside the tables.
+// Statistics of whole files beside those of tests/small.
 mod names;
 mod refused;
 mod sizes;
