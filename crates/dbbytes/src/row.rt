@@ -16,7 +16,7 @@ use dbformat::{Encoding, RowFault, RowKind};
 pub const MAX_NAME: usize = 1000;
 
 /// What is kept of a row of the schema.
-#[derive(Clone, Copy, Debug, PartialEq, Eq)]
+#[derive(Clone, Copy, PartialEq, Eq)]
 pub struct SchemaRow<'a> {
     /// What the row describes: a table, an index, a view or a trigger.
     pub kind: RowKind,

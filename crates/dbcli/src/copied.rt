@@ -10,7 +10,7 @@ const HIGH_BYTES: usize = 8;
 const NUMBERS: usize = 80;
 
 /// What a copy made of the bytes of a database.
-#[derive(Clone, Copy, Debug, PartialEq, Eq)]
+#[derive(Clone, Copy)]
 pub enum Copied {
     /// A carriage return was put before each line feed.
     Lines,

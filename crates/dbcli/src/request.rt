@@ -15,7 +15,7 @@ use dbsource::{Out, RunError, Source};
 use std::alloc::Global;
 
 /// What is asked of a file.
-#[derive(Clone, Copy, Debug, PartialEq, Eq)]
+#[derive(Clone, Copy)]
 pub enum Request<'a> {
     /// Its faults, or its rows.
     Report(Command),

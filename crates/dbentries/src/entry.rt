@@ -7,7 +7,7 @@ use crate::runs::{NO_RUNS, Runs};
 use dbtrace::Reported;
 
 /// What is kept of the faults that belong to another.
-#[derive(Clone, Copy, Debug)]
+#[derive(Clone, Copy)]
 pub struct Others {
     /// How many there are, up to the greatest number of 64 bits.
     pub count: u64,
@@ -22,7 +22,7 @@ pub struct Others {
 }
 
 /// A fault that leads, and the faults that belong to it.
-#[derive(Clone, Copy, Debug)]
+#[derive(Clone, Copy)]
 pub struct Entry {
     /// The fault that leads.
     pub first: Reported,

@@ -7,14 +7,14 @@ ghost use Rattle.dbentries.specs.Kept.{no_run, run_added, run_begun, run_grown};
 pub const MAX_RUNS: usize = 10;
 
 /// Pages that follow one another, from `first` to `last`.
-#[derive(Clone, Copy, Debug, PartialEq, Eq)]
+#[derive(Clone, Copy)]
 pub struct Run {
     pub first: u32,
     pub last: u32,
 }
 
 /// The first runs of some pages, and how many runs there are in all.
-#[derive(Clone, Copy, Debug)]
+#[derive(Clone, Copy)]
 pub struct Runs {
     pub kept: [Run; MAX_RUNS],
     pub count: u64,

@@ -34,7 +34,8 @@ use Rattle.dbscan.specs.Roots.{AreListed, listed_rows}
 use Rattle.dbtrace.specs.declared.Part.{Part}
 use Rattle.dbtrace.specs.declared.Part.TheVariants as part
 use Rattle.dbtrace.specs.declared.Reported.{Reported}
-use Rattle.dbformat.proofs.BelowStarts.{before_freelist, length_taken, rows_start}
+use Rattle.dbformat.proofs.BelowStarts.{before_freelist, rows_start}
+use Rattle.dbformat.proofs.Rising.{rows_end}
 use Rattle.dbscan.specs.Placed.{told_faults}
 use Rattle.dbscan.proofs.Reached.{of_starts}
 use Rattle.dbentries.specs.Lines.{indented}
@@ -88,7 +89,7 @@ start_is k part.End e = cc
 at_most : (k n : ℕ) → k < n → k ≤ n
 at_most k n h = omega arith
 
-room : (k n : ℕ) → k < n → 0 + suc k ≤ n
+room : (k n : ℕ) → 1 + k ≤ n → 0 + suc k ≤ n
 room k n h = omega arith
 
 module _ (file : List ℕ) (V : List Reference) (s : Survey file V) where
@@ -110,8 +111,8 @@ module _ (file : List ℕ) (V : List Reference) (s : Survey file V) where
   rows_lines k [] = refl
   rows_lines k (row ∷ rows) = ap (λ w. start_sum_line file V ts k ++ w) (rows_lines (k + 1) rows)
 
-  few : length (listed_rows file V) ≤ 65536
-  few = length_taken last_root_start (rooted_rows (schema file V))
+  few : 1 + length (listed_rows file V) ≤ freelist_start
+  few = rows_end (rooted_rows (schema file V))
 
   abbrev rows : List SchemaRow
   rows = listed_rows file V
@@ -206,7 +207,7 @@ module _ (file : List ℕ) (V : List Reference) (s : Survey file V) where
         joined
         (ap count_text is.all ∙ count_same (length ts))
         (codes_same all_codes)
-        (lines_are (suc (length rows)) 0 (room (length rows) freelist_start (before_freelist (length rows) (length rows) (omega arith) few)))
+        (lines_are (suc (length rows)) 0 (room (length rows) freelist_start few))
         (line_is freelist_start (omega arith)) whole_part (last_part size r zeros)
         ∙ parts (count_text (length ts)) (flat_map (code_line ts) all_codes) (start_sum_line file V ts 0)
         (flat_map (start_sum_line file V ts) (range_with_len 1 (length rows)))

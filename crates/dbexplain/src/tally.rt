@@ -11,7 +11,7 @@ use std::marker::Model;
 
 /// What is counted of a start: the faults that were reported there; and then the pages that were reached from it, and those of them
 /// that have a fault.
-#[derive(Clone, Copy, Debug, Default, PartialEq, Eq)]
+#[derive(Clone, Copy, Default)]
 pub struct StartCount {
     pub faults: u64,
     pub reached: u32,

@@ -15,7 +15,7 @@ use dbsource::Out;
 use std::alloc::Allocator;
 
 /// How many trees of a kind there are, and how many of them have no fault.
-#[derive(Clone, Copy, Debug, PartialEq, Eq)]
+#[derive(Clone, Copy)]
 pub struct TreeSum {
     pub whole: u32,
     pub all: u32,

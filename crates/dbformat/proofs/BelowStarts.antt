@@ -22,7 +22,7 @@ use Rattle.dbformat.specs.Reference.{Role, trunk, Way, Reference, role_of, tree_
 use Rattle.dbformat.specs.Schema.{schema, start, root_start, root_starts, rooted_rows, freelist_starts, later_starts, starts}
 use Rattle.dbformat.specs.SchemaRow.{SchemaRow}
 use Rattle.dbformat.specs.Survey.{Survey, rules_of, is_too_deep}
-use Rattle.dbformat.proofs.Rising.{starts_rise}
+use Rattle.dbformat.proofs.Rising.{rows_end, starts_rise}
 use Rattle.dbformat.proofs.Roles.{root_off, child_leads}
 use Rattle.dbformat.proofs.Visited.{allowed, each_once, has_address, visit_is}
 use Rattle.dbformat.specs.Starts.{start_at, is_start, first_start}
@@ -37,11 +37,6 @@ rows_start file k [] l i = absurd i
 rows_start file k (row ∷ rows) l (inl e) = (ap (λ l. is_root l.role.role) e, let d : l.step ≡ k = ap (λ l. l.step) e in omega arith)
 rows_start file k (row ∷ rows) l (inr i) = let h = rows_start file (k + 1) rows l i in let d = h.1 in (h.0, omega arith)
 
-pub length_taken : {X : Type 0} (n : ℕ) (xs : List X) → length (take n xs) ≤ n
-length_taken zero xs = omega arith
-length_taken (suc n) [] = omega arith
-length_taken (suc n) (x ∷ xs) = let h = length_taken n xs in omega arith
-
 free_start : (file : List ℕ) (l : Link Way) → IsIn l (freelist_starts file) → (l.role.role ≡ trunk) × (l.step ≡ freelist_start)
 free_start file l i = by_case (first_trunk file == 0) i
   where
@@ -50,8 +45,7 @@ free_start file l i = by_case (first_trunk file == 0) i
     by_case false (inl e) = (ap (λ l. l.role.role) e, ap (λ l. l.step) e)
     by_case false (inr i) = absurd i
 
--- the starts of rows are before the freelist's
-pub before_freelist : (k n : ℕ) → k < 1 + n → n ≤ last_root_start → k < freelist_start
+pub before_freelist : (k n : ℕ) → k < 1 + n → 1 + n ≤ freelist_start → k < freelist_start
 before_freelist k n h few = omega arith
 
 each_start : (file : List ℕ) (V : List Reference) (l : Link Way) → IsIn l (starts file V) → IsAtStart l.step l.role.role
@@ -64,7 +58,7 @@ each_start file V l (inr i) =
     let rows = rooted_rows (schema file (under schema_start V)) in
     elim (IsIn-cases l (root_starts file rows) (freelist_starts file) i) [
       | inl j ↦ (let h = rows_start file 1 (take last_root_start rows) l j in
-          inr (h.0, before_freelist l.step (length (take last_root_start rows)) h.1 (length_taken last_root_start rows)))
+          inr (h.0, before_freelist l.step (length (take last_root_start rows)) h.1 (rows_end rows)))
       | inr j ↦ inl (free_start file l j)
     ]
 

@@ -4,7 +4,7 @@ ghost use Rattle.dbformat.specs.Lines.{total_counts};
 ghost use Rattle.dbformat.specs.declared.counts.Counts as declared;
 
 /// The counts of a page, or of all pages of a tree: columns of the statistics.
-#[derive(Clone, Copy, Debug, PartialEq, Eq)]
+#[derive(Clone, Copy)]
 pub struct Counts {
     /// How many cells there are.
     pub ncell: u64,

@@ -39,7 +39,7 @@ pub use starts::{FREELIST_START, MOST_ROOTS, SCHEMA_START};
 use thiserror::Error;
 
 /// What is wrong with a file that is read. Each variant is the code that a fault line begins with.
-#[derive(Clone, Copy, Debug, PartialEq, Eq)]
+#[derive(Clone, Copy, Debug)]
 pub enum FaultCode {
     /// File version is not 1 or 2.
     H01,
@@ -114,7 +114,7 @@ pub enum FaultCode {
 }
 
 /// One fault: its code, the page and the item at which it was found, and the value found there.
-#[derive(Clone, Copy, Debug, PartialEq, Eq)]
+#[derive(Clone, Copy)]
 pub struct Fault {
     pub code: FaultCode,
     pub page: u32,
@@ -163,7 +163,7 @@ pub enum Refusal {
 }
 
 /// What the header and the file's length say of all pages.
-#[derive(Clone, Copy, Debug, PartialEq, Eq)]
+#[derive(Clone, Copy)]
 pub struct Geometry {
     /// The bytes of a page: a power of two from 512 to 65536.
     pub page_size: u32,
@@ -176,14 +176,14 @@ pub struct Geometry {
 }
 
 /// A range of a source's bytes, by its first byte and its length.
-#[derive(Clone, Copy, Debug, Default, PartialEq, Eq)]
+#[derive(Clone, Copy, Default)]
 pub struct ByteRange {
     pub offset: u64,
     pub len: u64,
 }
 
 /// How texts of the file are stored.
-#[derive(Clone, Copy, Debug, PartialEq, Eq)]
+#[derive(Clone, Copy)]
 pub enum Encoding {
     Utf8,
     Utf16le,
@@ -191,21 +191,21 @@ pub enum Encoding {
 }
 
 /// The use of a page that the file's layout fixes.
-#[derive(Clone, Copy, Debug, PartialEq, Eq)]
+#[derive(Clone, Copy, PartialEq, Eq)]
 pub enum Fixed {
     Lock,
     Map,
 }
 
 /// The two kinds of b-tree.
-#[derive(Clone, Copy, Debug, PartialEq, Eq)]
+#[derive(Clone, Copy)]
 pub enum TreeKind {
     Table,
     Index,
 }
 
 /// The four kinds of b-tree page.
-#[derive(Clone, Copy, Debug, PartialEq, Eq)]
+#[derive(Clone, Copy, Debug)]
 pub enum PageKind {
     InteriorIndex,
     InteriorTable,
@@ -227,7 +227,7 @@ impl PageKind {
 }
 
 /// The two rules that say how much of a payload is in its cell.
-#[derive(Clone, Copy, Debug, PartialEq, Eq)]
+#[derive(Clone, Copy)]
 pub enum PayloadKind {
     TableLeaf,
     Index,
@@ -285,14 +285,14 @@ pub enum RowFault {
 }
 
 /// The first and the last rowid of a leaf.
-#[derive(Clone, Copy, Debug, PartialEq, Eq)]
+#[derive(Clone, Copy, Debug)]
 pub struct Rowids {
     pub first: i64,
     pub last: i64,
 }
 
 /// A page whose head is that of a page of a tree.
-#[derive(Clone, Copy, Debug, PartialEq, Eq)]
+#[derive(Clone, Copy, Debug)]
 pub struct TreeLook {
     pub kind: PageKind,
     /// How many cells it has, readable or not.
@@ -302,7 +302,7 @@ pub struct TreeLook {
 }
 
 /// A run of one byte in a page.
-#[derive(Clone, Copy, Debug, PartialEq, Eq)]
+#[derive(Clone, Copy)]
 pub struct ByteRun {
     /// Its first byte, from the start of the page.
     pub start: u32,
@@ -313,7 +313,7 @@ pub struct ByteRun {
 }
 
 /// What a page looks like by its bytes alone, whatever refers to it.
-#[derive(Clone, Copy, Debug, PartialEq, Eq)]
+#[derive(Clone, Copy, Debug)]
 pub enum Look {
     /// All its usable bytes are this one.
     Blank(u8),
@@ -324,7 +324,7 @@ pub enum Look {
 }
 
 /// What a row of the statistics is of: an undamaged page of a tree, by its kind, a damaged one, or an overflow page.
-#[derive(Clone, Copy, Debug, PartialEq, Eq)]
+#[derive(Clone, Copy, Debug)]
 pub enum PageType {
     Tree(PageKind),
     Damaged,
@@ -332,7 +332,7 @@ pub enum PageType {
 }
 
 /// What is asked of a file.
-#[derive(Clone, Copy, Debug, PartialEq, Eq)]
+#[derive(Clone, Copy, PartialEq, Eq)]
 pub enum Command {
     /// The fault lines, at most `limit`, and then how many more there are.
     Check { limit: u32 },
@@ -342,7 +342,7 @@ pub enum Command {
 }
 
 /// What was found: no fault, or the number of faults.
-#[derive(Clone, Copy, Debug, PartialEq, Eq)]
+#[derive(Clone, Copy, PartialEq, Eq)]
 pub enum Verdict {
     Clean,
     Faulty(u64),

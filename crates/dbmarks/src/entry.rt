@@ -5,7 +5,7 @@ ghost use Rattle.dbmarks.specs.EndMarks.{entry_value, mark_entry};
 use crate::marks::Mark;
 
 /// An entry of the pointer map: what a page is, and the page that it is reached from, or 0.
-#[derive(Clone, Copy, Debug, PartialEq, Eq)]
+#[derive(Clone, Copy)]
 pub struct MapEntry {
     /// The number of the page's use: 1 to 5.
     pub kind: u8,

@@ -10,7 +10,7 @@ use dbwalk::{Mark, Marks};
 use std::alloc::Allocator;
 
 /// What a page of a file is, and which page it is reached from.
-#[derive(Clone, Copy, Debug, PartialEq, Eq)]
+#[derive(Clone, Copy)]
 pub enum Place {
     /// The root of a tree.
     Root,

@@ -11,7 +11,7 @@ use dbformat::{CellFault, PageKind, PayloadKind, u16_at, u32_at};
 use std::marker::Model;
 
 /// A readable cell.
-#[derive(Debug, Drop)]
+#[derive(Drop)]
 pub struct Cell<'a> {
     /// Where it begins, in bytes from the start of the page.
     pub offset: u32,

@@ -9,7 +9,7 @@ use dbformat::u16_at;
 use std::marker::Model;
 
 /// A good freeblock of a page.
-#[derive(Clone, Copy, Debug, PartialEq, Eq)]
+#[derive(Clone, Copy)]
 pub struct Freeblock {
     /// Where it begins, in bytes from the start of the page.
     pub offset: u32,

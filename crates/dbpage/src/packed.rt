@@ -18,7 +18,7 @@ use std::sync::ledger::{Blank, Ledger};
 
 /// What one reading gives of a packed page. Each of its cells is readable, the keys rise from cell to cell, and no two of
 /// its cells and good freeblocks share a byte. Most pages of most files are packed.
-#[derive(Clone, Copy, Debug, PartialEq, Eq)]
+#[derive(Clone, Copy)]
 pub struct Packed {
     /// What the cells add up to.
     pub sums: CellSums,
@@ -27,7 +27,7 @@ pub struct Packed {
 }
 
 /// Sums over the cells, from the first on.
-#[derive(Clone, Copy, Debug, PartialEq, Eq)]
+#[derive(Clone, Copy)]
 pub struct CellSums {
     /// How many bytes of payload are in the cells.
     pub payload: u32,

@@ -1,16 +1,16 @@
 -- What a reporter hears at starts comes start by start, in their order.
-use Rattle.std.proofs.Common.{◌≡◌, ℕ, ◌+◌, ◌≤◌, inl, inr, List, [], ◌∷◌, ◌++◌, length, map, take, sym, subst, arith}
+use Rattle.std.proofs.Common.{◌≡◌, ℕ, ◌+◌, ◌≤◌, inl, inr, List, [], ◌∷◌, ◌++◌, length, map, sym, subst, arith}
 use Rattle.std.specs.Prelude.{filter_map}
 use Rattle.std.specs.List.{enumerate_from}
-use Rattle.std.proofs.lemmas.List.{length-take}
 use Rattle.std.proofs.lemmas.List.Elements.{filter_map-append}
 use Rattle.dbsurvey.specs.Address.{IsIn, EachPair}
 use Rattle.dbsurvey.specs.Story.{Go}
 use Rattle.dbsurvey.proofs.Order.{IsIn-cases, EachPair-append}
-use Rattle.dbformat.specs.Address.{freelist_start, last_root_start}
+use Rattle.dbformat.specs.Address.{freelist_start}
 use Rattle.dbformat.specs.Reference.{Reference}
 use Rattle.dbformat.specs.Schema.{schema, rooted_rows}
 use Rattle.dbformat.specs.SchemaRow.{SchemaRow}
+use Rattle.dbformat.proofs.Rising.{rows_end}
 use Rattle.dbtrace.specs.Finding.{Finding, told_fault, told_row, told_below, visited_below}
 use Rattle.dbscan.specs.Notices.{Notice, found, ended, errands_left, root_reference, tree_notices, later_notices, start_notices}
 use Rattle.dbscan.specs.Placed.{number_of, AreStarts, StartsRise}
@@ -73,15 +73,11 @@ later_rises file (row ∷ rows) k W few =
           ],
     )
 
--- the rows that have starts
-few : (rows : List SchemaRow) → 1 + length (take last_root_start rows) ≤ freelist_start
-few rows = let l = length-take last_root_start rows in omega (arith, l)
-
 pub starts_rise : (file : List ℕ) (V : List Reference) → StartsRise (start_notices file V)
 starts_rise file V =
     let rows = listed_rows file V in
     let U = [] ++ visited_below file [] (Go schema_reference ∷ []) in
-    let rest = later_rises file rows 1 U (few (rooted_rows (schema file V))) in
+    let rest = later_rises file rows 1 U (rows_end (rooted_rows (schema file V))) in
     tree_rises at_schema file [] schema_reference (later_notices file U (enumerate_from 1 rows)) rest.0 (λ k i. omega arith)
 
 -- ---- and each is a start
@@ -109,4 +105,4 @@ are_starts file V =
     let rows = listed_rows file V in
     let U = [] ++ visited_below file [] (Go schema_reference ∷ []) in
     tree_starts at_schema file [] schema_reference (later_notices file U (enumerate_from 1 rows)) (omega arith)
-    (later_starts file rows 1 U (few (rooted_rows (schema file V))))
+    (later_starts file rows 1 U (rows_end (rooted_rows (schema file V))))

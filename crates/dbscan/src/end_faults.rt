@@ -44,7 +44,6 @@ pub(crate) fn late_fault(
 }
 
 // The faults of the whole file, by its header and the counts of its pages.
-#[tactic(auto, using(std::proofs::Common::append_assoc))]
 pub(crate) fn counted_faults(
     header: &Header,
     any_rows: bool,

@@ -55,9 +55,12 @@ fn kind_by(kind: RowKind) -> RootKind
     }
 }
 
-// The root that a row of the list names.
+// The root that a row of the list names, which is not the schema's.
+#[tactic(auto, using(crate::proofs::Starts::no_schema_kind))]
 fn root_of(row: &SchemaRow<'_>, start: u32, encoding: Encoding) -> Root
-    ensures { result ≡ root_of encoding start (schema_row_of row.now) }
+    requires { 1 ≤ start }
+    ensures root { result ≡ root_of encoding start (schema_row_of row.now) }
+    ensures own { (result.kind ≡ root_kind.Schema) ↔ (result.start ≡ schema_start) }
 {
     Root {
         start,

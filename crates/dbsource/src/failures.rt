@@ -5,7 +5,7 @@ ghost use Rattle.dbsource.specs.Failures.{one_more};
 use std::marker::Model;
 
 /// How many calls failed, in 64 bits: after the greatest number comes 0.
-#[derive(Debug, Drop)]
+#[derive(Drop)]
 pub struct Failures {
     count: u64,
 }

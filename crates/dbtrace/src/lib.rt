@@ -11,7 +11,7 @@ ghost use Rattle.dbtrace.specs.Steps.{AreAside, HasSteps};
 pub use dbformat::{ByteRun, Fault, Look};
 
 /// A key of a cell: its place, and its value.
-#[derive(Clone, Copy, Debug, PartialEq, Eq)]
+#[derive(Clone, Copy)]
 pub struct CellKey {
     /// The page of the cell.
     pub page: u32,
@@ -22,14 +22,14 @@ pub struct CellKey {
 }
 
 /// A leaf of a tree: its page, and its depth, where the root has depth 1.
-#[derive(Clone, Copy, Debug, PartialEq, Eq)]
+#[derive(Clone, Copy)]
 pub struct TreeLeaf {
     pub page: u32,
     pub depth: u32,
 }
 
 /// The overflow chain of a cell, and how much of it was found.
-#[derive(Clone, Copy, Debug, PartialEq, Eq)]
+#[derive(Clone, Copy)]
 pub struct CellChain {
     /// The page of the cell.
     pub page: u32,
@@ -46,14 +46,14 @@ pub struct CellChain {
 }
 
 /// How many pages an interior page names, each as often as it does, and how many of them are lost.
-#[derive(Clone, Copy, Debug, PartialEq, Eq)]
+#[derive(Clone, Copy)]
 pub struct NamedPages {
     pub pages: u32,
     pub lost: u32,
 }
 
 /// Between which rowids the rows of a page of a table are, by the keys around it.
-#[derive(Clone, Copy, Debug, PartialEq, Eq)]
+#[derive(Clone, Copy)]
 pub struct RowidBounds {
     /// They are above the greatest key before the page in its tree.
     pub above: Option<i64>,
@@ -70,7 +70,7 @@ impl RowidBounds {
 }
 
 /// What is known of a page with faults. Two causes are compared without it.
-#[derive(Clone, Copy, Debug, PartialEq, Eq)]
+#[derive(Clone, Copy)]
 pub struct PageFacts {
     /// The longest run of one byte, where it has 64 bytes or more: of its usable bytes, or of its content area, and then only if a
     /// cell begins in it.
@@ -91,7 +91,7 @@ impl PageFacts {
 }
 
 /// What a fault goes back to.
-#[derive(Clone, Copy, Debug, PartialEq, Eq)]
+#[derive(Clone, Copy)]
 pub enum Cause {
     /// The fault goes back to nothing but itself.
     Itself,
@@ -108,7 +108,7 @@ pub enum Cause {
 }
 
 /// A part of a report: the header of a file, what is found from a start on, and what is found when all pages have been visited.
-#[derive(Clone, Copy, Debug, PartialEq, Eq)]
+#[derive(Clone, Copy)]
 pub enum Part {
     /// The faults of the header.
     Header,
@@ -119,7 +119,7 @@ pub enum Part {
 }
 
 /// A fault, the part of the report that it belongs to, and what it goes back to.
-#[derive(Clone, Copy, Debug, PartialEq, Eq)]
+#[derive(Clone, Copy)]
 pub struct Reported {
     pub part: Part,
     pub fault: Fault,

@@ -10,6 +10,7 @@ use Rattle.dbformat.specs.Head.{View, is_interior}
 use Rattle.dbformat.specs.Reference.{Reference, tree_view}
 use Rattle.dbformat.specs.Survey.{rules_of}
 use Rattle.dbformat.specs.declared.Geometry.{Geometry}
+use Rattle.dbformat.specs.declared.TreeKind.{TreeKind}
 use Rattle.dbwalk.specs.Entered.{IsNext}
 use Rattle.dbtrace.specs.Causes.{cell_rowid, key_up_to}
 use Rattle.dbtrace.specs.Item.{Item}
@@ -18,7 +19,9 @@ use Rattle.dbwalk.specs.Found.{HasPageAt}
 use Rattle.dbwalk.specs.LeafCells.{overflow_errands, AreBefore}
 use Rattle.dbmarks.specs.Marking.{AreMarksOf}
 use Rattle.dbwalk.specs.Underway.{IsAt, IsWalkingOn}
-use Rattle.dbwalk.specs.Walking.{IsCandidate, IsLeafAt}
+use Rattle.dbwalk.specs.Walking.{AreOpen, IsCandidate, IsLeafAt, path_of}
+use Rattle.dbwalk.specs.Steps.{HasNext}
+use Rattle.dbwalk.specs.declared.steps.Next.{Next}
 use Rattle.dbwalk.specs.declared.steps.StackFrame.{StackFrame}
 use Rattle.dbmarks.specs.declared.marks.Mark.{Mark}
 use Rattle.dbwalk.specs.declared.cells.LeafCell.{LeafCell}
@@ -76,3 +79,10 @@ IsSameButGreatest old new = (new.start ≡ old.start) × (new.kind ≡ old.kind)
 -- only its first leaf may have changed
 abbrev pub IsSameButLeaf : Tree → Tree → Type 0
 IsSameButLeaf old new = (new.start ≡ old.start) × (new.kind ≡ old.kind) × (new.greatest ≡ old.greatest) × (new.path ≡ old.path)
+
+-- A turn begins: a frame was taken from the stack, above these, and this is what its page has at its step.
+pub record IsAtTurn (usable : ℕ) (kind : TreeKind) (levels : List (List ℕ)) (way : List ℕ) (frames : List StackFrame) (frame : StackFrame) (next : Next) : Type 0 where
+  pub few : length frames < 20
+  pub opened : AreOpen usable kind levels 0 (frames ++ (frame ∷ []))
+  pub path : way ≡ path_of frames
+  pub step : HasNext usable kind levels (length frames) frame.page frame.next next

@@ -70,8 +70,7 @@ fn visit_overflow<S: Source, K: Sink, A: Allocator>(
     sieve: &mut Option<RowSieve>,
     sink: &mut K,
 ) -> Result<NextPage, RunError>
-    requires page { 1 ≤ page }
-    requires counted { number + left ≤ most_payload }
+    requires { (1 ≤ page) × (number + left ≤ most_payload) }
     ensures log { HasLog S.step (λ log. log ≡ page_range bench.old.geometry.page_size page ∷ []) (λ file. bench.old.geometry ≡ geometry file
         → IsOverflowVisited K.takes K.drops file chain.now number page left result sieve.old sieve.new sink.old sink.new)
         (S.held source.old) (S.held source.new) }
@@ -171,8 +170,7 @@ pub(crate) fn walk_chain<S: Source, K: Sink, A: Allocator>(
     sieve: &mut Option<RowSieve>,
     sink: &mut K,
 ) -> Result<(), RunError>
-    requires page { IsPageNumber chain.now.page }
-    requires left { chain.now.left ≤ most_payload }
+    requires { IsPageNumber chain.now.page × (chain.now.left ≤ most_payload) }
     ensures log { HasLog S.step (Reads bench.old.geometry.page_size marks.old marks.new) (λ file. bench.old.geometry ≡ geometry file
         → (W : List Reference) (c : Reference) → IsChainOf file chain.now c → IsNext W c → AreMarksOf file W marks.old
         → IsDone K.takes K.drops file W (Go c ∷ []) result marks.new sink.old sink.new × OnOk result (FeedsChain file W c sieve.old sieve.new))
@@ -216,8 +214,7 @@ pub(crate) fn walk_unfed<S: Source, K: Sink, A: Allocator>(
     chain: &Chain<'_>,
     sink: &mut K,
 ) -> Result<(), RunError>
-    requires page { IsPageNumber chain.now.page }
-    requires left { chain.now.left ≤ most_payload }
+    requires { IsPageNumber chain.now.page × (chain.now.left ≤ most_payload) }
     ensures log { HasLog S.step (Reads bench.old.geometry.page_size marks.old marks.new) (λ file. bench.old.geometry ≡ geometry file
         → (W : List Reference) (c : Reference) → IsChainOf file chain.now c → IsNext W c → AreMarksOf file W marks.old
         → IsDone K.takes K.drops file W (Go c ∷ []) result marks.new sink.old sink.new)

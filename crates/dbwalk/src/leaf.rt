@@ -38,13 +38,13 @@ impl<A: Allocator, S: Source, K: Sink, T: Taker> TreeWalk<'_, '_, '_, '_, A, S, 
     /// [`RunError::ReadFailed`] exactly where the source failed, [`RunError::WriteFailed`] exactly where the sink failed,
     /// [`RunError::OutOfMemory`] exactly where the taker was refused memory.
     pub(crate) fn walk_leaf(&mut self, bench: &mut Bench<A>, page: u32) -> Result<(), RunError>
-        requires level { length self.old.tree.path.items < 20 }
-        requires page { IsPageNumber page }
+        requires { (length self.old.tree.path.items < 20) × IsPageNumber page }
         ensures walked { Walked S.held K.held T.refusals result bench.old.geometry bench.new.geometry self.old self.new }
         ensures levels { bench.new.levels ≡ bench.old.levels }
         ensures tree { IsSameButGreatest self.old.tree self.new.tree }
         ensures log { SaysOfFiles S.step S.held bench.old.geometry self.old self.new (λ file. AtLeaf file bench.old.levels page self.old (λ from c.
-            Does (watches K.takes T.takes) (fails K.takes K.drops T.takes T.refuses) file (done_below file from (errands_of (story_of file) c)) result self.old self.new)) }
+            Does (watches K.takes T.takes) (fails K.takes K.drops T.takes T.refuses) file
+            (done_below file from (errands_of (story_of file) c)) result self.old self.new)) }
     {
         let level = self.tree.path.len();
         let cells = leaf_cells(bench, self.tree.kind, level, page);
@@ -71,9 +71,7 @@ impl<A: Allocator, S: Source, K: Sink, T: Taker> TreeWalk<'_, '_, '_, '_, A, S, 
         i: u32,
         sieve: &mut Option<RowSieve>,
     ) -> Result<(), RunError>
-        requires level { length self.old.tree.path.items < 20 }
-        requires page { IsPageNumber page }
-        requires empty { 1 ≤ self.old.tree.start → sieve.old ≡ None }
+        requires { (length self.old.tree.path.items < 20) × IsPageNumber page × (1 ≤ self.old.tree.start → sieve.old ≡ None) }
         ensures walked { Walked S.held K.held T.refusals result bench.old.geometry bench.new.geometry self.old self.new }
         ensures levels { bench.new.levels ≡ bench.old.levels }
         ensures tree { IsSameButGreatest self.old.tree self.new.tree }

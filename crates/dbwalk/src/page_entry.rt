@@ -56,8 +56,7 @@ impl<A: Allocator, S: Source, K: Sink, T: Taker> TreeWalk<'_, '_, '_, '_, A, S, 
         page: u32,
         up_to: Option<i64>,
     ) -> Result<bool, RunError>
-        requires level { length self.old.tree.path.items < 20 }
-        requires page { IsPageNumber page }
+        requires { (length self.old.tree.path.items < 20) × IsPageNumber page }
         ensures walked { Walked S.held K.held T.refusals result bench.old.geometry bench.new.geometry self.old self.new }
         ensures levels { bench.new.levels ≡ bench.old.levels }
         ensures path { self.new.tree.path ≡ self.old.tree.path }

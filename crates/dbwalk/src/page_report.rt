@@ -44,7 +44,8 @@ pub(crate) fn tell_page<A: Allocator, K: Sink>(
     ensures writes { SinkAfter is_any result (K.held sink.old) (K.held sink.new) }
     // For each file in which the bytes at the level are those of the page.
     ensures told { AtRead bench.old.geometry tree.old bench.old.levels page (λ file c.
-        IsReportedTo K.takes K.drops K.held result sink.old (page_findings file (record { above = key_value tree.old.greatest; up_to = up_to }) tree.old.leaf c) sink.new
+        IsReportedTo K.takes K.drops K.held result sink.old
+        (page_findings file (record { above = key_value tree.old.greatest; up_to = up_to }) tree.old.leaf c) sink.new
         × OnOk result (tree.new.leaf ≡ leaf_after file tree.old.leaf c)) }
 {
     let level = tree.path.len();

@@ -9,7 +9,7 @@ use dbsource::Bench;
 use std::alloc::Allocator;
 
 /// What names a root, which also decides the kind of its tree.
-#[derive(Clone, Copy, Debug, PartialEq, Eq)]
+#[derive(Clone, Copy)]
 pub enum RootKind {
     /// The root of the schema, which is a table.
     Schema,
@@ -21,7 +21,7 @@ pub enum RootKind {
 
 /// The root of a tree: the number of the start that names it, 0 for the schema's and from 1 on for the others; its page; and
 /// the encoding of the file's texts.
-#[derive(Clone, Copy, Debug, PartialEq, Eq)]
+#[derive(Clone, Copy)]
 pub struct Root {
     pub start: u32,
     pub page: u32,

@@ -10,7 +10,7 @@ use dbformat::Counts;
 use dbsource::WriteFailed;
 
 /// A row of the statistics: a page of a tree or of an overflow chain.
-#[derive(Clone, Copy, Debug, Drop, PartialEq, Eq)]
+#[derive(Clone, Copy, Drop)]
 pub struct Row<'a> {
     /// The number of the tree's start.
     pub start: u32,

@@ -7,7 +7,7 @@ use dbbytes::SchemaRow;
 use std::alloc::AllocError;
 
 /// What the taker did with a row of the schema.
-#[derive(Clone, Copy, Debug, PartialEq, Eq)]
+#[derive(Clone, Copy)]
 pub enum Taken {
     /// Its root page was taken.
     Taken,

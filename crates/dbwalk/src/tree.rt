@@ -32,8 +32,7 @@ use std::alloc::Allocator;
 impl<A: Allocator, S: Source, K: Sink, T: Taker> TreeWalk<'_, '_, '_, '_, A, S, K, T> {
     // Walks over the pages of a tree whose root was marked, and read at level 0. No page of the tree was visited before.
     fn walk_pages(&mut self, bench: &mut Bench<A>, page: u32) -> Result<(), RunError>
-        requires page { IsPageNumber page }
-        requires fresh { (self.old.tree.greatest ≡ None) × (self.old.tree.leaf ≡ None) × (self.old.tree.path.items ≡ []) }
+        requires { IsPageNumber page × (self.old.tree.greatest ≡ None) × (self.old.tree.leaf ≡ None) × (self.old.tree.path.items ≡ []) }
         ensures walked { Walked S.held K.held T.refusals result bench.old.geometry bench.new.geometry self.old self.new }
         ensures log { SaysOfFiles S.step S.held bench.old.geometry self.old self.new (λ file. AtRoot file bench.old.levels page self.old (λ W c.
             Does (watches K.takes T.takes) (fails K.takes K.drops T.takes T.refuses) file (tree_walk file W c) result self.old self.new)) }

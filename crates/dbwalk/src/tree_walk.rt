@@ -1,14 +1,13 @@
 // One walk over a tree, and a turn of it: a step of the last frame.
 ghost use Rattle.arrayvec.specs.ArrayVec.{array_vec_len};
 ghost use Rattle.std.specs.Prelude.{◌≡◌, ◌≤◌, ◌<◌, ◌++◌, [], ◌∷◌, List, OnOk};
-ghost use Rattle.dbwalk.specs.Steps.{HasNext};
 ghost use Rattle.dbwalk.specs.Walked.{SaysOfFiles, Walked};
 ghost use Rattle.dbwalk.specs.Underway.{HasTurned};
 ghost use Rattle.dbwalk.specs.Watching.{fails, watches};
 ghost use Rattle.dbwalk.specs.Walking.{AreOpen, path_of, cost};
 ghost use Rattle.dbwalk.specs.declared.steps.StackFrame.{StackFrame};
 ghost use Rattle.dbwalk.specs.declared.steps.Next.TheVariants.{Child};
-ghost use Rattle.dbwalk.specs.Points.{AtStep};
+ghost use Rattle.dbwalk.specs.Points.{AtStep, IsAtTurn};
 
 use crate::chain::{Chain, walk_unfed};
 use crate::state::Tree;
@@ -42,11 +41,7 @@ impl<A: Allocator, S: Source, K: Sink, T: Taker> TreeWalk<'_, '_, '_, '_, A, S, 
         page: u32,
         key: Option<i64>,
     ) -> Result<(), RunError>
-        requires few { array_vec_len frames.old < 20 }
-        requires open { AreOpen bench.old.geometry.usable self.old.tree.kind bench.old.levels 0 (frames.old.items ++ (frame ∷ [])) }
-        requires path { self.old.tree.path.items ≡ path_of frames.old.items }
-        requires step { HasNext bench.old.geometry.usable self.old.tree.kind bench.old.levels (array_vec_len frames.old) frame.page
-            frame.next (Child page key) }
+        requires { IsAtTurn bench.old.geometry.usable self.old.tree.kind bench.old.levels self.old.tree.path.items frames.old.items frame (Child page key) }
         ensures walked { Walked S.held K.held T.refusals result bench.old.geometry bench.new.geometry self.old self.new }
         ensures few { OnOk result (array_vec_len frames.new ≤ 20) }
         ensures open { OnOk result (AreOpen bench.new.geometry.usable self.new.tree.kind bench.new.levels 0 frames.new.items) }
@@ -86,10 +81,7 @@ impl<A: Allocator, S: Source, K: Sink, T: Taker> TreeWalk<'_, '_, '_, '_, A, S, 
         frame: StackFrame,
         next: Next,
     ) -> Result<(), RunError>
-        requires few { array_vec_len frames.old < 20 }
-        requires open { AreOpen bench.old.geometry.usable self.old.tree.kind bench.old.levels 0 (frames.old.items ++ (frame ∷ [])) }
-        requires path { self.old.tree.path.items ≡ path_of frames.old.items }
-        requires step { HasNext bench.old.geometry.usable self.old.tree.kind bench.old.levels (array_vec_len frames.old) frame.page frame.next next }
+        requires { IsAtTurn bench.old.geometry.usable self.old.tree.kind bench.old.levels self.old.tree.path.items frames.old.items frame next }
         ensures walked { Walked S.held K.held T.refusals result bench.old.geometry bench.new.geometry self.old self.new }
         ensures few { OnOk result (array_vec_len frames.new ≤ 20) }
         ensures open { OnOk result (AreOpen bench.new.geometry.usable self.new.tree.kind bench.new.levels 0 frames.new.items) }

@@ -1,4 +1,4 @@
-use Rattle.std.proofs.Common.{◌≡◌, ℕ, Bool, List, Ok, Err, refl, sym, ap, ◌∙◌}
+use Rattle.std.proofs.Common.{◌≡◌, ℕ, Bool, List, Ok, Err, refl, sym, ap, ◌∙◌, arith}
 use Rattle.std.proofs.lemmas.Result.{err_from_is_err_and}
 use Rattle.dbformat.specs.File.{geometry, page_bytes}
 use Rattle.dbformat.specs.declared.Geometry.{Geometry}
@@ -40,3 +40,7 @@ returns-clause-asks g c =
           c.lost_cause.ensures);
       count = c.in_ok-load.ensures.count;
     }
+
+pub lost_cause-requires-clause-whole : goal.lost_cause-requires-clause-whole
+lost_cause-requires-clause-whole g c =
+    omega (arith, ap (λ (s : Geometry). s.page_size) c.geometry-usable.ensures.value, c.geometry-usable.ensures.range.usable, c.page.ensures.len)

@@ -1,10 +1,12 @@
-use Rattle.std.proofs.Common.{rules, [], Err, refl, sym, ap, subst}
+use Rattle.std.proofs.Common.{rules, [], Err, refl, sym, ap, subst, ◌∙◌}
 use Rattle.std.proofs.lemmas.Result.{err_from_is_err_and}
 use Rattle.dbformat.specs.FixedPages.{geometry_of}
 use Rattle.dbsource.proofs.Logs.{asks_weaker}
+use Rattle.dbsource.specs.Errors.{is_write_failed}
 use Rattle.dbsource.specs.HeaderBytes.{HeaderBytes}
 use Rattle.dbsource.specs.Headers.{IsHeaderOf}
 use Rattle.dbmarks.proofs.Readings.{asks_then}
+use Rattle.dbwalk.specs.Telling.{SinkAfter}
 use Rattle.dbscan.specs.Walks.{AreTold, IsBetweenStarts}
 use Rattle.dbscan.proofs.walks.walk_later.Goals as goal
 
@@ -23,3 +25,16 @@ returns-clause-asks g c =
     (done is V s before h) in
     subst (λ x. AreTold g.K.Reporter.hears g.K.Reporter.cuts file V c.walk_trunks.result c.walk_trunks.new.desk.marks before x) (search rules)
     (walked (subst (λ (h : HeaderBytes). IsHeaderOf h file) (sym same) is) V s before left))
+
+pub returns-clause-keeps : goal.returns-clause-keeps
+returns-clause-keeps g c =
+    let first = c.in_ok-walk_roots.ensures.keeps in
+    let then = c.walk_trunks.ensures.keeps in
+    let held = g.K.Reporter.held in record {
+      header = then.header ∙ first.header;
+      roots = then.roots ∙ first.roots;
+      writes = subst (λ t. SinkAfter is_write_failed c.walk_trunks.result (held c.args.reporter.now) (held t)) (search rules)
+          (subst (λ s. SinkAfter is_write_failed c.walk_trunks.result s (held c.walk_trunks.new.teller.reporter.now))
+          (ap held c.new.ensures.reporter ∙ first.writes) then.writes);
+      only = then.only;
+    }

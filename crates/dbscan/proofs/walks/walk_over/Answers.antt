@@ -2,6 +2,7 @@ use Rattle.std.proofs.Common.{Err, Ok, refl}
 use Rattle.std.proofs.lemmas.Result.{err_from_is_err_and}
 use Rattle.dbsource.proofs.Logs.{asks_weaker}
 use Rattle.dbsource.specs.declared.error.RunError.TheVariants.{WriteFailed}
+use Rattle.dbscan.proofs.Tellers.{reporter_after}
 use Rattle.dbscan.proofs.TreeWalks.{root_done, tree_stopped, tree_ended, tree_cut}
 use Rattle.dbscan.proofs.walks.walk_over.Goals as goal
 
@@ -34,3 +35,7 @@ returns-clause-asks g c = asks_weaker _ _ (Ok tt) (λ n. refl) c.in_ok-walk_tree
     c.end.new.self (root_done g.K.Reporter.hears g.K.Reporter.cuts g.T.Taker.takes g.T.Taker.refuses file W d c.walk_tree.new.marks c.args.teller.now
     c.walk_tree.new.sink c.args.taker.now c.walk_tree.new.taker
     (Ok tt) c.args.root c.args.marks.now after c.requires.schema held empty (done shape code W d after)) c.in_ok-end.ensures.ends c.in_ok-end.ensures.rows)
+
+pub returns-in_err-walk_tree-clause-same_reporter : goal.returns-in_err-walk_tree-clause-same_reporter
+returns-in_err-walk_tree-clause-same_reporter g c = (reporter_after {A = Unit {0}} g.K.Reporter.held (Err c.in_err-walk_tree.field-0.0) c.args.teller.now
+    c.walk_tree.new.sink c.in_err-walk_tree.ensures.writes).0

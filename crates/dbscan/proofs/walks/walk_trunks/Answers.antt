@@ -43,3 +43,11 @@ returns-clause-asks g c =
     let there : (c.first_trunk-first.result == 0) ≡ false = grind (arith, nat_tests) in
     freelist_told g.K.Reporter.hears g.K.Reporter.cuts file V s before c.desk.inside.marks c.walk_freelist.new.marks c.args.teller.now c.walk_freelist.new.sink
     c.first_trunk-first.result c.walk_freelist.result c.requires.start there some h walked)
+
+pub returns-clause-keeps : goal.returns-clause-keeps
+returns-clause-keeps g c = record {
+  header = ap (λ (d : DeskView). d.header) c.desk.view_is;
+  roots = ap (λ (d : DeskView). d.roots) c.desk.view_is;
+  writes = (reporter_after g.K.Reporter.held c.walk_freelist.result c.args.teller.now c.walk_freelist.new.sink c.walk_freelist.ensures.writes).1;
+  only = c.walk_freelist.ensures.only;
+}

@@ -1,4 +1,4 @@
-use Rattle.std.proofs.Common.{rules, ◌≡◌, ◌-◌, [], ◌∷◌, ◌++◌, Ok, Err, sym, ap, subst, ◌∙◌, ◌≤◌, ◌<◌}
+use Rattle.std.proofs.Common.{rules, arith, refl, ℕ, ◌≡◌, ◌+◌, ◌-◌, [], ◌∷◌, ◌++◌, Ok, Err, sym, ap, subst, ◌∙◌, ◌≤◌, ◌<◌}
 use Rattle.std.proofs.lemmas.Result.{err_from_is_err_and}
 use Rattle.dbsurvey.specs.Story.{Go}
 use Rattle.dbformat.specs.Header.{usable_size}
@@ -9,6 +9,11 @@ use Rattle.dbwalk.proofs.Chaining.Heads.{head_visited, refusal_here}
 use Rattle.dbwalk.proofs.Chaining.ChainTurns.{turn_refused, turn_stopped, turn_last, turn_more_by}
 use Rattle.dbwalk.proofs.Telling.Lefts.{left_untold}
 use Rattle.dbwalk.proofs.chain.enter_overflow.Goals as goal
+
+-- the next place in a chain that goes on
+place_on : (number left usable most : ℕ) → number + left ≤ most → 480 ≤ usable → usable - 4 < left → ((number + 1) + (left - (usable - 4)) ≤ most)
+    × (left - (usable - 4) < left)
+place_on number left usable most counted least more = (omega arith, omega arith)
 
 pub returns-in_err-enter-clause-log : goal.returns-in_err-enter-clause-log
 returns-in_err-enter-clause-log g c = log_none c.args.bench.now.geometry.page_size c.args.marks.now c.enter.new.marks (g.S.Source.held c.args.source.now)
@@ -88,3 +93,8 @@ returns-clause-log g c =
 
 pub visit_overflow-requires : goal.visit_overflow-requires
 visit_overflow-requires g c = (search rules, ((c.in_ok-enter.ensures.page (search rules)).0, c.requires.place.counted))
+
+pub returns-clause-next : goal.returns-clause-next
+returns-clause-next g c =
+    let on = place_on _ _ _ _ c.requires.place.counted c.geometry-usable.ensures.range.usable.0 c.if-place-room.false in
+    (record { named = (c.in_ok-enter.ensures.page (search rules)).1; used = record { some = refl; cleared = refl }; counted = on.0 }, on.1)

@@ -1,4 +1,4 @@
-use Rattle.std.proofs.Common.{◌<◌, [], ◌∷◌, Ok, Err, refl, sym, ap, subst, ◌∙◌, arith}
+use Rattle.std.proofs.Common.{rules, ◌<◌, [], ◌∷◌, Ok, Err, refl, sym, ap, subst, ◌∙◌, arith}
 use Rattle.std.specs.Prelude.{IfSome, OnOk}
 use Rattle.std.proofs.lemmas.Result.{err_from_is_err_and}
 use Rattle.dbsurvey.specs.Story.{Go}
@@ -17,7 +17,7 @@ loop-next-init g c = record {
   writes = refl;
   bench = refl;
   kept = refl;
-  place = record { named = c.requires.page; used = record { some = refl; cleared = refl }; counted = omega arith };
+  place = record { named = c.requires.0; used = record { some = refl; cleared = refl }; counted = omega arith };
 }
 
 pub returns-in_err-next-clause-log : goal.returns-in_err-next-clause-log
@@ -54,3 +54,6 @@ returns-clause-log g c = log_then _ _ (ap (λ b. b.geometry.page_size) c.loop-ne
 
 pub loop-next-smaller : goal.loop-next-smaller
 loop-next-smaller g c = (subst (λ o. IfSome o (λ next. IsPlace next × (next.left < c.loop-next.place.left))) c.in-Some.is c.in_ok-next.ensures.next).1
+
+pub enter_overflow-requires : goal.enter_overflow-requires
+enter_overflow-requires g c = (search rules, c.loop-next.invariant.place)

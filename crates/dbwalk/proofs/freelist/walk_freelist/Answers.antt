@@ -1,4 +1,4 @@
-use Rattle.std.proofs.Common.{◌≡◌, [], ◌∷◌, Ok, Err, refl, sym, ap, subst, ◌∙◌}
+use Rattle.std.proofs.Common.{◌≡◌, ◌<◌, [], ◌∷◌, Ok, Err, refl, sym, ap, subst, ◌∙◌}
 use Rattle.std.specs.Prelude.{IfSome}
 use Rattle.std.proofs.lemmas.Result.{err_from_is_err_and}
 use Rattle.dbsurvey.specs.Story.{Go}
@@ -7,6 +7,7 @@ use Rattle.dbsource.specs.Errors.{is_read_failed}
 use Rattle.dbsource.specs.Failures.{failures_after}
 use Rattle.dbwalk.specs.Trunks.{TrunkTurns}
 use Rattle.dbwalk.specs.Done.{IsDone}
+use Rattle.dbmarks.specs.Marking.{unmarked_pages}
 use Rattle.dbmarks.specs.declared.marks.Mark.TheVariants.{Trunk}
 use Rattle.dbmarks.proofs.Readings.{log_none, log_then}
 use Rattle.dbwalk.proofs.FreeTrunks.{trunks_start}
@@ -56,3 +57,7 @@ returns-clause-asks g c = record {
       (turned (ap (λ b. b.geometry) c.loop-next.invariant.bench ∙ e) W d c.args.sink.now (way e W d h next m)));
   count = c.in_ok-next.ensures.reads ∙ c.loop-next.invariant.reads;
 }
+
+pub loop-next-smaller : goal.loop-next-smaller
+loop-next-smaller g c =
+    subst (λ o. IfSome o (λ next. unmarked_pages c.enter_trunk.new.marks < unmarked_pages c.loop-next.marks)) c.in-Some.is c.in_ok-next.ensures.less

@@ -1,9 +1,56 @@
-use Rattle.std.proofs.Common.{rules}
-use Rattle.dbpage.specs.Packed.{IsPacked}
+use Rattle.std.proofs.Common.{rules, sym, subst, ◌∙◌}
+use Rattle.std.specs.Prelude.{ℕ, ◌<◌, MatchOption, MatchBool}
+use Rattle.dbformat.specs.Cell.{count}
+use Rattle.dbpage.specs.Packed.{IsPacked, IsUnpacked, IsAllLocal, HasOverflow}
+use Rattle.dbtrace.specs.Finding.{told_row}
+use Rattle.dbwalk.specs.Found.{view_row}
+use Rattle.dbwalk.proofs.page_row.tell_undamaged.Given.{Over}
+use Rattle.dbwalk.proofs.page_row.tell_undamaged.Goals.{In_ok-row, in-Some, in-None}
 use Rattle.dbwalk.proofs.page_row.tell_undamaged.Goals as goal
 
+-- what packing the page answered
+is_packed : (g : Over) (c : In_ok-row g) → MatchOption c.match-packed.packed (IsUnpacked c.args.view.now) (IsPacked c.args.view.now)
+is_packed g c = elim c.match-packed.branch [
+  | in-Some w ↦ subst (λ o. MatchOption o (IsUnpacked c.args.view.now) (IsPacked c.args.view.now)) (sym w.packed-is) w.in-Some.ensures
+  | in-None w ↦ subst (λ o. MatchOption o (IsUnpacked c.args.view.now) (IsPacked c.args.view.now)) (sym w.packed-is) c.packed-packed.ensures
+]
+
+-- the row is that of the page
+row_told : (g : Over) (c : In_ok-row g) → g.K.Sink.takes c.args.sink.now (told_row (view_row c.args.place.now.start c.args.place.now.path.now c.args.view.now))
+    c.row.new.self
+row_told g c = search rules
+
 pub tell_readable-requires-clause-cells : goal.tell_readable-requires-clause-cells
-tell_readable-requires-clause-cells g c =
-    let page = c.in-Some-packed.page in
-    let packed : IsPacked c.args.view.now page = search rules in
-    packed.read.readable
+tell_readable-requires-clause-cells g c = (subst (λ o. MatchOption o (IsUnpacked c.args.view.now) (IsPacked c.args.view.now)) c.in-Some-packed.is
+    (is_packed g (goal.at.tell_readable-requires-clause-cells g c).In_ok-row)).read.readable
+
+pub returns-in_default-clause-told : goal.returns-in_default-clause-told
+returns-in_default-clause-told g c = record {
+  items = (c.row.new.self, row_told g (goal.at.returns-in_default-clause-told g c).In_ok-row, c.in_ok-tell_inner.ensures.items);
+  count = c.in_ok-tell_inner.ensures.count ∙ c.in_ok-row.ensures.count;
+}
+
+pub returns-then-page-clause-told : goal.returns-then-page-clause-told
+returns-then-page-clause-told g c = record {
+  items = (c.row.new.self, row_told g (goal.at.returns-then-page-clause-told g c).In_ok-row, c.in_ok-tell_readable.ensures.items);
+  count = c.in_ok-tell_readable.ensures.count ∙ c.in_ok-row.ensures.count;
+}
+
+pub returns-clause-told : goal.returns-clause-told
+returns-clause-told g c = record {
+  items = (c.row.new.self, row_told g (goal.at.returns-clause-told g c).In_ok-row, c.in_ok-tell_readable.ensures.items);
+  count = c.in_ok-tell_readable.ensures.count ∙ c.in_ok-row.ensures.count;
+}
+
+pub returns-clause-keys : goal.returns-clause-keys
+returns-clause-keys g c =
+    let v = c.args.view.now in
+    let packed = (subst (λ o. MatchOption o (IsUnpacked v) (IsPacked v)) c.in-Some-packed.is (is_packed g (goal.at.returns-clause-keys g c).In_ok-row)).read in
+    record {
+      whole = subst (λ b. MatchBool b (HasOverflow v (count v)) ((i : ℕ) → i < count v → IsAllLocal v i)) c.if-page.false packed.overflow_is;
+      rising = packed.rising;
+      first_is = packed.first_is;
+      last_is = packed.last_is;
+      none = packed.unread;
+      cells_are = c.cells-2.ensures.number;
+    }

@@ -1,8 +1,14 @@
 use Rattle.std.proofs.Common.{◌≤◌, None, Some, refl, ap, arith}
+use Rattle.std.specs.Prelude.{ℕ, List}
+use Rattle.dbformat.specs.declared.TreeKind.{TreeKind}
+use Rattle.dbwalk.specs.Steps.{AreEmpty}
 use Rattle.dbwalk.specs.declared.steps.Next.TheVariants.{End, Nothing}
 use Rattle.dbwalk.proofs.Leaves.LeafCells.{none_seen, has_next, at_step}
 use Rattle.dbwalk.proofs.Pages.Levels.{whole_page}
 use Rattle.dbwalk.proofs.steps.step_of.Goals as goal
+
+none_between : {usable : ℕ} {kind : TreeKind} {levels : List (List ℕ)} {level page : ℕ} (n : ℕ) → AreEmpty usable kind levels level page n n
+none_between n = record { rise = omega arith; empty = λ s l h. absurd (omega arith) }
 
 pub returns-in_default-clause-next : goal.returns-in_default-clause-next
 returns-in_default-clause-next g c = has_next c.args.bench.now c.args.kind c.args.level c.args.frame.page c.requires c.geometry-usable.result.usable
@@ -33,3 +39,6 @@ returns-clause-next g c =
 
 pub undamaged-requires-clause-whole : goal.undamaged-requires-clause-whole
 undamaged-requires-clause-whole g c = whole_page c.geometry-usable.ensures.value c.geometry-usable.ensures.range c.page.ensures.len
+
+pub returns-in_default-clause-empty : goal.returns-in_default-clause-empty
+returns-in_default-clause-empty g c = none_between c.args.frame.next

@@ -6,14 +6,14 @@ use Rattle.dbformat.specs.FixedPages.{IsPageNumber}
 use Rattle.dbformat.specs.Header.{encoding}
 use Rattle.dbformat.specs.Reference.{Reference}
 use Rattle.dbsource.specs.Bench.{bytes_at}
-use Rattle.dbsource.specs.Errors.{is_read_failed}
+use Rattle.dbsource.specs.Errors.{is_read_failed, is_write_failed}
 use Rattle.dbsource.specs.Failures.{failures_after}
 use Rattle.dbsource.specs.Sources.{Asks}
 use Rattle.dbsource.specs.declared.error.RunError.TheVariants.{ReadFailed}
 use Rattle.dbwalk.specs.Entered.{Enters}
 use Rattle.dbwalk.specs.Found.{HasPageAt}
 use Rattle.dbmarks.specs.Marking.{page_mark}
-use Rattle.dbwalk.specs.Telling.{IsReadOrWrite}
+use Rattle.dbwalk.specs.Telling.{IsReadOrWrite, SinkAfter}
 use Rattle.dbmarks.specs.Reads.{Reads}
 use Rattle.dbwalk.specs.Roots.{IsRootAfter, kind_of, kind_in}
 use Rattle.dbwalk.specs.Done.{IsTreeDone}
@@ -115,12 +115,13 @@ returns-clause-asks g c =
     → IsTreeDone g.K.Sink.takes g.K.Sink.drops g.T.Taker.takes g.T.Taker.refuses file W d c.walk_pages.result m (c.args.sink.now, c.args.taker.now) (k, t))
     is_read_failed c.walk_pages.result (g.S.Source.held c.args.source.now) (g.S.Source.held s) in
     let n = c.walk_pages.new.self in
-    let marks : n.marks.now ≡ c.marks-1.given.0 = search rules in
-    let sink : n.sink.now ≡ c.sink-1.given.0 = search rules in
-    let taker : n.taker.now ≡ c.taker-1.given.0 = search rules in
-    let source : n.source.now ≡ c.source-1.given.0 = search rules in
-    subst (λ m. says m c.sink-1.given.0 c.taker-1.given.0 c.source-1.given.0) marks (subst (λ k. says n.marks.now k c.taker-1.given.0 c.source-1.given.0) sink
-    (subst (λ t. says n.marks.now n.sink.now t c.source-1.given.0) taker (subst (λ s. says n.marks.now n.sink.now n.taker.now s) source (record {
+    let marks : c.marks-1.given.0 ≡ n.marks.now = search rules in
+    let sink : c.sink-1.given.0 ≡ n.sink.now = search rules in
+    let taker : c.taker-1.given.0 ≡ n.taker.now = search rules in
+    let source : c.source-1.given.0 ≡ n.source.now = search rules in
+    subst (λ m. says m c.sink-1.given.0 c.taker-1.given.0 c.source-1.given.0) (sym marks)
+    (subst (λ k. says n.marks.now k c.taker-1.given.0 c.source-1.given.0) (sym sink) (subst (λ t. says n.marks.now n.sink.now t c.source-1.given.0) (sym taker)
+    (subst (λ s. says n.marks.now n.sink.now n.taker.now s) (sym source) (record {
       log = log_then _ _ (ap (λ s. s.page_size) shape) (log_page _ size c.args.marks.now c.enter.new.marks c.args.root.page mark k.0 k.1
           c.tree_step-step.ensures.used
           (log_load size c.args.root.page read.bytes (Ok tt) c.load.ensures.told read.size read.holds) (λ file h. h)) c.walk_pages.ensures.log
@@ -169,4 +170,17 @@ load-requires g c = (search rules, (omega arith, subst (λ p. 1 ≤ p) c.tree_st
 
 pub walk_pages-requires : goal.walk_pages-requires
 walk_pages-requires g c =
-    (search rules, (subst IsPageNumber c.tree_step-step.ensures.page (c.in_ok-enter.ensures.page (search rules)).1, c.new-tree.ensures.nothing))
+    let n = c.new-tree.ensures.nothing in
+    (search rules, (subst IsPageNumber c.tree_step-step.ensures.page (c.in_ok-enter.ensures.page (search rules)).1, n.0, n.1, n.2))
+
+pub returns-clause-writes : goal.returns-clause-writes
+returns-clause-writes g c =
+    let same : c.sink-1.given.0 ≡ c.walk_pages.new.self.sink.now = search rules in
+    subst (λ s. SinkAfter is_write_failed c.walk_pages.result s (g.K.Sink.held c.sink-1.given.0)) c.in_ok-enter.ensures.writes
+    (subst (λ s. SinkAfter is_write_failed c.walk_pages.result (g.K.Sink.held c.enter.new.sink) (g.K.Sink.held s)) (sym same)
+    c.walk_pages.ensures.walked.writes)
+
+pub returns-clause-refusals : goal.returns-clause-refusals
+returns-clause-refusals g c =
+    let same : c.taker-1.given.0 ≡ c.walk_pages.new.self.taker.now = search rules in
+    ap g.T.Taker.refusals same ∙ c.walk_pages.ensures.walked.refused

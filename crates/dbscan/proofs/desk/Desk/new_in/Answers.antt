@@ -12,3 +12,9 @@ invariant_of-result g c =
       marks = subst (AreMarksFor c.in_ok-bench.bench.geometry) (sym c.in_ok-marks.ensures)
           (subst (λ shape. AreMarksFor shape (marks_of geo [])) (sym c.in_ok-bench.ensures) (first_marks geo));
     }
+
+pub returns-in_err-bench-clause-range : goal.returns-in_err-bench-clause-range
+returns-in_err-bench-clause-range g c = rw (sym c.geometry-geometry.ensures.shape) c.geometry-geometry.ensures.range
+
+pub returns-clause-range : goal.returns-clause-range
+returns-clause-range g c = rw (sym c.geometry-geometry.ensures.shape) c.geometry-geometry.ensures.range

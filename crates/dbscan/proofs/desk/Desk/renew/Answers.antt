@@ -1,5 +1,6 @@
-use Rattle.std.proofs.Common.{◌∙◌}
+use Rattle.std.proofs.Common.{ap, ◌∙◌}
 use Rattle.dbmarks.proofs.FirstMarks.{fresh_marks}
+use Rattle.dbscan.specs.Desks.{DeskView}
 use Rattle.dbscan.proofs.desk.Desk.renew.Goals as goal
 
 pub invariant_of-self : goal.invariant_of-self
@@ -8,3 +9,6 @@ invariant_of-self g c = record {
   shape = c.self.invariant.shape;
   marks = fresh_marks c.self.inside.bench.geometry c.clear.new.self (c.clear.ensures ∙ c.self.invariant.marks);
 }
+
+pub returns-clause-refusals : goal.returns-clause-refusals
+returns-clause-refusals g c = c.clear-2.ensures.refusals ∙ ap (λ (d : DeskView). d.roots.refusals) c.self.view_is

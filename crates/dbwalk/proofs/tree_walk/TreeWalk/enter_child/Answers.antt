@@ -21,12 +21,12 @@ frame_of page up_to = record { page = page; next = 0; up_to = up_to }
 
 pub stepped-requires : goal.stepped-requires
 stepped-requires g c =
-    let most = (at_step c.args.frames.now.items c.args.frame c.requires.«open» c.requires.step).most in
+    let most = (at_step c.args.frames.now.items c.args.frame c.requires.opened c.requires.step).most in
     omega arith
 
 pub enter_page-requires : goal.enter_page-requires
 enter_page-requires g c =
-    let low : IsPageNumber c.args.frame.page = (at_step c.args.frames.now.items c.args.frame c.requires.«open» c.requires.step).low in
+    let low : IsPageNumber c.args.frame.page = (at_step c.args.frames.now.items c.args.frame c.requires.opened c.requires.step).low in
     search rules
 
 pub returns-in_err-enter_page-clause-log : goal.returns-in_err-enter_page-clause-log
@@ -49,14 +49,14 @@ returns-then-not-branch-clause-open g c =
     let n = c.enter_page.new in
     let deep = as_deep c.args.frames.now.items c.args.frame c.stepped.result c.stepped.ensures.next c.push-2.new.self.items
     (c.push-2.ensures.items ∙ ap (λ l. l ++ (c.args.frame.next / 3 ∷ [])) c.requires.path) in
-    step_on c.args.frames.now.items c.args.frame (at_step c.args.frames.now.items c.args.frame c.requires.«open» c.requires.step) c.stepped.result
+    step_on c.args.frames.now.items c.args.frame (at_step c.args.frames.now.items c.args.frame c.requires.opened c.requires.step) c.stepped.result
     c.stepped.ensures.page c.stepped.ensures.next (goes_on (Child _ _) tt) c.push.ensures.items n.bench.geometry.usable n.self.tree.kind n.bench.levels
     (ap (λ s. s.usable) c.enter_page.ensures.walked.shape) c.enter_page.ensures.walked.kind (λ m l. c.enter_page.ensures.levels m (omega arith))
 
 pub returns-then-not-branch-clause-ends : goal.returns-then-not-branch-clause-ends
 returns-then-not-branch-clause-ends g c = ends_on c.args.self.now.marks.now c.enter_page.new.self.marks.now c.args.frames.now.items c.args.frame
     c.stepped.result c.push.ensures.items c.in_ok-enter_page.ensures.fewer.0 c.stepped.ensures.next
-    (at_step c.args.frames.now.items c.args.frame c.requires.«open» c.requires.step).most
+    (at_step c.args.frames.now.items c.args.frame c.requires.opened c.requires.step).most
 
 pub returns-then-not-branch-clause-log : goal.returns-then-not-branch-clause-log
 returns-then-not-branch-clause-log g c = has_weaker _ _ c.in_ok-enter_page.ensures.log (λ log r. r) (λ file h e coded W d before candidate walk.
@@ -85,7 +85,7 @@ returns-clause-open g c =
     (sym (c.push-3.ensures.items ∙ ap (λ l. l ++ (frame_of c.args.page c.or-up_to.result ∷ [])) c.push.ensures.items))
     (open_push n.bench.geometry.usable n.self.tree.kind n.bench.levels 0 (c.args.frames.now.items ++ (c.stepped.result ∷ []))
     (frame_of c.args.page c.or-up_to.result)
-    (step_on c.args.frames.now.items c.args.frame (at_step c.args.frames.now.items c.args.frame c.requires.«open» c.requires.step) c.stepped.result
+    (step_on c.args.frames.now.items c.args.frame (at_step c.args.frames.now.items c.args.frame c.requires.opened c.requires.step) c.stepped.result
     c.stepped.ensures.page c.stepped.ensures.next (goes_on (Child _ _) tt) refl n.bench.geometry.usable n.self.tree.kind n.bench.levels
     (ap (λ s. s.usable) c.enter_page.ensures.walked.shape) c.enter_page.ensures.walked.kind (λ m l. c.enter_page.ensures.levels m (omega arith)))
     (subst (λ m. IsOpen n.bench.geometry.usable n.self.tree.kind n.bench.levels m c.args.page 0)
@@ -103,7 +103,7 @@ pub returns-clause-ends : goal.returns-clause-ends
 returns-clause-ends g c = ends_enter c.args.self.now.marks.now c.enter_page.new.self.marks.now c.args.frames.now.items c.args.frame c.stepped.result
     (frame_of c.args.page c.or-up_to.result) (c.push-3.ensures.items ∙ ap (λ l. l ++ (frame_of c.args.page c.or-up_to.result ∷ [])) c.push.ensures.items)
     (c.in_ok-enter_page.ensures.fewer.1 (search rules)) c.stepped.ensures.next
-    (at_step c.args.frames.now.items c.args.frame c.requires.«open» c.requires.step).most refl
+    (at_step c.args.frames.now.items c.args.frame c.requires.opened c.requires.step).most refl
 
 pub returns-clause-log : goal.returns-clause-log
 returns-clause-log g c = has_weaker _ _ c.in_ok-enter_page.ensures.log (λ log r. r) (λ file h e coded W d before candidate walk.

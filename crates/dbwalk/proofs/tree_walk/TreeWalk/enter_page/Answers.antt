@@ -193,3 +193,6 @@ pub returns-then-not-branch-clause-fewer : goal.returns-then-not-branch-clause-f
 returns-then-not-branch-clause-fewer g c =
     let e = ap unmarked_pages (c.in_ok-enter.ensures.unmarked c.if-not-branch.true) in
     (omega (arith, e), λ is. absurd (false≢true is))
+
+pub returns-then-not-branch-clause-open : goal.returns-then-not-branch-clause-open
+returns-then-not-branch-clause-open g c = λ is. absurd (false≢true is)

@@ -26,22 +26,22 @@ use Rattle.dbwalk.proofs.tree_walk.TreeWalk.take_step.Goals as goal
 
 pub stepped-requires : goal.stepped-requires
 stepped-requires g c =
-    let most = (at_step c.args.frames.now.items c.args.frame c.requires.«open» (next_at refl c.in-Nothing.is c.requires.step)).most in
+    let most = (at_step c.args.frames.now.items c.args.frame c.requires.opened (next_at refl c.in-Nothing.is c.requires.step)).most in
     omega arith
 
 pub stepped-requires-in-Key : goal.stepped-requires-in-Key
 stepped-requires-in-Key g c =
-    let most = (at_step c.args.frames.now.items c.args.frame c.requires.«open» (next_at refl c.in-Key.is c.requires.step)).most in
+    let most = (at_step c.args.frames.now.items c.args.frame c.requires.opened (next_at refl c.in-Key.is c.requires.step)).most in
     omega arith
 
 pub stepped-requires-in-Chain : goal.stepped-requires-in-Chain
 stepped-requires-in-Chain g c =
-    let most = (at_step c.args.frames.now.items c.args.frame c.requires.«open» (next_at refl c.in-Chain.is c.requires.step)).most in
+    let most = (at_step c.args.frames.now.items c.args.frame c.requires.opened (next_at refl c.in-Chain.is c.requires.step)).most in
     omega arith
 
 pub walk_unfed-requires : goal.walk_unfed-requires
 walk_unfed-requires g c =
-    let s = at_step c.args.frames.now.items c.args.frame c.requires.«open» (next_at refl c.in-Chain.is c.requires.step) in
+    let s = at_step c.args.frames.now.items c.args.frame c.requires.opened (next_at refl c.in-Chain.is c.requires.step) in
     let low : IsPageNumber c.args.frame.page = s.low in
     let size = cell_size s.last.view s.stands.n s.stands.x s.stands.read in
     let rest = s.stands.rest in
@@ -49,11 +49,11 @@ walk_unfed-requires g c =
     search rules
 
 pub returns-in-End-clause-open : goal.returns-in-End-clause-open
-returns-in-End-clause-open g c = (at_step c.args.frames.now.items c.args.frame c.requires.«open» (next_at refl c.in-End.is c.requires.step)).front
+returns-in-End-clause-open g c = (at_step c.args.frames.now.items c.args.frame c.requires.opened (next_at refl c.in-End.is c.requires.step)).front
 
 pub returns-in-End-clause-ends : goal.returns-in-End-clause-ends
 returns-in-End-clause-ends g c = ends_behind c.args.self.now.marks.now c.args.frames.now.items c.args.frame
-    (at_step c.args.frames.now.items c.args.frame c.requires.«open» (next_at refl c.in-End.is c.requires.step)).most
+    (at_step c.args.frames.now.items c.args.frame c.requires.opened (next_at refl c.in-End.is c.requires.step)).most
 
 pub returns-in-End-clause-log : goal.returns-in-End-clause-log
 returns-in-End-clause-log g c = log_none c.args.bench.now.geometry.page_size c.args.self.now.marks.now c.args.self.now.marks.now
@@ -63,14 +63,14 @@ returns-in-End-clause-log g c = log_none c.args.bench.now.geometry.page_size c.a
 
 pub returns-in-Nothing-clause-open : goal.returns-in-Nothing-clause-open
 returns-in-Nothing-clause-open g c = step_on c.args.frames.now.items c.args.frame
-    (at_step c.args.frames.now.items c.args.frame c.requires.«open» (next_at refl c.in-Nothing.is c.requires.step)) c.stepped.result c.stepped.ensures.page
+    (at_step c.args.frames.now.items c.args.frame c.requires.opened (next_at refl c.in-Nothing.is c.requires.step)) c.stepped.result c.stepped.ensures.page
     c.stepped.ensures.next (goes_on Nothing tt) c.push.ensures.items c.args.bench.now.geometry.usable c.args.self.now.tree.kind c.args.bench.now.levels refl
     refl (λ n l. refl)
 
 pub returns-in-Nothing-clause-ends : goal.returns-in-Nothing-clause-ends
 returns-in-Nothing-clause-ends g c = ends_on c.args.self.now.marks.now c.args.self.now.marks.now c.args.frames.now.items c.args.frame c.stepped.result
     c.push.ensures.items (omega arith) c.stepped.ensures.next
-    (at_step c.args.frames.now.items c.args.frame c.requires.«open» (next_at refl c.in-Nothing.is c.requires.step)).most
+    (at_step c.args.frames.now.items c.args.frame c.requires.opened (next_at refl c.in-Nothing.is c.requires.step)).most
 
 pub returns-in-Nothing-clause-log : goal.returns-in-Nothing-clause-log
 returns-in-Nothing-clause-log g c = log_none c.args.bench.now.geometry.page_size c.args.self.now.marks.now c.args.self.now.marks.now
@@ -102,14 +102,14 @@ returns-in_err-tell_key-in-Key-clause-log g c = log_none c.args.bench.now.geomet
 
 pub returns-in_ok-tell_key-in-Key-clause-open : goal.returns-in_ok-tell_key-in-Key-clause-open
 returns-in_ok-tell_key-in-Key-clause-open g c = step_on c.args.frames.now.items c.args.frame
-    (at_step c.args.frames.now.items c.args.frame c.requires.«open» (next_at refl c.in-Key.is c.requires.step)) c.stepped-in-Key.result
+    (at_step c.args.frames.now.items c.args.frame c.requires.opened (next_at refl c.in-Key.is c.requires.step)) c.stepped-in-Key.result
     c.stepped-in-Key.ensures.page c.stepped-in-Key.ensures.next (goes_on (Key _) tt) c.push-in-Key.ensures.items c.args.bench.now.geometry.usable
     c.tell_key.new.self.kind c.args.bench.now.levels refl c.tell_key.ensures.others.1 (λ n l. refl)
 
 pub returns-in_ok-tell_key-in-Key-clause-ends : goal.returns-in_ok-tell_key-in-Key-clause-ends
 returns-in_ok-tell_key-in-Key-clause-ends g c = ends_on c.args.self.now.marks.now c.args.self.now.marks.now c.args.frames.now.items c.args.frame
     c.stepped-in-Key.result c.push-in-Key.ensures.items (omega arith) c.stepped-in-Key.ensures.next
-    (at_step c.args.frames.now.items c.args.frame c.requires.«open» (next_at refl c.in-Key.is c.requires.step)).most
+    (at_step c.args.frames.now.items c.args.frame c.requires.opened (next_at refl c.in-Key.is c.requires.step)).most
 
 pub returns-in_ok-tell_key-in-Key-clause-log : goal.returns-in_ok-tell_key-in-Key-clause-log
 returns-in_ok-tell_key-in-Key-clause-log g c = log_none c.args.bench.now.geometry.page_size c.args.self.now.marks.now c.args.self.now.marks.now
@@ -135,7 +135,7 @@ returns-in-Chain-clause-open g c =
     let n = c.walk_unfed.new.bench in
     let same = c.walk_unfed.ensures.bench in
     on_ok_all c.walk_unfed.result (step_on c.args.frames.now.items c.args.frame
-    (at_step c.args.frames.now.items c.args.frame c.requires.«open» (next_at refl c.in-Chain.is c.requires.step)) c.stepped-in-Chain.result
+    (at_step c.args.frames.now.items c.args.frame c.requires.opened (next_at refl c.in-Chain.is c.requires.step)) c.stepped-in-Chain.result
     c.stepped-in-Chain.ensures.page c.stepped-in-Chain.ensures.next (goes_on (Chain _ _ _) tt) c.push-in-Chain.ensures.items n.geometry.usable
     c.args.self.now.tree.kind n.levels (ap (λ (p : Pages). p.geometry.usable) same) refl (λ m l. ap (λ (p : Pages). slice_get p.levels m) same))
 
@@ -144,7 +144,7 @@ returns-in-Chain-clause-ends g c =
     let fewer = keeps_fewer c.args.self.now.marks.now c.walk_unfed.new.marks c.walk_unfed.ensures.log.holds.kept in
     on_ok_all c.walk_unfed.result (ends_on c.args.self.now.marks.now c.walk_unfed.new.marks c.args.frames.now.items c.args.frame c.stepped-in-Chain.result
     c.push-in-Chain.ensures.items fewer c.stepped-in-Chain.ensures.next
-    (at_step c.args.frames.now.items c.args.frame c.requires.«open» (next_at refl c.in-Chain.is c.requires.step)).most)
+    (at_step c.args.frames.now.items c.args.frame c.requires.opened (next_at refl c.in-Chain.is c.requires.step)).most)
 
 pub returns-in-Chain-clause-log : goal.returns-in-Chain-clause-log
 returns-in-Chain-clause-log g c = has_weaker _ _ c.walk_unfed.ensures.log (λ log r. r) (λ file h e coded W d before candidate walk.
@@ -185,7 +185,7 @@ returns-in-Chain-clause-walked g c =
 pub enter_child-requires : goal.enter_child-requires
 enter_child-requires g c =
     let r = c.requires in
-    (search rules, (r.few, (r.«open», (r.path, next_at refl c.in-Child.is r.step))))
+    (search rules, record { few = r.few; opened = r.opened; path = r.path; step = next_at refl c.in-Child.is r.step })
 
 pub returns-in-End-clause-path : goal.returns-in-End-clause-path
 returns-in-End-clause-path g c = λ fs f e. path_popped _ _ _ _ (c.requires.path ∙ ap path_of e ∙ path_push fs f) c.pop.ensures.rest

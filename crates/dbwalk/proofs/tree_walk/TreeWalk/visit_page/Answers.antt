@@ -1,4 +1,5 @@
 use Rattle.std.proofs.Common.{rules, ◌<◌, length, false, inr, Ok, Err, refl, sym, ap, subst, ◌∙◌}
+use Rattle.std.proofs.lemmas.Bool.{false≢true}
 use Rattle.std.proofs.lemmas.Result.{err_from_is_err_and}
 use Rattle.dbformat.specs.Cell.{count}
 use Rattle.dbformat.proofs.Looping.{none_at_damage}
@@ -14,7 +15,7 @@ use Rattle.dbwalk.proofs.Pages.PageVisits.{found_interior, found_damage, found_l
 use Rattle.dbwalk.proofs.Underway.CellSteps.{other_start, leaf_passed}
 use Rattle.dbwalk.proofs.Underway.Visits.{visited, visit_then, visit_alone, visit_stops, entered_past, entered_err, visited_before, page_moves, page_stops}
 use Rattle.dbwalk.proofs.Underway.Visits.{visited_at}
-use Rattle.dbwalk.proofs.Underway.Walks.{walked_as, walked_behind, walked_by, walked_err}
+use Rattle.dbwalk.proofs.Underway.Walks.{walked_as, walked_as_ok, walked_behind, walked_by, walked_err}
 use Rattle.dbwalk.proofs.tree_walk.TreeWalk.visit_page.Goals as goal
 
 pub returns-in_err-tell_page-clause-log : goal.returns-in_err-tell_page-clause-log
@@ -154,4 +155,29 @@ returns-in_err-tell_page-clause-walked g c =
 
 pub walk_leaf-requires : goal.walk_leaf-requires
 walk_leaf-requires g c =
-    (search rules, (subst (λ p. length p.items < 20) (sym (c.pass_over.ensures.others.3 ∙ c.tell_page.ensures.tree.3)) c.requires.level, c.requires.page))
+    (search rules, (subst (λ p. length p.items < 20) (sym (c.pass_over.ensures.others.3 ∙ c.tell_page.ensures.tree.3)) c.requires.0, c.requires.1))
+
+pub returns-then-pass_over-clause-walked : goal.returns-then-pass_over-clause-walked
+returns-then-pass_over-clause-walked g c =
+    let same = c.pass_over.ensures.others in
+    walked_by g.S.Source.held g.K.Sink.held g.T.Taker.refusals
+    (refl, refl, refl, refl, refl, same.0 ∙ c.tell_page.ensures.tree.0, same.1 ∙ c.tell_page.ensures.tree.1) c.tell_page.ensures.bench.0 refl
+    c.in_ok-tell_page.ensures.writes refl tt (λ l. refl)
+
+pub returns-in_ok-walk_leaf-in-Leaf-clause-walked : goal.returns-in_ok-walk_leaf-in-Leaf-clause-walked
+returns-in_ok-walk_leaf-in-Leaf-clause-walked g c =
+    let same = c.pass_over.ensures.others in
+    walked_as_ok g.S.Source.held g.K.Sink.held g.T.Taker.refusals
+    (walked_behind g.S.Source.held g.K.Sink.held g.T.Taker.refusals {R = Unit {0}} {a = tt} c.in_ok-walk_leaf-in-Leaf.ensures.walked
+    (walked_by g.S.Source.held g.K.Sink.held g.T.Taker.refusals
+    (refl, refl, refl, refl, refl, same.0 ∙ c.tell_page.ensures.tree.0, same.1 ∙ c.tell_page.ensures.tree.1) c.tell_page.ensures.bench.0 refl
+    c.in_ok-tell_page.ensures.writes refl tt (λ l. refl)))
+
+pub returns-in-Damaged-clause-open : goal.returns-in-Damaged-clause-open
+returns-in-Damaged-clause-open g c = λ is. absurd (false≢true is)
+
+pub returns-then-pass_over-clause-open : goal.returns-then-pass_over-clause-open
+returns-then-pass_over-clause-open g c = λ is. absurd (false≢true is)
+
+pub returns-in_ok-walk_leaf-in-Leaf-clause-open : goal.returns-in_ok-walk_leaf-in-Leaf-clause-open
+returns-in_ok-walk_leaf-in-Leaf-clause-open g c = λ is. absurd (false≢true is)

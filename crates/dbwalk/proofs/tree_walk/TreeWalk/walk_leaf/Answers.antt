@@ -122,7 +122,7 @@ returns-clause-log g c =
 pub walk_leaf_cell-requires : goal.walk_leaf_cell-requires
 walk_leaf_cell-requires g c =
     let w = c.loop-i.invariant in
-    let low : length c.loop-i.self.tree.path.items < 20 = subst (λ p. length p.items < 20) (sym w.tree.3) c.requires.level in
+    let low : length c.loop-i.self.tree.path.items < 20 = subst (λ p. length p.items < 20) (sym w.tree.3) c.requires.0 in
     let none : 1 ≤ c.loop-i.self.tree.start → c.loop-i.sieve ≡ None = λ later. w.empty (subst (λ k. 1 ≤ k) w.tree.0 later) in
     search rules
 
@@ -152,4 +152,4 @@ returns-clause-tree g c = c.loop-i.invariant.tree
 
 pub pass_cells-i-requires-in-loop-i : goal.pass_cells-i-requires-in-loop-i
 pass_cells-i-requires-in-loop-i g c =
-    (search rules, subst (λ p. length p.items < 20) (sym (c.in_ok-walk_leaf_cell.ensures.tree.3 ∙ c.loop-i.invariant.tree.3)) c.requires.level)
+    (search rules, subst (λ p. length p.items < 20) (sym (c.in_ok-walk_leaf_cell.ensures.tree.3 ∙ c.loop-i.invariant.tree.3)) c.requires.0)

@@ -1,4 +1,4 @@
-use Rattle.std.proofs.Common.{◌≡◌, ◌≤◌, false, inr, Option, Some, None, Result, Ok, Err, refl, sym, ap, subst, ◌∙◌}
+use Rattle.std.proofs.Common.{ℕ, ◌≡◌, ◌≤◌, false, inr, Option, Some, None, Result, Ok, Err, refl, sym, ap, subst, ◌∙◌}
 use Rattle.std.specs.Prelude.{is_some}
 use Rattle.dbbytes.specs.declared.sieve.RowSieve.{RowSieve}
 use Rattle.dbsource.specs.declared.error.RunError.{RunError}
@@ -9,7 +9,8 @@ use Rattle.dbsource.specs.declared.error.RunError.TheVariants.{WriteFailed}
 use Rattle.dbsource.proofs.Logs.{has_weaker}
 use Rattle.dbsurvey.specs.Moves.{Moves, Stops}
 use Rattle.dbwalk.specs.LeafCells.{late_told, top_after}
-use Rattle.dbwalk.specs.Telling.{SinkAfter}
+use Rattle.dbwalk.specs.Telling.{IsWriteOrMemory, SinkAfter}
+use Rattle.dbwalk.specs.Walked.{IsTreeError}
 use Rattle.dbwalk.proofs.Leaves.LeafErrands.{past_cell, seen_here, rowid_here, cell_here}
 use Rattle.dbwalk.proofs.Underway.Handing.{stopped_as, found_moves, found_stops}
 use Rattle.dbwalk.proofs.Underway.LeafCellRuns.{chain_stops, row_told, row_stops, key_done}
@@ -49,7 +50,7 @@ returns-in_err-tell_row-clause-log g c = has_weaker _ _ c.in_ok-walk_overflow.en
     at.page c.args.self.now.encoding coded (Err c.in_err-tell_row.field-0.0)
     c.walk_overflow.new.sink c.tell_row.new.sink c.walk_overflow.new.sieve c.in_err-tell_row.ensures.none c.args.self.now.tree.start at.start
     c.begin_row.new.sieve (λ z. (c.begin_row.ensures.schema z).read (page_bytes file c.args.page) v at.bytes
-    (seen_here file at viewed (ap (λ s. s.usable) e)) low) (λ l. c.begin_row.ensures.other l ∙ c.requires.empty l) before done.1
+    (seen_here file at viewed (ap (λ s. s.usable) e)) low) (λ l. c.begin_row.ensures.other l ∙ c.requires.2 l) before done.1
     c.walk_overflow.ensures.kept.2 c.in_err-tell_row.ensures.told)).handed)
 
 pub returns-in_err-tell_rowid-clause-log : goal.returns-in_err-tell_rowid-clause-log
@@ -71,7 +72,7 @@ returns-in_err-tell_rowid-clause-log g c = has_weaker _ _ c.in_ok-walk_overflow.
     at.page c.args.self.now.encoding coded (Ok tt)
     c.walk_overflow.new.sink c.tell_row.new.sink c.walk_overflow.new.sieve c.in_ok-tell_row.ensures.none c.args.self.now.tree.start at.start
     c.begin_row.new.sieve (λ z. (c.begin_row.ensures.schema z).read (page_bytes file c.args.page) v at.bytes
-    (seen_here file at viewed (ap (λ s. s.usable) e)) low) (λ l. c.begin_row.ensures.other l ∙ c.requires.empty l) before done.1
+    (seen_here file at viewed (ap (λ s. s.usable) e)) low) (λ l. c.begin_row.ensures.other l ∙ c.requires.2 l) before done.1
     c.walk_overflow.ensures.kept.2 c.in_ok-tell_row.ensures.told)
     (found_stops g.K.Sink.takes g.K.Sink.drops g.T.Taker.takes g.T.Taker.refuses _ c.tell_row.new.sink c.tell_rowid.new.sink c.tell_row.new.taker
     (subst (λ l. Stops g.K.Sink.takes g.K.Sink.drops c.tell_row.new.sink l c.tell_rowid.new.sink) late c.in_err-tell_rowid.ensures.told.items)) tt).handed)
@@ -92,7 +93,7 @@ returns-clause-log g c = has_weaker _ _ c.in_ok-walk_overflow.ensures.log (λ lo
     at.page c.args.self.now.encoding coded (Ok tt)
     c.walk_overflow.new.sink c.tell_row.new.sink c.walk_overflow.new.sieve c.in_ok-tell_row.ensures.none c.args.self.now.tree.start at.start
     c.begin_row.new.sieve (λ z. (c.begin_row.ensures.schema z).read (page_bytes file c.args.page) v at.bytes
-    (seen_here file at viewed (ap (λ s. s.usable) e)) low) (λ l. c.begin_row.ensures.other l ∙ c.requires.empty l) before done.1
+    (seen_here file at viewed (ap (λ s. s.usable) e)) low) (λ l. c.begin_row.ensures.other l ∙ c.requires.2 l) before done.1
     c.walk_overflow.ensures.kept.2 c.in_ok-tell_row.ensures.told)
     (found_moves g.K.Sink.takes g.K.Sink.drops g.T.Taker.takes g.T.Taker.refuses _ c.tell_row.new.sink c.tell_rowid.new.sink c.tell_row.new.taker
     (subst (λ l. Moves g.K.Sink.takes c.tell_row.new.sink l c.tell_rowid.new.sink) late c.in_ok-tell_rowid.ensures.told.items)) (
@@ -107,22 +108,22 @@ returns-in_err-walk_overflow-clause-walked g c =
     walked_err g.S.Source.held g.K.Sink.held g.T.Taker.refusals (q.1 ∙ ap Err q.2) e.only (refl, refl, refl, refl, refl, refl, refl)
     c.walk_overflow.ensures.kept.0 e.reads e.writes refl (λ l. refl)
 
--- without a sieve nothing can fail there
+-- without a sieve nothing can fail there, and only the tree of the schema has one
+row_error : (start : ℕ) {e : RunError} → IsWriteOrMemory e → (1 ≤ start → ◌≡◌ {A = Result (Unit {0}) RunError} (Err e) (Ok tt))
+    → IsTreeError start e × (1 ≤ start → ⊥)
+row_error start {e} only none = let no : 1 ≤ start → ⊥ = λ l. (let h = none l in cc) in (tree_error start e only no, no)
+
 pub returns-in_err-tell_row-clause-walked : goal.returns-in_err-tell_row-clause-walked
 returns-in_err-tell_row-clause-walked g c =
     let q = err_from_is_err_and c.from_residual-in_err-tell_row.result c.from_residual-in_err-tell_row.ensures.1 in
     let e = c.in_err-tell_row.ensures in
-    let none : 1 ≤ c.args.self.now.tree.start → ⊥ = λ later. failed
-    (e.none (gone c.walk_overflow.new.sieve (c.walk_overflow.ensures.kept.2 ∙ ap is_some (c.begin_row.ensures.other later ∙ c.requires.empty later)))).0 in
+    let no = row_error c.args.self.now.tree.start e.only (λ later. (e.none (gone c.walk_overflow.new.sieve
+    (c.walk_overflow.ensures.kept.2 ∙ ap is_some (c.begin_row.ensures.other later ∙ c.requires.2 later)))).0) in
     walked_as g.S.Source.held g.K.Sink.held g.T.Taker.refusals {R = Unit {0}} (q.1 ∙ ap Err q.2)
     (walked_by g.S.Source.held g.K.Sink.held g.T.Taker.refusals (refl, refl, refl, refl, refl, refl, refl) c.walk_overflow.ensures.kept.0
     (unread e.only c.in_ok-walk_overflow.ensures.reads)
     (subst (λ s. SinkAfter {A = Unit {0}} is_write_failed (Err c.in_err-tell_row.field-0.0) s (g.K.Sink.held c.tell_row.new.sink))
-    c.in_ok-walk_overflow.ensures.writes e.writes) e.refusals
-    (tree_error c.args.self.now.tree.start c.in_err-tell_row.field-0.0 e.only none) (λ l. absurd (none l)))
-  where
-    failed : {e : RunError} → ◌≡◌ {A = Result (Unit {0}) RunError} (Err e) (Ok tt) → ⊥
-    failed e = cc
+    c.in_ok-walk_overflow.ensures.writes e.writes) e.refusals no.0 (λ l. absurd (no.1 l)))
 
 pub returns-in_err-tell_rowid-clause-walked : goal.returns-in_err-tell_rowid-clause-walked
 returns-in_err-tell_rowid-clause-walked g c =
@@ -134,8 +135,16 @@ returns-in_err-tell_rowid-clause-walked g c =
     (subst (λ s. SinkAfter {A = Unit {0}} is_write_failed (Err WriteFailed) s (g.K.Sink.held c.tell_rowid.new.sink))
     (e.writes ∙ c.in_ok-walk_overflow.ensures.writes) c.in_err-tell_rowid.ensures.told.count) e.refusals
     (λ later. (e.none (gone c.walk_overflow.new.sieve
-    (c.walk_overflow.ensures.kept.2 ∙ ap is_some (c.begin_row.ensures.other later ∙ c.requires.empty later)))).2)
+    (c.walk_overflow.ensures.kept.2 ∙ ap is_some (c.begin_row.ensures.other later ∙ c.requires.2 later)))).2)
 
 pub returns-clause-empty : goal.returns-clause-empty
 returns-clause-empty g c = λ later. gone c.walk_overflow.new.sieve
-    (c.walk_overflow.ensures.kept.2 ∙ ap is_some (c.begin_row.ensures.other later ∙ c.requires.empty later))
+    (c.walk_overflow.ensures.kept.2 ∙ ap is_some (c.begin_row.ensures.other later ∙ c.requires.2 later))
+
+pub returns-clause-walked : goal.returns-clause-walked
+returns-clause-walked g c =
+    let e = c.in_ok-tell_row.ensures in
+    walked_by g.S.Source.held g.K.Sink.held g.T.Taker.refusals (refl, refl, refl, refl, refl, c.tell_rowid.ensures.others.0, c.tell_rowid.ensures.others.1)
+    c.walk_overflow.ensures.kept.0 c.in_ok-walk_overflow.ensures.reads
+    (c.in_ok-tell_rowid.ensures.told.count ∙ e.writes ∙ c.in_ok-walk_overflow.ensures.writes) e.refusals tt (λ later. (e.none (gone c.walk_overflow.new.sieve
+    (c.walk_overflow.ensures.kept.2 ∙ ap is_some (c.begin_row.ensures.other later ∙ c.requires.2 later)))).2)

@@ -1,11 +1,12 @@
-use Rattle.std.proofs.Common.{rules, ◌≡◌, ◌<◌, ◌++◌, [], ◌∷◌, length, Some, None, Err, refl, sym, ap, subst, arith, ◌∙◌}
+use Rattle.std.proofs.Common.{rules, ◌<◌, ◌++◌, [], ◌∷◌, length, Some, None, Err, refl, sym, ap, subst, arith, ◌∙◌}
 use Rattle.std.specs.Prelude.{option_to_list}
 use Rattle.std.proofs.lemmas.Result.{err_from_is_err_and}
 use Rattle.dbformat.specs.File.{page_bytes}
 use Rattle.dbwalk.specs.Found.{HasPageAt}
-use Rattle.dbwalk.specs.Walking.{IsCandidate, IsOpen, AreOpen, path_of, cost}
+use Rattle.dbwalk.specs.Walking.{IsCandidate, IsOpen, AreOpen, cost}
 use Rattle.dbsource.proofs.Logs.{has_weaker}
 use Rattle.dbmarks.proofs.Readings.{log_then}
+use Rattle.dbwalk.specs.Points.{IsAtTurn}
 use Rattle.dbwalk.specs.Steps.{HasNext}
 use Rattle.dbwalk.proofs.Trees.Bounds.{no_key_up_to}
 use Rattle.dbwalk.proofs.Trees.Frames.{ends_past, next_at, path_last}
@@ -21,26 +22,26 @@ use Rattle.dbwalk.proofs.tree_walk.TreeWalk.walk_pages.Goals as goal
 
 pub visit_page-requires : goal.visit_page-requires
 visit_page-requires g c =
-    let low : length c.args.self.now.tree.path.items < 20 = (let l = ap length c.requires.fresh.2 in omega arith) in
+    let low : length c.args.self.now.tree.path.items < 20 = (let l = ap length c.requires.3 in omega arith) in
     search rules
 
 pub returns-in_err-visit_page-clause-log : goal.returns-in_err-visit_page-clause-log
 returns-in_err-visit_page-clause-log g c = has_weaker _ _ c.in_err-visit_page.ensures.log (λ log r. r) (λ file h e coded W d candidate there followed next m.
     let entry = h e coded (begin W) d 0 c.args.self.now.tree.start
-    (subst (λ l. IsCandidate c.args.self.now.tree.kind c.args.self.now.tree.start l c.args.page 0 c.args.self.now.tree.start d) (sym c.requires.fresh.2)
+    (subst (λ l. IsCandidate c.args.self.now.tree.kind c.args.self.now.tree.start l c.args.page 0 c.args.self.now.tree.start d) (sym c.requires.3)
     candidate)
-    (subst (λ l. HasPageAt c.args.bench.now.levels (length l) (page_bytes file c.args.page)) (sym c.requires.fresh.2) there) next followed m c.requires.fresh.0
-    c.requires.fresh.1 (no_key_up_to file (W ++ (d ∷ [])) d candidate.depth) in
+    (subst (λ l. HasPageAt c.args.bench.now.levels (length l) (page_bytes file c.args.page)) (sym c.requires.3) there) next followed m c.requires.1
+    c.requires.2 (no_key_up_to file (W ++ (d ∷ [])) d candidate.depth) in
     let q = err_from_is_err_and c.from_residual.result c.from_residual.ensures.1 in
     stopped_as (q.1 ∙ ap Err q.2) entry.0.handed)
 
 pub returns-then-not-branch-clause-log : goal.returns-then-not-branch-clause-log
 returns-then-not-branch-clause-log g c = has_weaker _ _ c.in_ok-visit_page.ensures.log (λ log r. r) (λ file h e coded W d candidate there followed next m.
     let entry = h e coded (begin W) d 0 c.args.self.now.tree.start
-    (subst (λ l. IsCandidate c.args.self.now.tree.kind c.args.self.now.tree.start l c.args.page 0 c.args.self.now.tree.start d) (sym c.requires.fresh.2)
+    (subst (λ l. IsCandidate c.args.self.now.tree.kind c.args.self.now.tree.start l c.args.page 0 c.args.self.now.tree.start d) (sym c.requires.3)
     candidate)
-    (subst (λ l. HasPageAt c.args.bench.now.levels (length l) (page_bytes file c.args.page)) (sym c.requires.fresh.2) there) next followed m c.requires.fresh.0
-    c.requires.fresh.1 (no_key_up_to file (W ++ (d ∷ [])) d candidate.depth) in
+    (subst (λ l. HasPageAt c.args.bench.now.levels (length l) (page_bytes file c.args.page)) (sym c.requires.3) there) next followed m c.requires.1
+    c.requires.2 (no_key_up_to file (W ++ (d ∷ [])) d candidate.depth) in
     entered_done (begin W) d tt c.if-not-branch.true entry.0)
 
 pub loop-frame-init : goal.loop-frame-init
@@ -51,18 +52,18 @@ loop-frame-init g c =
       walked = walked_as_ok g.S.Source.held g.K.Sink.held g.T.Taker.refusals c.in_ok-visit_page.ensures.walked;
       few = (let l = ap length items in omega arith);
       opened = subst (λ l. AreOpen n.bench.geometry.usable n.self.tree.kind n.bench.levels 0 l) (sym items) (
-        subst (λ l. IsOpen n.bench.geometry.usable n.self.tree.kind n.bench.levels (length l) c.args.page 0) c.requires.fresh.2
+        subst (λ l. IsOpen n.bench.geometry.usable n.self.tree.kind n.bench.levels (length l) c.args.page 0) c.requires.3
             (c.in_ok-visit_page.ensures.«open» (search rules)),
         tt,
       );
       path = path_last c.push.new.self.items [] (record { page = c.args.page; next = 0; up_to = None }) n.self.tree.path.items items
-          (ap (λ p. p.items) c.visit_page.ensures.path ∙ c.requires.fresh.2);
+          (ap (λ p. p.items) c.visit_page.ensures.path ∙ c.requires.3);
       log = has_weaker _ _ c.in_ok-visit_page.ensures.log (λ log r. r) (λ file h e coded W d candidate there followed next m.
           let entry = h e coded (begin W) d 0 c.args.self.now.tree.start
           (subst (λ l. IsCandidate c.args.self.now.tree.kind c.args.self.now.tree.start l c.args.page 0 c.args.self.now.tree.start d)
-          (sym c.requires.fresh.2) candidate)
-          (subst (λ l. HasPageAt c.args.bench.now.levels (length l) (page_bytes file c.args.page)) (sym c.requires.fresh.2) there) next followed m
-          c.requires.fresh.0 c.requires.fresh.1 (no_key_up_to file (W ++ (d ∷ [])) d candidate.depth) in
+          (sym c.requires.3) candidate)
+          (subst (λ l. HasPageAt c.args.bench.now.levels (length l) (page_bytes file c.args.page)) (sym c.requires.3) there) next followed m
+          c.requires.1 c.requires.2 (no_key_up_to file (W ++ (d ∷ [])) d candidate.depth) in
           let role = kind_is file c.args.self.now.tree.kind c.args.self.now.tree.start [] c.args.page 0 c.args.self.now.tree.start d candidate
           ∙ ap Some (sym c.visit_page.ensures.walked.kind) in
           tree_started W d (record { page = c.args.page; next = 0; up_to = None }) items (sym candidate.page) refl refl next role candidate.depth
@@ -75,15 +76,15 @@ take_step-requires g c =
     let bench = c.loop-frame.bench in
     let at = c.step_of-next in
     let popped = c.pop.ensures.items ∙ ap (λ o. c.pop.new.self.items ++ option_to_list o) c.in-Some.is in
-    let few : length c.pop.new.self.items < 20 = (let l = c.in-Some.ensures.len in let m = inv.few in omega arith) in
-    let opened : AreOpen bench.geometry.usable c.loop-frame.self.tree.kind bench.levels 0 (c.pop.new.self.items ++ (at.result.0 ∷ [])) =
-    open_past c.pop.new.self.items c.in-Some.frame at.result.0 c.len.ensures.value at.ensures.page at.ensures.up_to at.ensures.empty
-    (subst (λ l. AreOpen bench.geometry.usable c.loop-frame.self.tree.kind bench.levels 0 l) popped inv.opened) in
-    let path : c.loop-frame.self.tree.path.items ≡ path_of c.pop.new.self.items = inv.path c.pop.new.self.items c.in-Some.frame popped in
-    let step : HasNext bench.geometry.usable c.loop-frame.self.tree.kind bench.levels (length c.pop.new.self.items) at.result.0.page at.result.0.next
-    at.result.1 =
-    subst (λ p. HasNext bench.geometry.usable c.loop-frame.self.tree.kind bench.levels (length c.pop.new.self.items) p at.result.0.next at.result.1)
-    (sym at.ensures.page) (next_at c.len.ensures.value refl at.ensures.next) in
+    let turn : IsAtTurn bench.geometry.usable c.loop-frame.self.tree.kind bench.levels c.loop-frame.self.tree.path.items c.pop.new.self.items at.result.0
+    at.result.1 = record {
+      few = (let l = c.in-Some.ensures.len in let m = inv.few in omega arith);
+      opened = open_past c.pop.new.self.items c.in-Some.frame at.result.0 c.len.ensures.value at.ensures.page at.ensures.up_to at.ensures.empty
+          (subst (λ l. AreOpen bench.geometry.usable c.loop-frame.self.tree.kind bench.levels 0 l) popped inv.opened);
+      path = inv.path c.pop.new.self.items c.in-Some.frame popped;
+      step = subst (λ p. HasNext bench.geometry.usable c.loop-frame.self.tree.kind bench.levels (length c.pop.new.self.items) p at.result.0.next at.result.1)
+          (sym at.ensures.page) (next_at c.len.ensures.value refl at.ensures.next);
+    } in
     search rules
 
 pub loop-frame-smaller : goal.loop-frame-smaller
@@ -157,3 +158,6 @@ returns-clause-walked g c = c.loop-frame.invariant.walked
 
 pub push-requires : goal.push-requires
 push-requires g c = (search rules, omega (arith, ap length c.new-frames.ensures))
+
+pub returns-then-not-branch-clause-walked : goal.returns-then-not-branch-clause-walked
+returns-then-not-branch-clause-walked g c = walked_as_ok g.S.Source.held g.K.Sink.held g.T.Taker.refusals c.in_ok-visit_page.ensures.walked
