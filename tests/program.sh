@@ -203,15 +203,15 @@ wrote() {
     cmp -s "$1" "$work/out" && cmp -s "$2" "$work/err" && [ "$status" = "$3" ]
 }
 
-# each_form DATABASE NAME: a check, and the forms of stat whose rows the text beside the database has. The rows of other pages come last.
+# each_form DATABASE LIMIT NAME: a check, and the forms of stat whose rows the text beside the database has. The rows of other pages come last.
 each_form() {
     local form lines=$work/faults wanted=1 words
     part "$1.text" faults > "$work/faults"
     if [ "$(< "$work/faults")" = ok ]; then
         lines=/dev/null wanted=0
     fi
-    run check "$1.db"
-    count "check $2" wrote "$work/faults" /dev/null "$wanted"
+    run check --limit "$2" "$1.db"
+    count "check --limit $2 $3" wrote "$work/faults" /dev/null "$wanted"
     part "$1.text" pages | grep $'^-\t-\t' > "$work/others"
     for form in pages trees; do
         part "$1.text" "$form" | grep -v $'^-\t-\t' > "$work/rows"
@@ -219,18 +219,18 @@ each_form() {
         words=()
         [ "$form" = pages ] || words=(--aggregate)
         run stat "${words[@]}" "$1.db"
-        count "stat of $form, $2" wrote "$work/rows" "$lines" "$wanted"
+        count "stat of $form, $3" wrote "$work/rows" "$lines" "$wanted"
         cat "$work/others" >> "$work/rows"
         run stat --all "${words[@]}" "$1.db"
-        count "stat of $form and other pages, $2" wrote "$work/rows" "$lines" "$wanted"
+        count "stat of $form and other pages, $3" wrote "$work/rows" "$lines" "$wanted"
     done
 }
 
 # Small databases, most with one damage each.
 if command -v python3 > "$work/out"; then
     tests/small/make.py tests/small/stat.txt "$work/small" > "$work/list"
-    while IFS='|' read -r number _ name; do
-        each_form "$work/small/$number" "$name"
+    while IFS='|' read -r number limit name; do
+        each_form "$work/small/$number" "$limit" "$name"
     done < "$work/list"
     tests/small/make.py tests/small/explain.txt "$work/small" > "$work/list"
     while IFS='|' read -r number limit name; do
@@ -345,6 +345,8 @@ changed page-size 16 '\03'
 changed usable 20 '\041'
 changed no-page 0 S
 truncate -s 511 "$work/no-page.db"
+changed header-alone 0 S
+truncate -s 100 "$work/header-alone.db"
 changed few-bytes 0 S
 truncate -s 99 "$work/few-bytes.db"
 for command in check explain map stat; do
@@ -358,6 +360,7 @@ zeros|zeros|E2 file is not a SQLite 3 database
 page-size||E3 page size is not valid
 usable||E4 usable size is below 480
 no-page||E5 file has no whole page
+header-alone||E5 file has no whole page
 END
 done
 
@@ -434,6 +437,14 @@ if truncate -s 34359738368 "$work/many-pages.db" 2> "$work/why"; then
     done
     # As many pages are taken where there is memory: all but the first and the lock-byte page, 2097153, are not in use.
     expect 1 $'N01 page 2 item 0 value 0: page is not in use\nmore 67108861\n' '' check --limit 1 "$work/many-pages.db"
+    # A page more is too many; and of pages of 1024 bytes the lock-byte page is where a pointer map would be.
+    truncate -s 34359738880 "$work/many-pages.db"
+    changed map-at-lock 16 '\04'
+    put_at "$work/map-at-lock.db" 52 '\0\0\0\01'
+    truncate -s 1073742848 "$work/map-at-lock.db"
+    for error in 'many-pages E6 file has more than 67108864 pages' 'map-at-lock E7 pointer map at the lock-byte page'; do
+        expect 3 '' "dbck: note: $work/${error%% *}.db is not checked"$'\n'"dbck: ${error#* }"$'\n' check "$work/${error%% *}.db"
+    done
 else
     echo "no run without memory: $(cat "$work/why")"
 fi

@@ -32,11 +32,28 @@ def varint(value):
     return bytes(groups + last)
 
 
+NULL = 0, b""
+
+
+def text(stored):
+    """A column with a text of these bytes."""
+    return 2 * len(stored) + 13, stored
+
+
+def byte(number):
+    """A column with an integer of one byte."""
+    return 1, bytes([number])
+
+
+def record(*columns):
+    """A record of columns, each a serial type and a body. Its header has less than 128 bytes."""
+    serials = b"".join(varint(serial) for serial, _ in columns)
+    return bytes([len(serials) + 1]) + serials + b"".join(body for _, body in columns)
+
+
 def schema_row(kind, name, root):
-    """A record of five columns: texts of type, name and table, the root page, and NULL for the SQL."""
-    texts = (kind.encode(), name.encode(), b"t")
-    serials = b"".join(varint(2 * len(text) + 13) for text in texts) + b"\1\0"
-    return bytes([len(serials) + 1]) + serials + b"".join(texts) + bytes([root])
+    """A row of the schema: texts of type, name and table, the root page, and NULL for the SQL."""
+    return record(text(kind.encode()), text(name.encode()), text(b"t"), byte(root), NULL)
 
 
 class Database:
@@ -79,10 +96,14 @@ class Database:
     def interior_index(self, page, right):
         self.tree_page(page, INTERIOR_INDEX, [], right)
 
-    def schema(self, *rows):
-        """Rows of the schema (type, name, root page), schema format 4 and UTF-8."""
+    def set_format(self, encoding):
+        """Schema format 4, and texts in the encoding of this number."""
         self.put(1, 44, be(4))
-        self.put(1, 56, be(1))
+        self.put(1, 56, be(encoding))
+
+    def schema(self, *rows):
+        """Rows of the schema (type, name, root page), in UTF-8."""
+        self.set_format(1)
         self.rows(1, *(schema_row(*row) for row in rows))
 
     def long_rows(self, page, *rows):
@@ -110,6 +131,10 @@ def table(pages, *more):
 
 def smallest(pages):
     return Database(pages)
+
+
+def largest(_):
+    return Database(1, 65536)
 
 
 def one_table(_):
@@ -150,10 +175,8 @@ def full_page(_):
 def utf_16(_):
     """A row of the schema in UTF-16, big end first, whose name has a tab."""
     db = Database(2)
-    db.put(1, 44, be(4))
-    db.put(1, 56, be(3))
-    texts = [text.encode("utf-16-be") for text in ("table", "a\tb", "t")]
-    db.rows(1, b"\6" + b"".join(varint(2 * len(text) + 13) for text in texts) + b"\1\0" + b"".join(texts) + b"\2")
+    db.set_format(3)
+    db.rows(1, record(*(text(word.encode("utf-16-be")) for word in ("table", "a\tb", "t")), byte(2), NULL))
     db.leaf(2)
     return db
 
@@ -409,7 +432,7 @@ def two_chains(_):
 def long_schema(_):
     """A row of the schema, of 600 bytes, that goes on on page 3: its text of SQL is 585 spaces."""
     db = table(3)
-    row = b"\7" + varint(23) + varint(15) + varint(15) + b"\1" + varint(1183) + b"tablett\2" + b" " * 585
+    row = record(text(b"table"), text(b"t"), text(b"t"), byte(2), text(b" " * 585))
     db.tree_page(1, LEAF_TABLE, [varint(600) + b"\1" + row[:92] + be(3)])
     db.leaf(2)
     db.put(3, 4, row[92:])
@@ -504,6 +527,75 @@ def strange_names(_):
     return db
 
 
+def named(encoding, *names):
+    """Tables with an empty page each, and these columns for names. Texts are in the encoding of this number."""
+    kind = text("table".encode(("utf-8", "utf-16-le", "utf-16-be")[encoding - 1]))
+    db = Database(len(names) + 1, 4096)
+    db.set_format(encoding)
+    db.rows(1, *(record(kind, name, NULL, byte(root), NULL) for root, name in enumerate(names, 2)))
+    for page in range(2, len(names) + 2):
+        db.leaf(page)
+    return db
+
+
+def names_utf_8(_):
+    """Among them U+00E9 with U+0080, and U+20AC with U+1F600, in two, three and four bytes."""
+    return named(1, *map(text, [b"t", b"", b"?", b"a\tb", b"a\\b\n", b"\x00\x1f \x7e\x7f", b"\xc3\xa9\xc2\x80", b"\xe2\x82\xac\xf0\x9f\x98\x80"]))
+
+
+def names_utf_16le(_):
+    """Among them U+5C00, whose high byte is that of a backslash, with U+0100, whose low byte is 0; U+20AC; U+1F600; and U+FEFF."""
+    return named(2, *map(text, [b"", b"a\0\t\0b\0", b"\\\0\x7f\0\x1f\0", b"\0\x5c\0\x01", b"\xac\x20", b"\x3d\xd8\x00\xde", b"\xff\xfet\0"]))
+
+
+def names_utf_16be(_):
+    """The same, and U+FFFE."""
+    return named(3, *map(text, [b"", b"\0a\0\t\0b", b"\0\\\0\x7f\0\x1f", b"\x5c\0\x01\0", b"\x20\xac", b"\xd8\x3d\xde\x00", b"\xfe\xff\0t", b"\xff\xfe"]))
+
+
+def no_names_utf_8(_):
+    """Names that are not well-formed, and an SQL NULL, an integer and a blob."""
+    malformed = [b"\xff", b"t\x80", b"\x00\x1f \x7e\x7f\x80", b"\xc0\x80", b"\xe2\x82", b"\xed\xa0\x80", b"\xf4\x90\x80\x80", b"\xd8\x00\0a\0b"]
+    return named(1, *map(text, malformed), NULL, (1, b"t"), (14, b"t"))
+
+
+def no_names_utf_16le(_):
+    """Two odd lengths, a high surrogate at the end and before no low one, and a low one that is first."""
+    return named(2, *map(text, [b"t", b"t\0\t", b"\x3d\xd8", b"\x3d\xd8t\0", b"\x00\xde\x3d\xd8"]))
+
+
+def no_names_utf_16be(_):
+    """An odd length, a high surrogate at the end, before no low one and before another, and a low one that is first."""
+    return named(3, *map(text, [b"\0t\t", b"\xd8\x3d", b"\xd8\x3d\0t", b"\xde\x00\xd8\x3d", b"\xd8\x3d\xd8\x3d\xde\x00"]))
+
+
+def long_names_utf_8(_):
+    """A name of 1000 bytes, which is shown, and one of 1001."""
+    return named(1, *map(text, [b"\1" * 1000, b"\1" * 1001]))
+
+
+def long_names_utf_16le(_):
+    """U+0101 500 times, which is of 1000 bytes in UTF-8 too, and 501 times."""
+    return named(2, *map(text, [b"\1" * 1000, b"\1" * 1002]))
+
+
+def long_names_utf_16be(_):
+    return named(3, *map(text, [b"\1" * 1000, b"\1" * 1002]))
+
+
+def many_roots(_):
+    """65537 rows of the schema, each of a table whose root is page 65537, which is not there. Pages are of 65536 bytes."""
+    row, rows, on_leaf = record(text(b"table"), text(b"t"), text(b"t"), (4, be(65537)), NULL), 65537, 2848
+    firsts = range(1, rows + 1, on_leaf)
+    db = Database(len(firsts) + 1, 65536)
+    db.set_format(1)
+    db.interior(1, len(firsts) + 1, *((page, page * on_leaf - on_leaf) for page in range(2, len(firsts) + 1)))
+    for page, first in enumerate(firsts, 2):
+        rowids = range(first, min(first + on_leaf, rows + 1))
+        db.tree_page(page, LEAF_TABLE, [varint(len(row)) + varint(rowid) + row for rowid in rowids])
+    return db
+
+
 def four_tables(_):
     """After a pointer map, four tables of a page each."""
     db = Database(6)
@@ -542,9 +634,9 @@ def many_entries(_):
     return db
 
 
-def content(text):
+def content(title):
     """The bytes of the database of a name, its pages, and what is written over it."""
-    front, _, changes = text.partition(":")
+    front, _, changes = title.partition(":")
     name, _, pages = front.partition(" ")
     pages = int(pages or 0)
     db = globals()[name.replace("-", "_")](pages)

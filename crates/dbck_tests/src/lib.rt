@@ -1,9 +1,7 @@
-//! Tests of the crates below the program, on whole files: [`check`], [`stat`], [`explain`] and [`map`], what is refused to a run,
+//! Tests of the crates below the program, on whole files: [`stat`], [`explain`] and [`map`], what is refused to a run,
 //! files that are written meanwhile, and the parts of a run. Those of the walk alone are in `dbwalk_tests`.
 #![tactic(auto)]
 
-#[cfg(test)]
-mod check;
 #[cfg(test)]
 mod explain;
 #[cfg(test)]

@@ -1,5 +1,7 @@
-// What runs are made of: headers, desks and outs.
+// What runs are made of: sources, headers and outs.
 mod buffered_outs;
-mod desks;
+mod file_sources;
 mod headers;
 mod outs;
+mod read_ahead;
+mod told_files;

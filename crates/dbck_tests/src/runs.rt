@@ -29,17 +29,9 @@ pub(crate) fn found_of<S: Source>(alloc: Global, command: Command, source: &mut 
     Found { answer, out, err }
 }
 
-/// Whether a run answers and writes this.
-pub(crate) fn is_found(
-    found: &Found,
-    answer: Result<Verdict, RunError>,
-    out: &[u8],
-    err: &[u8],
-) -> bool {
-    found.answer == answer && found.out.bytes() == out && found.err.bytes() == err
-}
-
 /// Whether two runs answer and write the same.
 pub(crate) fn is_same(one: &Found, other: &Found) -> bool {
-    is_found(one, other.answer, other.out.bytes(), other.err.bytes())
+    one.answer == other.answer
+        && one.out.bytes() == other.out.bytes()
+        && one.err.bytes() == other.err.bytes()
 }

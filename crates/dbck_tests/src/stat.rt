@@ -1,4 +1,2 @@
 // Statistics of whole files beside those of tests/small.
-mod names;
-mod refused;
 mod sizes;

@@ -1,5 +1,7 @@
 // Outs, files and tables of the tests.
 pub(crate) mod cases;
+pub(crate) mod fake_files;
 pub(crate) mod fakes;
 pub(crate) mod files;
+pub(crate) mod peeking;
 pub(crate) mod versions;

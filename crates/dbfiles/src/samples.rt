@@ -30,8 +30,6 @@ pub enum Sample {
     Freelist,
     /// A schema of as many levels as there are pages, each but the last an interior page without cells whose right child is the next.
     Ladder,
-    /// A trunk, page 2, that is full: its leaves are the 126 pages after it.
-    FullTrunk,
     /// A table of three levels with a chain of two pages, an index of two levels with a chain, and a freelist of three trunks, of
     /// which the first, page 2, has no leaf and each other one.
     Forest,
@@ -54,7 +52,6 @@ impl Sample {
             "MappedFreelist" => Sample::MappedFreelist,
             "Freelist" => Sample::Freelist,
             "Ladder" => Sample::Ladder,
-            "FullTrunk" => Sample::FullTrunk,
             "Forest" => Sample::Forest,
             "MappedForest" => Sample::MappedForest,
             _ => return None,
@@ -81,7 +78,6 @@ impl Sample {
             Sample::MappedFreelist => mapped_freelist(&mut file),
             Sample::Freelist => freelist(&mut file),
             Sample::Ladder => large::ladder(&mut file, pages),
-            Sample::FullTrunk => large::full_trunk(&mut file),
             Sample::Forest => large::forest(&mut file),
             Sample::MappedForest => large::mapped_forest(&mut file),
         }

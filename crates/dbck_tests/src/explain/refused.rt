@@ -1,9 +1,9 @@
-// Reads, writes and memory that are refused in turn, and the reads of a run.
+// Reads, writes and memory that are refused in turn.
 use crate::support::fakes::SmallOut;
 use dbexplain::{explain, explain_in};
 use dbfiles::{StatedSource, TestFile, holds, schema_row};
-use dbreport::{Command, Verdict, run};
-use dbsource::{ByteRange, LogSource, MemOut, MemSource, RunError};
+use dbreport::Verdict;
+use dbsource::{MemOut, MemSource, RunError};
 use linked_list_allocator::LocalHeap;
 use std::alloc::{AllocError, Global};
 use std::process::Abort;
@@ -59,25 +59,35 @@ fn beginning(len: usize) -> &'static [u8] {
     SHARED.as_bytes().get(..len).unwrap_or(&[])
 }
 
-// The call of the source with this number fails: this many bytes were written by then.
-fn fails_at_read(rt: &impl Abort, alloc: Global, file: &[u8], fails_at: u64, written: usize) {
+// The call of the source with this number fails, if there is one: the answer, and how many bytes were written by then.
+fn fails_at_read(
+    rt: &impl Abort,
+    alloc: Global,
+    file: &[u8],
+    fails_at: u64,
+    (wanted, written): (Result<Verdict, RunError>, usize),
+) {
     let mut source = StatedSource::new(file, file.len() as u64, fails_at);
     let mut out = SmallOut::new(2048);
     let answer = explain(alloc, 100, &mut source, &mut out);
-    holds!(*rt; answer == Err(RunError::ReadFailed), fails_at);
+    holds!(*rt; answer == wanted, fails_at);
     holds!(*rt; out.bytes() == beginning(written), fails_at);
 }
 
 // Each call of the source fails in turn: its length, its header, and the six pages of both trees. No fault was found by then.
-// Last the page that nothing refers to is read: then the line of the fault found before is written.
+// Last the page that nothing refers to is read: then the line of the fault found before is written. There is no further call.
 #[test]
 fn each_read_fails_in_turn(rt: HostRuntime) -> Result<(), Fail> {
     let file = shared(rt.alloc())?;
     let line = SHARED.find("    page 5").unwrap_or(0);
     holds!(rt; line > 0);
-    for fails_at in 0..9u64 {
-        let written = if fails_at == 8 { line } else { 0 };
-        fails_at_read(&rt, rt.alloc(), file.as_slice(), fails_at, written);
+    for fails_at in 0..11u64 {
+        let wanted = match fails_at {
+            0..8 => (Err(RunError::ReadFailed), 0),
+            8 => (Err(RunError::ReadFailed), line),
+            _ => (Ok(Verdict::Faulty(2)), SHARED.len()),
+        };
+        fails_at_read(&rt, rt.alloc(), file.as_slice(), fails_at, wanted);
     }
     Ok(())
 }
@@ -239,33 +249,5 @@ fn each_growth_is_refused(rt: HostRuntime) -> Result<(), Fail> {
     }
     let wanted = Ok(Verdict::Faulty(2));
     in_room(&rt, rt.alloc(), file.as_slice(), NAMES + 16, wanted)?;
-    Ok(())
-}
-
-// Explains a file, and checks it, over sources that keep what they were asked for.
-fn ask(alloc: Global, explained: &mut LogSource<'_>, checked: &mut LogSource<'_>) {
-    let mut out = MemOut::new(alloc);
-    let mut err = MemOut::new(alloc);
-    let command = Command::Check { limit: 100 };
-    let _ = explain(alloc, 100, explained, &mut out);
-    let _ = run(alloc, command, checked, &mut out, &mut err);
-}
-
-// The range of the page that nothing refers to.
-const LOST: ByteRange = ByteRange {
-    offset: 3072,
-    len: 512,
-};
-
-// It reads what a check reads, and then the page that nothing refers to.
-#[test]
-fn reads_what_a_check_reads(rt: HostRuntime) -> Result<(), Fail> {
-    let file = shared(rt.alloc())?;
-    let mut explained = LogSource::new(file.as_slice());
-    let mut checked = LogSource::new(file.as_slice());
-    ask(rt.alloc(), &mut explained, &mut checked);
-    let ranges = explained.ranges();
-    holds!(rt; checked.ranges().len() == 7 && ranges.get(..7) == Some(checked.ranges()));
-    holds!(rt; ranges.get(7..) == Some([LOST].as_slice()));
     Ok(())
 }

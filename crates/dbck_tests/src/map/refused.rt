@@ -1,9 +1,8 @@
 // Reads, writes and memory that are refused in turn.
-use dbexplain::explain;
 use dbfiles::{StatedSource, TestFile, holds, schema_row};
 use dbmap::{map, map_in};
 use dbreport::Verdict;
-use dbsource::{ByteRange, LogSource, MemOut, MemSource, RunError, StreamOut};
+use dbsource::{MemOut, MemSource, RunError, StreamOut};
 use linked_list_allocator::LocalHeap;
 use std::alloc::{AllocError, Global};
 use std::process::Abort;
@@ -25,13 +24,19 @@ fn small(alloc: Global) -> Result<Vec<u8>, AllocError> {
     Ok(file.into_bytes())
 }
 
-// The call of the source with this number fails: nothing was put by then.
-fn fails_at_read(rt: &impl Abort, alloc: Global, file: &[u8], fails_at: u64) {
+// The call of the source with this number fails, if there is one: nothing was put by then.
+fn fails_at_read(
+    rt: &impl Abort,
+    alloc: Global,
+    file: &[u8],
+    fails_at: u64,
+    wanted: Result<Verdict, RunError>,
+) {
     let mut source = StatedSource::new(file, file.len() as u64, fails_at);
     let mut out = MemOut::new(alloc);
     let verdict = map(alloc, "x", &mut source, &mut out);
-    holds!(*rt; verdict == Err(RunError::ReadFailed), fails_at);
-    holds!(*rt; out.bytes().is_empty(), fails_at);
+    holds!(*rt; verdict == wanted, fails_at);
+    holds!(*rt; verdict.is_err() == out.bytes().is_empty(), fails_at);
 }
 
 // There is room for some bytes of the picture.
@@ -43,12 +48,18 @@ fn fails_in(rt: &impl Abort, alloc: Global, file: &[u8], held: &mut [u8]) {
     holds!(*rt; verdict == Err(RunError::WriteFailed), room);
 }
 
-// Each call of the source fails in turn: its length, its header, the pages 1 to 5, and last page 7, to which nothing refers.
+// Each call of the source fails in turn: its length, its header, the pages 1 to 5, and last page 7, to which nothing refers. There is no
+// further call.
 #[test]
 fn each_read_fails_in_turn(rt: HostRuntime) -> Result<(), Fail> {
     let file = small(rt.alloc())?;
-    for fails_at in 0..8u64 {
-        fails_at_read(&rt, rt.alloc(), file.as_slice(), fails_at);
+    for fails_at in 0..10u64 {
+        let wanted = if fails_at < 8 {
+            Err(RunError::ReadFailed)
+        } else {
+            Ok(Verdict::Faulty(1))
+        };
+        fails_at_read(&rt, rt.alloc(), file.as_slice(), fails_at, wanted);
     }
     Ok(())
 }
@@ -150,31 +161,5 @@ fn each_growth_is_refused(rt: HostRuntime) -> Result<(), Fail> {
         ROOTS + 16,
         Ok(Verdict::Faulty(1)),
     )?;
-    Ok(())
-}
-
-// Draws a file, and explains it, over sources that keep what they were asked for.
-fn ask(alloc: Global, drawn: &mut LogSource<'_>, explained: &mut LogSource<'_>) {
-    let mut out = MemOut::new(alloc);
-    let _ = map(alloc, "x", drawn, &mut out);
-    let _ = explain(alloc, 100, explained, &mut out);
-}
-
-// The range of the page that nothing refers to.
-const LOST: ByteRange = ByteRange {
-    offset: 3072,
-    len: 512,
-};
-
-// It reads what `explain` reads: last the page that nothing refers to.
-#[test]
-fn reads_what_explain_reads(rt: HostRuntime) -> Result<(), Fail> {
-    let file = small(rt.alloc())?;
-    let mut drawn = LogSource::new(file.as_slice());
-    let mut explained = LogSource::new(file.as_slice());
-    ask(rt.alloc(), &mut drawn, &mut explained);
-    let ranges = drawn.ranges();
-    holds!(rt; ranges == explained.ranges() && ranges.len() == 7);
-    holds!(rt; ranges.last() == Some(&LOST));
     Ok(())
 }

@@ -1,31 +1,24 @@
-// What an Out that gathers bytes hands on, and when.
+// When an Out that gathers bytes hands them on, and in how many writes.
 use dbfiles::holds;
-use dbsource::{BufferedOut, Out, WriteFailed};
+use dbsource::{BufferedOut, Out};
 use linked_list_allocator::LocalHeap;
 use std::alloc::{AllocError, Global};
 use std::io::{self, ErrorKind, Write};
 use std::process::Abort;
 use std::test::Fail;
 
-/// A writer that takes some bytes at a time. Its write number `fails_at`, from 0, fails.
+/// A writer that counts its writes.
 #[derive(Drop)]
 struct CountingWriter {
     taken: Vec<u8>,
-    at_once: usize,
-    fails_at: u64,
     writes: u64,
 }
 
 impl Write for CountingWriter {
     fn write(&mut self, buf: &[u8]) -> io::Result<usize> {
-        let write = self.writes;
         self.writes = self.writes.wrapping_add(1);
-        if write == self.fails_at {
-            return Err(io::Error::from(ErrorKind::Other));
-        }
-        let count = buf.len().min(self.at_once);
-        match self.taken.extend_from_slice(&buf[..count]) {
-            Ok(()) => Ok(count),
+        match self.taken.extend_from_slice(buf) {
+            Ok(()) => Ok(buf.len()),
             Err(_) => Err(io::Error::from(ErrorKind::OutOfMemory)),
         }
     }
@@ -36,22 +29,11 @@ impl Write for CountingWriter {
 }
 
 // One that has written nothing yet.
-fn counting(alloc: Global, at_once: usize, fails_at: u64) -> CountingWriter {
+fn counting(alloc: Global) -> CountingWriter {
     CountingWriter {
         taken: Vec::new(alloc),
-        at_once,
-        fails_at,
         writes: 0,
     }
-}
-
-// An out over one.
-fn out_over(
-    alloc: Global,
-    at_once: usize,
-    fails_at: u64,
-) -> Result<BufferedOut<CountingWriter>, AllocError> {
-    BufferedOut::new(alloc, counting(alloc, at_once, fails_at))
 }
 
 // Adds this many bytes, each unlike its neighbours, and none a line feed.
@@ -62,12 +44,8 @@ fn add_bytes(bytes: &mut Vec<u8>, len: usize) -> Result<(), AllocError> {
     Ok(())
 }
 
-// Puts the bytes from a place on. Whether they were taken.
-fn is_put(out: &mut BufferedOut<CountingWriter>, bytes: &[u8], from: usize) -> bool {
-    out.put(bytes.get(from..).unwrap_or(&[])) == Ok(())
-}
-
-// Puts a piece of this many bytes, and adds them to all that were put. An `n` after the number makes the last one a line feed.
+// Puts a piece of this many bytes, and adds them to all that were put. An `n` after the number makes the last one a line feed. Whether the
+// piece was taken.
 fn is_piece_put(
     out: &mut BufferedOut<CountingWriter>,
     all: &mut Vec<u8>,
@@ -81,7 +59,8 @@ fn is_piece_put(
         let _ = all.pop();
         all.push(b'\n')?;
     }
-    Ok(is_put(out, all.as_slice(), from))
+    let bytes = all.as_slice().get(from..).unwrap_or(&[]);
+    Ok(out.put(bytes) == Ok(()))
 }
 
 // That all bytes were taken after a flush.
@@ -93,33 +72,33 @@ fn is_flushed(rt: &impl Abort, out: &mut BufferedOut<CountingWriter>, all: &[u8]
 
 // Pieces by their lengths, an `n` after those that end with a line feed; and how many bytes are gathered then, how many the
 // writer took, and in how many writes.
-const PUTS: [(&str, &str); 21] = [
-    ("1 2 3", "6 0 0"),
-    ("0 0 0", "0 0 0"),
-    ("65535 1 0", "65536 0 0"),
-    ("65536 0 0", "65536 0 0"),
-    ("65536 1 2", "3 65536 1"),
-    ("65535 2 0", "2 65535 1"),
-    ("65537 0 0", "0 65537 1"),
-    ("65537 5 0", "5 65537 1"),
-    ("7 65537 5", "5 65544 2"),
-    ("65536 65536 65536", "65536 131072 2"),
-    ("100000 100000 100000", "0 300000 3"),
+const PUTS: [[&str; 2]; 21] = [
+    ["1 2 3", "6 0 0"],
+    ["0 0 0", "0 0 0"],
+    ["65535 1 0", "65536 0 0"],
+    ["65536 0 0", "65536 0 0"],
+    ["65536 1 2", "3 65536 1"],
+    ["65535 2 0", "2 65535 1"],
+    ["65537 0 0", "0 65537 1"],
+    ["65537 5 0", "5 65537 1"],
+    ["7 65537 5", "5 65544 2"],
+    ["65536 65536 65536", "65536 131072 2"],
+    ["100000 100000 100000", "0 300000 3"],
     // The line that was begun stays, where the piece has room after it, also just so.
-    ("10n 65520 7 0", "65527 10 1"),
-    ("10n 65526 10 0", "65536 10 1"),
+    ["10n 65520 7 0", "65527 10 1"],
+    ["10n 65526 10 0", "65536 10 1"],
     // And goes where it has none.
-    ("10n 65526 11 0", "11 65536 1"),
+    ["10n 65526 11 0", "11 65536 1"],
     // All lines go, up to the last line feed.
-    ("1n 1n 65534 1", "65535 2 1"),
-    ("65535 1n 1 1", "2 65536 1"),
-    ("65536n 65536n 1n 5", "6 131072 2"),
+    ["1n 1n 65534 1", "65535 2 1"],
+    ["65535 1n 1 1", "2 65536 1"],
+    ["65536n 65536n 1n 5", "6 131072 2"],
     // A line of 65536 bytes is written at once, and one of 65537 is not.
-    ("10n 65535 1n 1", "1 65546 2"),
-    ("10n 65535 2n 1", "3 65545 2"),
+    ["10n 65535 1n 1", "1 65546 2"],
+    ["10n 65535 2n 1", "3 65545 2"],
     // A piece that is longer than the buffer is written after all that was gathered.
-    ("10n 5 65537n 3", "3 65552 2"),
-    ("10n 70000 70000 6n", "6 140010 3"),
+    ["10n 5 65537n 3", "3 65552 2"],
+    ["10n 70000 70000 6n", "6 140010 3"],
 ];
 
 // A number of a text of numbers.
@@ -151,8 +130,8 @@ fn hands_on(
 
 #[test]
 fn pieces_and_lines_are_handed_on(rt: HostRuntime) -> Result<(), Fail> {
-    for (pieces, wanted) in PUTS {
-        let mut out = out_over(rt.alloc(), 300000, 100)?;
+    for [pieces, wanted] in &PUTS {
+        let mut out = BufferedOut::new(rt.alloc(), counting(rt.alloc()))?;
         let mut all = Vec::new(rt.alloc());
         hands_on(&rt, &mut out, &mut all, pieces, wanted)?;
     }
@@ -182,148 +161,9 @@ fn puts_row(rt: &impl Abort, out: &mut BufferedOut<CountingWriter>, row: u64) {
 // 655 rows find room in the buffer.
 #[test]
 fn rows_of_several_puts_are_not_torn(rt: HostRuntime) -> Result<(), Fail> {
-    let mut out = out_over(rt.alloc(), 300000, 100)?;
+    let mut out = BufferedOut::new(rt.alloc(), counting(rt.alloc()))?;
     for row in 1..2001u64 {
         puts_row(&rt, &mut out, row);
-    }
-    Ok(())
-}
-
-// Puts this many bytes, of which the first may be another, and flushes them.
-fn puts_and_flushes(
-    rt: &impl Abort,
-    out: &mut BufferedOut<CountingWriter>,
-    all: &mut Vec<u8>,
-    len: usize,
-    first: Option<u8>,
-) -> Result<(), AllocError> {
-    let from = all.len();
-    add_bytes(all, len)?;
-    if let (Some(first), Some(place)) = (first, all.as_mut_slice().get_mut(from)) {
-        *place = first;
-    }
-    holds!(*rt; is_put(out, all.as_slice(), from), (first, len));
-    is_flushed(rt, out, all.as_slice(), "a piece");
-    Ok(())
-}
-
-#[test]
-fn each_byte_is_flushed(rt: HostRuntime) -> Result<(), Fail> {
-    let mut out = out_over(rt.alloc(), 300000, 100000)?;
-    let mut all = Vec::new(rt.alloc());
-    for first in 0..256u32 {
-        for len in [1usize, 2, 60] {
-            puts_and_flushes(&rt, &mut out, &mut all, len, Some(first as u8))?;
-        }
-    }
-    Ok(())
-}
-
-#[test]
-fn each_length_is_flushed(rt: HostRuntime) -> Result<(), Fail> {
-    let mut out = out_over(rt.alloc(), 300000, 100000)?;
-    let mut all = Vec::new(rt.alloc());
-    for len in 0..526usize {
-        let len = match len {
-            0..520 => len,
-            520..523 => len.wrapping_add(3575),
-            _ => len.wrapping_add(65012),
-        };
-        puts_and_flushes(&rt, &mut out, &mut all, len, None)?;
-    }
-    Ok(())
-}
-
-// Two rows.
-const ROWS: &[u8] = b"row 1\nrow 2\n";
-
-// Puts both rows, of which nothing is written by then.
-fn puts_rows(rt: &impl Abort, out: &mut BufferedOut<CountingWriter>) {
-    holds!(*rt; out.put(b"row 1\n") == Ok(()));
-    holds!(*rt; out.put(b"row 2\n") == Ok(()));
-    holds!(*rt; out.writer().taken.is_empty());
-}
-
-// A writer takes a byte at a time.
-fn flushes_bytes(rt: &impl Abort, out: &mut BufferedOut<CountingWriter>) {
-    is_flushed(rt, out, ROWS, "the first time");
-    is_flushed(rt, out, ROWS, "the second time");
-    holds!(*rt; out.writer().writes == 12);
-}
-
-// A write of this number fails: the rest is kept, and the next write, which does not fail, takes it once.
-fn keeps_the_rest(rt: &impl Abort, out: &mut BufferedOut<CountingWriter>, fails_at: usize) {
-    holds!(*rt; out.flush() == Err(WriteFailed), fails_at);
-    holds!(*rt; Some(out.writer().taken.as_slice()) == ROWS.get(..fails_at), fails_at);
-    holds!(*rt; Some(out.gathered()) == ROWS.get(fails_at..), fails_at);
-    is_flushed(rt, out, ROWS, "the rest");
-}
-
-#[test]
-fn a_writer_takes_a_byte_at_a_time(rt: HostRuntime) -> Result<(), Fail> {
-    let mut out = out_over(rt.alloc(), 1, 100)?;
-    puts_rows(&rt, &mut out);
-    flushes_bytes(&rt, &mut out);
-    Ok(())
-}
-
-#[test]
-fn each_failing_write_keeps_the_rest(rt: HostRuntime) -> Result<(), Fail> {
-    for fails_at in 0..12u64 {
-        let mut out = out_over(rt.alloc(), 1, fails_at)?;
-        puts_rows(&rt, &mut out);
-        keeps_the_rest(&rt, &mut out, fails_at as usize);
-    }
-    Ok(())
-}
-
-// Puts two pieces into this much room. Whether the second was taken, and the flush after it.
-fn put_two(
-    alloc: Global,
-    held: &mut [u8],
-    first: &[u8],
-    second: &[u8],
-) -> Result<(bool, bool, bool), AllocError> {
-    let mut out = BufferedOut::new(alloc, held)?;
-    let is_first = out.put(first) == Ok(());
-    let is_second = out.put(second) == Ok(());
-    let is_flushed = out.flush() == Ok(());
-    Ok((is_first, is_second, is_flushed))
-}
-
-// The first piece, of this many bytes, is gathered, and the second has no room, or is longer than the buffer.
-fn ends_at(
-    rt: &impl Abort,
-    alloc: Global,
-    held: &mut [u8],
-    bytes: &[u8],
-    first: usize,
-) -> Result<(), AllocError> {
-    let room = held.len();
-    held.fill(255);
-    let pieces = (
-        bytes.get(..first).unwrap_or(&[]),
-        bytes.get(first..).unwrap_or(&[]),
-    );
-    let (is_first, is_second, is_flushed) = put_two(alloc, held, pieces.0, pieces.1)?;
-    holds!(*rt; is_first && !(is_second && is_flushed), (first, room));
-    holds!(*rt; is_second == (first > 40 && room >= first), (first, room));
-    holds!(*rt; bytes.get(..room) == Some(held), (first, room));
-    Ok(())
-}
-
-#[test]
-fn room_ends_at_each_byte(rt: HostRuntime) -> Result<(), Fail> {
-    let mut bytes = Vec::new(rt.alloc());
-    add_bytes(&mut bytes, 65600)?;
-    holds!(rt; bytes.len() == 65600);
-    let mut held = Vec::from_elem(rt.alloc(), 255u8, 65600)?;
-    for room in [0usize, 1, 39, 40, 41, 65529, 65530, 65531, 65536, 65599] {
-        for first in [65530usize, 40] {
-            let held = held.as_mut_slice().get_mut(..room).unwrap_or(&mut []);
-            holds!(rt; held.len() == room);
-            ends_at(&rt, rt.alloc(), held, bytes.as_slice(), first)?;
-        }
     }
     Ok(())
 }
@@ -331,7 +171,7 @@ fn room_ends_at_each_byte(rt: HostRuntime) -> Result<(), Fail> {
 // Whether an out finds room in this many bytes of memory, and writes.
 fn is_written_in(alloc: Global, room: usize) -> Result<bool, AllocError> {
     let heap = LocalHeap::new(alloc, room)?;
-    let Ok(mut out) = BufferedOut::new_in(&heap, counting(alloc, 100, 100)) else {
+    let Ok(mut out) = BufferedOut::new_in(&heap, counting(alloc)) else {
         return Ok(false);
     };
     let is_put = out.put(b"ok\n") == Ok(()) && out.flush() == Ok(());

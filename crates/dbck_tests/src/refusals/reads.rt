@@ -2,10 +2,12 @@
 use crate::support::cases::{begins, command_of, file_of, lines, verdict_of};
 use crate::support::fakes::SmallOut;
 use crate::support::files::{LONG_ROW_ROWS, MAPPED_ROWS, OLD_VERSION};
+use crate::support::peeking::{PeekingSource, SeenWriter};
 use dbfiles::{StatedSource, holds};
 use dbreport::{Command, run};
-use dbsource::RunError;
+use dbsource::{MemOut, RunError, StreamOut};
 use std::alloc::Global;
+use std::cell::Cell;
 use std::test::Fail;
 
 // What is run, the file, what is written to the first out, and how many lines of that are written after a failure of the length, the
@@ -79,5 +81,21 @@ fn each_read_fails_in_turn(rt: HostRuntime) -> Result<(), Fail> {
             holds!(rt; is_written(rt.alloc(), case, file.as_slice(), fails_at), (case, fails_at));
         }
     }
+    Ok(())
+}
+
+// What is found is written before the next page is read: the row of page 1 is there when the read of page 2 fails.
+#[test]
+fn holds_nothing_back(rt: HostRuntime) -> Result<(), Fail> {
+    let file = file_of(rt.alloc(), "Smallest 2: 1 100 05, 1 108 00000002")?;
+    let (written, seen) = (Cell::new(0), Cell::new(0));
+    let stated = StatedSource::new(file.as_slice(), 1024, 3);
+    let mut source = PeekingSource::new(stated, &written, &seen);
+    let mut out = StreamOut::new(SeenWriter::new(&written));
+    let mut err = MemOut::new(rt.alloc());
+    let command = command_of("pages");
+    let answer = run(rt.alloc(), command, &mut source, &mut out, &mut err);
+    holds!(rt; answer == Err(RunError::ReadFailed));
+    holds!(rt; seen.get() == "sqlite_schema|/|1|internal|0|0|400|0|0|512\n".len());
     Ok(())
 }

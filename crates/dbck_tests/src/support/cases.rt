@@ -1,8 +1,7 @@
 // Files, commands and verdicts by texts.
-use crate::runs::{check_of, found_of, stat_of};
+use crate::runs::{check_of, stat_of};
 use dbfiles::TestFile;
 use dbreport::{Command, Verdict};
-use dbsource::MemSource;
 use std::alloc::{AllocError, Global};
 
 /// The bytes of a file that one text describes, as [`TestFile::of`] has it.
@@ -51,12 +50,4 @@ pub(crate) fn begins(text: &str, bytes: &[u8]) -> bool {
 /// Whether some bytes are a text in which each tab is written `|`.
 pub(crate) fn is_text(text: &str, bytes: &[u8]) -> bool {
     bytes.len() == text.len() && begins(text, bytes)
-}
-
-/// Whether a file has these rows in a form, and these lines.
-pub(crate) fn shows(alloc: Global, form: &str, file: &[u8], rows: &str, lines: &str) -> bool {
-    let found = found_of(alloc, command_of(form), &mut MemSource::new(file));
-    found.answer == Ok(verdict_of(lines))
-        && is_text(rows, found.out.bytes())
-        && found.err.bytes() == lines.as_bytes()
 }

@@ -9,15 +9,6 @@ pub(crate) fn ladder(file: &mut TestFile, pages: u32) {
     file.leaf_table(pages);
 }
 
-pub(crate) fn full_trunk(file: &mut TestFile) {
-    let mut leaves = [0u32; 126];
-    for (place, leaf) in leaves.iter_mut().zip(3..129u32) {
-        *place = leaf;
-    }
-    file.freelist(2, 127);
-    file.trunk(2, 0, &leaves);
-}
-
 // The trees of a forest, and its last two trunks.
 fn trees(file: &mut TestFile) {
     file.schema(&[schema_row(b"table", b"t", 3), schema_row(b"index", b"i", 4)]);

@@ -1,5 +1,5 @@
 // What is read of a file that is read ahead, and along, and when it is.
-use crate::fake_files::{Allowed, FakeFiles};
+use crate::support::fake_files::{Allowed, FakeFiles};
 use dbfiles::holds;
 use dbsource::{FileSource, Source};
 use std::fs;

@@ -1,5 +1,5 @@
 // How a file is opened and read.
-use crate::fake_files::{Allowed, FakeFiles};
+use crate::support::fake_files::{Allowed, FakeFiles};
 use dbfiles::holds;
 use dbsource::{FileSource, Source};
 use std::fs;

@@ -9,7 +9,7 @@ use std::time::Duration;
 
 /// What is allowed beside a look at a path.
 #[derive(Clone, Copy, PartialEq)]
-pub enum Allowed {
+pub(crate) enum Allowed {
     /// To open a file for reading alone.
     Reading,
     /// The same, where a look at a path finds 512 bytes, whatever the file has.
@@ -21,7 +21,7 @@ pub enum Allowed {
 /// The files of the system. A call that is not allowed is refused, and that is noted. Each look at the clock finds it some
 /// microseconds after the one before, none at first.
 #[derive(Drop)]
-pub struct FakeFiles<'a> {
+pub(crate) struct FakeFiles<'a> {
     rt: &'a HostRuntime,
     allowed: Allowed,
     has_refused: Cell<bool>,
@@ -30,7 +30,7 @@ pub struct FakeFiles<'a> {
 }
 
 impl<'a> FakeFiles<'a> {
-    pub fn new(rt: &'a HostRuntime, allowed: Allowed) -> FakeFiles<'a> {
+    pub(crate) fn new(rt: &'a HostRuntime, allowed: Allowed) -> FakeFiles<'a> {
         FakeFiles {
             rt,
             allowed,
@@ -41,17 +41,17 @@ impl<'a> FakeFiles<'a> {
     }
 
     /// How many microseconds there are from now on between two looks at the clock.
-    pub fn set_pace(&self, micros: u64) {
+    pub(crate) fn set_pace(&self, micros: u64) {
         self.pace.set(micros);
     }
 
     /// How often the clock was looked at.
-    pub fn looks(&self) -> u64 {
+    pub(crate) fn looks(&self) -> u64 {
         self.looks.get()
     }
 
     /// Whether a call was refused.
-    pub fn has_refused(&self) -> bool {
+    pub(crate) fn has_refused(&self) -> bool {
         self.has_refused.get()
     }
 
