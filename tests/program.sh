@@ -449,12 +449,23 @@ else
     echo "no run without memory: $(cat "$work/why")"
 fi
 
+# ends_within KIB OUT WORDS..: whether the program ends with 1 in this address space, at least once of three times: where a read takes long,
+# it also takes the MiB by which it reads ahead.
+ends_within() {
+    local time
+    for time in 1 2 3; do
+        (ulimit -v "$1" && exec "$dbck" "${@:3}" > "$2" 2>&1)
+        [ $? != 1 ] || return 0
+    done
+    return 1
+}
+
 # least_memory WORDS..: the address space in KiB, within 16, in which the program ends with 1 by these words.
 least_memory() {
     local low=0 high=65536 middle
     while [ $((high - low)) -gt 16 ]; do
         middle=$(((low + high) / 2))
-        if (ulimit -v "$middle" && run "$@" && exit "$status"); [ $? = 1 ]; then high=$middle; else low=$middle; fi
+        if ends_within "$middle" "$work/out" "$@"; then high=$middle; else low=$middle; fi
     done
     echo "$high"
 }
@@ -479,11 +490,11 @@ if [ ! -s "$work/why" ]; then
         # shellcheck disable=SC2086
         least=$(least_memory $words "$work/pages-65537.db")
         # shellcheck disable=SC2086
-        (ulimit -v "$(room "$bytes" 1048577 "$least")" && run $words "$work/pages-1048577.db" && exit "$status")
-        count "$words of 1048577 pages in $bytes bytes for each eight" [ $? = 1 ]
+        count "$words of 1048577 pages in $bytes bytes for each eight" \
+            ends_within "$(room "$bytes" 1048577 "$least")" "$work/out" $words "$work/pages-1048577.db"
         [ "$bytes" -gt 32 ] || continue
         # shellcheck disable=SC2086
-        (ulimit -v "$(room "$bytes" 16777217 "$least")" && exec "$dbck" $words "$work/pages-16777217.db" > "$work/last.${words%% *}" 2>&1) &
+        ends_within "$(room "$bytes" 16777217 "$least")" "$work/last.${words%% *}" $words "$work/pages-16777217.db" &
         started+=($!)
     done
 else
@@ -851,7 +862,7 @@ fi
 # The runs over 2^24 pages and one, which were started before.
 for run in "${started[@]}"; do
     wait "$run"
-    count 'explain and map of 16777217 pages' [ $? = 1 ]
+    count 'explain and map of 16777217 pages' [ $? = 0 ]
 done
 
 # The words of the completions are those of the help.
