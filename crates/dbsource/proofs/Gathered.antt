@@ -1,5 +1,5 @@
 -- Bytes that are gathered in front of a writer.
-use Rattle.std.specs.Prelude.{◌≡◌, List, ℕ, [], ◌++◌, Option, None, Some, IfSome, Result, Ok, Err}
+use Rattle.std.specs.Prelude.{◌≡◌, List, ℕ, [], ◌++◌, Option, None, Some, Result, Ok, Err}
 use Rattle.std.proofs.Common.{refl, sym, ap, ◌∙◌, ◌<◌, append-nil, arith, take, drop}
 use Rattle.std.proofs.lemmas.Bool.Decides.{nat_tests}
 use Rattle.std.proofs.lemmas.List.{take-append-drop}
@@ -8,13 +8,6 @@ use Rattle.dbsource.proofs.Beginnings.{all_begun, begins_after, begins_more}
 use Rattle.dbsource.proofs.Puts.{appends_append, appends_kept, appends_nothing}
 use Rattle.dbsource.specs.Gathers.{gathered_most, kept_line}
 use Rattle.dbsource.specs.Outs.{Begins, Writes}
-
--- where no known byte is lost, what the writer holds is a beginning of them, and the rest is gathered
-pub kept_begins : (all written : Option (List ℕ)) (gathered : List ℕ)
-    → Keeps all (append_known written gathered) → IfSome all (λ bytes. Appends written (Some bytes) gathered)
-kept_begins None written gathered h = tt
-kept_begins (Some bytes) None gathered h = tt
-kept_begins (Some bytes) (Some front) gathered h = sym h
 
 -- a beginning is one of more bytes, too
 pub begins_longer : (o n : Option (List ℕ)) (a b : List ℕ) → Begins o n a → Begins o n (a ++ b)

@@ -168,7 +168,6 @@ fn gather<A: Allocator>(gathered: &mut Vec<u8, A>, piece: &[u8])
 }
 
 // Gathers the piece, or writes it where it is longer than the buffer.
-#[tactic(auto, using(crate::proofs::Beginnings::begins_nothing, crate::proofs::Gathered::begins_longer))]
 fn take_piece<W: Write, A: Allocator>(
     writer: &mut W,
     gathered: &mut Vec<u8, A>,
@@ -213,7 +212,6 @@ impl<W: Write, A: Allocator> Out for BufferedOut<W, A> {
         taken
     }
 
-    #[tactic(auto, using(crate::proofs::Gathered::kept_begins))]
     fn flush(&mut self) -> Result<(), WriteFailed>
         ensures flushes { Flushes result (told self.old) (told self.new) }
         ensures writes { Writes result self.old.written self.new.written self.old.gathered }

@@ -10,6 +10,9 @@ returns-in_err-make_room-clause-writes g c =
     let p = err_from_is_err_and c.from_residual.result c.from_residual.ensures.1 in
     kept_fails _ _ _ _ p.1 c.in_err-make_room.ensures.kept
 
+pub returns-in_err-make_room-clause-grows : goal.returns-in_err-make_room-clause-grows
+returns-in_err-make_room-clause-grows g c = begins_longer _ _ c.args.gathered.now.items c.args.piece.now c.in_err-make_room.ensures.begins
+
 pub returns-then-piece-gt-CAPACITY-clause-grows : goal.returns-then-piece-gt-CAPACITY-clause-grows
 returns-then-piece-gt-CAPACITY-clause-grows g c =
     let none = c.in_ok-make_room.ensures.rest ∙ nothing_kept c.args.gathered.now.items (length c.args.piece.now) c.if-piece-gt-CAPACITY.true in
