@@ -19,7 +19,6 @@
 #![tactic(auto)]
 
 mod bytes;
-mod drawn;
 mod holds;
 mod records;
 mod samples;
@@ -30,7 +29,6 @@ mod tree_page;
 
 pub use bytes::{bytes_of, patch, write_bytes};
 pub use dbsource::Source;
-pub use drawn::draw;
 pub use holds::{Text, expecting, holding};
 pub use records::{Record, schema_row, varint};
 pub use samples::Sample;

@@ -3,7 +3,6 @@ mod heads;
 mod looks;
 mod marks;
 mod packed;
-mod plain;
 mod sqlite_pages;
 mod written_pages;
 
@@ -59,7 +58,6 @@ fn check(rt: &impl Abort, case: &Case, page: &[u8], table: &mut [u8]) {
     let (number, usable) = case[1].split_once(" of ").unwrap_or(("", ""));
     let number = number.parse::<u32>().unwrap_or(0);
     let usable = usable.parse::<u32>().unwrap_or(0);
-    plain::check_coverage(rt, page, table, number, usable);
     for want in case[3].split("; ") {
         let word = match want.split_once(' ') {
             Some((word, _)) => word,

@@ -1,9 +1,7 @@
 //! Tests of the walk over trees, chains and the freelist, on whole files, where the sink and the taker of rows fail at
-//! any item. Those of whole runs are in `dbck_tests`. The tests of the builder of test files are here too.
+//! any item. Those of whole runs are in `dbck_tests`.
 #![tactic(auto)]
 
-#[cfg(test)]
-mod files;
 #[cfg(test)]
 mod support;
 #[cfg(test)]
