@@ -1,7 +1,7 @@
 #!/usr/bin/env python3
 """Says how well the colours of `map` can be told apart: colours.py [least].
 
-Of each colour in crates/dbmap/src/colours.rt it prints the least distance to any other (CIE76: in Lab under D65) for normal,
+Of each colour in crates/dbpicture/src/colours.rt it prints the least distance to any other (CIE76: in Lab under D65) for normal,
 deuteranope and protanope sight, and to which. Dichromats see as by Vienot and others (1999) or as by Machado and others (2009):
 the lesser distance counts. It fails where one is below `least`.
 """
@@ -58,7 +58,7 @@ def distance(one, other, sight):
 
 
 def colours():
-    source = Path(__file__).parent.parent / "crates/dbmap/src/colours.rt"
+    source = Path(__file__).parent.parent / "crates/dbpicture/src/colours.rt"
     texts = re.findall(r"\.[to]\d+\{fill:(#[0-9A-F]{6})\}", source.read_text())
     names = TREES + [name + ", overflow" for name in TREES]
     all = {name: linear(text) for name, text in zip(names, texts)}

@@ -236,7 +236,7 @@ if command -v python3 > "$work/out"; then
     while IFS='|' read -r number limit name; do
         run explain --limit "$limit" "$work/small/$number.db"
         count "explain --limit $limit $name" cmp -s "$work/small/$number.text" "$work/out"
-        count "the status of $name" ended $([ "$(< "$work/small/$number.text")" = ok ]; echo $?) '*' ''
+        count "the status of $name" ended "$([ "$(< "$work/small/$number.text")" = ok ]; echo $?)" '*' ''
     done < "$work/list"
     tests/small/make.py tests/small/map.txt "$work/small" > "$work/list"
     while IFS='|' read -r number _ name; do

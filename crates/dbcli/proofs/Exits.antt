@@ -29,7 +29,7 @@ use Rattle.dbcli.proofs.Explaining.{IsEndFor, IsExplainedTo, begun_not_at_4, exp
 use Rattle.dbcli.proofs.Failures.{FewFailed, none_failed, more_failures}
 use Rattle.dbcli.specs.ErrorLines.{error_line, exit_line, refused_line}
 use Rattle.dbreport.proofs.RunReports.{check_answer}
-use Rattle.dbmap.specs.Pictures.{map_picture}
+use Rattle.dbpicture.specs.Pictures.{map_picture}
 use Rattle.dbmap.specs.Maps.{IsMapOf, PutsMap}
 use Rattle.dbmap.proofs.MapAnswers.{nothing_begun}
 use Rattle.dbcli.specs.Exit.{BeginsThenLine, EndsWithLine, IsExit, IsExitOf, IsExplainExit, IsFinishOf, IsKnown, IsStatusOf, SaysOkFor, map_report, second_most}

@@ -19,7 +19,7 @@ use Rattle.dbsource.specs.Failures.{HasOneMore, failures_after, one_more}
 use Rattle.dbsource.specs.Outs.{Begins, Flushes, OutState, Puts, Writes}
 use Rattle.dbsource.specs.declared.error.RunError.{RunError}
 use Rattle.dbsource.specs.declared.error.RunError.TheVariants.{Refused, ReadFailed, OutOfMemory, WriteFailed}
-use Rattle.dbmap.specs.Pictures.{map_picture}
+use Rattle.dbpicture.specs.Pictures.{map_picture}
 use Rattle.dbmap.specs.Maps.{PutsMap}
 use Rattle.dbcli.proofs.Explaining.{IsEndFor, LeavesText, gets_found}
 use Rattle.dbcli.proofs.Failures.{FewFailed, after_one, failed_then, few_then, few_then_line, more_count, more_failures, none_moved, not_same, one_moved}

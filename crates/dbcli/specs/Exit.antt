@@ -11,7 +11,7 @@ use Rattle.dbformat.specs.declared.Refusal.{Refusal}
 use Rattle.dbformat.specs.declared.Verdict.TheVariants.{Clean, Faulty}
 use Rattle.dbsource.specs.Failures.{one_more}
 use Rattle.dbsource.specs.Outs.{Begins, OutState}
-use Rattle.dbmap.specs.Pictures.{map_picture}
+use Rattle.dbpicture.specs.Pictures.{map_picture}
 use Rattle.dbreport.specs.Runs.{SaysOkWhereSound}
 use Rattle.dbexplain.specs.Explained.{IsFoundText, explain_report}
 use Rattle.dbcli.specs.ErrorLines.{exit_line}

@@ -23,12 +23,12 @@ use Rattle.dbmarks.specs.declared.marks.Mark.{Mark}
 use Rattle.dbmarks.proofs.EndMarking.{found_in}
 use Rattle.dbscan.specs.Roots.{AreListed}
 use Rattle.dbformat.proofs.HeaderPrefix.{encoding_within}
-use Rattle.dbowner.specs.Texts.{tree_of_row, tree_text}
+use Rattle.dbscan.specs.Texts.{tree_of_row, tree_text}
 use Rattle.dbexplain.specs.Below.{own_line, both_lines, header_line, line_of_entry, entry_line, lines_below, place_line, value_page}
 use Rattle.dbexplain.specs.Notes.{below_of, page_or_none, wanted_entry}
 use Rattle.dbexplain.specs.declared.owners.Below.{Below}
 use Rattle.dbexplain.specs.declared.owners.Below.TheVariants as below
-use Rattle.dbowner.proofs.PageMarks.{mark_here, no_visit, unused}
+use Rattle.dbscan.proofs.PageMarks.{mark_here, no_visit, unused}
 
 -- kind by kind
 

@@ -3,7 +3,7 @@ use Rattle.std.proofs.Common.{◌≡◌, ℕ, List, ap, sym, subst, ◌∙◌}
 use Rattle.dbformat.specs.Reference.{Reference}
 use Rattle.dbsource.specs.HeaderBytes.{HeaderBytes}
 use Rattle.dbsource.specs.Headers.{IsHeaderOf}
-use Rattle.dbowner.specs.Trees.{AreTrees}
+use Rattle.dbscan.specs.Trees.{AreTrees}
 use Rattle.dbexplain.specs.Notes.{AreOwnersOf}
 use Rattle.dbscan.specs.Roots.{Listed}
 use Rattle.dbexplain.specs.declared.owners.Owners.{Owners}

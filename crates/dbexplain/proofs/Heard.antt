@@ -13,7 +13,7 @@ use Rattle.dbscan.specs.Placed.{told_faults}
 use Rattle.dbentries.specs.Lists.{HasListed, ListsFirst, heard}
 use Rattle.dbentries.proofs.Heard.{file_begun, file_heard}
 use Rattle.dbentries.proofs.ListedFaults.{heard_first}
-use Rattle.dbowner.specs.Trees.{row_noted}
+use Rattle.dbscan.specs.Trees.{row_noted}
 use Rattle.dbexplain.specs.Keeping.{IsEmpty}
 use Rattle.dbexplain.specs.Reporting.{Adds, Hears, Notes}
 use Rattle.dbexplain.specs.Tallies.{fault_told}

@@ -15,8 +15,8 @@ use Rattle.dbsource.specs.declared.error.RunError.{RunError}
 use Rattle.dbsource.specs.declared.error.RunError.TheVariants.{Refused, ReadFailed, OutOfMemory, WriteFailed}
 use Rattle.dbsource.proofs.Beginnings.{begins_nothing}
 use Rattle.dbwalk.specs.Telling.{StopsBy}
-use Rattle.dbowner.specs.Trees.{AreTrees}
-use Rattle.dbowner.proofs.Trees.{all_noted}
+use Rattle.dbscan.specs.Trees.{AreTrees}
+use Rattle.dbscan.proofs.Trees.{all_noted}
 use Rattle.dbscan.specs.Desks.{DeskView}
 use Rattle.dbscan.specs.Finishes.{HasHeard, IsDeskOf, Leaves}
 use Rattle.dbscan.specs.Notices.{CutsNever, run_notices}

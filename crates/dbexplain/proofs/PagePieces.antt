@@ -6,12 +6,12 @@ use Rattle.dbformat.specs.FixedPages.{is_page, fixed_use}
 use Rattle.dbformat.specs.Lines.{line_feed}
 use Rattle.dbformat.specs.declared.Fixed.{Fixed}
 use Rattle.dbformat.specs.declared.Geometry.{Geometry}
-use Rattle.dbowner.specs.declared.place.Place.{Place}
-use Rattle.dbowner.specs.declared.place.Place.TheVariants as place
+use Rattle.dbscan.specs.declared.place.Place.{Place}
+use Rattle.dbscan.specs.declared.place.Place.TheVariants as place
 use Rattle.dbentries.specs.Lines.{indented}
-use Rattle.dbowner.specs.Texts.{place_text}
+use Rattle.dbscan.specs.Texts.{place_text}
 use Rattle.dbexplain.specs.Below.{page_place_line}
-use Rattle.dbowner.specs.Texts.{place_front, place_tree}
+use Rattle.dbscan.specs.Texts.{place_front, place_tree}
 use Rattle.dbexplain.specs.Notes.{place_end, page_front}
 
 -- the text of a start's tree, if there is one

@@ -19,7 +19,7 @@ use Rattle.dbtrace.specs.declared.Part.{Part}
 use Rattle.dbtrace.specs.declared.Part.TheVariants as part
 use Rattle.dbtrace.specs.declared.Reported.{Reported}
 use Rattle.dbscan.specs.StartTable.{most_starts}
-use Rattle.dbowner.proofs.Slots.{get_set, get_set_other}
+use Rattle.dbscan.proofs.Slots.{get_set, get_set_other}
 use Rattle.dbentries.specs.Bits.{bit_set, has_bit}
 use Rattle.dbexplain.specs.Summary.{code_count, is_part_of_start, is_told, is_whole}
 use Rattle.dbexplain.specs.Tallies.{Tallied, IsTallyOf, counted_start, no_count, one_fault, fault_told}

@@ -31,7 +31,7 @@ use Rattle.dbformat.specs.Faults.{fault}
 use Rattle.dbformat.specs.Samples.{long_row_file, long_row_survey}
 use Rattle.dbformat.specs.declared.FaultCode.TheVariants.{H10, R01, R02, R03, T04, M01}
 use Rattle.dbformat.proofs.WorkedMaps.{free_leaf_file, free_leaf_visits}
-use Rattle.dbowner.specs.Owners.{place_of}
+use Rattle.dbscan.specs.Owners.{place_of}
 use Rattle.dbexplain.specs.Below.{lines_below}
 
 -- a page that another page already has

@@ -13,9 +13,9 @@ use Rattle.dbformat.specs.declared.FaultCode.TheVariants.{H01, H02, H03, H04, H0
 use Rattle.dbformat.specs.declared.Geometry.{Geometry}
 use Rattle.dbentries.specs.Lines.{indented}
 use Rattle.dbformat.specs.Starts.{start_at}
-use Rattle.dbowner.specs.Owners.{place_of}
-use Rattle.dbowner.specs.Texts.{place_text, tree_text}
-use Rattle.dbowner.specs.declared.place.Place.{Place}
+use Rattle.dbscan.specs.Owners.{place_of}
+use Rattle.dbscan.specs.Texts.{place_text, tree_text}
+use Rattle.dbscan.specs.declared.place.Place.{Place}
 
 -- Where page p begins and what it is, by the shape of the file, the texts of its trees, and the page's place and start. A
 -- number that no page has gets no line.

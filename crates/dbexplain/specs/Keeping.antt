@@ -12,7 +12,7 @@ use Rattle.dbscan.specs.Desks.{DeskView}
 use Rattle.dbscan.specs.Finishes.{IsDeskOf}
 use Rattle.dbscan.specs.Placed.{told_faults}
 use Rattle.dbentries.specs.Bits.{HasPageBit}
-use Rattle.dbowner.specs.Trees.{AreTrees}
+use Rattle.dbscan.specs.Trees.{AreTrees}
 use Rattle.dbexplain.specs.Explained.{after_cause, front_text}
 use Rattle.dbexplain.specs.Notes.{AreOwnersOf}
 use Rattle.dbexplain.specs.Tallies.{IsTallyOf, Tallied}

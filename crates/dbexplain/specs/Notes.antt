@@ -17,10 +17,10 @@ use Rattle.dbmarks.specs.declared.marks.Mark.{Mark}
 use Rattle.dbmarks.specs.declared.marks.Mark.TheVariants.{Unmarked}
 use Rattle.dbmarks.specs.declared.marks.Mark.TheVariants as mark
 use Rattle.dbscan.specs.Roots.{AreListed}
-use Rattle.dbowner.specs.Texts.{place_from, place_front, place_words}
+use Rattle.dbscan.specs.Texts.{place_from, place_front, place_words}
 use Rattle.dbexplain.specs.Below.{value_page}
-use Rattle.dbowner.specs.Trees.{AreTrees}
-use Rattle.dbowner.specs.declared.place.Place.{Place}
+use Rattle.dbscan.specs.Trees.{AreTrees}
+use Rattle.dbscan.specs.declared.place.Place.{Place}
 use Rattle.dbexplain.specs.declared.owners.Below.{Below}
 use Rattle.dbexplain.specs.declared.owners.Below.TheVariants as below
 use Rattle.dbexplain.specs.declared.owners.Owners.{Owners}

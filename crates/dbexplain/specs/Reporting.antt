@@ -16,7 +16,7 @@ use Rattle.dbscan.specs.Notices.{Notice}
 use Rattle.dbentries.specs.Listed.{listed_entries}
 use Rattle.dbentries.specs.Lists.{ListsFirst, heard}
 use Rattle.dbentries.specs.Reported.{HearsReported}
-use Rattle.dbowner.specs.Trees.{row_noted}
+use Rattle.dbscan.specs.Trees.{row_noted}
 use Rattle.dbexplain.specs.Explained.{explain_text}
 use Rattle.dbexplain.specs.Keeping.{IsEmpty, lines_of}
 use Rattle.dbexplain.specs.Tallies.{fault_told}

@@ -24,7 +24,7 @@ use Rattle.dbexplain.specs.Facts.{bytes_text, page_begin}
 use Rattle.dbtrace.specs.declared.Part.{Part}
 use Rattle.dbtrace.specs.declared.Part.TheVariants as part
 use Rattle.dbtrace.specs.declared.Reported.{Reported}
-use Rattle.dbowner.specs.Texts.{tree_of_row}
+use Rattle.dbscan.specs.Texts.{tree_of_row}
 use Rattle.dbformat.specs.Starts.{start_at}
 use Rattle.dbscan.specs.Placed.{told_faults}
 use Rattle.dbscan.specs.Roots.{listed_rows, root_page}

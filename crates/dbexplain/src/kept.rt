@@ -5,7 +5,7 @@ ghost use Rattle.dbexplain.specs.Keeping.{IsEmpty};
 
 use crate::tally::Tally;
 use dbentries::Listing;
-use dbowner::PageTrees;
+use dbscan::PageTrees;
 use dbsource::Geometry;
 use std::alloc::{AllocError, Allocator, Global};
 

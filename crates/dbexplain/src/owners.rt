@@ -13,7 +13,7 @@ use arrayvec::ArrayVec;
 use dbformat::{Fault, FaultCode};
 use dblines::{Writer, append, append_number};
 use dbmarks::MapEntry;
-use dbowner::{PageTrees, RootList, TreeNames, mark_of, place_of, place_tree};
+use dbscan::{PageTrees, RootList, TreeNames, mark_of, place_of, place_tree};
 use dbsource::{Header, Out};
 use dbwalk::{Mark, Marks};
 use std::alloc::{Allocator, Global};

@@ -5,14 +5,14 @@ ghost use Rattle.std.specs.Option.{option_map_or};
 ghost use Rattle.dbformat.specs.Lines.{line_feed};
 ghost use Rattle.dbformat.specs.FixedPages.{IsInRange, fixed_use};
 ghost use Rattle.dblines.specs.Writing.{Wrote};
-ghost use Rattle.dbowner.specs.Texts.{place_from, place_front, place_words, tree_of_row};
+ghost use Rattle.dbscan.specs.Texts.{place_from, place_front, place_words, tree_of_row};
 ghost use Rattle.dbexplain.specs.Below.{line_of_start, page_place_line};
 ghost use Rattle.dbexplain.specs.Notes.{page_front, place_end, start_front, start_tree};
 
 use arrayvec::ArrayVec;
 use dbformat::{FREELIST_START, Geometry};
 use dblines::{Writer, append, append_number};
-use dbowner::{Place, TreeNames, place_from, place_front, place_words};
+use dbscan::{Place, TreeNames, place_from, place_front, place_words};
 use dbsource::Out;
 use std::alloc::Allocator;
 

@@ -12,7 +12,7 @@ use crate::tally::Tally;
 use arrayvec::ArrayVec;
 use dbformat::FREELIST_START;
 use dblines::{Writer, append, append_number};
-use dbowner::TreeNames;
+use dbscan::TreeNames;
 use dbsource::Out;
 use std::alloc::Allocator;
 

@@ -10,7 +10,7 @@ use arrayvec::ArrayVec;
 use dbentries::append_count;
 use dbformat::RowKind;
 use dblines::{Writer, append, append_number};
-use dbowner::RootList;
+use dbscan::RootList;
 use dbsource::Out;
 use std::alloc::Allocator;
 

@@ -1,5 +1,5 @@
 -- What the reporter of a map has counted and kept, by what it heard.
-use Rattle.std.proofs.Common.{◌≡◌, ℕ, List, [], ◌∷◌, ◌++◌, length, Option, Result, Err, inl, inr, refl, sym, ap, subst, ◌∙◌}
+use Rattle.std.proofs.Common.{◌≡◌, ℕ, List, length, Option, Result, Err, inl, inr, sym, ap, subst, ◌∙◌}
 use Rattle.std.specs.Borrow.{MutBor}
 use Rattle.std.specs.Prelude.{flat_map, IfOk}
 use Rattle.std.specs.Io.KnownBytes.{Keeps}
@@ -21,43 +21,37 @@ use Rattle.dbsource.specs.declared.error.RunError.TheVariants.{OutOfMemory, Read
 use Rattle.dbwalk.specs.Telling.{StopsBy}
 use Rattle.dbscan.specs.Finishes.{Leaves}
 use Rattle.dbscan.specs.Notices.{CutsNever, run_notices}
-use Rattle.dbscan.specs.Placed.{faults_of, told_faults}
+use Rattle.dbscan.specs.Placed.{told_faults}
 use Rattle.dbscan.proofs.AllTold.{all_told}
 use Rattle.dbentries.specs.Bits.{HasPageBit}
 use Rattle.dbentries.specs.Lists.{HasListed, Held, ListsAll}
 use Rattle.dbentries.specs.Zeros.{AreZeros}
 use Rattle.dbentries.proofs.Heard.{never_stops}
-use Rattle.dbmap.specs.Keeping.{AreNoted, HasFaults, HearsNone}
-use Rattle.dbmap.specs.Faults.{fault_signs}
-use Rattle.dbmap.specs.declared.faults.Sign.{Sign}
-use Rattle.dbowner.specs.Trees.{AreTrees}
-use Rattle.dbowner.proofs.Trees.{all_noted}
-use Rattle.dbmap.specs.Pictures.{map_picture}
+use Rattle.dbpicture.specs.Keeping.{AreNoted, HasFaults, HearsNone}
+use Rattle.dbpicture.specs.Faults.{fault_signs}
+use Rattle.dbscan.specs.Trees.{AreTrees}
+use Rattle.dbscan.proofs.Trees.{all_noted}
+use Rattle.dbpicture.specs.Pictures.{map_picture}
 use Rattle.dbmap.specs.Maps.{PutsMap}
 use Rattle.dbmap.specs.MapRuns.{Hears, LeavesMap}
 use Rattle.dbmap.specs.declared.map_reporter.MapReporter.{MapReporter}
 use Rattle.dbmap.proofs.MapAnswers.{nothing_begun}
-use Rattle.dbmap.proofs.Heard.{all_heard, HasNotedFaults, signs_told, some_untouched}
+use Rattle.dbmap.proofs.Heard.{all_heard, HasNotedFaults, some_untouched}
 
--- the signs of faults that were reported
-signs_are : (ts : List Reported) → signs_told ts ≡ flat_map fault_signs (faults_of ts)
-signs_are [] = refl
-signs_are (t ∷ ts) = ap (λ l. fault_signs t.fault ++ l) (signs_are ts)
-
-module _ {A O : Type 0} (file : List ℕ) (V : List Reference) (survey : Survey file V) (s t : MapReporter A O) (none : s.faults ≡ 0)
+module _ {A O : Type 0} (file : List ℕ) (V : List Reference) (survey : Survey file V) (s t : MapReporter A O)
     (empty : HearsNone (geometry file).pages s.kept.now) where
   -- all of a run was heard, and nothing before it: its faults were counted, and these are kept
   module _ (heard : Moves Hears s (run_notices file V) t) where
     all : HasNotedFaults (geometry file).pages s (told_faults file V) (stat_rows file V) t
-    all = all_heard file V survey s t none empty heard
+    all = all_heard file V survey s t empty heard
 
     as_many : length (told_faults file V) ≡ length (faults file V)
     as_many = sym (length-map (told_faults file V) (λ (x : Reported). x.fault)) ∙ ap length (all_told file V)
 
-    pub map_counts : t.faults ≡ counted (length (faults file V))
+    pub map_counts : t.kept.now.faults ≡ counted (length (faults file V))
     map_counts = all.count ∙ ap counted as_many
 
-    pub map_finds : verdict_of t.faults ≡ verdict (faults file V)
+    pub map_finds : verdict_of t.kept.now.faults ≡ verdict (faults file V)
     map_finds = ap verdict_of map_counts ∙ verdict_counted (faults file V)
 
     pub map_hears : HasListed s.kept.now.listing (told_faults file V) t.kept.now.listing
@@ -68,8 +62,7 @@ module _ {A O : Type 0} (file : List ℕ) (V : List Reference) (survey : Survey 
         → HasFaults file V (record t.kept.now { listing = l })
     map_keeps l looked = record {
       trees = subst (AreTrees V) (sym all.trees) (all_noted file V s.kept.now.trees.known survey empty.room);
-      notes = subst (λ (l : List (ℕ × Sign)). AreNoted (geometry file).pages l t.kept.now.notes)
-          (signs_are (told_faults file V) ∙ ap (flat_map fault_signs) (all_told file V)) all.notes;
+      notes = subst (λ fs. AreNoted (geometry file).pages (flat_map fault_signs fs) t.kept.now.notes) (all_told file V) all.notes;
       listing = looked.0;
       zeros = looked.1 empty.zeros;
     }
@@ -86,9 +79,9 @@ module _ {A O : Type 0} (file : List ℕ) (V : List Reference) (survey : Survey 
     map_unput held = subst (λ (o : MutBor O). Keeps (held s.out.now).bytes (held o.now).bytes) (sym all.out) (keeps_same (held s.out.now).bytes)
 
   stopped : (e : RunError) → StopsBy Hears CutsNever e s (run_notices file V) t → t.out ≡ s.out
-  stopped (Refused r) h = some_untouched file V survey s t none empty h
-  stopped ReadFailed h = some_untouched file V survey s t none empty h
-  stopped OutOfMemory h = some_untouched file V survey s t none empty h
+  stopped (Refused r) h = some_untouched file V survey s t empty h
+  stopped ReadFailed h = some_untouched file V survey s t empty h
+  stopped OutOfMemory h = some_untouched file V survey s t empty h
   stopped WriteFailed h = absurd (never_stops Hears (run_notices file V) s t h)
 
   -- a picture was not begun where nothing was put
@@ -101,7 +94,7 @@ module _ {A O : Type 0} (file : List ℕ) (V : List Reference) (survey : Survey 
   -- a run that came to its end, or not
   pub map_left : (held : O → OutState) (r : Result Verdict RunError) → Leaves Hears CutsNever (LeavesMap held) file V r s t
       → IfOk r (λ v. v ≡ verdict (faults file V)) × PutsMap r (held s.out.now).bytes (held t.out.now).bytes (map_picture file V s.name.now)
-  map_left held r (inl h) = h none empty
+  map_left held r (inl h) = h empty
   map_left held r (inr (e, is, k)) =
       let kept : Keeps (held s.out.now).bytes (held t.out.now).bytes =
       subst (λ (o : MutBor O). Keeps (held s.out.now).bytes (held o.now).bytes) (sym (stopped e k)) (keeps_same (held s.out.now).bytes) in

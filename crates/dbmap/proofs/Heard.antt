@@ -10,67 +10,62 @@ use Rattle.dbformat.specs.Rows.{StatRow, stat_rows}
 use Rattle.dbformat.specs.Survey.{Survey}
 use Rattle.dbtrace.specs.declared.Reported.{Reported}
 use Rattle.dbscan.specs.Notices.{run_notices}
-use Rattle.dbscan.specs.Placed.{told_faults}
+use Rattle.dbscan.specs.Placed.{faults_of, told_faults}
 use Rattle.dbentries.specs.Lists.{HasListed, heard}
 use Rattle.dbentries.proofs.Heard.{file_begun, file_heard}
-use Rattle.dbowner.specs.Trees.{row_noted, Trees}
-use Rattle.dbmap.specs.Keeping.{AreNoted, HearsNone}
-use Rattle.dbmap.specs.Faults.{fault_signs}
-use Rattle.dbmap.specs.MapRuns.{Adds, Hears, Notes}
-use Rattle.dbmap.specs.declared.faults.Sign.{Sign}
+use Rattle.dbscan.specs.Trees.{row_noted, Trees}
+use Rattle.dbpicture.specs.Keeping.{Adds, AreNoted, HearsNone, Notes}
+use Rattle.dbpicture.specs.Faults.{fault_signs}
+use Rattle.dbmap.specs.MapRuns.{Changes, Hears}
 use Rattle.dbmap.specs.declared.map_reporter.MapReporter.{MapReporter}
 
--- the signs of the pages of some faults
-abbrev pub signs_told : List Reported → List (ℕ × Sign)
-signs_told ts = flat_map (λ (t : Reported). fault_signs t.fault) ts
-
-told_more : (ts : List Reported) (x : Reported) → signs_told ts ++ fault_signs x.fault ≡ signs_told (ts ++ x ∷ [])
+told_more : (ts : List Reported) (x : Reported) → flat_map fault_signs (faults_of ts) ++ fault_signs x.fault ≡ flat_map fault_signs (faults_of (ts ++ x ∷ []))
 told_more [] x = refl
 told_more (t ∷ ts) x = ap (λ l. fault_signs t.fault ++ l) (told_more ts x)
 
 module _ {A O : Type 0} where
   -- These faults were counted, noted and listed, and the starts of these rows noted; nothing else changed.
   pub record HasNotedFaults (pages : ℕ) (first : MapReporter A O) (ts : List Reported) (rs : List StatRow) (now : MapReporter A O) : Type 0 where
-    pub count : now.faults ≡ counted (length ts)
-    pub notes : AreNoted pages (signs_told ts) now.kept.now.notes
+    pub count : now.kept.now.faults ≡ counted (length ts)
+    pub notes : AreNoted pages (flat_map fault_signs (faults_of ts)) now.kept.now.notes
     pub listing : HasListed first.kept.now.listing ts now.kept.now.listing
     pub trees : now.kept.now.trees.known ≡ fold row_noted first.kept.now.trees.known rs
     pub out : now.out ≡ first.out
     pub name : now.name ≡ first.name
 
   one_heard : (pages : ℕ) (first : MapReporter A O) (x : Reported) (ts : List Reported) (rs : List StatRow) (s t : MapReporter A O)
-      → HasNotedFaults pages first ts rs s → Adds x s t → HasNotedFaults pages first (ts ++ x ∷ []) rs t
+      → HasNotedFaults pages first ts rs s → Changes (Adds x) s t → HasNotedFaults pages first (ts ++ x ∷ []) rs t
   one_heard pages first x ts rs s t h a = record {
-    count = let e = a.count in let n = h.count in let l = length-append ts (x ∷ []) in omega (arith, e, n, l);
-    notes = subst (λ (l : List (ℕ × Sign)). AreNoted pages l t.kept.now.notes) (told_more ts x) (a.notes pages (signs_told ts) h.notes);
-    listing = a.listing ∙ ap (λ l. heard l x) h.listing ∙ sym (fold-append heard first.kept.now.listing ts (x ∷ []));
-    trees = ap (λ (w : Trees). w.known) a.trees ∙ h.trees;
+    count = let e = a.kept.count in let n = h.count in let l = length-append ts (x ∷ []) in omega (arith, e, n, l);
+    notes = subst (λ l. AreNoted pages l t.kept.now.notes) (told_more ts x) (a.kept.notes pages (flat_map fault_signs (faults_of ts)) h.notes);
+    listing = a.kept.listing ∙ ap (λ l. heard l x) h.listing ∙ sym (fold-append heard first.kept.now.listing ts (x ∷ []));
+    trees = ap (λ (w : Trees). w.known) a.kept.trees ∙ h.trees;
     out = a.out ∙ h.out;
     name = a.name ∙ h.name;
   }
 
   one_noted : (pages : ℕ) (first : MapReporter A O) (r : StatRow) (ts : List Reported) (rs : List StatRow) (s t : MapReporter A O)
-      → HasNotedFaults pages first ts rs s → Notes r s t → HasNotedFaults pages first ts (rs ++ r ∷ []) t
+      → HasNotedFaults pages first ts rs s → Changes (Notes r) s t → HasNotedFaults pages first ts (rs ++ r ∷ []) t
   one_noted pages first r ts rs s t h a = record {
-    count = a.count ∙ h.count;
-    notes = subst (AreNoted pages (signs_told ts)) (sym a.notes) h.notes;
-    listing = a.listing ∙ h.listing;
-    trees = a.trees ∙ ap (λ k. row_noted k r) h.trees ∙ sym (fold-append row_noted first.kept.now.trees.known rs (r ∷ []));
+    count = a.kept.count ∙ h.count;
+    notes = subst (AreNoted pages (flat_map fault_signs (faults_of ts))) (sym a.kept.notes) h.notes;
+    listing = a.kept.listing ∙ h.listing;
+    trees = a.kept.trees ∙ ap (λ k. row_noted k r) h.trees ∙ sym (fold-append row_noted first.kept.now.trees.known rs (r ∷ []));
     out = a.out ∙ h.out;
     name = a.name ∙ h.name;
   }
 
 module _ {A O : Type 0} (file : List ℕ) (V : List Reference) (survey : Survey file V) (first now : MapReporter A O)
-    (none : first.faults ≡ 0) (empty : HearsNone (geometry file).pages first.kept.now) where
+    (empty : HearsNone (geometry file).pages first.kept.now) where
   nothing_noted : HasNotedFaults (geometry file).pages first [] [] first
-  nothing_noted = record { count = none; notes = empty.notes; listing = refl; trees = refl; out = refl; name = refl }
+  nothing_noted = record { count = empty.none; notes = empty.notes; listing = refl; trees = refl; out = refl; name = refl }
 
   -- all of it
   pub all_heard : Moves Hears first (run_notices file V) now → HasNotedFaults (geometry file).pages first (told_faults file V) (stat_rows file V) now
-  all_heard m = file_heard Adds Notes (HasNotedFaults (geometry file).pages first)
+  all_heard m = file_heard (λ x. Changes (Adds x)) (λ r. Changes (Notes r)) (HasNotedFaults (geometry file).pages first)
       (one_heard (geometry file).pages first) (one_noted (geometry file).pages first) file V survey first now nothing_noted m
 
   -- nothing is put, where only some of it was heard
   pub some_untouched : MovesBySome Hears first (run_notices file V) now → now.out ≡ first.out
-  some_untouched m = (file_begun Adds Notes (HasNotedFaults (geometry file).pages first)
+  some_untouched m = (file_begun (λ x. Changes (Adds x)) (λ r. Changes (Notes r)) (HasNotedFaults (geometry file).pages first)
       (one_heard (geometry file).pages first) (one_noted (geometry file).pages first) file V survey first now nothing_noted m).3.out

@@ -20,7 +20,7 @@ use Rattle.dbwalk.specs.Telling.{IsReadWriteOrMemory}
 use Rattle.dbreport.specs.Runs.{IsAnswerOf}
 use Rattle.dbreport.proofs.RunAnswers.{read_answer}
 use Rattle.dbreport.proofs.RunReports.{check_answer}
-use Rattle.dbmap.specs.Pictures.{map_picture}
+use Rattle.dbpicture.specs.Pictures.{map_picture}
 use Rattle.dbmap.specs.Maps.{IsMapOf, PutsMap}
 
 -- nothing was put of some bytes

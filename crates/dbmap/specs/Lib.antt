@@ -1,12 +1,2 @@
-pub mod Faults
-pub mod Grids
-pub mod Keeping
-pub mod Legends
 pub mod MapRuns
 pub mod Maps
-pub mod Marks
-pub mod Owners
-pub mod Pictures
-pub mod Runs
-pub mod Squares
-pub mod Tallies

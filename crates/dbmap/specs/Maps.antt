@@ -18,7 +18,7 @@ use Rattle.dbsource.specs.declared.error.RunError.TheVariants.{WriteFailed}
 use Rattle.dbsource.specs.declared.out.Out.{Ghosts as OutWords}
 use Rattle.dbsource.specs.declared.source.Source.{Ghosts as SourceWords}
 use Rattle.dbreport.specs.Runs.{IsAnswerOf}
-use Rattle.dbmap.specs.Pictures.{map_picture}
+use Rattle.dbpicture.specs.Pictures.{map_picture}
 
 -- what the bytes of an Out become, where they are known: at Ok a picture was put; at a failed write a beginning of it; at any other error nothing
 abbrev pub PutsMap : {A : Type 0} → Result A RunError → Option (List ℕ) → Option (List ℕ) → List ℕ → Type 0

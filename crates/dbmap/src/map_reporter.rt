@@ -1,15 +1,9 @@
 // The reporter of a map.
-ghost use Rattle.dbwalk.specs.Rows.{row_of};
-ghost use Rattle.dbmap.specs.MapRuns.{Adds, Notes};
-
-use crate::faults::Sign;
-use crate::kept::KeptFaults;
-use crate::maps::put_map;
-use dbentries::Reported;
 use dbformat::Verdict;
+use dbpicture::{KeptFaults, put_map};
 use dbscan::{Desk, Finish, Notice, Reporter};
 use dbsource::{Geometry, Out, RunError, Source, WriteFailed};
-use dbwalk::{Marks, Row};
+use dbwalk::Marks;
 use std::alloc::Allocator;
 
 // Counts faults, notes the pages that they are found at, and lists those that lead; and notes the starts of pages. When the file has
@@ -19,27 +13,6 @@ pub(crate) struct MapReporter<'n, 'k, 'o, A: Allocator, O> {
     pub(crate) name: &'n str,
     pub(crate) kept: &'k mut KeptFaults<A>,
     pub(crate) out: &'o mut O,
-    pub(crate) faults: u64,
-}
-
-impl<A: Allocator, O: Out> MapReporter<'_, '_, '_, A, O> {
-    // Counts a fault, notes its page, and lists it.
-    fn note(&mut self, told: &Reported)
-        ensures { Adds told.now self.old self.new }
-    {
-        self.faults = self.faults.saturating_add(1);
-        let fault = &told.fault;
-        self.kept.notes.note(fault.page, Sign::Code(fault.code));
-        self.kept.notes.note(fault.page, Sign::Faulty);
-        self.kept.listing.hear(told);
-    }
-
-    // Notes the start of the page of a row.
-    fn note_row(&mut self, row: &Row<'_>)
-        ensures { Notes (row_of row.now) self.old self.new }
-    {
-        self.kept.trees.note(row);
-    }
 }
 
 impl<A: Allocator, O: Out> Reporter for MapReporter<'_, '_, '_, A, O> {
@@ -54,8 +27,8 @@ impl<A: Allocator, O: Out> Reporter for MapReporter<'_, '_, '_, A, O> {
 
     fn hear(&mut self, notice: &Notice<'_>) -> Result<(), WriteFailed> {
         match notice {
-            Notice::Fault(told) => self.note(told),
-            Notice::Row(_, row) => self.note_row(row),
+            Notice::Fault(told) => self.kept.note(told),
+            Notice::Row(_, row) => self.kept.note_row(row),
             Notice::Ended(_) => {}
         }
         Ok(())
@@ -81,7 +54,8 @@ impl<A: Allocator, O: Out> Finish<Desk<A>> for MapReporter<'_, '_, '_, A, O> {
         source: &mut S,
     ) -> Result<Verdict, RunError> {
         self.kept.listing.look_at_lost(desk, source)?;
-        put_map(self.name, desk, self.kept, self.faults, self.out)?;
-        Ok(Verdict::of(self.faults))
+        let verdict = Verdict::of(self.kept.faults);
+        put_map(self.name, desk, self.kept, self.out)?;
+        Ok(verdict)
     }
 }

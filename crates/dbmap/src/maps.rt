@@ -1,99 +1,15 @@
 // A map: from the bytes of a database to its picture.
-ghost use Rattle.std.specs.Prelude.{◌≡◌};
 ghost use Rattle.dbscan.specs.DeskSizes.{DeskFitsInMemory};
 ghost use Rattle.dbreport.specs.Runs.{FailsOnce, IsUntouched};
-ghost use Rattle.dblines.specs.Writing.{PutsOf};
-ghost use Rattle.dbmap.specs.Keeping.{HasAll};
-ghost use Rattle.dbmap.specs.Pictures.{map_picture, stated_of};
 ghost use Rattle.dbmap.specs.Maps.{HasMap, ToldFilesAreDrawn};
 
-use crate::fault_notes::FaultNotes;
-use crate::grid::Grid;
-use crate::kept::{ENTRIES, KeptFaults};
-use crate::labels::Labels;
-use crate::legend::Legend;
-use crate::listed::{note_listed, note_zeros};
 use crate::map_reporter::MapReporter;
-use crate::picture::{Heading, draw_picture};
-use crate::squares::Squares;
-use crate::tally::PageTally;
-use dbentries::Listing;
 use dbformat::Verdict;
-use dblines::Writer;
-use dbowner::{PageTrees, TreeNames};
+use dbpicture::KeptFaults;
 use dbreport::{Job, run_job};
 use dbscan::{Desk, run_over};
-use dbsource::{Geometry, Header, Out, RunError, Source, WriteFailed};
-use dbxml::shown_file;
+use dbsource::{Geometry, Out, RunError, Source};
 use std::alloc::{AllocError, Allocator, Global};
-
-// The number of pages that the header states, where it counts.
-fn stated_pages(header: &Header) -> u32
-    ensures { result ≡ stated_of header.now.bytes }
-{
-    if header.is_size_valid() {
-        header.stated_pages()
-    } else {
-        0
-    }
-}
-
-/// Puts the picture of a file whose pages have been visited, and in which this number of faults was found.
-///
-/// # Errors
-///
-/// [`WriteFailed`] where the Out failed: it took a beginning of the picture.
-pub(crate) fn put_map<A: Allocator, O: Out>(
-    name: &str,
-    desk: &Desk<A>,
-    kept: &mut KeptFaults<A>,
-    faults: u64,
-    out: &mut O,
-) -> Result<(), WriteFailed>
-    ensures { PutsOf result (O.held out.old) (O.held out.new) (HasAll desk.now kept.old faults) (λ file V. map_picture file V name.now) }
-{
-    let geometry = desk.geometry();
-    let header = desk.header();
-    let marks = desk.marks();
-    let roots = desk.roots();
-    note_listed(&mut kept.notes, kept.listing.listed());
-    note_zeros(&mut kept.notes, &kept.listing, geometry.pages);
-    kept.tally.count(marks, &kept.trees);
-    let largest = kept.tally.largest(roots.len() + 1);
-    let names = TreeNames {
-        encoding: header.encoding(),
-        roots,
-    };
-    let grid = Grid::new(geometry.pages, stated_pages(header));
-    let labels = Labels::new(&names, largest.as_slice());
-    let (strong, weak) = kept.notes.framed();
-    let legend = Legend::new(
-        &kept.tally,
-        largest.as_slice(),
-        roots,
-        strong,
-        weak,
-        grid.missing(),
-    );
-    let heading = Heading {
-        file: shown_file(name),
-        geometry,
-        faults,
-    };
-    let squares = Squares {
-        header,
-        marks,
-        trees: &kept.trees,
-        names,
-        notes: &kept.notes,
-        largest,
-        grid,
-        labels,
-    };
-    let mut writer = Writer::new(out);
-    draw_picture(&mut writer, &heading, &squares, &legend);
-    writer.end()
-}
 
 // The job of `map`: the name of the file, and the Out that its picture goes to.
 #[derive(Drop)]
@@ -115,16 +31,7 @@ impl<A: Allocator + Copy, O: Out> Job<A, Desk<A>> for MapJob<'_, O> {
     ghost ends = { EndsOne O.held out_of FailsAtWrite };
 
     fn keep(&self, alloc: A, geometry: &Geometry) -> Result<KeptFaults<A>, AllocError> {
-        let trees = PageTrees::new_in(alloc, geometry)?;
-        let tally = PageTally::new_in(alloc)?;
-        let notes = FaultNotes::new_in(alloc, geometry.pages)?;
-        let listing = Listing::new_in(alloc, ENTRIES, geometry.pages)?;
-        Ok(KeptFaults {
-            trees,
-            tally,
-            notes,
-            listing,
-        })
+        KeptFaults::new_in(alloc, geometry)
     }
 
     fn run_on<S: Source>(
@@ -137,7 +44,6 @@ impl<A: Allocator + Copy, O: Out> Job<A, Desk<A>> for MapJob<'_, O> {
             name: self.name,
             kept,
             out: self.out,
-            faults: 0,
         };
         run_over(desk, source, &mut reporter)
     }

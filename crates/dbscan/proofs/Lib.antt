@@ -1,5 +1,5 @@
-pub mod AllTold
 pub mod AfterHeader
+pub mod AllTold
 pub mod CountedMarks
 pub mod DeskWalks
 pub mod EndItems
@@ -11,6 +11,8 @@ pub mod HeardRows
 pub mod Keeping
 pub mod MapLogs
 pub mod MapPlaces
+pub mod Owned
+pub mod PageMarks
 pub mod PlacedFaults
 pub mod Reached
 pub mod RootLists
@@ -21,6 +23,7 @@ pub mod Scanned
 pub mod SchemaTold
 pub mod SchemaWalks
 pub mod ShortNames
+pub mod Slots
 pub mod StartByStart
 pub mod StartTables
 pub mod Starts
@@ -29,3 +32,4 @@ pub mod Tellers
 pub mod ToldFaults
 pub mod ToldStarts
 pub mod TreeWalks
+pub mod Trees

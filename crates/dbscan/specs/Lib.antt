@@ -8,6 +8,7 @@ pub mod Kept
 pub mod Looks
 pub mod MapReads
 pub mod Notices
+pub mod Owners
 pub mod Placed
 pub mod Roots
 pub mod Scans
@@ -15,4 +16,6 @@ pub mod StartTable
 pub mod Starts
 pub mod Tellers
 pub mod Telling
+pub mod Texts
+pub mod Trees
 pub mod Walks

@@ -7,6 +7,12 @@
 //! which [`Start`] it is, and where each tree ends. [`tell_end`] reports what is left when all pages have been visited: by the marks,
 //! the header and the pages of the pointer map.
 //!
+//! Who owns a page, and what the page is, is said by the marks and the list of roots, without a page read anew. [`PageTrees`] keeps four
+//! bytes a page: of a page of a tree or a chain the start that its row was heard with; the marks say the rest. specs/Owners says it by the
+//! survey of a file, of which nothing but the visits is used: the start that a page belongs to ([`PageTrees::start_of`]), what it is there
+//! ([`place_of`]), and that the tree of a root page owns it ([`visited_pages_are_owned`]). specs/Texts has the texts of trees and pages:
+//! [`TreeNames`] puts that of a tree, and [`place_front`], [`place_words`] and [`place_from`] give what a page is in its tree.
+//!
 //! specs/Notices says what a reporter hears, specs/Desks what a desk holds, and specs/Walks how far a walk over the starts has
 //! come.
 #![tactic(auto)]
@@ -21,6 +27,10 @@ mod looks;
 mod map_entry;
 mod no_rows;
 mod notice;
+mod owner;
+mod page_trees;
+mod place;
+mod place_texts;
 mod placed;
 mod reporter;
 mod roots;
@@ -29,15 +39,20 @@ mod start;
 mod start_table;
 mod tell;
 mod teller;
+mod tree_names;
 mod walks;
 
-pub use dbformat::{Fault, Geometry, Look, Verdict};
-pub use dbsource::{Bench, Header, ReadFailed, RunError, Source, WriteFailed};
-pub use dbwalk::{Cause, Marks, PageKind, PageType, Row, RowKind, SchemaRow, Taken, Taker};
+pub use dbformat::{Encoding, Fault, Fixed, Geometry, Look, Verdict};
+pub use dbsource::{Bench, Header, Out, ReadFailed, RunError, Source, WriteFailed};
+pub use dbwalk::{Cause, Mark, Marks, PageKind, PageType, Row, RowKind, SchemaRow, Taken, Taker};
 pub use desk::Desk;
 pub use end_pass::tell_end;
 pub use finish::{Finish, Viewed, run_over};
 pub use notice::Notice;
+pub use owner::visited_pages_are_owned;
+pub use page_trees::PageTrees;
+pub use place::{Place, mark_of, place_of};
+pub use place_texts::{place_from, place_front, place_tree, place_words};
 pub use placed::{faults_are_of_reached_pages, faults_are_told_with_their_causes};
 pub use reporter::Reporter;
 pub use roots::RootList;
@@ -45,4 +60,5 @@ pub use scans::scan;
 pub use start::Start;
 pub use start_table::StartTable;
 pub use tell::tell_header;
+pub use tree_names::TreeNames;
 pub use walks::walk_starts;

@@ -5,7 +5,7 @@ use Rattle.std.proofs.lemmas.Bool.{and_from}
 use Rattle.dbformat.specs.File.{geometry}
 use Rattle.dbformat.specs.FixedPages.{is_page}
 use Rattle.dblines.proofs.Writing.{wrote_nothing}
-use Rattle.dbowner.specs.Texts.{tree_of_row, tree_text}
+use Rattle.dbscan.specs.Texts.{tree_of_row, tree_text}
 use Rattle.dbexplain.specs.Below.{page_place_line}
 use Rattle.dbexplain.proofs.Below.{known_trees}
 use Rattle.dbexplain.proofs.PagePieces.{page_pieces}

@@ -1,9 +1,0 @@
-use Rattle.std.proofs.Common.{◌≡◌, length}
-use Rattle.dbmap.specs.Runs.{given}
-use Rattle.dbmap.proofs.bands.Bands.divide.Given as goal
-
-abbrev pub invariant-loop : goal.invariant-loop
-invariant-loop l = record {
-  given : l.bands.heights ≡ given l.shares l.all l.counter;
-  many : length l.bands.heights ≡ 16;
-}

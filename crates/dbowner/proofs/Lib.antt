@@ -1,4 +1,0 @@
-pub mod Owned
-pub mod PageMarks
-pub mod Slots
-pub mod Trees

@@ -1,5 +1,0 @@
-use Rattle.dbowner.proofs.Owned.{are_owned}
-use Rattle.dbowner.proofs.owner.visited_pages_are_owned.Goals as goal
-
-pub returns : goal.returns
-returns c = λ file. are_owned file

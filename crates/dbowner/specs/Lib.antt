@@ -1,3 +1,0 @@
-pub mod Owners
-pub mod Texts
-pub mod Trees

@@ -1,0 +1,9 @@
+pub mod Escaping
+pub mod FaultBits
+pub mod FirstMost
+pub mod KeptTexts
+pub mod Pictured
+pub mod Runs
+pub mod Steps
+pub mod Texts
+pub mod Waiting

@@ -1,0 +1,97 @@
+use Rattle.std.proofs.Common.{rules, ◌≡◌, ℕ, ◌+◌, ◌-◌, ◌&&◌, not, List, ◌++◌, length, count_by, map, take, ap, ap₂, subst, ◌∙◌}
+use Rattle.std.specs.Prelude.{filter, flat_map}
+use Rattle.std.specs.List.{range_with_len}
+use Rattle.dbformat.specs.File.{geometry}
+use Rattle.dbformat.specs.FixedPages.{geometry_of}
+use Rattle.dbformat.specs.Header.{encoding}
+use Rattle.dbformat.specs.Report.{faults}
+use Rattle.dbformat.specs.SchemaRow.{SchemaRow}
+use Rattle.dbformat.specs.Starts.{start_at}
+use Rattle.dbformat.specs.declared.Geometry.{Geometry}
+use Rattle.dbtrace.specs.declared.Reported.{Reported}
+use Rattle.dbentries.specs.Bits.{has_bit}
+use Rattle.dbentries.specs.Listed.{listed_entries}
+use Rattle.dbscan.proofs.PageMarks.{place_is}
+use Rattle.dbscan.specs.Roots.{Listed, listed_rows}
+use Rattle.dbsource.specs.HeaderBytes.{HeaderBytes}
+use Rattle.dbscan.specs.Texts.{tree_of_row}
+use Rattle.dbpicture.specs.Names.{short_text}
+use Rattle.dbpicture.specs.Keeping.{AreNoted, marked_place, shown_tree}
+use Rattle.dbpicture.specs.Faults.{fault_signs, first_faults, frame_signs, is_weak, leading, page_shows, signs_of, zero_signs}
+use Rattle.dbpicture.specs.declared.faults.Sign.{Sign}
+use Rattle.dbpicture.specs.declared.faults.Sign.TheVariants.{Faulty, Framed}
+use Rattle.dbpicture.specs.Grids.{grid_of}
+use Rattle.dbpicture.specs.Legends.{legend_lines}
+use Rattle.dbpicture.specs.Pictures.{map_picture, picture_text, stated_of}
+use Rattle.dbpicture.specs.Tallies.{largest_of, largest_trees, pages_at, PagesTallied, tally_of}
+use Rattle.dbpicture.specs.declared.grid.Grid.{Grid}
+use Rattle.dblines.proofs.Writing.{put_written}
+use Rattle.dbpicture.proofs.Pictured.{known_trees, leading_kept, same_count}
+use Rattle.dbpicture.proofs.drawing.put_map.Goals as goal
+
+pub returns : goal.returns
+unfolding map_picture
+returns g c =
+    let drawn = c.draw_picture.ensures.wrote in
+    let same = drawn.same_out in
+    let k : c.out-1.given.0 ≡ c.draw_picture.new.writer.out.now = search (rules, same) in
+    record {
+      all = c.draw_picture.ensures.all;
+      is = λ file V known.
+          let desk = known.desk in
+          let has = known.kept in
+          let leads = ap leading (c.listed.ensures ∙ has.listing.listed) ∙ leading_kept (take 100 (listed_entries file V)) in
+          let notes = c.note_zeros.new.notes in
+          let strong_noted = subst (λ (xs : List Reported). AreNoted (geometry file).pages (flat_map fault_signs (faults file V) ++ flat_map frame_signs xs)
+          c.note_listed.new.notes) leads (c.note_listed.ensures (geometry file).pages _ has.notes) in
+          let shape = c.geometry-geometry.ensures.shape ∙ desk.header.shape in
+          let here : c.geometry-geometry.result.pages ≡ (geometry file).pages = ap (λ (s : Geometry). s.pages) shape in
+          let zeros = ap (λ n. filter (has_bit c.args.kept.now.listing.zeros) (range_with_len 1 n)) here ∙ has.zeros in
+          let noted : AreNoted (geometry file).pages (signs_of file V) notes =
+          subst (λ (l : List (ℕ × Sign)). AreNoted (geometry file).pages l notes)
+          (ap (λ ps. (flat_map fault_signs (faults file V) ++ flat_map frame_signs (first_faults (take 100 (listed_entries file V)))) ++ zero_signs ps) zeros)
+          (c.note_zeros.ensures (geometry file).pages _ strong_noted) in
+          let marks = c.marks-marks.ensures ∙ desk.marks in
+          let tally = c.count.ensures file V (record { survey = desk.survey; marks = marks; trees = has.trees }) in
+          let kept : List SchemaRow = c.roots-roots.result.now.rows in
+          let rows : kept ≡ listed_rows file V = ap (λ (l : Listed). l.rows) c.roots-roots.ensures ∙ desk.rows in
+          let largest : c.largest-largest.result.items ≡ largest_of file V = c.largest-largest.ensures
+          ∙ ap₂ (λ (t : PagesTallied) n. largest_trees (pages_at t.starts) n 12) tally
+          (ap (λ n. n + 1) c.len.ensures.count ∙ ap (λ (rows : List SchemaRow). length rows + 1) rows) in
+          let grid = c.new-grid.ensures ∙ ap₂ grid_of (ap (λ (s : Geometry). s.pages) shape)
+          (c.stated_pages.ensures ∙ ap (λ (h : HeaderBytes). stated_of h.bytes) c.header-header.ensures.value ∙ ap stated_of desk.header.begins) in
+          let shorten : (ℕ → List ℕ) → ℕ → List ℕ = λ names start. short_text (names start) in
+          let tree = ap shorten (ap₂ tree_of_row (c.encoding.ensures ∙ ap (λ (h : HeaderBytes). encoding h.bytes) c.header-header.ensures.value)
+          (ap (λ (l : Listed). l.rows) c.roots-roots.ensures) ∙ known_trees file V c.args.desk.now.header c.args.desk.now.roots.rows desk.header desk.rows) in
+          let names = c.new-labels.ensures ∙ ap (map (shown_tree c.encoding.result kept)) c.as_slice.ensures.value ∙ ap₂ map tree largest in
+          let fixed = ap (λ (h : HeaderBytes). geometry_of h.bytes h.file_len) c.header-header.ensures.value ∙ desk.header.shape in
+          let strong = c.framed-strong.ensures.strong ∙ ap (λ n. count_by (has_bit notes.framed) (range_with_len 1 n)) noted.pages
+          ∙ same_count (has_bit notes.framed) (page_shows file V Framed) (geometry file).pages noted.framed.are in
+          let weak = c.framed-strong.ensures.weak
+          ∙ ap (λ n. count_by (is_weak (has_bit notes.faulty) (has_bit notes.framed)) (range_with_len 1 n)) noted.pages
+          ∙ same_count (is_weak (has_bit notes.faulty) (has_bit notes.framed)) (is_weak (page_shows file V Faulty) (page_shows file V Framed))
+          (geometry file).pages (λ p l m. ap₂ (λ a b. a && not b) (noted.faulty.are p l m) (noted.framed.are p l m)) in
+          let lines = c.new-legend.ensures
+          ∙ ap₂ (λ (t : PagesTallied) ks. legend_lines kept t ks c.framed-strong.result.0 c.framed-strong.result.1 c.missing.result) tally
+          (c.as_slice-2.ensures.value ∙ largest)
+          ∙ ap (λ rows. legend_lines rows (tally_of file V) (largest_of file V) c.framed-strong.result.0 c.framed-strong.result.1 c.missing.result)
+          rows ∙ ap (legend_lines (listed_rows file V) (tally_of file V) (largest_of file V) c.framed-strong.result.0 c.framed-strong.result.1)
+          (c.missing.ensures ∙ ap (λ (g : Grid). g.stated - g.pages) grid)
+          ∙ ap₂ (λ s w. legend_lines (listed_rows file V) (tally_of file V) (largest_of file V) s w (stated_of (take 100 file) - (geometry file).pages))
+          strong weak in
+          c.draw_picture.ensures.is file V (record { survey = desk.survey; marks = marks; trees = has.trees })
+          ∙ (λ i. picture_text (record { file = c.shown_file.ensures i; geometry = shape i; faults = known.count i })
+          (record {
+            grid = grid i;
+            shape = fixed i;
+            place = λ p. (ap (λ m. marked_place m p) marks ∙ place_is file V desk.survey p) i;
+            start = start_at V;
+            largest = largest i;
+            names = names i;
+            tree = tree i;
+            faults = λ index. noted.squares index i;
+          })
+          (lines i));
+      puts = rw k (put_written c.end.result _ _ _ _ _ c.new-writer.ensures.fresh c.end.ensures
+          (rw (ap g.O.Out.held c.new-writer.ensures.out) at drawn.written));
+    }

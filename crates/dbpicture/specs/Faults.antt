@@ -1,0 +1,110 @@
+-- What is shown of faults: the codes of a square's pages, and the frames. The strong frame is of the pages of faults that lead, of those that
+-- their values name, and of their causes.
+use Rattle.std.specs.Prelude.{ℕ, ◌*◌, ◌%◌, ◌^◌, ℤ, pos, Bool, List, [], ◌∷◌, map, flat_map, nat_lt, if◌then◌else◌, not, ◌&&◌, ◌++◌, codes, take, ◌==◌}
+use Rattle.std.specs.Int.{bit_at}
+use Rattle.std.specs.Int.RustNames.{bit_or}
+use Rattle.std.specs.List.{list_any}
+use Rattle.dbformat.specs.declared.Fault.{Fault}
+use Rattle.dbformat.specs.declared.FaultCode.{FaultCode}
+use Rattle.dbformat.specs.declared.FaultCode.TheVariants.{M02, O01, R02, R03, T04}
+use Rattle.dbformat.specs.Codes.{all_codes, code_index}
+use Rattle.dbformat.specs.Lines.{code_text}
+use Rattle.dbformat.specs.Reference.{Reference}
+use Rattle.dbformat.specs.Report.{faults}
+use Rattle.dbtrace.specs.declared.Cause.{Cause}
+use Rattle.dbtrace.specs.declared.Cause.TheVariants as cause
+use Rattle.dbtrace.specs.declared.Reported.{Reported}
+use Rattle.dbentries.specs.Listing as listing
+use Rattle.dbentries.specs.Listed.{listed_entries}
+use Rattle.dbentries.specs.Zeros.{zero_pages}
+use Rattle.dbentries.specs.declared.entry.Entry.{Entry}
+use Rattle.dbpicture.specs.declared.faults.Sign.{Sign}
+use Rattle.dbpicture.specs.declared.faults.Sign.TheVariants.{Code, Faulty, Framed, Zeros}
+use Rattle.dbpicture.specs.declared.faults.SquareFaults.{SquareFaults}
+use Rattle.dbpicture.specs.declared.frame.Frame.{Frame}
+use Rattle.dbpicture.specs.declared.frame.Frame.TheVariants as frame
+
+-- the page that a value is the number of: one of 32 bits, and 0 is none
+abbrev pub page_of_value : ℤ → ℕ
+page_of_value (pos n) = if nat_lt n 4294967296 then n else 0
+page_of_value _ = 0
+
+-- the page that the value of a fault with this code names, or 0
+abbrev pub value_page : FaultCode → ℤ → ℕ
+value_page R02 value = page_of_value value
+value_page R03 value = page_of_value value
+value_page T04 value = page_of_value value
+value_page O01 value = page_of_value value
+value_page M02 value = page_of_value value
+value_page _ value = 0
+
+-- the page of a cause, or 0: that of the key, of the first leaf, or of the cell that has the chain
+abbrev pub cause_page : Cause → ℕ
+cause_page (cause.Key k) = k.page
+cause_page (cause.Leaf page) = page
+cause_page (cause.Chain c) = c.page
+cause_page _ = 0
+
+-- the faults that lead some entries, and the same of what is kept of entries
+abbrev pub first_faults : List listing.Entry → List Reported
+first_faults es = map (λ (e : listing.Entry). e.first) es
+
+abbrev pub leading : List Entry → List Reported
+leading es = map (λ (e : Entry). e.first) es
+
+-- the bit of a sign: those below 61 are of codes
+abbrev pub sign_bit : Sign → ℕ
+sign_bit (Code code) = code_index code
+sign_bit Zeros = 61
+sign_bit Faulty = 62
+sign_bit Framed = 63
+
+-- the signs of the page of a fault
+abbrev pub fault_signs : Fault → List (ℕ × Sign)
+fault_signs f = (f.page, Code f.code) ∷ (f.page, Faulty) ∷ []
+
+-- and those of a fault that leads: its own page, the one that its value names, and that of its cause have the strong frame
+abbrev pub frame_signs : Reported → List (ℕ × Sign)
+frame_signs x = (x.fault.page, Framed) ∷ (value_page x.fault.code x.fault.value, Framed) ∷ (cause_page x.cause, Framed) ∷ []
+
+-- and those of pages that are zeros
+abbrev pub zero_signs : List ℕ → List (ℕ × Sign)
+zero_signs pages = map (λ p. (p, Zeros)) pages
+
+-- whether one of some pages has a sign, of all signs, each with its page
+abbrev pub shows : List (ℕ × Sign) → (ℕ → Bool) → Sign → Bool
+shows signs is_of sign = list_any (λ s. is_of s.0 && (sign_bit s.1 == sign_bit sign)) signs
+
+-- the same of a word with a bit for each sign, and this word with one sign more
+abbrev pub shown : ℕ → Sign → Bool
+shown bits sign = bit_at bits (sign_bit sign) == 1
+
+abbrev pub sign_added : Sign → SquareFaults → SquareFaults
+sign_added sign faults = record { bits = bit_or faults.bits (1 * 2 ^ sign_bit sign % 2 ^ 64) }
+
+-- a code, where a square shows it, after a space
+abbrev pub code_if : (Sign → Bool) → FaultCode → List ℕ
+code_if has code = if has (Code code) then codes " " ++ code_text code else []
+
+-- what the title of a square says of faults
+abbrev pub faults_text : (Sign → Bool) → List ℕ
+faults_text has = if has Faulty then codes ", with" ++ flat_map (code_if has) all_codes else []
+
+-- the frame of a square
+abbrev pub frame_of : (Sign → Bool) → Frame
+frame_of has = if has Framed then frame.Strong else (if has Faulty then frame.Weak else frame.None)
+
+-- ---- the faults of a file with survey V
+
+-- the signs of the pages: of all faults, of those that lead the first 100 entries, which `explain` lists where no other number is given, and of zeros
+abbrev pub signs_of : List ℕ → List Reference → List (ℕ × Sign)
+signs_of file V = flat_map fault_signs (faults file V) ++ flat_map frame_signs (first_faults (take 100 (listed_entries file V)))
+    ++ zero_signs (zero_pages file V)
+
+-- whether page p has a sign
+abbrev pub page_shows : List ℕ → List Reference → Sign → ℕ → Bool
+page_shows file V sign p = shows (signs_of file V) (λ q. q == p) sign
+
+-- whether a page has the weak frame, by whether it has a fault, and whether it has the strong one
+abbrev pub is_weak : (ℕ → Bool) → (ℕ → Bool) → ℕ → Bool
+is_weak faulty strong p = faulty p && not (strong p)

@@ -1,0 +1,15 @@
+pub mod Faults
+pub mod Grids
+pub mod Keeping
+pub mod Legends
+pub mod Marks
+pub mod Names
+pub mod Owners
+pub mod Pictures
+pub mod Pieces
+pub mod Puts
+pub mod Runs
+pub mod Squares
+pub mod Tallies
+pub mod Widths
+pub mod Xml

@@ -1,0 +1,110 @@
+-- The picture of a file.
+use Rattle.std.specs.Prelude.{ℕ, ◌+◌, ◌/◌, ◌%◌, ◌||◌, nat_lt, List, [], ◌∷◌, ◌++◌, codes, decimal, ◌==◌, if◌then◌else◌, ◌-◌, length, map, take, count_by}
+use Rattle.std.specs.List.{concat, flat_map, range_with_len}
+use Rattle.dbformat.specs.declared.Geometry.{Geometry}
+use Rattle.dbpicture.specs.Pieces.{shown_text, tenths_text}
+use Rattle.dbpicture.specs.Marks.{other_colours, overflow_colours, tree_colours}
+use Rattle.dbpicture.specs.Grids.{grid_of, is_of_square, page_of_row, rows, side_of, top_of}
+use Rattle.dbpicture.specs.Legends.{height, legend_lines, legend_text, size_tenths, size_unit}
+use Rattle.dbpicture.specs.Squares.{Drawn, rows_text}
+use Rattle.dbpicture.specs.declared.grid.Grid.{Grid}
+use Rattle.dbpicture.specs.declared.legend.LegendLine.{LegendLine}
+use Rattle.dbpicture.specs.declared.picture.Heading.{Heading}
+use Rattle.dbformat.specs.File.{geometry}
+use Rattle.dbformat.specs.Header.{is_size_valid, stated_pages}
+use Rattle.dbformat.specs.Lines.{counted}
+use Rattle.dbformat.specs.Reference.{Reference}
+use Rattle.dbformat.specs.Report.{faults}
+use Rattle.dbformat.specs.Starts.{start_at}
+use Rattle.dbscan.specs.Owners.{place_of}
+use Rattle.dbscan.specs.Texts.{tree_text}
+use Rattle.dbscan.specs.Roots.{listed_rows}
+use Rattle.dbpicture.specs.Names.{short_text, shown_file}
+use Rattle.dbpicture.specs.Faults.{is_weak, page_shows, shows, signs_of}
+use Rattle.dbpicture.specs.declared.faults.Sign.TheVariants.{Faulty, Framed}
+use Rattle.dbpicture.specs.Tallies.{largest_of, tally_of}
+
+-- what begins the picture: its size, its accessible name, the hatching, and a white background
+unfoldable pub head_text : List ℕ → ℕ → List ℕ
+head_text file height =
+    concat (codes "<svg xmlns=\"http://www.w3.org/2000/svg\" width=\"" ∷ decimal 988 ∷ codes "\" height=\"" ∷ decimal height
+    ∷ codes "\" viewBox=\"0 0 " ∷ decimal 988 ∷ codes " " ∷ decimal height
+    ∷ codes "\" font-family=\"sans-serif\" font-size=\"12\" role=\"img\" aria-label=\"Pages of " ∷ [])
+    ++ (shown_text file 72 ++ (codes "\">\n<title>Pages of " ++ (shown_text file 72
+    ++ concat (codes "</title>\n<style>" ∷ tree_colours ∷ overflow_colours ∷ other_colours
+    ∷ codes "</style>\n<defs><pattern id=\"unowned\" width=\"4\" height=\"4\" patternUnits=\"userSpaceOnUse\" patternTransform=\"rotate(45)\"><rect width=\"4\" height=\"4\" fill=\"#FFFFFF\"/><rect width=\"2\" height=\"4\" fill=\"#444444\"/></pattern></defs>\n"
+    ∷ codes "<rect width=\"100%\" height=\"100%\" fill=\"#FFFFFF\"/>\n" ∷ []))))
+
+-- how many faults there are
+abbrev pub fault_count_text : ℕ → List ℕ
+fault_count_text faults =
+    if faults == 0 then codes "no fault" else (if faults == 1 then codes "1 fault" else decimal faults ++ codes " faults")
+
+-- what comes after the number of pages
+abbrev pub pages_word : ℕ → List ℕ
+pages_word pages = if pages == 1 then codes " page of " else codes " pages of "
+
+-- how many pages there are, and of which size
+abbrev pub size_text : Geometry → List ℕ
+size_text g =
+    concat (decimal g.pages ∷ pages_word g.pages ∷ decimal g.page_size ∷ codes " bytes (" ∷ tenths_text (size_tenths g.pages g.page_size)
+    ∷ size_unit g.pages g.page_size ∷ codes "), " ∷ [])
+
+-- how many pages a square covers
+abbrev pub unit_text : ℕ → List ℕ
+unit_text run =
+    if run == 1 then codes "; a square is a page, in the order of the file</text>\n"
+    else concat (codes "; a square is " ∷ decimal run ∷ codes " pages, in the order of the file</text>\n" ∷ [])
+
+-- the two lines above the squares
+unfoldable pub heading_text : Heading → ℕ → List ℕ
+heading_text h run =
+    codes "<text x=\"20\" y=\"26\" font-size=\"16\" font-weight=\"bold\">" ++ (shown_text h.file 72
+    ++ (codes "</text>\n<text x=\"20\" y=\"46\" fill=\"#444444\">" ++ (size_text h.geometry ++ (fault_count_text h.faults ++ unit_text run))))
+
+-- the first page of a row before it; where rows are narrow, before each second one
+abbrev pub row_label_text : Grid → ℕ → List ℕ
+row_label_text g row =
+    if nat_lt 10 (side_of g.width) || (row % 2 == 0)
+    then concat (codes "<text x=\"64\" y=\"" ∷ decimal (top_of g row + (side_of g.width / 2 + 3)) ∷ codes "\">" ∷ decimal (page_of_row g row)
+    ∷ codes "</text>\n" ∷ [])
+    else []
+
+unfoldable pub row_names : Grid → List ℕ
+row_names g = codes "<g font-size=\"10\" fill=\"#666666\" text-anchor=\"end\">\n" ++ (flat_map (row_label_text g) (range_with_len 0 (rows g)) ++ codes "</g>\n")
+
+-- the picture, by what is said above the squares, what these are drawn by, and the lines of the legend
+unfoldable pub picture_text : Heading → Drawn → List LegendLine → List ℕ
+picture_text h g lines =
+    head_text h.file (top_of g.grid (rows g.grid) + height lines)
+    ++ (heading_text h g.grid.run ++ (row_names g.grid ++ (rows_text g
+    ++ (legend_text lines g.names h.geometry (top_of g.grid (rows g.grid)) ++ codes "</svg>\n"))))
+
+-- the number of pages that a header states, where it counts
+abbrev pub stated_of : List ℕ → ℕ
+stated_of header = if is_size_valid header then stated_pages header else 0
+
+-- what the squares are drawn by: a page is what its visit says, and belongs to the start of it
+abbrev pub drawn_of : List ℕ → List Reference → Drawn
+drawn_of file V = record {
+  grid = grid_of (geometry file).pages (stated_of (take 100 file));
+  shape = geometry file;
+  place = place_of file V;
+  start = start_at V;
+  largest = largest_of file V;
+  names = map (λ start. short_text (tree_text file V start)) (largest_of file V);
+  tree = λ start. short_text (tree_text file V start);
+  faults = λ index. shows (signs_of file V) (is_of_square (geometry file).pages index);
+}
+
+-- the lines of the legend
+abbrev pub legend_of : List ℕ → List Reference → List LegendLine
+legend_of file V = legend_lines (listed_rows file V) (tally_of file V) (largest_of file V)
+    (count_by (page_shows file V Framed) (range_with_len 1 (geometry file).pages))
+    (count_by (is_weak (page_shows file V Faulty) (page_shows file V Framed)) (range_with_len 1 (geometry file).pages))
+    (stated_of (take 100 file) - (geometry file).pages)
+
+-- The picture of a file with survey V, under a name. Above the squares are this name, the file's sizes, and how many faults it has.
+unfoldable pub map_picture : List ℕ → List Reference → List ℕ → List ℕ
+map_picture file V name = picture_text (record { file = shown_file name; geometry = geometry file; faults = counted (length (faults file V)) })
+    (drawn_of file V) (legend_of file V)

@@ -1,0 +1,85 @@
+// The picture of a file, once all is known of it.
+ghost use Rattle.std.specs.Prelude.{◌≡◌};
+ghost use Rattle.dblines.specs.Writing.{PutsOf};
+ghost use Rattle.dbpicture.specs.Keeping.{HasAll};
+ghost use Rattle.dbpicture.specs.Pictures.{map_picture, stated_of};
+
+use crate::grid::Grid;
+use crate::kept::KeptFaults;
+use crate::labels::Labels;
+use crate::legend::Legend;
+use crate::listed::{note_listed, note_zeros};
+use crate::picture::{Heading, draw_picture};
+use crate::shown::shown_file;
+use crate::squares::Squares;
+use dblines::Writer;
+use dbscan::{Desk, TreeNames};
+use dbsource::{Header, Out, WriteFailed};
+use std::alloc::Allocator;
+
+// The number of pages that the header states, where it counts.
+fn stated_pages(header: &Header) -> u32
+    ensures { result ≡ stated_of header.now.bytes }
+{
+    if header.is_size_valid() {
+        header.stated_pages()
+    } else {
+        0
+    }
+}
+
+/// Puts the picture of a file whose pages have been visited, and whose faults were noted.
+///
+/// # Errors
+///
+/// [`WriteFailed`] where the Out failed: it took a beginning of the picture.
+pub fn put_map<A: Allocator, O: Out>(
+    name: &str,
+    desk: &Desk<A>,
+    kept: &mut KeptFaults<A>,
+    out: &mut O,
+) -> Result<(), WriteFailed>
+    ensures { PutsOf result (O.held out.old) (O.held out.new) (HasAll desk.now kept.old) (λ file V. map_picture file V name.now) }
+{
+    let geometry = desk.geometry();
+    let header = desk.header();
+    let marks = desk.marks();
+    let roots = desk.roots();
+    note_listed(&mut kept.notes, kept.listing.listed());
+    note_zeros(&mut kept.notes, &kept.listing, geometry.pages);
+    kept.tally.count(marks, &kept.trees);
+    let largest = kept.tally.largest(roots.len() + 1);
+    let names = TreeNames {
+        encoding: header.encoding(),
+        roots,
+    };
+    let grid = Grid::new(geometry.pages, stated_pages(header));
+    let labels = Labels::new(&names, largest.as_slice());
+    let (strong, weak) = kept.notes.framed();
+    let legend = Legend::new(
+        &kept.tally,
+        largest.as_slice(),
+        roots,
+        strong,
+        weak,
+        grid.missing(),
+    );
+    let heading = Heading {
+        file: shown_file(name),
+        geometry,
+        faults: kept.faults,
+    };
+    let squares = Squares {
+        header,
+        marks,
+        trees: &kept.trees,
+        names,
+        notes: &kept.notes,
+        largest,
+        grid,
+        labels,
+    };
+    let mut writer = Writer::new(out);
+    draw_picture(&mut writer, &heading, &squares, &legend);
+    writer.end()
+}

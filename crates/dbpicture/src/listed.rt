@@ -1,0 +1,80 @@
+// The pages of the entries that are listed, and of their causes, and the pages that are zeros.
+ghost use Rattle.std.specs.Prelude.{◌≡◌, ℕ, ◌++◌, List, filter, flat_map};
+ghost use Rattle.std.specs.List.{range_with_len};
+ghost use Rattle.dbentries.specs.Bits.{has_bit};
+ghost use Rattle.dbpicture.specs.declared.faults.Sign.{Sign};
+ghost use Rattle.dbpicture.specs.Faults.{cause_page, frame_signs, leading, page_of_value, value_page, zero_signs};
+ghost use Rattle.dbpicture.specs.Keeping.{AreNoted};
+
+use crate::fault_notes::FaultNotes;
+use crate::faults::Sign;
+use dbentries::{Cause, Entry, Listing, Reported};
+use dbformat::{Fault, FaultCode};
+use std::alloc::Allocator;
+
+// The page that a value is the number of, or 0.
+fn page_of_value(value: i64) -> u32
+    ensures { result ≡ page_of_value value }
+{
+    if value >= 0 && value <= i64::from(u32::MAX) {
+        value as u32
+    } else {
+        0
+    }
+}
+
+// The page that the value of a fault names, or 0.
+fn value_page(fault: &Fault) -> u32
+    ensures { result ≡ value_page fault.now.code fault.now.value }
+{
+    match fault.code {
+        FaultCode::R02 | FaultCode::R03 | FaultCode::T04 | FaultCode::O01 | FaultCode::M02 => {
+            page_of_value(fault.value)
+        }
+        _ => 0,
+    }
+}
+
+// The page of a cause, or 0 where it is that of the fault.
+fn cause_page(cause: Cause) -> u32
+    ensures { result ≡ cause_page cause }
+{
+    match cause {
+        Cause::Key(key) => key.page,
+        Cause::Leaf(page) => page,
+        Cause::Chain(chain) => chain.page,
+        Cause::Itself | Cause::Page(_, _) | Cause::Look(_, _) => 0,
+    }
+}
+
+// Notes the strong frame of the pages of a fault that leads: its own, the one that its value names, and that of its cause.
+fn note_pages<A: Allocator>(notes: &mut FaultNotes<A>, first: &Reported)
+    ensures { (count : ℕ) (signs : List (ℕ × Sign)) → AreNoted count signs notes.old → AreNoted count (signs ++ frame_signs first.now) notes.new }
+{
+    let fault = &first.fault;
+    notes.note(fault.page, Sign::Framed);
+    notes.note(value_page(fault), Sign::Framed);
+    notes.note(cause_page(first.cause), Sign::Framed);
+}
+
+/// Notes those of the first `pages` that are zeros.
+pub(crate) fn note_zeros<A: Allocator>(notes: &mut FaultNotes<A>, listing: &Listing<A>, pages: u32)
+    ensures { (count : ℕ) (signs : List (ℕ × Sign)) → AreNoted count signs notes.old
+        → AreNoted count (signs ++ zero_signs (filter (has_bit listing.now.zeros) (range_with_len 1 pages))) notes.new }
+{
+    for index in 0..pages {
+        if listing.is_zeros(index + 1) {
+            notes.note(index + 1, Sign::Zeros);
+        }
+    }
+}
+
+/// Notes the pages of the faults that lead some entries.
+pub(crate) fn note_listed<A: Allocator>(notes: &mut FaultNotes<A>, listed: &[Entry])
+    ensures { (count : ℕ) (signs : List (ℕ × Sign)) → AreNoted count signs notes.old
+        → AreNoted count (signs ++ flat_map frame_signs (leading listed.now)) notes.new }
+{
+    for entry in listed {
+        note_pages(notes, &entry.first);
+    }
+}

@@ -1,0 +1,155 @@
+// The squares of the picture, row by row.
+ghost use Rattle.std.specs.Prelude.{◌≡◌, ◌+◌, ◌-◌, ◌<◌, ℕ, List};
+ghost use Rattle.dbformat.specs.Reference.{Reference};
+ghost use Rattle.dbformat.specs.Starts.{start_at};
+ghost use Rattle.dblines.specs.Writing.{WroteOf};
+ghost use Rattle.dbpicture.specs.Keeping.{AreOf, drawn_by, HoldsTreeName, marked_place};
+ghost use Rattle.dbpicture.specs.Owners.{capped_pages, owner_by, shares_by};
+ghost use Rattle.dbpicture.specs.Squares.{row_text, rows_text, run_square_text, square_text, squares_text};
+
+use crate::fault_notes::FaultNotes;
+use crate::grid::Grid;
+use crate::labels::Labels;
+use crate::outlines::draw_outlines;
+use crate::owner_shares::{FIXED, FREELIST, NOBODY, OwnerShares, is_overflow};
+use crate::page::PageSquare;
+use crate::picture::LEFT;
+use crate::pieces::{Piece, WritePieces};
+use crate::run::RunSquare;
+use crate::tally::{COLOURED, rank_of};
+use crate::tree_text::NamedTree;
+use arrayvec::ArrayVec;
+use dblines::Writer;
+use dbscan::{PageTrees, Place, TreeNames, place_of, place_tree};
+use dbsource::{Header, Out};
+use dbwalk::Marks;
+use std::alloc::Allocator;
+
+/// How many columns of a name are shown.
+pub(crate) const NAME_WIDTH: u32 = 72;
+
+/// What the squares are made of: what each page is, and what is noted of faults.
+#[derive(Drop)]
+pub(crate) struct Squares<'a, A: Allocator> {
+    pub(crate) header: &'a Header,
+    pub(crate) marks: &'a Marks<A>,
+    pub(crate) trees: &'a PageTrees<A>,
+    pub(crate) names: TreeNames<'a, A>,
+    pub(crate) notes: &'a FaultNotes<A>,
+    pub(crate) largest: ArrayVec<u32, COLOURED>,
+    pub(crate) grid: Grid,
+    pub(crate) labels: Labels,
+}
+
+impl<'a, A: Allocator> Squares<'a, A> {
+    // The owner of a page, by what it is and the start that it belongs to.
+    fn owner(&self, place: Place, start: Option<u32>) -> usize
+        ensures owner { result ≡ owner_by self.now.largest.items place start }
+        ensures within { result < 16 }
+    {
+        match place {
+            Place::Fixed => FIXED,
+            Place::Nowhere => NOBODY,
+            Place::Trunk | Place::FreeLeaf => FREELIST,
+            Place::Root | Place::ChildOf(_) | Place::OverflowOf(_) | Place::OverflowAfter(_) => {
+                rank_of(self.largest.as_slice(), start)
+            }
+        }
+    }
+
+    // What each owner has of some pages.
+    fn shares(&self, first: u32, last: u32) -> OwnerShares
+        ensures { (file : List ℕ) (V : List Reference) → AreOf self.now file V
+            → result ≡ shares_by self.now.largest.items (marked_place self.now.marks.now) (start_at V) first (capped_pages (last + 1) - first) }
+    {
+        let mut shares = OwnerShares::new();
+        for page in first..last.saturating_add(1) {
+            let place = place_of(self.marks, page);
+            let start = self.trees.start_of(self.marks, page);
+            shares.add(self.owner(place, start), is_overflow(place));
+        }
+        shares
+    }
+
+    /// Draws all squares.
+    pub(crate) fn draw<O: Out>(&self, writer: &mut Writer<'_, O>)
+        ensures { WroteOf O.held writer.old (AreOf self.now) (λ file V. rows_text (drawn_by self.now V)) writer.new }
+    {
+        for row in 0..self.grid.rows() {
+            self.draw_row(writer, row);
+        }
+    }
+
+    // Draws the squares of a row.
+    fn draw_row<O: Out>(&self, writer: &mut Writer<'_, O>, row: u32)
+        ensures { WroteOf O.held writer.old (AreOf self.now) (λ file V. row_text (drawn_by self.now V) row) writer.new }
+    {
+        let grid = &self.grid;
+        writer.write_all(&[
+            Piece::Markup("<g transform=\"translate("),
+            Piece::Number(LEFT),
+            Piece::Markup(","),
+            Piece::Number(grid.top_of(row)),
+            Piece::Markup(")\">\n"),
+        ]);
+        self.draw_squares(writer, row);
+        draw_outlines(writer, grid, row);
+        writer.write_all(&[Piece::Markup("</g>\n")]);
+    }
+
+    // Draws the squares of a row, and nothing else of it.
+    fn draw_squares<O: Out>(&self, writer: &mut Writer<'_, O>, row: u32)
+        ensures { WroteOf O.held writer.old (AreOf self.now) (λ file V. squares_text (drawn_by self.now V) row) writer.new }
+    {
+        let mut tree = NamedTree::none();
+        let (first, end) = self.grid.places_of(row, self.grid.squares);
+        for index in first..end {
+            self.draw_square(writer, &mut tree, index);
+        }
+    }
+
+    // Draws a square.
+    fn draw_square<O: Out>(&self, writer: &mut Writer<'_, O>, tree: &mut NamedTree, index: u32)
+        requires { HoldsTreeName self.now.names tree.old }
+        ensures drawn { WroteOf O.held writer.old (AreOf self.now) (λ file V. square_text (drawn_by self.now V) index) writer.new }
+        ensures tree { HoldsTreeName self.now.names tree.new }
+    {
+        let grid = &self.grid;
+        if grid.run != 1 {
+            self.draw_run(writer, index);
+            return;
+        }
+        let (page, _) = grid.run_of(index, grid.pages);
+        let place = place_of(self.marks, page);
+        let start = self.trees.start_of(self.marks, page);
+        tree.turn_to(&self.names, place_tree(place, start));
+        let square = PageSquare {
+            x: grid.x_of(index),
+            page,
+            owner: self.owner(place, start),
+            place,
+            fixed: self.header.geometry().fixed(page),
+        };
+        square.draw(writer, grid.width, &tree.name, self.notes.of_square(index));
+    }
+
+    // Draws the square of a run of pages.
+    fn draw_run<O: Out>(&self, writer: &mut Writer<'_, O>, index: u32)
+        ensures { WroteOf O.held writer.old (AreOf self.now) (λ file V. run_square_text (drawn_by self.now V) index) writer.new }
+    {
+        let grid = &self.grid;
+        let (first, last) = grid.run_of(index, grid.pages);
+        let run = RunSquare {
+            x: grid.x_of(index),
+            first,
+            last,
+            shares: self.shares(first, last),
+        };
+        run.draw(
+            writer,
+            grid.width,
+            &self.labels,
+            self.notes.of_square(index),
+        );
+    }
+}

@@ -1,0 +1,58 @@
+-- A visited page is owned, by what its start is.
+use Rattle.std.proofs.Common.{◌≡◌, ℕ, inl, inr, cond, List, [], ◌∷◌, Some, sym, ap, subst, ◌∙◌}
+use Rattle.std.specs.Prelude.{find, option_map, ◌==◌}
+use Rattle.std.specs.Option.{option_map_or}
+use Rattle.std.proofs.lemmas.Bool.{cases_Bool, eqb-true, eq-eqb, ne_eqb}
+use Rattle.dbsurvey.specs.Address.{IsIn}
+use Rattle.dbformat.specs.Address.{start_of, freelist_start}
+use Rattle.dbformat.specs.EndFaults.{visit_of}
+use Rattle.dbformat.specs.Reference.{Reference}
+use Rattle.dbformat.specs.Schema.{starts}
+use Rattle.dbformat.specs.Survey.{Survey}
+use Rattle.dbformat.proofs.Visited.{allowed, visit_is}
+use Rattle.dbformat.specs.Starts.{is_start, first_start}
+use Rattle.dbscan.specs.Owners.{Owner, Nobody, Layout, Freelist, Tree, owner_at, owner_of, AreOwned}
+use Rattle.dbformat.proofs.BelowStarts.{start_is, start_visited, first_is}
+
+abbrev tree_at : List Reference → ℕ → Owner
+tree_at V k = option_map_or (λ u. Tree u.page) (find (is_start k) V) Nobody
+
+owner_is : (file : List ℕ) (V : List Reference) (s : Survey file V) (r : Reference) → IsIn r V → owner_of file V r.page ≡ owner_at V (start_of r.address)
+unfolding owner_of
+owner_is file V s r i = ap (λ b. cond b Layout (option_map_or (λ r. owner_at V (start_of r.address)) (visit_of V r.page) Nobody)) (allowed file V s r i).1
+    ∙ ap (λ o. option_map_or (λ r. owner_at V (start_of r.address)) o Nobody) (visit_is file V s r i)
+
+pub are_owned : (file : List ℕ) → AreOwned file
+are_owned file V s r i = record {
+  free = ((λ f. by_start (sym own ∙ f)), (λ f. own ∙ ap (λ b. cond b Freelist (tree_at V k)) (eq-eqb k freelist_start f)));
+  tree = λ off. (u.0, u.1, u.2, own ∙ ap (λ b. cond b Freelist (tree_at V k)) (ne_eqb k freelist_start off) ∙ tree_is);
+  first = λ q f. by_tree q (sym own ∙ f) ∙ sym (ap (λ o. option_map (λ r. start_of r.address) o) (visit_is file V s r i));
+}
+  where
+    k : ℕ
+    k = start_of r.address
+
+    own : owner_of file V r.page ≡ owner_at V k
+    own = owner_is file V s r i
+
+    u : (u : Reference) × IsIn u V × (u.address ≡ k ∷ [])
+    u = start_visited file V s r i
+
+    tree_is : tree_at V k ≡ Tree u.0.page
+    tree_is = ap (λ o. option_map_or (λ u. Tree u.page) o Nobody) (start_is file V s u.0 k u.1 u.2)
+
+    by_start : owner_at V k ≡ Freelist → k ≡ freelist_start
+    by_start f = elim (cases_Bool (k == freelist_start)) [
+      | inl e ↦ eqb-true k freelist_start e
+      | inr e ↦ absurd (let g : Tree u.0.page ≡ Freelist = sym (ap (λ b. cond b Freelist (tree_at V k)) e ∙ tree_is) ∙ f in cc)
+    ]
+
+    same : (x y : ℕ) → Tree x ≡ Tree y → x ≡ y
+    same x y e = cc
+
+    by_tree : (q : ℕ) → owner_at V k ≡ Tree q → first_start (starts file V) q ≡ Some k
+    by_tree q f = elim (cases_Bool (k == freelist_start)) [
+      | inl e ↦ absurd (let g : Freelist ≡ Tree q = sym (ap (λ b. cond b Freelist (tree_at V k)) e) ∙ f in cc)
+      | inr e ↦ subst (λ q. first_start (starts file V) q ≡ Some k) (same u.0.page q (sym (ap (λ b. cond b Freelist (tree_at V k)) e ∙ tree_is) ∙ f))
+          (first_is file V s u.0 k u.1 u.2)
+    ]

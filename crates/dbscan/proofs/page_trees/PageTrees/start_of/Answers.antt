@@ -1,0 +1,11 @@
+use Rattle.std.proofs.Common.{ap, ◌∙◌}
+use Rattle.std.specs.Prelude.{slice_get}
+use Rattle.dbmarks.specs.Marking.{page_mark}
+use Rattle.dbscan.specs.Trees.{start_by}
+use Rattle.dbscan.proofs.PageMarks.{start_is}
+use Rattle.dbscan.proofs.page_trees.PageTrees.start_of.Goals as goal
+
+pub returns : goal.returns
+returns g c = λ file V s m t.
+    (c.by_mark.ensures ∙ ap (λ m. start_by m (slice_get c.args.self.now.known c.args.page)) (c.mark_of.ensures ∙ ap (λ marks. page_mark marks c.args.page) m)
+    ∙ start_is file V s c.args.self.now.known t c.args.page)

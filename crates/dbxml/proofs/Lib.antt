@@ -1,4 +1,0 @@
-pub mod Escaping
-pub mod KeptTexts
-pub mod Texts
-pub mod Waiting

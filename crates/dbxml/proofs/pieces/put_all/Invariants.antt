@@ -1,8 +1,0 @@
-use Rattle.std.proofs.Common.{drop}
-use Rattle.dbxml.specs.Pieces.{pieces_text}
-use Rattle.dbxml.proofs.Waiting.{HasTaken}
-use Rattle.dbxml.proofs.pieces.put_all.Given as goal
-
-abbrev pub invariant-loop-piece : goal.invariant-loop-piece
-invariant-loop-piece g l = HasTaken (g.O.Out.held l.initial.out) (g.O.Out.held l.out) l.waiting.items (pieces_text (drop l.piece-index l.pieces))
-    (pieces_text l.pieces)
