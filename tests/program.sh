@@ -449,11 +449,11 @@ else
     echo "no run without memory: $(cat "$work/why")"
 fi
 
-# ends_within KIB OUT WORDS..: whether the program ends with 1 in this address space, at least once of three times: where a read takes long,
+# ends_within KIB OUT WORDS..: whether the program ends with 1 in this address space, at least once of five times: where a read takes long,
 # it also takes the MiB by which it reads ahead.
 ends_within() {
     local time
-    for time in 1 2 3; do
+    for time in 1 2 3 4 5; do
         (ulimit -v "$1" && exec "$dbck" "${@:3}" > "$2" 2>&1)
         [ $? != 1 ] || return 0
     done
