@@ -30,7 +30,7 @@ mod tree_page;
 pub use bytes::{bytes_of, patch, write_bytes};
 pub use dbsource::Source;
 pub use holds::{Text, expecting, holding};
-pub use records::{Record, schema_row, varint};
+pub use records::{Record, schema_row};
 pub use samples::Sample;
 pub use stated::StatedSource;
 pub use test_file::TestFile;

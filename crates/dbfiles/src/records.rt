@@ -65,7 +65,7 @@ pub fn schema_row(kind: &[u8], name: &[u8], root: u8) -> Record {
 }
 
 /// A varint: seven bits a byte, the highest first, and a high bit for more. The ninth byte, if there is one, has eight bits.
-pub fn varint(value: u64) -> ArrayVec<u8, 9> {
+pub(crate) fn varint(value: u64) -> ArrayVec<u8, 9> {
     let is_long = value >= 1 << 56;
     // The groups of seven bits before the last byte.
     let high = if is_long { value >> 8 } else { value >> 7 };

@@ -74,8 +74,7 @@ pub fn map_in<A: Allocator + Copy, S: Source, O: Out>(
 /// answers what was found, as a check does; no line of a fault is put. It reads what a check reads, and then each page to which nothing
 /// refers, once, for what it looks like.
 ///
-/// It keeps, beside what a check does, a number of four bytes and three bits for each page, eight bytes for each square, the counts of
-/// 65538 starts, and 100 entries of faults. Each of these is one growth, and the three bits are three, before the first page is read.
+/// It keeps, beside what a check does, a [`KeptFaults`], whose memory is taken before the first page is read.
 ///
 /// # Errors
 ///

@@ -3,9 +3,9 @@
 //!
 //! ```
 //! let mut kept = KeptFaults::new_in(alloc, &desk.geometry())?;
-//! // of each fault, and of each page of a tree, as a run reports them
-//! kept.note(told);
-//! kept.note_row(row);
+//! // For each fault that the run reports, and for each row of a page.
+//! kept.note(&reported);
+//! kept.note_row(&row);
 //! put_map("shop.db", &desk, &mut kept, &mut out)?;
 //! ```
 //!
