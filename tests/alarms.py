@@ -2,7 +2,8 @@
 """Holds the must-fail edits and their tables, crates/NAME/must-fail/GOALS.md, against each other.
 
     tests/alarms.py                  each edit has a line and each line an edit; a line names a function that the edit changes;
-                                     where a changed function has a hand-written answer or invariant, a right twin is named
+                                     where a changed function has a hand-written answer or invariant, a right twin is named;
+                                     an answer that is only a tactic which a check tries itself needs none
     tests/alarms.py --try NAME..     also tries the edits of these crates, with `rt must-fail`, and compares the goals
 
 A line of a table is: edit, function, goals, right twin. The function is written with its module, as `header::Header::read`. A
@@ -18,6 +19,7 @@ import sys
 
 TOP = os.path.dirname(os.path.dirname(os.path.abspath(__file__)))
 FUNCTION = re.compile(r"( *)(?:pub(?:\(\w+\))? )?(?:const )?fn (\w+)")
+OWN = re.compile(r"[\w+-]+ (?:g )?c = (?:search rules|grind \(arith, (?:common_steps|elements)\))")
 
 
 def text_of(path):
@@ -70,8 +72,15 @@ def edited(crate, edit):
     return changed
 
 
+def is_own(path):
+    """Whether each answer of a file is only a tactic that a check tries itself."""
+    lines = [it for it in text_of(path).split("\n") if it and not it.startswith(("use ", "pub ", "unfolding "))]
+    return path.endswith("/Answers.antt") and all(OWN.fullmatch(it) for it in lines)
+
+
 def has_answer(folders):
-    return any(os.path.isfile(f"{folder}/{file}.antt") for folder in folders for file in ("Answers", "Invariants", "Proof"))
+    files = [f"{folder}/{file}.antt" for folder in folders for file in ("Answers", "Invariants", "Proof")]
+    return any(os.path.isfile(it) and not is_own(it) for it in files)
 
 
 def table_of(crate):
