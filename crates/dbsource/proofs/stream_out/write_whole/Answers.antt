@@ -1,4 +1,4 @@
-use Rattle.std.proofs.Common.{ℕ, ◌+◌, ◌-◌, ◌≤◌, length, take, drop, arith, length-take, length-drop, List}
+use Rattle.std.proofs.Common.{rules, ℕ, ◌+◌, ◌-◌, ◌≤◌, length, take, drop, arith, length-take, length-drop, List}
 use Rattle.dbsource.proofs.Puts.{appends_kept, stream_stop, stream_more, keeps_from_nothing}
 use Rattle.dbsource.proofs.stream_out.write_whole.Goals as goal
 
@@ -28,3 +28,6 @@ returns-in-Err-clause-taken g c = appends_kept _ _ _ _ c.loop-at.invariant.added
 
 pub returns-in-Err-clause-writes : goal.returns-in-Err-clause-writes
 returns-in-Err-clause-writes g c = stream_stop _ _ _ c.args.piece.now c.loop-at.at c.loop-at.invariant.added c.in-Err.ensures.bytes
+
+pub returns-in-Err-clause-whole : goal.returns-in-Err-clause-whole
+returns-in-Err-clause-whole g c = search rules

@@ -1,4 +1,4 @@
-use Rattle.std.proofs.Common.{◌≡◌, ℕ, ◌≤◌, refl, sym, subst, ap, ◌∙◌, arith}
+use Rattle.std.proofs.Common.{rules, ◌≡◌, ℕ, ◌≤◌, refl, sym, subst, ap, ◌∙◌, arith}
 use Rattle.dbformat.specs.Head.{View, cell_count, content_start}
 use Rattle.dbformat.specs.Cell.{count}
 use Rattle.dbformat.specs.Coverage.{items}
@@ -61,3 +61,6 @@ packed_by_marks-requires-in-Some-clause-begun c =
       read = subst (λ (n : ℕ). AddUpTo v n sums) all c.loop-i.invariant.read;
       runs = subst (λ (n : ℕ). AreInRun v n run.from run.to) all c.loop-i.invariant.run;
     }
+
+pub returns-then-not-add : goal.returns-then-not-add
+returns-then-not-add c = search rules
