@@ -1,4 +1,4 @@
-use Rattle.std.proofs.Common.{◌≡◌, ℕ, ◌+◌, ◌≤◌, Bool, true, false, cond, Option, Some, None, refl, sym, ap, ◌∙◌, arith}
+use Rattle.std.proofs.Common.{rules, ◌≡◌, ℕ, ◌+◌, ◌≤◌, Bool, true, false, cond, Option, Some, None, refl, sym, ap, ◌∙◌, arith}
 use Rattle.std.specs.Prelude.{count_by, is_some}
 use Rattle.std.specs.List.{range_with_len}
 use Rattle.std.specs.Option.{option_map_or}
@@ -52,3 +52,6 @@ loop-i-preserved g c =
           (turn (Some w.in-Some.page) false w.in-Some.is (sym w.is_lost.ensures.mark ∙ w.if-is_lost.false))
       | in_default w ↦ rw (w.named-is, none_more named.pages, none_more named.lost) (turn None false w.in_default.is refl)
     ]
+
+pub returns : goal.returns
+returns g c = search rules

@@ -1,0 +1,5 @@
+use Rattle.std.proofs.Common.{rules}
+use Rattle.dbscan.proofs.end_faults.late_fault.Goals as goal
+
+pub returns : goal.returns
+returns c = search rules
