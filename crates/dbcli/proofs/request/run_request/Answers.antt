@@ -1,4 +1,4 @@
-use Rattle.std.proofs.Common.{refl}
+use Rattle.std.proofs.Common.{rules, refl}
 use Rattle.dbreport.proofs.RunAnswers.{first_failures, refused_unwritten}
 use Rattle.dbsource.proofs.Runs.{read_weaker}
 use Rattle.dbcli.proofs.Explaining.{explain_fails, fail_as_answered}
@@ -61,3 +61,6 @@ returns-in-Map-clause-reads g c = c.map.ensures.failed.reads
 
 pub returns-in-Map-clause-second : goal.returns-in-Map-clause-second
 returns-in-Map-clause-second g c = λ is. refl
+
+pub returns-in-Report-clause-second : goal.returns-in-Report-clause-second
+returns-in-Report-clause-second g c = search rules

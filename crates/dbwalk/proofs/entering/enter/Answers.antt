@@ -1,4 +1,4 @@
-use Rattle.std.proofs.Common.{[], ◌∷◌, ◌++◌, Err, inl, refl, sym, ap, subst, ◌∙◌}
+use Rattle.std.proofs.Common.{rules, [], ◌∷◌, ◌++◌, Err, inl, refl, sym, ap, subst, ◌∙◌}
 use Rattle.std.proofs.lemmas.Result.{err_from_is_err_and}
 use Rattle.dbsurvey.specs.Moves.{Moves, Stops}
 use Rattle.dbmarks.specs.Marking.{AreMarksOf, followed}
@@ -46,3 +46,6 @@ returns-in-None-clause-page g c = λ yes. c.follow.ensures.page c.in-None.is
 
 pub returns-in-None-clause-shallow : goal.returns-in-None-clause-shallow
 returns-in-None-clause-shallow g c = λ yes. (refusal_none _ _ (sym c.follow.ensures.why ∙ c.in-None.is)).1
+
+pub returns-in-None-clause-marked : goal.returns-in-None-clause-marked
+returns-in-None-clause-marked g c = search rules

@@ -1,4 +1,4 @@
-use Rattle.std.proofs.Common.{◌-◌, ◌/◌, ◌<◌, ◌≤◌, [], ◌∷◌, ◌++◌, map, Err, inl, refl, sym, ap, subst, ◌∙◌}
+use Rattle.std.proofs.Common.{rules, ◌-◌, ◌/◌, ◌<◌, ◌≤◌, [], ◌∷◌, ◌++◌, map, Err, inl, refl, sym, ap, subst, ◌∙◌}
 use Rattle.std.proofs.lemmas.Result.{err_from_is_err_and}
 use Rattle.dbsurvey.specs.Story.{Go}
 use Rattle.dbformat.specs.Errands.{go, leaf_errands}
@@ -69,3 +69,6 @@ returns-in_err-fault-clause-opened g c = λ file W d before U e old p r b u f m 
     subst (λ r. OpensTrunk g.K.Sink.takes g.K.Sink.drops file W d before e r c.args.marks.now c.fault.new.self) (sym (q.1 ∙ ap Err q.2))
     (opened_untold g.K.Sink.takes g.K.Sink.drops file W d before U e old c.args.marks.now c.args.sink.now r f m h c.fault.new.self WriteFailed l
     (inl (subst (λ x. g.K.Sink.drops c.args.sink.now (told_alone x) c.fault.new.self) w c.in_err-fault.ensures.item)))
+
+pub returns-in_ok-walk_leaves-clause-only : goal.returns-in_ok-walk_leaves-clause-only
+returns-in_ok-walk_leaves-clause-only g c = search rules

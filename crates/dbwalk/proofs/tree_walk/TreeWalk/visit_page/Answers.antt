@@ -181,3 +181,6 @@ returns-then-pass_over-clause-open g c = λ is. absurd (false≢true is)
 
 pub returns-in_ok-walk_leaf-in-Leaf-clause-open : goal.returns-in_ok-walk_leaf-in-Leaf-clause-open
 returns-in_ok-walk_leaf-in-Leaf-clause-open g c = λ is. absurd (false≢true is)
+
+pub returns-in-Interior-clause-walked : goal.returns-in-Interior-clause-walked
+returns-in-Interior-clause-walked g c = search rules

@@ -1,4 +1,4 @@
-use Rattle.std.proofs.Common.{ℕ, ◌≡◌, ◌≤◌, false, inr, Option, Some, None, Result, Ok, Err, refl, sym, ap, subst, ◌∙◌}
+use Rattle.std.proofs.Common.{rules, ℕ, ◌≡◌, ◌≤◌, false, inr, Option, Some, None, Result, Ok, Err, refl, sym, ap, subst, ◌∙◌}
 use Rattle.std.specs.Prelude.{is_some}
 use Rattle.dbbytes.specs.declared.sieve.RowSieve.{RowSieve}
 use Rattle.dbsource.specs.declared.error.RunError.{RunError}
@@ -148,3 +148,6 @@ returns-clause-walked g c =
     c.walk_overflow.ensures.kept.0 c.in_ok-walk_overflow.ensures.reads
     (c.in_ok-tell_rowid.ensures.told.count ∙ e.writes ∙ c.in_ok-walk_overflow.ensures.writes) e.refusals tt (λ later. (e.none (gone c.walk_overflow.new.sieve
     (c.walk_overflow.ensures.kept.2 ∙ ap is_some (c.begin_row.ensures.other later ∙ c.requires.2 later)))).2)
+
+pub returns-clause-levels : goal.returns-clause-levels
+returns-clause-levels g c = search rules
