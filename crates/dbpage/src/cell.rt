@@ -4,7 +4,7 @@ ghost use Rattle.dbformat.specs.Cell.{bytes_from, cell, cell_at, cell_pointer, c
 ghost use Rattle.dbformat.specs.NamedPages.{named_page};
 ghost use Rattle.dbformat.specs.Varint.{varint};
 ghost use Rattle.dbformat.specs.Payload.{most_local};
-ghost use Rattle.dbpage.specs.Beginning.{IsWhole};
+ghost use Rattle.dbpage.specs.Beginning.{EndsAt};
 ghost use Rattle.dbformat.specs.declared.PageKind.TheVariants.{InteriorIndex, InteriorTable, LeafIndex, LeafTable};
 
 use crate::view::PageView;
@@ -171,7 +171,7 @@ impl<'a> PageView<'a> {
         requires within { i < count self.now }
         requires kind { self.now.kind ≡ LeafTable }
         requires end { end ≤ self.now.usable }
-        ensures { IfSome result (λ c. (cell self.now i ≡ Ok c) × IsWhole c end × (4 ≤ c.len)) }
+        ensures { IfSome result (λ c. (cell self.now i ≡ Ok c) × EndsAt c end) }
     {
         let offset = self.pointer(i);
         // A size and a rowid of four bytes each are before the end.
@@ -187,7 +187,7 @@ impl<'a> PageView<'a> {
         requires room { offset + 8 ≤ end }
         requires end { end ≤ self.now.usable }
         requires most { self.now.usable ≤ 65536 }
-        ensures { IfSome result (λ c. (cell_at LeafTable self.now offset ≡ Some c) × IsWhole c end × (4 ≤ c.len)) }
+        ensures { IfSome result (λ c. (cell_at LeafTable self.now offset ≡ Some c) × EndsAt c end) }
     {
         let (size, size_len) = self.short_varint_at(offset)?;
         let (rowid, rowid_len) = self.short_varint_at(offset + size_len)?;
@@ -201,6 +201,39 @@ impl<'a> PageView<'a> {
         }
         let key = Some(rowid.cast_signed());
         Some(self.whole_cell(PayloadKind::TableLeaf, offset, before, size, None, key))
+    }
+
+    // `cell` of a leaf of an index, if all of it is on the page and it has at most 56 bytes, by the short way as well.
+    #[inline(always)]
+    pub(crate) fn short_index_cell(&self, i: u32) -> Option<Cell<'a>>
+        requires within { i < count self.now }
+        requires kind { self.now.kind ≡ LeafIndex }
+        ensures { IfSome result (λ c. (cell self.now i ≡ Ok c) × (c.len ≤ 56)) }
+    {
+        let offset = self.pointer(i);
+        if offset < self.start || offset > self.usable - 4 {
+            return None;
+        }
+        self.short_index_leaf_cell(offset)
+    }
+
+    // `index_leaf_cell`, as `short_index_cell` has it.
+    #[inline(always)]
+    fn short_index_leaf_cell(&self, offset: u32) -> Option<Cell<'a>>
+        requires room { offset + 4 ≤ self.now.usable }
+        requires most { self.now.usable ≤ 65536 }
+        ensures { IfSome result (λ c. (cell_at LeafIndex self.now offset ≡ Some c) × (c.len ≤ 56)) }
+    {
+        let (size, before) = self.short_varint_at(offset)?;
+        // Each page has room for as much.
+        if size > 52 {
+            return None;
+        }
+        let size = size as u32;
+        if offset + before + size > self.usable {
+            return None;
+        }
+        Some(self.whole_cell(PayloadKind::Index, offset, before, size, None, None))
     }
 
     #[inline(always)]
@@ -343,8 +376,7 @@ impl<'a> PageView<'a> {
         requires place { offset + before + size ≤ self.now.usable }
         requires most { self.now.usable ≤ 65536 }
         ensures cell { payload_cell self.now kind offset before size left key ≡ Some result }
-        ensures whole { IsWhole result (offset + before + size) }
-        ensures len { result.len ≡ before + size }
+        ensures span { (result.offset ≡ offset) × (result.len ≡ before + size) }
     {
         let payload = offset + before;
         Cell {

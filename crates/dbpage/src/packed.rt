@@ -2,10 +2,10 @@
 ghost use Rattle.std.specs.Prelude.{◌≡◌, ℕ, None, Ok, false, ◌+◌, ◌<◌, ◌≤◌, length, MatchBool, MatchOption};
 ghost use Rattle.dbformat.specs.Head.{content_start};
 ghost use Rattle.dbformat.specs.Cell.{cell, count};
-ghost use Rattle.dbformat.specs.declared.PageKind.TheVariants.{LeafTable};
+ghost use Rattle.dbformat.specs.declared.PageKind.TheVariants.{LeafIndex, LeafTable};
 ghost use Rattle.dbformat.specs.Coverage.{items};
 ghost use Rattle.dbpage.specs.Marking.{ShareNoByte, AreMarked, Holds, cells_upto, is_claimed};
-ghost use Rattle.dbpage.specs.Beginning.{IsBegun, IsRunning, begins_with};
+ghost use Rattle.dbpage.specs.Beginning.{AreRead, IsBegun, IsRunning, begins_with};
 ghost use Rattle.dbpage.specs.Packed.{AddUpTo, IsPacked, IsAboveLast, IsUnpacked, key_at};
 
 use crate::cell::Cell;
@@ -225,9 +225,10 @@ impl<'a> PageView<'a> {
         requires marked { AreMarked (cells_upto self.now begun.now.cells) (content_start self.now.number self.now.bytes) self.now.usable table.old in_cells }
         ensures { MatchOption result (IsUnpacked self.now) (IsPacked self.now) }
     {
-        let mut sums = begun.sums;
-        let mut held = in_cells;
-        for i in begun.cells..self.cells {
+        let marked = self.mark_short_cells(kind, begun, in_cells, table, mark_count)?;
+        let mut sums = marked.sums;
+        let mut held = marked.held;
+        for i in marked.cells..self.cells {
             let (offset, len) = self.add_cell(kind, i, &mut sums)?;
             if !claim(table, offset, len, mark_count) {
                 return None;
@@ -238,6 +239,88 @@ impl<'a> PageView<'a> {
             Ok(all) => Some(self.packed_from(sums, all)),
             Err(_) => None,
         }
+    }
+
+    // Marks the next cells of a page of this kind, while they are short: only those of a leaf of an index.
+    #[inline(always)]
+    fn mark_short_cells<L: Ledger>(
+        &self,
+        kind: PageKind,
+        begun: &Beginning,
+        in_cells: u32,
+        table: &mut [u8],
+        mark_count: &mut MarkCount<L>,
+    ) -> Option<MarkedCells>
+        requires kind { kind ≡ self.now.kind }
+        requires room { self.now.usable ≤ length table.old }
+        requires begun { IsBegun self.now begun.now }
+        requires marked { AreMarked (cells_upto self.now begun.now.cells) (content_start self.now.number self.now.bytes) self.now.usable table.old in_cells }
+        ensures { MatchOption result (IsUnpacked self.now) (AreRead self.now table.new) }
+    {
+        match kind {
+            PageKind::LeafIndex => self.mark_short_index_cells(begun, in_cells, table, mark_count),
+            _ => Some(MarkedCells {
+                cells: begun.cells,
+                sums: begun.sums,
+                held: in_cells,
+            }),
+        }
+    }
+
+    // `mark_short_cells` of a leaf of an index.
+    #[inline(never)]
+    fn mark_short_index_cells<L: Ledger>(
+        &self,
+        begun: &Beginning,
+        in_cells: u32,
+        table: &mut [u8],
+        mark_count: &mut MarkCount<L>,
+    ) -> Option<MarkedCells>
+        requires kind { self.now.kind ≡ LeafIndex }
+        requires room { self.now.usable ≤ length table.old }
+        requires begun { IsBegun self.now begun.now }
+        requires marked { AreMarked (cells_upto self.now begun.now.cells) (content_start self.now.number self.now.bytes) self.now.usable table.old in_cells }
+        ensures { MatchOption result (IsUnpacked self.now) (AreRead self.now table.new) }
+    {
+        self.copied()
+            .mark_short_index_cells_in_place(begun, in_cells, table, mark_count)
+    }
+
+    // `mark_short_index_cells` of a view that no write can change. The loop calls nothing.
+    #[inline(always)]
+    fn mark_short_index_cells_in_place<L: Ledger>(
+        &self,
+        begun: &Beginning,
+        in_cells: u32,
+        table: &mut [u8],
+        mark_count: &mut MarkCount<L>,
+    ) -> Option<MarkedCells>
+        requires kind { self.now.kind ≡ LeafIndex }
+        requires room { self.now.usable ≤ length table.old }
+        requires begun { IsBegun self.now begun.now }
+        requires marked { AreMarked (cells_upto self.now begun.now.cells) (content_start self.now.number self.now.bytes) self.now.usable table.old in_cells }
+        ensures { MatchOption result (IsUnpacked self.now) (AreRead self.now table.new) }
+    {
+        let mut marked = MarkedCells {
+            cells: begun.cells,
+            sums: begun.sums,
+            held: in_cells,
+        };
+        for i in begun.cells..self.cells {
+            let Some(cell) = self.short_index_cell(i) else {
+                break;
+            };
+            if !self.add_read(i, &cell, &mut marked.sums) {
+                return None;
+            }
+            let len = cell.len.max(4);
+            if !claim(table, cell.offset, len, mark_count) {
+                return None;
+            }
+            marked.held += len;
+            marked.cells = i + 1;
+        }
+        Some(marked)
     }
 
     // Adds cell `i` to the sums of those before it, and answers which bytes it holds. `None` where it is not readable,
@@ -322,6 +405,14 @@ struct Beginning {
     sums: CellSums,
     run: CellRun,
     next: Option<(u32, u32)>,
+}
+
+// The first cells, their sums, and how many bytes they hold, which are marked.
+#[derive(Clone, Copy)]
+struct MarkedCells {
+    cells: u32,
+    sums: CellSums,
+    held: u32,
 }
 
 impl Beginning {

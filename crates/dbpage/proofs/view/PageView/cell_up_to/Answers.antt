@@ -1,19 +1,12 @@
-use Rattle.std.proofs.Common.{◌≡◌, ◌≤◌, ℕ, Option, Some, None, Ok, Result, ap, sym, ◌∙◌, arith}
-use Rattle.std.specs.Prelude.{ok_or, IfSome}
+use Rattle.std.proofs.Common.{ℕ, ap, sym, ◌∙◌, arith}
+use Rattle.std.specs.Prelude.{ok_or}
 use Rattle.dbformat.specs.Head.{View, content_start}
 use Rattle.dbformat.specs.Cell.{Cell, cell_at}
-use Rattle.dbformat.specs.declared.CellFault.{CellFault}
 use Rattle.dbformat.specs.declared.CellFault.TheVariants.{Unreadable}
 use Rattle.dbformat.specs.declared.PageKind.{PageKind}
-use Rattle.dbpage.specs.Beginning.{IsWhole}
-use Rattle.dbpage.proofs.CellLemmas.{cell_inside}
+use Rattle.dbpage.specs.Beginning.{EndsAt}
+use Rattle.dbpage.proofs.CellLemmas.{cell_found, cell_inside}
 use Rattle.dbpage.proofs.view.PageView.cell_up_to.Goals as goal
-
--- a cell that was found is the cell of the page
-by_found : (found at : Option Cell) (read : Result Cell CellFault) (end : ℕ) → IfSome found (λ c. (at ≡ Some c) × IsWhole c end × (4 ≤ c.len))
-    → read ≡ ok_or at Unreadable → IfSome found (λ c. (read ≡ Ok c) × IsWhole c end × (4 ≤ c.len))
-by_found None at read end h is = h
-by_found (Some c) at read end h is = (is ∙ ap (λ (o : Option Cell). ok_or o Unreadable) h.0, h.1, h.2)
 
 pub returns : goal.returns
 returns c =
@@ -23,4 +16,4 @@ returns c =
     (omega (arith, c.pointer-offset.ensures, c.saturating_sub.ensures, c.if-saturating_sub-lt8.false, c.requires.end)) in
     let found = ap (λ (at : ℕ). ok_or (cell_at v.kind v at) Unreadable) c.pointer-offset.ensures in
     let kind = ap (λ (k : PageKind). ok_or (cell_at k v c.pointer-offset.result) Unreadable) c.requires.kind in
-    by_found c.table_leaf_cell_up_to.result _ _ c.args.end c.table_leaf_cell_up_to.ensures (inside ∙ sym found ∙ kind)
+    cell_found c.table_leaf_cell_up_to.result _ _ (λ (d : Cell). EndsAt d c.args.end) c.table_leaf_cell_up_to.ensures (inside ∙ sym found ∙ kind)

@@ -27,7 +27,7 @@ loop-i-preserved c =
     let run = c.loop-i.begun.run in
     let found = c.in-Some.ensures in
     let offset = ap (λ (e : Cell). e.offset) c.cell.view_is in
-    let longest : max d.len 4 ≡ d.len = omega (arith, found.2) in
+    let longest : max d.len 4 ≡ d.len = omega (arith, found.1.four) in
     let has = Holds-from_read v c.loop-i.i d c.cell.inside.offset d.len found.0 (sym offset) longest in
     let was = subst (λ (n : ℕ). AreInRun v n run.from run.to) c.loop-i.invariant.cells c.loop-i.invariant.running.run in
     record {
