@@ -71,7 +71,7 @@ def usage():
     """Commands with their options, by the functions that make them."""
     source = text_of("crates/dbcli/src/command_line.rt")
     bodies = {name: body for name, body in re.findall(r"^fn (\w+)_command<.*?\n\{\n(.*?)^\}", source, re.M | re.S)}
-    names = re.findall(r"subcommand\((\w+)_command\(", bodies["dbck"])
+    names = re.findall(r"with_command\(command, (\w+)_command\(", bodies["dbck"])
     program = []
     for name in names:
         body = bodies[name]

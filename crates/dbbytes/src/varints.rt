@@ -1,5 +1,5 @@
 // Variable-length integers (Database File Format, 1.6).
-ghost use Rattle.std.specs.Prelude.{◌≡◌, ◌<◌, ◌≤◌, drop, length, None, Some, IfSome, MatchBool, ◌==◌};
+ghost use Rattle.std.specs.Prelude.{◌≡◌, ◌<◌, ◌≤◌, drop, length, None, Some, IfSome, IfOk, IfErr, MatchBool, ◌==◌};
 ghost use Rattle.dbformat.specs.Varint.{varint};
 ghost use Rattle.dbbytes.specs.Varint.{GoesOn};
 
@@ -34,26 +34,38 @@ pub fn varint_of_four(bytes: &[u8]) -> Option<(u64, usize)>
     ensures value { result ≡ varint bytes.now }
     ensures within { IfSome result (λ r. (0 < r.1) × (r.1 ≤ 9) × (r.1 ≤ length bytes.now)) }
 {
+    match short_varint(bytes) {
+        Ok(short) => Some(short),
+        Err(_) if bytes.len() < 9 => varint_by_bytes(bytes),
+        Err(four) => Some(varint_after_four(bytes, four)),
+    }
+}
+
+/// `varint` of four bytes or more. It is an error where the number has more than four bytes: what the first four give of it.
+#[inline(always)]
+pub fn short_varint(bytes: &[u8]) -> Result<(u64, usize), u64>
+    requires { 4 ≤ length bytes.now }
+    ensures value { IfOk result (λ r. varint bytes.now ≡ Some r) }
+    ensures within { IfOk result (λ r. (0 < r.1) × (r.1 ≤ 4)) }
+    ensures more { IfErr result (λ four. GoesOn 4 four (drop 4 bytes.now) bytes.now × (four < 268435456)) }
+{
     let one = u64::from(bytes[0]);
     if one < 128 {
-        return Some((one, 1));
+        return Ok((one, 1));
     }
     let two = one * 128 + u64::from(bytes[1]);
     if bytes[1] < 128 {
-        return Some((two - ONE_MORE, 2));
+        return Ok((two - ONE_MORE, 2));
     }
     let three = two * 128 + u64::from(bytes[2]);
     if bytes[2] < 128 {
-        return Some((three - TWO_MORE, 3));
+        return Ok((three - TWO_MORE, 3));
     }
     let four = three * 128 + u64::from(bytes[3]);
     if bytes[3] < 128 {
-        return Some((four - THREE_MORE, 4));
+        return Ok((four - THREE_MORE, 4));
     }
-    if bytes.len() < 9 {
-        return varint_by_bytes(bytes);
-    }
-    Some(varint_after_four(bytes, four - THREE_MORE - 128))
+    Err(four - THREE_MORE - 128)
 }
 
 // `varint`, whose first four bytes gave `four` and say that more follow. Cold, so that what the loops of callers keep in

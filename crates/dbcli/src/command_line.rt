@@ -1,6 +1,6 @@
 // The command line of the program.
 ghost use Rattle.std.specs.Prelude.{◌≡◌, ◌≤◌, ℕ, List, [], IfOk, IfErr, IfSome, IfNone, codes, map, not, false};
-ghost use Rattle.clap.specs.Words.{Row, Text, app_of, fault_of, found_of, kind_of, new_app, rows_of, rule_of, subcommand_of};
+ghost use Rattle.clap.specs.Words.{Row, Text, App, app_of, fault_of, found_of, kind_of, new_app, rows_of, rule_of, subcommand_of, with_subcommand};
 ghost use Rattle.clap.specs.declared.error.kind.ErrorKind.TheVariants as error_kind;
 ghost use Rattle.clap.specs.declared.builder.command.Command.TheViews.{out-Command as fields_of};
 ghost use Rattle.dbcli.specs.CommandLine.{dbck_app, check_app, explain_app, limited_app, map_app, stat_app, file_rule, flag_rule, limit_rule, name_of};
@@ -182,17 +182,24 @@ fn map_command<'a>(alloc: Global) -> Result<Words<'a>, AllocError>
 fn stat_command<'a>(alloc: Global) -> Result<Words<'a>, AllocError>
     ensures { IfOk result (λ c. (app_of c ≡ stat_app) × ((fields_of c).has_globals ≡ false)) }
 {
-    let aggregate = flag_arg(
-        alloc,
-        "aggregate",
-        "One row for each tree, with the sums of its pages",
-    );
-    let all = flag_arg(alloc, "all", "Rows for the pages that are in no tree, too");
+    let aggregate = "One row for each tree, with the sums of its pages";
+    let all = "Rows for the pages that are in no tree, too";
     described(alloc, "stat", STAT_ABOUT, STAT_EXAMPLES)
-        .arg(aggregate)?
-        .arg(all)?
+        .arg(flag_arg(alloc, "aggregate", aggregate))?
+        .arg(flag_arg(alloc, "all", all))?
         .arg(no_progress_arg(alloc))?
         .arg(file_arg(alloc))
+}
+
+// The command with one more subcommand, if there was memory for that.
+fn with_command<'a>(
+    command: Words<'a>,
+    made: Result<Words<'a>, AllocError>,
+) -> Result<Words<'a>, AllocError>
+    ensures { (app : App) → IfOk made.entry (λ c. (app_of c ≡ app) × ((fields_of c).has_globals ≡ false))
+        → IfOk result (λ c. app_of c ≡ with_subcommand (app_of command.entry) app.top) }
+{
+    command.subcommand(made?)
 }
 
 fn dbck_command<'a>(alloc: Global) -> Result<Words<'a>, clap::Error>
@@ -201,12 +208,11 @@ fn dbck_command<'a>(alloc: Global) -> Result<Words<'a>, clap::Error>
 {
     let command = described(alloc, "dbck", ABOUT, STATUSES)
         .version(VERSION)
-        .subcommand_required(true)
-        .subcommand(check_command(alloc)?)?
-        .subcommand(explain_command(alloc)?)?
-        .subcommand(map_command(alloc)?)?
-        .subcommand(stat_command(alloc)?)?;
-    Ok(command)
+        .subcommand_required(true);
+    let command = with_command(command, check_command(alloc))?;
+    let command = with_command(command, explain_command(alloc))?;
+    let command = with_command(command, map_command(alloc))?;
+    Ok(with_command(command, stat_command(alloc))?)
 }
 
 // The given limit, if it is from 1 to `most`.

@@ -32,6 +32,12 @@ cell_inside v i low high =
     let inside : (nat_le (content_start v.number v.bytes) (cell_pointer v i) && nat_le (cell_pointer v i) (v.usable - 4)) ≡ true = grind (arith, nat_tests) in
     rw inside refl
 
+-- a cell that was found at its pointer is the cell of its page
+pub cell_found : (found at : Option Cell) (read : Result Cell CellFault) (P : Cell → Type 0) → IfSome found (λ c. (at ≡ Some c) × P c)
+    → read ≡ ok_or at Unreadable → IfSome found (λ c. (read ≡ Ok c) × P c)
+cell_found None at read P h is = h
+cell_found (Some c) at read P h is = (is ∙ ap (λ (o : Option Cell). ok_or o Unreadable) h.0, h.1)
+
 then_some : {A B : Type 0} (f : A → Option B) (o : Option A) (b : B) → option_and_then f o ≡ Some b → (a : A) × (f a ≡ Some b) × (o ≡ Some a)
 then_some f None b h = cc
 then_some f (Some a) b h = (a, h, refl)

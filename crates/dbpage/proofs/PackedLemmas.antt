@@ -9,13 +9,15 @@ use Rattle.std.proofs.lemmas.List.{map-append}
 use Rattle.std.proofs.lemmas.List.Sums.{sum_by-append, fold-append}
 use Rattle.std.proofs.lemmas.List.Elements.{filter_map-append}
 use Rattle.dbsurvey.proofs.Ranges.{range_push}
-use Rattle.dbformat.specs.Head.{View}
+use Rattle.dbformat.specs.Head.{View, content_start}
 use Rattle.dbformat.specs.Cell.{Cell, cell, count}
 use Rattle.dbformat.specs.Coverage.{coverage, coverage_of, first_overlap, items}
 use Rattle.dbformat.specs.declared.CellFault.{CellFault}
 use Rattle.dbformat.specs.declared.Coverage.TheVariants.{Overlap, Unheld}
 use Rattle.dbpage.specs.Packed.{first_cells, payload_of, greatest_of, AddUpTo, HasOverflow, IsAboveLast, IsAllLocal, IsUnpacked, key_at}
+use Rattle.dbpage.specs.Beginning.{IsRunning, begins_with}
 use Rattle.dbpage.specs.declared.packed.CellSums.{CellSums}
+use Rattle.dbpage.proofs.Runs.{no_cells, run_as}
 
 -- of no cell of a page whose first key is this
 abbrev pub no_sums : Option ℤ → CellSums
@@ -33,6 +35,14 @@ none_read v first some none = record {
   greatest_is = refl;
   overflow_is = λ i h. absurd (omega arith);
   few = omega arith;
+}
+
+pub none_running : (v : View) (first : Option ℤ) (usable : ℕ) → content_start v.number v.bytes ≤ v.usable → usable ≡ v.usable
+    → (0 < count v → key_at v 0 ≡ first) → (count v ≡ 0 → first ≡ None) → IsRunning v (begins_with first usable)
+none_running v first usable start same some none = record {
+  few = omega arith;
+  read = none_read v first some none;
+  run = run_as v 0 (no_cells v v.usable start (omega arith)) same same;
 }
 
 abbrev numbered : View → ℕ → Option (ℕ × Cell)

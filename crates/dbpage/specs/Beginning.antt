@@ -1,11 +1,17 @@
 -- What was read of a page before a byte of it is marked.
-use Rattle.std.specs.Prelude.{◌≡◌, ℕ, ◌+◌, ◌-◌, ◌<◌, ◌≤◌, List, MatchOption}
+use Rattle.std.specs.Prelude.{◌≡◌, ℕ, ◌+◌, ◌-◌, ◌<◌, ◌≤◌, List, MatchOption, Option, None, ℤ, false}
 use Rattle.dbformat.specs.Head.{View, content_start}
-use Rattle.dbformat.specs.Cell.{count}
+use Rattle.dbformat.specs.Cell.{Cell, count}
 use Rattle.dbformat.specs.Coverage.{Span, is_held}
-use Rattle.dbpage.specs.Marking.{ShareNoByte, Holds, cells_upto, is_within}
+use Rattle.dbpage.specs.Marking.{AreMarked, ShareNoByte, Holds, cells_upto, is_within}
 use Rattle.dbpage.specs.Packed.{AddUpTo}
 use Rattle.dbpage.specs.declared.packed.Beginning.{Beginning}
+use Rattle.dbpage.specs.declared.packed.MarkedCells.{MarkedCells}
+
+-- a cell ends at an offset, and takes four bytes or more
+pub record EndsAt (c : Cell) (end : ℕ) : Type 0 where
+  pub ends : c.offset + c.len ≡ end
+  pub four : 4 ≤ c.len
 
 -- no two spans share a byte, and they hold those of one range alone
 pub record IsCellRun (spans : List Span) (start end from to : ℕ) : Type 0 where
@@ -31,3 +37,24 @@ pub record IsBegun (v : View) (b : Beginning) : Type 0 where
   pub few : b.cells ≤ count v
   pub read : AddUpTo v b.cells b.sums
   pub runs : MatchOption b.next (AreInRun v b.cells b.run.from b.run.to) (λ held. EndsRun v b.cells b.run.from b.run.to held.0 held.1)
+
+-- no cell, of a page whose first key is this
+abbrev pub begins_with : Option ℤ → ℕ → Beginning
+begins_with first usable = record {
+  cells = 0;
+  sums = record { payload = 0; greatest = 0; first = first; last = None; has_overflow = false };
+  run = record { from = usable; to = usable };
+  next = None;
+}
+
+-- the same, where no cell ended the run
+pub record IsRunning (v : View) (b : Beginning) : Type 0 where
+  pub few : b.cells ≤ count v
+  pub read : AddUpTo v b.cells b.sums
+  pub run : AreInRun v b.cells b.run.from b.run.to
+
+-- These are the first cells, their sums, and how many bytes they hold, which are marked.
+pub record AreRead (v : View) (table : List ℕ) (m : MarkedCells) : Type 0 where
+  pub few : m.cells ≤ count v
+  pub read : AddUpTo v m.cells m.sums
+  pub marked : AreMarked (cells_upto v m.cells) (content_start v.number v.bytes) v.usable table m.held

@@ -1,12 +1,14 @@
 // Cells (Database File Format, 1.6, "B-tree Cell Format").
-ghost use Rattle.std.specs.Prelude.{◌≡◌, ◌+◌, ◌<◌, ◌≤◌, IfSome};
+ghost use Rattle.std.specs.Prelude.{◌≡◌, ◌+◌, ◌<◌, ◌≤◌, IfSome, Ok, Some};
 ghost use Rattle.dbformat.specs.Cell.{bytes_from, cell, cell_at, cell_pointer, child_number, count, overflow_size, payload_cell, right_child};
 ghost use Rattle.dbformat.specs.NamedPages.{named_page};
 ghost use Rattle.dbformat.specs.Varint.{varint};
+ghost use Rattle.dbformat.specs.Payload.{most_local};
+ghost use Rattle.dbpage.specs.Beginning.{EndsAt};
 ghost use Rattle.dbformat.specs.declared.PageKind.TheVariants.{InteriorIndex, InteriorTable, LeafIndex, LeafTable};
 
 use crate::view::PageView;
-use dbbytes::{local_len, most_local, varint, varint_of_four};
+use dbbytes::{local_len, most_local, short_varint, varint, varint_of_four};
 use dbformat::{CellFault, PageKind, PayloadKind, u16_at, u32_at};
 use std::marker::Model;
 
@@ -162,6 +164,78 @@ impl<'a> PageView<'a> {
         )
     }
 
+    // `cell` of a leaf of a table, if all of it is on the page and it ends at `end`, in the shortest way: `None` also where
+    // another way is needed.
+    #[inline(always)]
+    pub(crate) fn cell_up_to(&self, i: u32, end: u32) -> Option<Cell<'a>>
+        requires within { i < count self.now }
+        requires kind { self.now.kind ≡ LeafTable }
+        requires end { end ≤ self.now.usable }
+        ensures { IfSome result (λ c. (cell self.now i ≡ Ok c) × EndsAt c end) }
+    {
+        let offset = self.pointer(i);
+        // A size and a rowid of four bytes each are before the end.
+        if offset < self.start || end.saturating_sub(offset) < 8 {
+            return None;
+        }
+        self.table_leaf_cell_up_to(offset, end)
+    }
+
+    // `table_leaf_cell`, as `cell_up_to` has it.
+    #[inline(always)]
+    fn table_leaf_cell_up_to(&self, offset: u32, end: u32) -> Option<Cell<'a>>
+        requires room { offset + 8 ≤ end }
+        requires end { end ≤ self.now.usable }
+        requires most { self.now.usable ≤ 65536 }
+        ensures { IfSome result (λ c. (cell_at LeafTable self.now offset ≡ Some c) × EndsAt c end) }
+    {
+        let (size, size_len) = self.short_varint_at(offset)?;
+        let (rowid, rowid_len) = self.short_varint_at(offset + size_len)?;
+        let before = size_len + rowid_len;
+        if size > u64::from(most_local(PayloadKind::TableLeaf, self.usable)) {
+            return None;
+        }
+        let size = size as u32;
+        if offset + before + size != end {
+            return None;
+        }
+        let key = Some(rowid.cast_signed());
+        Some(self.whole_cell(PayloadKind::TableLeaf, offset, before, size, None, key))
+    }
+
+    // `cell` of a leaf of an index, if all of it is on the page and it has at most 56 bytes, by the short way as well.
+    #[inline(always)]
+    pub(crate) fn short_index_cell(&self, i: u32) -> Option<Cell<'a>>
+        requires within { i < count self.now }
+        requires kind { self.now.kind ≡ LeafIndex }
+        ensures { IfSome result (λ c. (cell self.now i ≡ Ok c) × (c.len ≤ 56)) }
+    {
+        let offset = self.pointer(i);
+        if offset < self.start || offset > self.usable - 4 {
+            return None;
+        }
+        self.short_index_leaf_cell(offset)
+    }
+
+    // `index_leaf_cell`, as `short_index_cell` has it.
+    #[inline(always)]
+    fn short_index_leaf_cell(&self, offset: u32) -> Option<Cell<'a>>
+        requires room { offset + 4 ≤ self.now.usable }
+        requires most { self.now.usable ≤ 65536 }
+        ensures { IfSome result (λ c. (cell_at LeafIndex self.now offset ≡ Some c) × (c.len ≤ 56)) }
+    {
+        let (size, before) = self.short_varint_at(offset)?;
+        // Each page has room for as much.
+        if size > 52 {
+            return None;
+        }
+        let size = size as u32;
+        if offset + before + size > self.usable {
+            return None;
+        }
+        Some(self.whole_cell(PayloadKind::Index, offset, before, size, None, None))
+    }
+
     #[inline(always)]
     fn table_interior_cell(&self, offset: u32) -> Option<Cell<'a>>
         requires room { offset + 4 ≤ self.now.usable }
@@ -223,6 +297,19 @@ impl<'a> PageView<'a> {
         Some((value, len as u32))
     }
 
+    // `first_varint_at`, where the number has at most four bytes.
+    #[inline(always)]
+    fn short_varint_at(&self, offset: u32) -> Option<(u64, u32)>
+        requires { offset + 4 ≤ self.now.usable }
+        ensures value { IfSome result (λ r. varint (bytes_from self.now offset) ≡ Some r) }
+        ensures within { IfSome result (λ r. r.1 ≤ 4) }
+    {
+        match short_varint(&self.bytes[offset as usize..self.usable as usize]) {
+            Ok((value, len)) => Some((value, len as u32)),
+            Err(_) => None,
+        }
+    }
+
     // The cell at `offset` whose payload of `size` bytes begins `before` bytes into it.
     #[inline(always)]
     #[tactic(auto, unfolding(dbformat::specs::Payload::local_len))]
@@ -243,19 +330,10 @@ impl<'a> PageView<'a> {
         // Most payloads are wholly in their cells.
         if size <= u64::from(most_local(kind, self.usable)) {
             let size = size as u32;
-            let end = payload + size;
-            if end > self.usable {
+            if payload + size > self.usable {
                 return None;
             }
-            return Some(Cell {
-                offset,
-                len: before + size,
-                size,
-                local: &self.bytes[payload as usize..end as usize],
-                left,
-                key,
-                overflow: None,
-            });
+            return Some(self.whole_cell(kind, offset, before, size, left, key));
         }
         if size > 2147483647 {
             return None;
@@ -280,5 +358,35 @@ impl<'a> PageView<'a> {
                 None
             },
         })
+    }
+
+    // The cell at `offset` whose payload of `size` bytes, which begins `before` bytes into it, is wholly in it.
+    #[inline(always)]
+    #[tactic(auto, unfolding(dbformat::specs::Payload::local_len))]
+    fn whole_cell(
+        &self,
+        kind: PayloadKind,
+        offset: u32,
+        before: u32,
+        size: u32,
+        left: Option<u32>,
+        key: Option<i64>,
+    ) -> Cell<'a>
+        requires here { size ≤ most_local kind self.now.usable }
+        requires place { offset + before + size ≤ self.now.usable }
+        requires most { self.now.usable ≤ 65536 }
+        ensures cell { payload_cell self.now kind offset before size left key ≡ Some result }
+        ensures span { (result.offset ≡ offset) × (result.len ≡ before + size) }
+    {
+        let payload = offset + before;
+        Cell {
+            offset,
+            len: before + size,
+            size,
+            local: &self.bytes[payload as usize..(payload + size) as usize],
+            left,
+            key,
+            overflow: None,
+        }
     }
 }

@@ -32,7 +32,7 @@ mark_freeblocks-requires-clause-cells g c =
       arith,
       c.loop-i-test.false,
       c.loop-i.auto.i-end,
-      c.requires.begun.few,
+      c.in_ok-marked.ensures.few,
       c.self.invariant.cells_is,
       ap (λ (w : View). cell_count w.number w.bytes) c.self.view_is,
     ) in
@@ -48,7 +48,7 @@ packed_from-requires-clause-read g c =
       arith,
       c.loop-i-test.false,
       c.loop-i.auto.i-end,
-      c.requires.begun.few,
+      c.in_ok-marked.ensures.few,
       c.self.invariant.cells_is,
       ap (λ (w : View). cell_count w.number w.bytes) c.self.view_is,
     ) in

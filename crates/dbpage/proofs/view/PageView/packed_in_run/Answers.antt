@@ -1,27 +1,15 @@
-use Rattle.std.proofs.Common.{rules, ◌≡◌, ℕ, ◌≤◌, refl, sym, subst, ap, ◌∙◌, arith}
+use Rattle.std.proofs.Common.{rules, ◌≡◌, ℕ, refl, sym, subst, ap, ◌∙◌, arith}
 use Rattle.dbformat.specs.Head.{View, cell_count, content_start}
 use Rattle.dbformat.specs.Cell.{count}
 use Rattle.dbformat.specs.Coverage.{items}
 use Rattle.dbpage.specs.Beginning.{AreInRun}
 use Rattle.dbpage.specs.Marking.{ShareNoByte}
 use Rattle.dbpage.specs.Packed.{AddUpTo}
-use Rattle.dbpage.specs.declared.run.CellRun.{CellRun}
-use Rattle.dbpage.proofs.PackedLemmas.{none_read}
-use Rattle.dbpage.proofs.Runs.{no_cells, run_as, cell_joins, run_of_items}
+use Rattle.dbpage.proofs.Runs.{cell_joins, run_of_items}
 use Rattle.dbpage.proofs.view.PageView.packed_in_run.Goals as goal
 
 pub loop-i-init : goal.loop-i-init
-loop-i-init c =
-    let v = c.args.self.now in
-    let sums = c.new-sums.ensures in
-    let usable = ap (λ (w : View). w.usable) c.self.view_is in
-    let start : content_start v.number v.bytes ≤ v.usable =
-    omega (arith, usable, ap (λ (w : View). content_start w.number w.bytes) c.self.view_is, c.self.invariant.start_is, c.self.invariant.inside) in
-    record {
-      read = subst (AddUpTo v 0) (sym sums) (none_read v c.first_key.result c.first_key.ensures.some c.first_key.ensures.none);
-      run = run_as v 0 (no_cells v v.usable start (omega arith)) (omega (arith, ap (λ (r : CellRun). r.from) c.new-run.ensures, usable))
-          (omega (arith, ap (λ (r : CellRun). r.to) c.new-run.ensures, usable));
-    }
+loop-i-init c = record { read = c.in_ok-begun.ensures.read; run = c.in_ok-begun.ensures.run }
 
 pub loop-i-preserved : goal.loop-i-preserved
 loop-i-preserved c =
@@ -42,6 +30,7 @@ packed_from-requires-clause-apart c =
       arith,
       c.loop-i-test.false,
       c.loop-i.auto.i-end,
+      c.in_ok-begun.ensures.few,
       c.self.invariant.cells_is,
       ap (λ (w : View). cell_count w.number w.bytes) c.self.view_is,
     ) in
@@ -55,7 +44,8 @@ packed_by_marks-requires-in-Some-clause-begun c =
     let sums = c.loop-i.sums in
     let run = c.loop-i.run in
     let cells = ap (λ (w : View). cell_count w.number w.bytes) c.self.view_is in
-    let all : c.loop-i.i ≡ c.self.inside.cells = omega (arith, c.loop-i-test.false, c.loop-i.auto.i-end) in
+    let all : c.loop-i.i ≡ c.self.inside.cells =
+    omega (arith, c.loop-i-test.false, c.loop-i.auto.i-end, c.in_ok-begun.ensures.few, c.self.invariant.cells_is, cells) in
     record {
       few = omega (arith, c.self.invariant.cells_is, cells);
       read = subst (λ (n : ℕ). AddUpTo v n sums) all c.loop-i.invariant.read;

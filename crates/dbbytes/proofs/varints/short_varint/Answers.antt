@@ -1,7 +1,7 @@
 use Rattle.std.proofs.Common.{arith}
 use Rattle.std.proofs.lemmas.Grind.{common_steps}
 use Rattle.dbbytes.proofs.VarintLemmas.{varint_after_first}
-use Rattle.dbbytes.proofs.varints.varint_of_four.Goals as goal
+use Rattle.dbbytes.proofs.varints.short_varint.Goals as goal
 
 pub returns-then-one-lt128-clause-value : goal.returns-then-one-lt128-clause-value
 returns-then-one-lt128-clause-value c =
@@ -23,7 +23,7 @@ returns-then-bytes-lt128-3-clause-value c =
     let after_first = varint_after_first c.args.bytes.now (omega arith) in
     grind (arith, common_steps)
 
-pub varint_after_four-requires-clause-more : goal.varint_after_four-requires-clause-more
-varint_after_four-requires-clause-more c =
+pub returns-clause-more : goal.returns-clause-more
+returns-clause-more c =
     let after_first = varint_after_first c.args.bytes.now (omega arith) in
     grind (arith, common_steps)
