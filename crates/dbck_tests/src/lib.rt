@@ -1,5 +1,5 @@
 //! Tests of the crates below the program, on whole files: [`stat`], [`explain`] and [`map`], what is refused to a run,
-//! files that are written meanwhile, and the parts of a run. Those of the walk alone are in `dbwalk_tests`.
+//! files that are written meanwhile, and the parts of a run.
 #![tactic(auto)]
 
 #[cfg(test)]

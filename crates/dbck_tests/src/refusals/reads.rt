@@ -12,11 +12,18 @@ use std::test::Fail;
 
 // What is run, the file, what is written to the first out, and how many lines of that are written after a failure of the length, the
 // header, and each page in turn.
-const READS: [[&str; 4]; 8] = [
+const READS: [[&str; 4]; 9] = [
     // `ok` comes at the end.
     ["check", "LongRow 3", "ok\n", "0 0 0 0 0"],
     // The line of the header is written before page 1 is read.
     ["check", "LongRow 3: 1 18 03", OLD_VERSION, "0 0 1 1 1"],
+    // Of two trunks each is read once, and of the first, which has the leaves 9 and 4, the fault is written before the second is read.
+    [
+        "check",
+        "Smallest 4: 1 32 00000002 00000003, 2 0 00000003 00000002 00000009 00000004, 3 0 00000002",
+        "R01 page 2 item 0 value 9: page number out of range\nR03 page 3 item 0 value 2: page is already in use\n",
+        "0 0 0 0 1",
+    ],
     ["pages", "LongRow 3", LONG_ROW_ROWS, "0 0 0 1 2"],
     // The row of a tree is written when its last page is read.
     [

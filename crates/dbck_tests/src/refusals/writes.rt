@@ -2,7 +2,7 @@
 use crate::support::cases::{begins, command_of, file_of, is_text, lines, verdict_of};
 use crate::support::fakes::{FakeWriter, Manner, SmallOut};
 use crate::support::files::{EMPTY_PAGES, LONG_ROW_ROWS, MAPPED_ROWS, OLD_VERSION};
-use dbfiles::holds;
+use dbfiles::{StatedSource, holds};
 use dbreport::{Verdict, run};
 use dbsource::{MemSource, RunError, StreamOut};
 use std::alloc::Global;
@@ -64,6 +64,24 @@ fn each_write_to_the_first_out_fails_in_turn(rt: HostRuntime) -> Result<(), Fail
         for room in 0..case[2].len().wrapping_add(2) {
             holds!(rt; fills_first(rt.alloc(), case, file.as_slice(), room), (case, room));
         }
+    }
+    Ok(())
+}
+
+// How often a source is asked where a row of each page is shown, and there is room for so many bytes of them.
+fn calls_of(alloc: Global, file: &[u8], room: usize) -> u64 {
+    let mut source = StatedSource::new(file, file.len() as u64, u64::MAX);
+    let (mut out, mut err) = (SmallOut::new(room), SmallOut::new(0));
+    let _ = run(alloc, command_of("pages"), &mut source, &mut out, &mut err);
+    source.calls()
+}
+
+// Asked for are the length, the header and three pages, and after a write that failed nothing more.
+#[test]
+fn a_failed_write_ends_the_reads(rt: HostRuntime) -> Result<(), Fail> {
+    let file = file_of(rt.alloc(), "LongRow 3")?;
+    for (room, calls) in [(0, 3), (2048, 5)] {
+        holds!(rt; calls_of(rt.alloc(), file.as_slice(), room) == calls, room);
     }
     Ok(())
 }
