@@ -1,5 +1,5 @@
 #!/usr/bin/env bash
-# Makes the databases whose pages are written out in src/pages/sqlite_pages.rt, in the folder that is given, and prints
+# Makes the databases whose pages end the table ../stdin, in the folder that is given, and prints
 # what SQLite's dbstat says of their pages: number, type, cells, payload, unused, largest payload.
 set -eu
 cd "$1"

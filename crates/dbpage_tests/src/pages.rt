@@ -1,180 +1,184 @@
-// Pages written out by hand. What is expected of them is counted from their bytes.
-mod heads;
-mod looks;
-mod marks;
-mod packed;
-mod sqlite_pages;
-mod written_pages;
-
+// Pages by their bytes, and what is read of them:
+//
+//     head         the byte of its type, and where its content area begins
+//     look         what it looks like, whatever refers to it
+//     kind         its kind and how many cells it has, or why its head is not sound; the words below ask of a page whose head is
+//     cells        of each cell its offset and length, its local bytes and payload size, its left child, its key and its first overflow page
+//     children     those that there are, each after its number
+//     freeblocks   the good ones by offset and size, and number and offset of the bad one
+//     items        the offsets of the items 0 to 3 and 4294967295
+//     totals       how many cells can be read, their bytes of payload on the page, and the greatest payload
+//     packed       the bytes of payload, the greatest payload, how many bytes no item holds, the rowids of the first and the last cell, and
+//                  whether a payload goes on, of a page that one reading is enough for
+//     unused       how many bytes are unused
+//     coverage     the first item that shares a byte with one before it, or how many bytes no item holds
 ghost use Rattle.std.specs.Prelude.{◌≤◌, length};
 
-use dbfiles::{Text, expect_text, write_bytes};
+use crate::Text;
+use crate::spelled::{bytes_of, write_at};
 use dbformat::CellFault;
 use dbpage::{Cell, PageView, content_start, look_of, type_byte, uncounted_coverage};
+use std::alloc::{AllocError, Global};
 use std::fmt::Write;
-use std::process::Abort;
 
-/// A page in four texts: a name, the number of the page and its usable bytes, runs of bytes after their offsets (a byte with a
-/// star and a number is written so often, and all others are 0), and the expected answers, part by part. The first word of a part says what is asked for.
-pub(crate) type Case = [&'static str; 4];
-
-/// Asks for all parts of some pages.
-pub(crate) fn check_all(rt: &impl Abort, cases: &[Case]) {
-    let mut page = [0u8; 65536];
-    let mut table = [255u8; 65536];
-    for case in cases {
-        page.fill(0);
-        write_page(&mut page, case[2]);
-        check(rt, case, &page, &mut table);
-    }
+/// A page, with its number and how many of its bytes are usable, and a table of uses.
+#[derive(Drop)]
+pub(crate) struct Page {
+    bytes: Vec<u8>,
+    number: u32,
+    usable: u32,
+    table: Vec<u8>,
 }
 
-// Writes the runs of bytes of a page.
-fn write_page(page: &mut [u8], runs: &str) {
-    for run in runs.split(", ") {
-        let (at, bytes) = run.split_once(' ').unwrap_or(("", ""));
-        let at = at.parse::<usize>().unwrap_or(usize::MAX);
-        if write_run(page, at, bytes).is_none() {
-            // No type of a page.
-            page.fill(0xee);
+impl Page {
+    /// A page of which nothing can be asked yet.
+    ///
+    /// # Errors
+    ///
+    /// [`AllocError`] where memory was refused.
+    pub(crate) fn new(alloc: Global) -> Result<Page, AllocError> {
+        Ok(Page {
+            bytes: Vec::from_elem(alloc, 0u8, 65536)?,
+            number: 0,
+            usable: 0,
+            table: Vec::from_elem(alloc, 255u8, 65536)?,
+        })
+    }
+
+    /// Begins a page, or writes over it, as a line says. None where it says neither.
+    pub(crate) fn write(&mut self, line: &str) -> Option<()> {
+        let (word, of) = line.split_once(' ')?;
+        let (number, of) = of.split_once(' ')?;
+        let number = number.parse::<u32>().ok()?;
+        match word {
+            "page" => {
+                self.number = number;
+                self.usable = of.split_once(' ')?.1.parse::<u32>().ok()?;
+                self.bytes.as_mut_slice().fill(0);
+                Some(())
+            }
+            "at" => write_at(
+                self.bytes.as_mut_slice(),
+                number as usize,
+                bytes_of(of)?.as_slice(),
+            ),
+            _ => None,
         }
     }
-}
 
-// Writes a run of bytes. Answers the place after it, or none where it has no place.
-fn write_run(page: &mut [u8], at: usize, bytes: &str) -> Option<usize> {
-    let Some((byte, count)) = bytes.split_once('*') else {
-        return write_bytes(page, at, bytes);
-    };
-    let mut at = at;
-    for _ in 0..count.parse::<u32>().ok()? {
-        at = write_bytes(page, at, byte)?;
-    }
-    Some(at)
-}
-
-// Asks for all parts of a page.
-fn check(rt: &impl Abort, case: &Case, page: &[u8], table: &mut [u8]) {
-    let (number, usable) = case[1].split_once(" of ").unwrap_or(("", ""));
-    let number = number.parse::<u32>().unwrap_or(0);
-    let usable = usable.parse::<u32>().unwrap_or(0);
-    for want in case[3].split("; ") {
-        let word = match want.split_once(' ') {
-            Some((word, _)) => word,
-            None => want,
-        };
-        let mut text = Text::new();
-        let _ = write!(text, "{word}");
-        answer(rt, page, (number, usable), table, word, &mut text);
-        expect_text!(*rt; text, want, case);
+    /// Adds what is asked of the page.
+    pub(crate) fn add_part(&mut self, word: &str, text: &mut Text) -> Option<()> {
+        let of = (self.number, self.usable);
+        add_part(
+            self.bytes.as_slice(),
+            of,
+            self.table.as_mut_slice(),
+            word,
+            text,
+        )
     }
 }
 
 // What is asked of the page of this number with this many usable bytes.
-fn answer(
-    rt: &impl Abort,
+fn add_part(
     page: &[u8],
-    of: (u32, u32),
+    (number, usable): (u32, u32),
     table: &mut [u8],
     word: &str,
     text: &mut Text,
-) {
-    let (number, usable) = of;
-    assert!(rt; 480 <= usable && usable <= 65536);
-    assert!(rt; usable as usize <= page.len() && usable as usize <= table.len());
+) -> Option<()> {
+    let room = page.len().min(table.len());
+    if usable < 480 || usable > 65536 || usable as usize > room {
+        return None;
+    }
     if word == "head" {
-        let _ = write!(
-            text,
-            " {} {}",
-            type_byte(page, number),
-            content_start(page, number)
-        );
-        return;
+        let (kind, content) = (type_byte(page, number), content_start(page, number));
+        return write!(text, " {kind} {content}").ok();
     }
     if word == "look" {
-        let _ = write!(text, " {:?}", look_of(page, number, usable));
-        return;
+        return write!(text, " {:?}", look_of(page, number, usable)).ok();
     }
     match PageView::new(page, number, usable) {
         Ok(view) => describe(&view, table, word, text),
-        Err(fault) => drop(write!(text, " {fault:?}")),
+        Err(fault) => write!(text, " {fault:?}").ok(),
     }
 }
 
 // What is asked of a page whose head is sound.
-fn describe(view: &PageView<'_>, table: &mut [u8], word: &str, text: &mut Text)
+fn describe(view: &PageView<'_>, table: &mut [u8], word: &str, text: &mut Text) -> Option<()>
     requires { view.now.usable ≤ length table.old }
 {
-    let _ = match word {
-        "kind" => write!(text, " {:?} {}", view.kind(), view.cells()),
-        "cells" => return write_cells(view, text),
-        "children" => return write_children(view, text),
-        "freeblocks" => return write_freeblocks(view, text),
-        "items" => return write_items(view, text),
-        "totals" => return write_totals(view, text),
-        "packed" => return write_packed(view, table, text),
-        "unused" => write!(text, " {}", view.unused()),
-        _ => write!(text, " {:?}", uncounted_coverage(view, table)),
-    };
+    match word {
+        "kind" => write!(text, " {:?} {}", view.kind(), view.cells()).ok(),
+        "cells" => add_cells(view, text),
+        "children" => add_children(view, text),
+        "freeblocks" => add_freeblocks(view, text),
+        "items" => add_items(view, text),
+        "totals" => add_totals(view, text),
+        "packed" => add_packed(view, table, text),
+        "unused" => write!(text, " {}", view.unused()).ok(),
+        "coverage" => write!(text, " {:?}", uncounted_coverage(view, table)).ok(),
+        _ => None,
+    }
 }
 
-// Each cell: its offset and length, its local bytes and payload size, its left child, key and first overflow page.
-fn write_cells(view: &PageView<'_>, text: &mut Text) {
+fn add_cells(view: &PageView<'_>, text: &mut Text) -> Option<()> {
     for i in 0..view.cells() {
-        match view.cell(i) {
-            Ok(cell) => write_cell(&cell, text),
-            Err(fault) => drop(write!(text, " [{fault:?}]")),
-        }
+        add_cell(&view.cell(i), text)?;
+    }
+    Some(())
+}
+
+fn add_cell(cell: &Result<Cell<'_>, CellFault>, text: &mut Text) -> Option<()> {
+    let cell = match cell {
+        Ok(cell) => cell,
+        Err(fault) => return write!(text, " [{fault:?}]").ok(),
+    };
+    let (offset, len, local, size) = (cell.offset, cell.len, cell.local.len(), cell.size);
+    write!(text, " [{offset}+{len} {local}/{size}").ok()?;
+    add_number(" left ", cell.left.map(i64::from), text)?;
+    add_number(" key ", cell.key, text)?;
+    add_number(" to ", cell.overflow.map(i64::from), text)?;
+    write!(text, "]").ok()
+}
+
+// A number after what it is, if there is one.
+fn add_number(name: &str, number: Option<i64>, text: &mut Text) -> Option<()> {
+    match number {
+        Some(number) => write!(text, "{name}{number}").ok(),
+        None => Some(()),
     }
 }
 
-fn write_cell(cell: &Cell<'_>, text: &mut Text) {
-    let _ = write!(text, " [{}+{}", cell.offset, cell.len);
-    let _ = write!(text, " {}/{}", cell.local.len(), cell.size);
-    write_part(" left ", cell.left.map(i64::from), text);
-    write_part(" key ", cell.key, text);
-    write_part(" to ", cell.overflow.map(i64::from), text);
-    let _ = write!(text, "]");
-}
-
-fn write_part(name: &str, part: Option<i64>, text: &mut Text) {
-    if let Some(part) = part {
-        let _ = write!(text, "{name}{part}");
-    }
-}
-
-// The children that there are, each with its number.
-fn write_children(view: &PageView<'_>, text: &mut Text) {
+fn add_children(view: &PageView<'_>, text: &mut Text) -> Option<()> {
     for i in 0..view.cells().saturating_add(1) {
         if let Some(child) = view.child(i) {
-            let _ = write!(text, " {i}:{child}");
+            write!(text, " {i}:{child}").ok()?;
         }
     }
+    Some(())
 }
 
-// The good freeblocks by offset and size, and the number and offset of the bad one.
-fn write_freeblocks(view: &PageView<'_>, text: &mut Text) {
+fn add_freeblocks(view: &PageView<'_>, text: &mut Text) -> Option<()> {
     let mut freeblocks = view.freeblocks();
     for freeblock in freeblocks.by_ref() {
-        let _ = write!(text, " [{}+{}]", freeblock.offset, freeblock.size);
+        write!(text, " [{}+{}]", freeblock.offset, freeblock.size).ok()?;
     }
-    if let Some((number, offset)) = freeblocks.bad() {
-        let _ = write!(text, " bad {number} {offset}");
+    match freeblocks.bad() {
+        Some((number, offset)) => write!(text, " bad {number} {offset}").ok(),
+        None => Some(()),
     }
 }
 
-// The offsets of some items, of which the last are none of a small page.
-fn write_items(view: &PageView<'_>, text: &mut Text) {
+fn add_items(view: &PageView<'_>, text: &mut Text) -> Option<()> {
     for item in [0, 1, 2, 3, 4294967295] {
-        let _ = write!(text, " {}", view.item_offset(item));
+        write!(text, " {}", view.item_offset(item)).ok()?;
     }
+    Some(())
 }
 
-// The readable cells, their bytes of payload on the page, and the largest payload.
-fn write_totals(view: &PageView<'_>, text: &mut Text) {
-    let mut cells = 0u32;
-    let mut payload = 0usize;
-    let mut largest = 0;
+fn add_totals(view: &PageView<'_>, text: &mut Text) -> Option<()> {
+    let (mut cells, mut payload, mut largest) = (0u32, 0usize, 0);
     for i in 0..view.cells() {
         if let Ok(cell) = view.cell(i) {
             cells = cells.wrapping_add(1);
@@ -182,26 +186,20 @@ fn write_totals(view: &PageView<'_>, text: &mut Text) {
             largest = largest.max(cell.size);
         }
     }
-    let _ = write!(text, " {cells} {payload} {largest}");
+    write!(text, " {cells} {payload} {largest}").ok()
 }
 
-// The bytes of payload, the greatest payload, what no item holds, the rowids of the first and the last, and what goes on.
-fn write_packed(view: &PageView<'_>, table: &mut [u8], text: &mut Text)
+fn add_packed(view: &PageView<'_>, table: &mut [u8], text: &mut Text) -> Option<()>
     requires { view.now.usable ≤ length table.old }
 {
-    if let Some(packed) = view.packed(table) {
-        let sums = packed.sums;
-        let _ = write!(
-            text,
-            " {} {} {}",
-            sums.payload, sums.greatest, packed.unheld
-        );
-        write_part(" ", sums.first, text);
-        write_part(" ", sums.last, text);
-        if sums.has_overflow {
-            let _ = write!(text, " goes on");
-        }
-    } else {
-        let _ = write!(text, " none");
-    }
+    let Some(packed) = view.packed(table) else {
+        return write!(text, " none").ok();
+    };
+    let sums = packed.sums;
+    let (payload, greatest, unheld) = (sums.payload, sums.greatest, packed.unheld);
+    write!(text, " {payload} {greatest} {unheld}").ok()?;
+    add_number(" ", sums.first, text)?;
+    add_number(" ", sums.last, text)?;
+    let end = if sums.has_overflow { " goes on" } else { "" };
+    write!(text, "{end}").ok()
 }

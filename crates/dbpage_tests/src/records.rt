@@ -1,88 +1,76 @@
-// Numbers, payload lengths, names and rows of the schema, by their bytes.
-mod columns;
-mod names;
-mod numbers;
-mod rows;
-
+// Rows of the schema by the bytes of their records.
+use crate::Text;
+use crate::spelled::{add_name, bytes_of};
 use dbbytes::{RowFault, RowSieve, SchemaRow};
-use dbfiles::{Text, bytes_of, expect_text, holds};
 use dbformat::Encoding;
 use std::fmt::Write;
-use std::process::Abort;
 
-/// A row of the schema in four texts: its encoding, the size of its record, its bytes, and what it is: kind, root and the bytes
-/// of its name, if it has one.
-pub(crate) type Case = [&'static str; 4];
-
-/// Reads some rows, in any pieces.
-pub(crate) fn check_all(rt: &impl Abort, cases: &[Case]) {
-    for case in cases {
-        let mut room = [0; 64];
-        let bytes = bytes_of(&mut room, case[2]);
-        check(rt, case, bytes);
-    }
-}
-
-fn check(rt: &impl Abort, case: &Case, bytes: &[u8]) {
-    let encoding = encoding_of(case[0]);
-    let size = case[1].parse::<u32>().unwrap_or(u32::MAX);
-    let whole = sieve_of(size, encoding, bytes);
-    let mut text = Text::new();
-    write_row(&mut text, whole.finish());
-    expect_text!(*rt; text, case[3], case);
-    feed_in_pieces(rt, &whole, size, encoding, bytes);
-}
-
-/// UTF-8, or UTF-16 with the low or the high byte first.
-pub(crate) fn encoding_of(word: &str) -> Encoding {
+/// The encoding of a word: UTF-8, or UTF-16 with the low or the high byte first.
+pub(crate) fn encoding_of(word: &str) -> Option<Encoding> {
     match word {
-        "utf8" => Encoding::Utf8,
-        "le" => Encoding::Utf16le,
-        _ => Encoding::Utf16be,
+        "utf8" => Some(Encoding::Utf8),
+        "le" => Some(Encoding::Utf16le),
+        "be" => Some(Encoding::Utf16be),
+        _ => None,
     }
 }
 
-fn write_row(text: &mut Text, row: Result<SchemaRow<'_>, RowFault>) {
+/// Adds the row after each piece of a record.
+pub(crate) fn add_rows(of: &str, text: &mut Text) -> Option<()> {
+    let (of, pieces) = of.split_once(':')?;
+    let (encoding, size) = of.split_once(' ')?;
+    let (encoding, size) = (encoding_of(encoding)?, size.parse::<u32>().ok()?);
+    let mut sieve = RowSieve::new(size, encoding);
+    let mut count = 0u32;
+    for piece in pieces.split('|') {
+        if count > 0 {
+            write!(text, " |").ok()?;
+        }
+        count = count.saturating_add(1);
+        sieve.feed(bytes_of(piece)?.as_slice());
+        add_row(&sieve.finish(), text)?;
+    }
+    if count > 1 {
+        return Some(());
+    }
+    feed_in_pieces(&sieve, size, encoding, bytes_of(pieces)?.as_slice(), text)
+}
+
+fn add_row(row: &Result<SchemaRow<'_>, RowFault>, text: &mut Text) -> Option<()> {
     match row {
         Ok(row) => {
-            let _ = write!(text, "{:?} {}", row.kind, row.root);
-            if let Some(name) = row.name {
-                write_name(text, name);
+            write!(text, " {:?} {}", row.kind, row.root).ok()?;
+            match row.name {
+                Some(name) => add_name(name, text),
+                None => Some(()),
             }
         }
-        Err(fault) => drop(write!(text, "{fault:?}")),
+        Err(fault) => write!(text, " {fault:?}").ok(),
     }
 }
 
-fn write_name(text: &mut Text, name: &[u8]) {
-    let _ = write!(text, " named");
-    for byte in name {
-        let _ = write!(text, " {byte:02x}");
-    }
-}
-
-/// What has read all bytes at once.
-pub(crate) fn sieve_of(size: u32, encoding: Encoding, bytes: &[u8]) -> RowSieve {
-    let mut sieve = RowSieve::new(size, encoding);
-    sieve.feed(bytes);
-    sieve
-}
-
-/// Feeds the bytes one by one and in two pieces, cut anywhere: the row is the same.
-pub(crate) fn feed_in_pieces(
-    rt: &impl Abort,
+// Feeds the bytes one by one and in two pieces, cut anywhere. Adds each row that is another then.
+fn feed_in_pieces(
     whole: &RowSieve,
     size: u32,
     encoding: Encoding,
     bytes: &[u8],
-) {
+    text: &mut Text,
+) -> Option<()> {
     let mut one_by_one = RowSieve::new(size, encoding);
     for cut in 0..bytes.len() {
         one_by_one.feed(&bytes[cut..cut + 1]);
         let mut halves = RowSieve::new(size, encoding);
         halves.feed(&bytes[..cut]);
         halves.feed(&bytes[cut..]);
-        holds!(*rt; halves.finish() == whole.finish(), (bytes, size, cut));
+        if halves.finish() != whole.finish() {
+            write!(text, ", and cut at {cut}").ok()?;
+            add_row(&halves.finish(), text)?;
+        }
     }
-    holds!(*rt; one_by_one.finish() == whole.finish(), (bytes, size));
+    if one_by_one.finish() != whole.finish() {
+        write!(text, ", and byte by byte").ok()?;
+        add_row(&one_by_one.finish(), text)?;
+    }
+    Some(())
 }
