@@ -6,7 +6,7 @@ use Rattle.dbformat.specs.Coverage.{Span, is_held}
 use Rattle.dbpage.specs.Marking.{AreMarked, ShareNoByte, Holds, cells_upto, is_within}
 use Rattle.dbpage.specs.Packed.{AddUpTo}
 use Rattle.dbpage.specs.declared.packed.Beginning.{Beginning}
-use Rattle.dbpage.specs.declared.packed.MarkedCells.{MarkedCells}
+use Rattle.dbpage.specs.declared.common_cells.MarkedCells.{MarkedCells}
 
 -- a cell ends at an offset, and takes four bytes or more
 pub record EndsAt (c : Cell) (end : ℕ) : Type 0 where

@@ -19,6 +19,7 @@
 
 mod byte_runs;
 mod cell;
+mod common_cells;
 mod freeblocks;
 mod held_bytes;
 mod looks;

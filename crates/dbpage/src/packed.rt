@@ -2,10 +2,9 @@
 ghost use Rattle.std.specs.Prelude.{◌≡◌, ℕ, None, Ok, false, ◌+◌, ◌<◌, ◌≤◌, length, MatchBool, MatchOption};
 ghost use Rattle.dbformat.specs.Head.{content_start};
 ghost use Rattle.dbformat.specs.Cell.{cell, count};
-ghost use Rattle.dbformat.specs.declared.PageKind.TheVariants.{LeafIndex, LeafTable};
 ghost use Rattle.dbformat.specs.Coverage.{items};
 ghost use Rattle.dbpage.specs.Marking.{ShareNoByte, AreMarked, Holds, cells_upto, is_claimed};
-ghost use Rattle.dbpage.specs.Beginning.{AreRead, IsBegun, IsRunning, begins_with};
+ghost use Rattle.dbpage.specs.Beginning.{IsBegun, begins_with};
 ghost use Rattle.dbpage.specs.Packed.{AddUpTo, IsPacked, IsAboveLast, IsUnpacked, key_at};
 
 use crate::cell::Cell;
@@ -94,43 +93,6 @@ impl<'a> PageView<'a> {
         }
     }
 
-    // The first cells of a page of this kind: none yet, but in a leaf of a table.
-    #[inline(always)]
-    fn leading_cells(&self, kind: PageKind, first: Option<i64>) -> Option<Beginning>
-        requires kind { kind ≡ self.now.kind }
-        requires some { 0 < count self.now → key_at self.now 0 ≡ first }
-        requires none { count self.now ≡ 0 → first ≡ None }
-        ensures { MatchOption result (IsUnpacked self.now) (IsRunning self.now) }
-    {
-        match kind {
-            PageKind::LeafTable => self.leading_leaf_cells(first),
-            _ => Some(Beginning::new(first, self.usable)),
-        }
-    }
-
-    // The first cells of a leaf of a table, while each ends where the one before it begins, as SQLite writes them. The loop
-    // is a short one, so that all that it needs is in registers.
-    #[inline(never)]
-    fn leading_leaf_cells(&self, first: Option<i64>) -> Option<Beginning>
-        requires kind { self.now.kind ≡ LeafTable }
-        requires some { 0 < count self.now → key_at self.now 0 ≡ first }
-        requires none { count self.now ≡ 0 → first ≡ None }
-        ensures { MatchOption result (IsUnpacked self.now) (IsRunning self.now) }
-    {
-        let mut begun = Beginning::new(first, self.usable);
-        for i in 0..self.cells {
-            let Some(cell) = self.cell_up_to(i, begun.run.from) else {
-                break;
-            };
-            if !self.add_read(i, &cell, &mut begun.sums) {
-                return None;
-            }
-            begun.run.from = cell.offset;
-            begun.cells = i + 1;
-        }
-        Some(begun)
-    }
-
     // `packed` of a page whose first cells were read, by marks of all items.
     #[inline(never)]
     fn packed_by_marks(&self, begun: &Beginning, table: &mut [u8]) -> Option<Packed>
@@ -145,7 +107,7 @@ impl<'a> PageView<'a> {
 
     // The same view, as a local of the caller: a write into a table cannot change it, so a loop need not read it again.
     #[inline(always)]
-    fn copied(&self) -> PageView<'a>
+    pub(crate) fn copied(&self) -> PageView<'a>
         ensures { result ≡ self.now }
     {
         PageView {
@@ -241,88 +203,6 @@ impl<'a> PageView<'a> {
         }
     }
 
-    // Marks the next cells of a page of this kind, while they are short: only those of a leaf of an index.
-    #[inline(always)]
-    fn mark_short_cells<L: Ledger>(
-        &self,
-        kind: PageKind,
-        begun: &Beginning,
-        in_cells: u32,
-        table: &mut [u8],
-        mark_count: &mut MarkCount<L>,
-    ) -> Option<MarkedCells>
-        requires kind { kind ≡ self.now.kind }
-        requires room { self.now.usable ≤ length table.old }
-        requires begun { IsBegun self.now begun.now }
-        requires marked { AreMarked (cells_upto self.now begun.now.cells) (content_start self.now.number self.now.bytes) self.now.usable table.old in_cells }
-        ensures { MatchOption result (IsUnpacked self.now) (AreRead self.now table.new) }
-    {
-        match kind {
-            PageKind::LeafIndex => self.mark_short_index_cells(begun, in_cells, table, mark_count),
-            _ => Some(MarkedCells {
-                cells: begun.cells,
-                sums: begun.sums,
-                held: in_cells,
-            }),
-        }
-    }
-
-    // `mark_short_cells` of a leaf of an index.
-    #[inline(never)]
-    fn mark_short_index_cells<L: Ledger>(
-        &self,
-        begun: &Beginning,
-        in_cells: u32,
-        table: &mut [u8],
-        mark_count: &mut MarkCount<L>,
-    ) -> Option<MarkedCells>
-        requires kind { self.now.kind ≡ LeafIndex }
-        requires room { self.now.usable ≤ length table.old }
-        requires begun { IsBegun self.now begun.now }
-        requires marked { AreMarked (cells_upto self.now begun.now.cells) (content_start self.now.number self.now.bytes) self.now.usable table.old in_cells }
-        ensures { MatchOption result (IsUnpacked self.now) (AreRead self.now table.new) }
-    {
-        self.copied()
-            .mark_short_index_cells_in_place(begun, in_cells, table, mark_count)
-    }
-
-    // `mark_short_index_cells` of a view that no write can change. The loop calls nothing.
-    #[inline(always)]
-    fn mark_short_index_cells_in_place<L: Ledger>(
-        &self,
-        begun: &Beginning,
-        in_cells: u32,
-        table: &mut [u8],
-        mark_count: &mut MarkCount<L>,
-    ) -> Option<MarkedCells>
-        requires kind { self.now.kind ≡ LeafIndex }
-        requires room { self.now.usable ≤ length table.old }
-        requires begun { IsBegun self.now begun.now }
-        requires marked { AreMarked (cells_upto self.now begun.now.cells) (content_start self.now.number self.now.bytes) self.now.usable table.old in_cells }
-        ensures { MatchOption result (IsUnpacked self.now) (AreRead self.now table.new) }
-    {
-        let mut marked = MarkedCells {
-            cells: begun.cells,
-            sums: begun.sums,
-            held: in_cells,
-        };
-        for i in begun.cells..self.cells {
-            let Some(cell) = self.short_index_cell(i) else {
-                break;
-            };
-            if !self.add_read(i, &cell, &mut marked.sums) {
-                return None;
-            }
-            let len = cell.len.max(4);
-            if !claim(table, cell.offset, len, mark_count) {
-                return None;
-            }
-            marked.held += len;
-            marked.cells = i + 1;
-        }
-        Some(marked)
-    }
-
     // Adds cell `i` to the sums of those before it, and answers which bytes it holds. `None` where it is not readable,
     // or where its key does not rise.
     #[inline(always)]
@@ -346,7 +226,7 @@ impl<'a> PageView<'a> {
 
     // Adds cell `i`, which was read, to the sums of those before it. False where its key does not rise.
     #[inline(always)]
-    fn add_read(&self, i: u32, found: &Cell<'a>, sums: &mut CellSums) -> bool
+    pub(crate) fn add_read(&self, i: u32, found: &Cell<'a>, sums: &mut CellSums) -> bool
         requires within { i < count self.now }
         requires read { cell self.now i ≡ Ok found.now }
         requires before { AddUpTo self.now i sums.old }
@@ -400,25 +280,17 @@ impl<'a> PageView<'a> {
 // What was read of a page before a byte is marked: how many cells, their sums, the run of the first of them, and what
 // the last holds, if it is not part of this run.
 #[derive(Clone, Copy)]
-struct Beginning {
-    cells: u32,
-    sums: CellSums,
-    run: CellRun,
-    next: Option<(u32, u32)>,
-}
-
-// The first cells, their sums, and how many bytes they hold, which are marked.
-#[derive(Clone, Copy)]
-struct MarkedCells {
-    cells: u32,
-    sums: CellSums,
-    held: u32,
+pub(crate) struct Beginning {
+    pub(crate) cells: u32,
+    pub(crate) sums: CellSums,
+    pub(crate) run: CellRun,
+    pub(crate) next: Option<(u32, u32)>,
 }
 
 impl Beginning {
     // No cell, of a page whose first key is this.
     #[inline(always)]
-    fn new(first: Option<i64>, usable: u32) -> Beginning
+    pub(crate) fn new(first: Option<i64>, usable: u32) -> Beginning
         ensures { result ≡ begins_with first usable }
     {
         Beginning {

@@ -29,7 +29,7 @@ pub(crate) fn add_serial(of: &str, text: &mut Text) -> Option<()> {
     write!(text, " {:?}", serial_len(number.parse::<u64>().ok()?)).ok()
 }
 
-/// Adds how many bytes of a payload are in its cell, on a page with so many usable bytes.
+/// Adds how many bytes of a payload are in its cell, by the usable bytes of the page.
 pub(crate) fn add_local(of: &str, text: &mut Text) -> Option<()> {
     let mut words = of.split(' ');
     let kind = match words.next()? {

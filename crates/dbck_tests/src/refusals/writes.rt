@@ -68,7 +68,7 @@ fn each_write_to_the_first_out_fails_in_turn(rt: HostRuntime) -> Result<(), Fail
     Ok(())
 }
 
-// How often a source is asked where a row of each page is shown, and there is room for so many bytes of them.
+// How many calls a source gets where a row of each page is shown, and the first `room` bytes of them are taken.
 fn calls_of(alloc: Global, file: &[u8], room: usize) -> u64 {
     let mut source = StatedSource::new(file, file.len() as u64, u64::MAX);
     let (mut out, mut err) = (SmallOut::new(room), SmallOut::new(0));

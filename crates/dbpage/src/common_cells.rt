@@ -1,0 +1,143 @@
+// The commonest cells: each kind has a loop that calls nothing, so that all that it needs is in registers.
+ghost use Rattle.std.specs.Prelude.{◌≡◌, ◌<◌, ◌≤◌, None, length, MatchOption};
+ghost use Rattle.dbformat.specs.Head.{content_start};
+ghost use Rattle.dbformat.specs.Cell.{count};
+ghost use Rattle.dbformat.specs.declared.PageKind.TheVariants.{LeafIndex, LeafTable};
+ghost use Rattle.dbpage.specs.Marking.{AreMarked, cells_upto};
+ghost use Rattle.dbpage.specs.Beginning.{AreRead, IsBegun, IsRunning};
+ghost use Rattle.dbpage.specs.Packed.{IsUnpacked, key_at};
+
+use crate::mark_count::MarkCount;
+use crate::mark_table::claim;
+use crate::packed::{Beginning, CellSums};
+use crate::view::PageView;
+use dbformat::PageKind;
+use std::sync::ledger::Ledger;
+
+// The first cells, their sums, and how many bytes they hold, which are marked.
+#[derive(Clone, Copy)]
+pub(crate) struct MarkedCells {
+    pub(crate) cells: u32,
+    pub(crate) sums: CellSums,
+    pub(crate) held: u32,
+}
+
+impl<'a> PageView<'a> {
+    // The first cells of a page of this kind: none yet, but in a leaf of a table.
+    #[inline(always)]
+    pub(crate) fn leading_cells(&self, kind: PageKind, first: Option<i64>) -> Option<Beginning>
+        requires kind { kind ≡ self.now.kind }
+        requires some { 0 < count self.now → key_at self.now 0 ≡ first }
+        requires none { count self.now ≡ 0 → first ≡ None }
+        ensures { MatchOption result (IsUnpacked self.now) (IsRunning self.now) }
+    {
+        match kind {
+            PageKind::LeafTable => self.leading_leaf_cells(first),
+            _ => Some(Beginning::new(first, self.usable)),
+        }
+    }
+
+    // The first cells of a leaf of a table, while each ends where the one before it begins, as SQLite writes them.
+    #[inline(never)]
+    fn leading_leaf_cells(&self, first: Option<i64>) -> Option<Beginning>
+        requires kind { self.now.kind ≡ LeafTable }
+        requires some { 0 < count self.now → key_at self.now 0 ≡ first }
+        requires none { count self.now ≡ 0 → first ≡ None }
+        ensures { MatchOption result (IsUnpacked self.now) (IsRunning self.now) }
+    {
+        let mut begun = Beginning::new(first, self.usable);
+        for i in 0..self.cells {
+            let Some(cell) = self.cell_up_to(i, begun.run.from) else {
+                break;
+            };
+            if !self.add_read(i, &cell, &mut begun.sums) {
+                return None;
+            }
+            begun.run.from = cell.offset;
+            begun.cells = i + 1;
+        }
+        Some(begun)
+    }
+
+    // Marks the next cells of a page of this kind, while they are short: only those of a leaf of an index.
+    #[inline(always)]
+    pub(crate) fn mark_short_cells<L: Ledger>(
+        &self,
+        kind: PageKind,
+        begun: &Beginning,
+        in_cells: u32,
+        table: &mut [u8],
+        mark_count: &mut MarkCount<L>,
+    ) -> Option<MarkedCells>
+        requires kind { kind ≡ self.now.kind }
+        requires room { self.now.usable ≤ length table.old }
+        requires begun { IsBegun self.now begun.now }
+        requires marked { AreMarked (cells_upto self.now begun.now.cells) (content_start self.now.number self.now.bytes) self.now.usable table.old in_cells }
+        ensures { MatchOption result (IsUnpacked self.now) (AreRead self.now table.new) }
+    {
+        match kind {
+            PageKind::LeafIndex => self.mark_short_index_cells(begun, in_cells, table, mark_count),
+            _ => Some(MarkedCells {
+                cells: begun.cells,
+                sums: begun.sums,
+                held: in_cells,
+            }),
+        }
+    }
+
+    // `mark_short_cells` of a leaf of an index.
+    #[inline(never)]
+    fn mark_short_index_cells<L: Ledger>(
+        &self,
+        begun: &Beginning,
+        in_cells: u32,
+        table: &mut [u8],
+        mark_count: &mut MarkCount<L>,
+    ) -> Option<MarkedCells>
+        requires kind { self.now.kind ≡ LeafIndex }
+        requires room { self.now.usable ≤ length table.old }
+        requires begun { IsBegun self.now begun.now }
+        requires marked { AreMarked (cells_upto self.now begun.now.cells) (content_start self.now.number self.now.bytes) self.now.usable table.old in_cells }
+        ensures { MatchOption result (IsUnpacked self.now) (AreRead self.now table.new) }
+    {
+        self.copied()
+            .mark_short_index_cells_in_place(begun, in_cells, table, mark_count)
+    }
+
+    // `mark_short_index_cells` of a view that no write can change.
+    #[inline(always)]
+    fn mark_short_index_cells_in_place<L: Ledger>(
+        &self,
+        begun: &Beginning,
+        in_cells: u32,
+        table: &mut [u8],
+        mark_count: &mut MarkCount<L>,
+    ) -> Option<MarkedCells>
+        requires kind { self.now.kind ≡ LeafIndex }
+        requires room { self.now.usable ≤ length table.old }
+        requires begun { IsBegun self.now begun.now }
+        requires marked { AreMarked (cells_upto self.now begun.now.cells) (content_start self.now.number self.now.bytes) self.now.usable table.old in_cells }
+        ensures { MatchOption result (IsUnpacked self.now) (AreRead self.now table.new) }
+    {
+        let mut marked = MarkedCells {
+            cells: begun.cells,
+            sums: begun.sums,
+            held: in_cells,
+        };
+        for i in begun.cells..self.cells {
+            let Some(cell) = self.short_index_cell(i) else {
+                break;
+            };
+            if !self.add_read(i, &cell, &mut marked.sums) {
+                return None;
+            }
+            let len = cell.len.max(4);
+            if !claim(table, cell.offset, len, mark_count) {
+                return None;
+            }
+            marked.held += len;
+            marked.cells = i + 1;
+        }
+        Some(marked)
+    }
+}
