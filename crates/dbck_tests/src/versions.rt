@@ -2,9 +2,11 @@
 // answers, what a run over the one file does that the answers make up under the header that was read first. Where a read fails, a
 // beginning of what there would be is written.
 use crate::runs::{Found, check_of, found_of, is_same, stat_of};
-use crate::support::cases::{file_of, lines};
+use crate::support::bytes::patch;
+use crate::support::cases::lines;
+use crate::support::samples::file_of;
+use crate::support::stops::holds;
 use crate::support::versions::{Answer, ChangingSource};
-use dbfiles::{holds, patch};
 use dbreport::{Command, Verdict};
 use dbsource::{MemSource, RunError, Source};
 use std::alloc::{AllocError, Global};

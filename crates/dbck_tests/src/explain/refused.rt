@@ -1,7 +1,9 @@
 // Reads, writes and memory that are refused in turn.
 use crate::support::fakes::SmallOut;
+use crate::support::samples::file_of;
+use crate::support::stated::StatedSource;
+use crate::support::stops::holds;
 use dbexplain::{explain, explain_in};
-use dbfiles::{StatedSource, TestFile, holds, schema_row};
 use dbreport::Verdict;
 use dbsource::{MemOut, MemSource, RunError};
 use linked_list_allocator::LocalHeap;
@@ -10,20 +12,14 @@ use std::process::Abort;
 use std::test::Fail;
 
 // Two tables of two leaves each, where the last child of `order` is the last one of `customer`, so that its own is lost.
-fn shared(alloc: Global) -> Result<Vec<u8>, AllocError> {
-    let mut file = TestFile::new(alloc, 512, 7)?;
-    file.schema(&[
-        schema_row(b"table", b"customer", 2),
-        schema_row(b"table", b"order", 5),
-    ]);
-    file.interior_table(2, 4).key(3, 5);
-    file.leaf_table(3).cell(4, &[]).cell(5, &[]);
-    file.leaf_table(4).cell(6, &[]).cell(7, &[]);
-    file.interior_table(5, 4).key(6, 200);
-    file.leaf_table(6).cell(100, &[]).cell(200, &[]);
-    file.leaf_table(7).cell(201, &[]);
-    Ok(file.into_bytes())
-}
+const SHARED_FILE: &str = "Smallest 7: 1 47 04, 1 59 01, 1 100 0d 0000 0002 01d5 00 01e9 01d5, \
+    1 469 12 02 06 17 17 0f 01 00 'tableordert' 05, 1 489 15 01 06 17 1d 0f 01 00 'tablecustomert' 02, \
+    2 0 05 0000 0001 01fb 00 00000004 01fb, 2 507 00000003 05, \
+    3 0 0d 0000 0002 01f8 00 01fc 01f8, 3 504 00 05, 3 508 00 04, \
+    4 0 0d 0000 0002 01f8 00 01fc 01f8, 4 504 00 07, 4 508 00 06, \
+    5 0 05 0000 0001 01fa 00 00000004 01fa, 5 506 00000006 8148, \
+    6 0 0d 0000 0002 01f8 00 01fc 01f8, 6 504 00 8148, 6 508 00 64, \
+    7 0 0d 0000 0001 01fc 00 01fc, 7 508 00 8149";
 
 // What is written of it.
 const SHARED: &str = "R03 page 5 item 1 value 4: page is already in use
@@ -42,17 +38,14 @@ N01 page 7 item 0 value 0: page is not in use
 
 // A header with a wrong version, a pointer map whose entries of pages 4 and 8 are wrong, and pages 5 to 7 in no use: two of zeros, and a leaf
 // between.
-fn lost_between(alloc: Global) -> Result<Vec<u8>, AllocError> {
-    let mut file = TestFile::new(alloc, 512, 8)?;
-    file.schema(&[schema_row(b"table", b"t", 3)]);
-    file.interior_table(3, 8).key(4, 10);
-    file.leaf_table(4).cell(10, &[]);
-    file.leaf_index(6);
-    file.leaf_table(8).cell(11, &[]);
-    file.map(3, &[(1, 0), (5, 9), (0, 0), (0, 0), (0, 0), (5, 9)]);
-    file.hex(1, 18, "03");
-    Ok(file.into_bytes())
-}
+const LOST_BETWEEN: &str =
+    "Smallest 8: 1 18 03, 1 47 04, 1 59 01, 1 100 0d 0000 0001 01f0 00 01f0, \
+    1 496 0e 01 06 17 0f 0f 01 00 'tablett' 03, \
+    1 52 00000003, 2 0 01 00000000 05 00000009, 2 25 05 00000009, \
+    3 0 05 0000 0001 01fb 00 00000008 01fb, 3 507 00000004 0a, \
+    4 0 0d 0000 0001 01fc 00 01fc, 4 508 00 0a, \
+    6 0 0a 0000 0000 0200, \
+    8 0 0d 0000 0001 01fc 00 01fc, 8 508 00 0b";
 
 // The first `len` bytes of what is written of the file with two owners.
 fn beginning(len: usize) -> &'static [u8] {
@@ -78,7 +71,7 @@ fn fails_at_read(
 // Last the page that nothing refers to is read: then the line of the fault found before is written. There is no further call.
 #[test]
 fn each_read_fails_in_turn(rt: HostRuntime) -> Result<(), Fail> {
-    let file = shared(rt.alloc())?;
+    let file = file_of(rt.alloc(), SHARED_FILE)?;
     let line = SHARED.find("    page 5").unwrap_or(0);
     holds!(rt; line > 0);
     for fails_at in 0..11u64 {
@@ -140,7 +133,7 @@ const FOUND: [(u64, u32, &str); 15] = [
 
 #[test]
 fn what_was_found_is_written(rt: HostRuntime) -> Result<(), Fail> {
-    let file = lost_between(rt.alloc())?;
+    let file = file_of(rt.alloc(), LOST_BETWEEN)?;
     for (fails_at, limit, text) in FOUND {
         let mut source = StatedSource::new(file.as_slice(), file.len() as u64, fails_at);
         let mut out = SmallOut::new(2048);
@@ -154,7 +147,7 @@ fn what_was_found_is_written(rt: HostRuntime) -> Result<(), Fail> {
 // A read fails, and then the out: the answer is that the read failed, and the out took as much of the lines as it has room for.
 #[test]
 fn a_failed_read_is_answered(rt: HostRuntime) -> Result<(), Fail> {
-    let file = lost_between(rt.alloc())?;
+    let file = file_of(rt.alloc(), LOST_BETWEEN)?;
     for room in 0..TWO_LOST.len() {
         let mut source = StatedSource::new(file.as_slice(), file.len() as u64, 9);
         let mut out = SmallOut::new(room);
@@ -181,7 +174,7 @@ fn ends_at(rt: &impl Abort, alloc: Global, file: &[u8], room: usize) {
 
 #[test]
 fn each_write_fails_in_turn(rt: HostRuntime) -> Result<(), Fail> {
-    let file = shared(rt.alloc())?;
+    let file = file_of(rt.alloc(), SHARED_FILE)?;
     for room in 0..SHARED.len().wrapping_add(1) {
         ends_at(&rt, rt.alloc(), file.as_slice(), room);
     }
@@ -230,7 +223,7 @@ const NAMES: usize = ROOTS + 16;
 // Each is refused where there is room for those before it alone.
 #[test]
 fn each_growth_is_refused(rt: HostRuntime) -> Result<(), Fail> {
-    let file = shared(rt.alloc())?;
+    let file = file_of(rt.alloc(), SHARED_FILE)?;
     let rooms = [
         512usize,
         DESK - 16,

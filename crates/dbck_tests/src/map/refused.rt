@@ -1,5 +1,7 @@
 // Reads, writes and memory that are refused in turn.
-use dbfiles::{StatedSource, TestFile, holds, schema_row};
+use crate::support::samples::file_of;
+use crate::support::stated::StatedSource;
+use crate::support::stops::holds;
 use dbmap::{map, map_in};
 use dbreport::Verdict;
 use dbsource::{MemOut, MemSource, RunError, StreamOut};
@@ -10,19 +12,12 @@ use std::test::Fail;
 
 // A table `a`, whose root is page 2, with a payload that goes on on page 3; an index on page 4; page 5 is a trunk and 6 its leaf; page 7 is in
 // no use.
-fn small(alloc: Global) -> Result<Vec<u8>, AllocError> {
-    let mut file = TestFile::new(alloc, 512, 7)?;
-    file.schema(&[
-        schema_row(b"table", b"a", 2),
-        schema_row(b"index", b"<&\"\n'>", 4),
-    ]);
-    file.leaf_table(2).long_cell(5, &[0; 600], 92, 3);
-    file.leaf_index(4);
-    file.overflow(3, 0, &[0; 508]);
-    file.freelist(5, 2);
-    file.trunk(5, 0, &[6]);
-    Ok(file.into_bytes())
-}
+const SMALL: &str =
+    "Smallest 7: 1 32 00000005 00000002, 1 47 04, 1 59 01, 1 100 0d 0000 0002 01db 00 01f0 01db, \
+    1 475 13 02 06 17 19 0f 01 00 'index<&' 22 0a 27 '>t' 04, 1 496 0e 01 06 17 0f 0f 01 00 'tableat' 02, \
+    2 0 0d 0000 0001 019d 00 019d, 2 413 8458 05, 2 508 00000003, \
+    4 0 0a 0000 0000 0200, \
+    5 0 00000000 00000001 00000006";
 
 // The call of the source with this number fails, if there is one: nothing was put by then.
 fn fails_at_read(
@@ -52,7 +47,7 @@ fn fails_in(rt: &impl Abort, alloc: Global, file: &[u8], held: &mut [u8]) {
 // further call.
 #[test]
 fn each_read_fails_in_turn(rt: HostRuntime) -> Result<(), Fail> {
-    let file = small(rt.alloc())?;
+    let file = file_of(rt.alloc(), SMALL)?;
     for fails_at in 0..10u64 {
         let wanted = if fails_at < 8 {
             Err(RunError::ReadFailed)
@@ -76,7 +71,7 @@ fn len(rt: &impl Abort, alloc: Global, file: &[u8]) -> usize {
 // No more than 192 bytes are put at a time: in steps of 97 each put fails in turn.
 #[test]
 fn each_write_fails_in_turn(rt: HostRuntime) -> Result<(), Fail> {
-    let file = small(rt.alloc())?;
+    let file = file_of(rt.alloc(), SMALL)?;
     let len = len(&rt, rt.alloc(), file.as_slice());
     holds!(rt; len > 3000);
     for step in 0..len.div_ceil(97) {
@@ -132,7 +127,7 @@ const ROOTS: usize = ZEROS + 80;
 // Each is refused where there is room for those before it alone.
 #[test]
 fn each_growth_is_refused(rt: HostRuntime) -> Result<(), Fail> {
-    let file = small(rt.alloc())?;
+    let file = file_of(rt.alloc(), SMALL)?;
     for room in [
         512usize,
         DESK - 16,

@@ -1,6 +1,6 @@
 // How a file is opened and read.
 use crate::support::fake_files::{Allowed, FakeFiles};
-use dbfiles::holds;
+use crate::support::stops::holds;
 use dbsource::{FileSource, Source};
 use std::fs;
 use std::os::unix::fs::FileExt;

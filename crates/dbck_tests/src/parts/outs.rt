@@ -1,6 +1,6 @@
 // What outs and sources do at their ends.
 use crate::support::fakes::{FakeWriter, Manner};
-use dbfiles::holds;
+use crate::support::stops::holds;
 use dbsource::{LogSource, MemOut, Out, Source, StreamOut, WriteFailed};
 use linked_list_allocator::LocalHeap;
 use std::process::Abort;

@@ -1,6 +1,6 @@
 // What is read of a file that is read ahead, and along, and when it is.
 use crate::support::fake_files::{Allowed, FakeFiles};
-use dbfiles::holds;
+use crate::support::stops::holds;
 use dbsource::{FileSource, Source};
 use std::fs;
 use std::fs::File;

@@ -1,7 +1,7 @@
 // What is proved of sources that tell their bytes.
 use crate::runs::{check_of, found_of};
-use crate::support::cases::file_of;
-use dbfiles::holds;
+use crate::support::samples::file_of;
+use crate::support::stops::holds;
 use dbreport::{Verdict, told_files_are_run};
 use dbsource::{MemSource, told_files_are_read};
 use std::marker::Brand;

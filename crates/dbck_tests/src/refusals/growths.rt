@@ -1,9 +1,10 @@
 // How many growths a run takes: 22 buffers of a page and the marks, and each is refused in turn; and the list of roots.
-use crate::support::cases::{begins, command_of, file_of, verdict_of};
+use crate::support::cases::{begins, command_of, verdict_of};
 use crate::support::fakes::SmallOut;
 use crate::support::files::{DEEP_ROWS, EMPTY_PAGES, LONG_ROW_ROWS, OLD_VERSION};
+use crate::support::samples::file_of;
+use crate::support::stops::holds;
 use bumpalo::Bump;
-use dbfiles::holds;
 use dbreport::{Verdict, run_in};
 use dbsource::{MemSource, RunError};
 use linked_list_allocator::LocalHeap;

@@ -1,9 +1,11 @@
 // Each read of a run fails in turn: the answer, and what was written by then.
-use crate::support::cases::{begins, command_of, file_of, lines, verdict_of};
+use crate::support::cases::{begins, command_of, lines, verdict_of};
 use crate::support::fakes::SmallOut;
 use crate::support::files::{LONG_ROW_ROWS, MAPPED_ROWS, OLD_VERSION};
 use crate::support::peeking::{PeekingSource, SeenWriter};
-use dbfiles::{StatedSource, holds};
+use crate::support::samples::file_of;
+use crate::support::stated::StatedSource;
+use crate::support::stops::holds;
 use dbreport::{Command, run};
 use dbsource::{MemOut, RunError, StreamOut};
 use std::alloc::Global;

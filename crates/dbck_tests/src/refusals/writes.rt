@@ -1,8 +1,10 @@
 // An out has room for each number of bytes in turn: the answer, and what was written by then.
-use crate::support::cases::{begins, command_of, file_of, is_text, lines, verdict_of};
+use crate::support::cases::{begins, command_of, is_text, lines, verdict_of};
 use crate::support::fakes::{FakeWriter, Manner, SmallOut};
 use crate::support::files::{EMPTY_PAGES, LONG_ROW_ROWS, MAPPED_ROWS, OLD_VERSION};
-use dbfiles::{StatedSource, holds};
+use crate::support::samples::file_of;
+use crate::support::stated::StatedSource;
+use crate::support::stops::holds;
 use dbreport::{Verdict, run};
 use dbsource::{MemSource, RunError, StreamOut};
 use std::alloc::Global;

@@ -1,7 +1,10 @@
 // Statistics of large files: a path of four digits, and the lock-byte page.
 use crate::runs::{Found, found_of};
+use crate::support::bytes::{patch, write};
 use crate::support::cases::{command_of, is_text};
-use dbfiles::{StatedSource, TestFile, holds, patch};
+use crate::support::samples::pages_of;
+use crate::support::stated::StatedSource;
+use crate::support::stops::holds;
 use dbreport::Verdict;
 use dbsource::MemSource;
 use std::alloc::{AllocError, Global};
@@ -27,18 +30,13 @@ fn line_of(bytes: &[u8], number: usize) -> &[u8] {
 
 // Page 1, of 16384 bytes, is an interior page of 4096 cells, which are of five bytes and have the key 0. Three of them name the
 // pages 3 to 5, all others share their bytes and name page 0, and the right child is page 2.
+const MANY_CHILDREN: &str = "1 16 4000, 1 100 05 0000 1000 3fec 00 00000002, \
+    1 16364 00000005 00, 1 16369 00000004 00, 1 16374 00000003 00, 1 16379 00000000 00, \
+    2 0 0d 0000 0000 4000, 3 0 0d 0000 0000 4000, 4 0 0d 0000 0000 4000, 5 0 0d 0000 0000 4000";
+
 fn many_children(alloc: Global) -> Result<Vec<u8>, AllocError> {
-    let mut file = TestFile::new(alloc, 16384, 5)?;
-    file.interior_table(1, 2)
-        .key(0, 0)
-        .key(3, 0)
-        .key(4, 0)
-        .key(5, 0);
-    for page in 2..6u32 {
-        file.leaf_table(page);
-    }
-    file.hex(1, 103, "1000");
-    let mut bytes = file.into_bytes();
+    let mut file = pages_of(alloc, 5, 16384)?;
+    write(&mut file, 16384, MANY_CHILDREN);
     for child in 0..4096usize {
         let at: u16 = match child {
             0x010 => 16374,
@@ -47,9 +45,9 @@ fn many_children(alloc: Global) -> Result<Vec<u8>, AllocError> {
             _ => 16379,
         };
         let pointer = child.wrapping_mul(2).wrapping_add(112);
-        patch(bytes.as_mut_slice(), pointer, &at.to_be_bytes());
+        patch(file.as_mut_slice(), pointer, &at.to_be_bytes());
     }
-    Ok(bytes)
+    Ok(file)
 }
 
 const CHILDREN: &str = "sqlite_schema|/|1|internal|4096|0|8060|0|0|16384\n\
@@ -94,7 +92,8 @@ const LOCK_ROWS: [(usize, &str); 6] = [
 // The lock-byte page is page 16385 of a file of pages of 65536 bytes.
 #[test]
 fn shows_the_lock_byte_page(rt: HostRuntime) -> Result<(), Fail> {
-    let file = TestFile::new(rt.alloc(), 65536, 1)?.into_bytes();
+    let mut file = pages_of(rt.alloc(), 1, 65536)?;
+    write(&mut file, 65536, "1 16 0001, 1 105 0000");
     let mut source = StatedSource::new(file.as_slice(), 16386 * 65536, u64::MAX);
     let found = found_of(rt.alloc(), command_of("all trees"), &mut source);
     has_some(&rt, &found, Verdict::Faulty(16384), &LOCK_ROWS);

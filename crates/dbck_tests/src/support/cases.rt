@@ -1,13 +1,6 @@
-// Files, commands and verdicts by texts.
+// Commands and verdicts by texts.
 use crate::runs::{check_of, stat_of};
-use dbfiles::TestFile;
 use dbreport::{Command, Verdict};
-use std::alloc::{AllocError, Global};
-
-/// The bytes of a file that one text describes, as [`TestFile::of`] has it.
-pub(crate) fn file_of(alloc: Global, text: &str) -> Result<Vec<u8>, AllocError> {
-    Ok(TestFile::of(alloc, text)?.into_bytes())
-}
 
 /// How many line feeds there are.
 pub(crate) fn lines(bytes: &[u8]) -> usize {

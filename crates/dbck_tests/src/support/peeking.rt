@@ -1,7 +1,7 @@
 // A source that looks at how much was written.
 ghost use Rattle.std.specs.Prelude.{◌≡◌};
 
-use dbfiles::StatedSource;
+use crate::support::stated::StatedSource;
 use dbsource::{ReadFailed, Source};
 use std::cell::Cell;
 use std::io::{self, Write};

@@ -1,7 +1,7 @@
 // A source whose file is written while it is read.
 ghost use Rattle.dbsource.specs.Sources.{any_length, no_step, untold_source};
 
-use dbfiles::patch;
+use crate::support::bytes::patch;
 use dbsource::{Failures, ReadFailed, Source};
 use std::alloc::{AllocError, Global};
 

@@ -2,13 +2,13 @@
 ghost use Rattle.std.specs.Prelude.{◌≡◌};
 ghost use Rattle.dbsource.specs.Sources.{any_length, no_step, untold_source};
 
-use crate::bytes::patch;
+use crate::support::bytes::patch;
 use dbsource::{Failures, ReadFailed, Source};
 
 /// A source of a stated length, which gives some bytes and then zeros. Its call number `fails_at`, from 0, fails. It
 /// has no told bytes.
 #[derive(Drop)]
-pub struct StatedSource<'a> {
+pub(crate) struct StatedSource<'a> {
     bytes: &'a [u8],
     len: u64,
     fails_at: u64,
@@ -18,7 +18,7 @@ pub struct StatedSource<'a> {
 
 impl<'a> StatedSource<'a> {
     /// No call fails where `fails_at` is greater than any number of calls.
-    pub fn new(bytes: &'a [u8], len: u64, fails_at: u64) -> StatedSource<'a> {
+    pub(crate) fn new(bytes: &'a [u8], len: u64, fails_at: u64) -> StatedSource<'a> {
         StatedSource {
             bytes,
             len,
@@ -38,7 +38,7 @@ impl<'a> StatedSource<'a> {
     }
 
     /// How many calls were made.
-    pub fn calls(&self) -> u64 {
+    pub(crate) fn calls(&self) -> u64 {
         self.calls
     }
 }
