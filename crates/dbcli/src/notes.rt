@@ -5,7 +5,7 @@ use crate::lookup::Lookup;
 use crate::shown::shown;
 use crate::watched::Watch;
 use arrayvec::ArrayVec;
-use dblines::append_first_bytes;
+use dblines::{append, append_first_bytes};
 use dbreport::Verdict;
 use dbsource::{Out, Refusal, RunError};
 use std::alloc::{AllocError, Global};
@@ -22,6 +22,7 @@ pub struct FileNotes<'a, R, N> {
     notes: &'a mut N,
     before: Option<Metadata>,
     is_open: bool,
+    // Why the file cannot be read, as it is said after its name.
     reason: Option<String>,
 }
 
@@ -54,112 +55,106 @@ impl<'a, R: Lookup + AllocGlobal, N: Out> FileNotes<'a, R, N> {
     pub fn unopened(&mut self, reason: Option<&str>) {
         let alloc = self.rt.alloc();
         if let Some(reason) = reason {
-            self.reason = shown(alloc, reason).ok();
+            let shown = shown(alloc, reason);
+            self.reason = shown
+                .and_then(|reason| format!(in alloc; ": {reason}"))
+                .ok();
         }
     }
 
-    // Puts the line of a text, if there is one.
-    fn put(&mut self, text: Result<Option<String>, AllocError>) {
-        if let Ok(Some(text)) = text {
-            if let Ok(line) = format!(in self.rt.alloc(); "dbck: note: {text}\n") {
-                let _ = self.notes.put(line.as_str().as_bytes());
-            }
+    // Puts a note.
+    fn put(&mut self, text: &str) {
+        if let Ok(line) = format!(in self.rt.alloc(); "dbck: note: {text}\n") {
+            let _ = self.notes.put(line.as_str().as_bytes());
+        }
+    }
+
+    // Puts a note of the file's name, and of what is said of it.
+    fn put_of_file(&mut self, said: &str) {
+        let alloc = self.rt.alloc();
+        let name = shown(alloc, self.file);
+        if let Ok(text) = name.and_then(|name| format!(in alloc; "{name}{said}")) {
+            self.put(text.as_str());
         }
     }
 
     // The note on a copy that was made as of a text.
     fn put_copied(&mut self) {
         if let Some(copied) = self.watch.copied() {
-            let text = String::from_str(self.rt.alloc(), copied.text()).map(Some);
-            self.put(text);
+            self.put(copied.text());
         }
     }
 
     // The note on a file that cannot be read.
-    fn unread(&self) -> Result<Option<String>, AllocError> {
-        let alloc = self.rt.alloc();
-        let name = shown(alloc, self.file)?;
+    fn put_unread(&mut self) {
         if self.is_open {
-            let reason = read_reason(alloc, self.watch)?;
-            return Ok(Some(format!(in alloc; "{name}: {reason}")?));
+            self.reason = read_reason(self.rt.alloc(), self.watch).ok();
         }
-        match &self.reason {
-            Some(reason) => Ok(Some(format!(in alloc; "{name}: {reason}")?)),
-            None => Ok(None),
+        if let Some(reason) = self.reason.take() {
+            self.put_of_file(reason.as_str());
         }
-    }
-
-    // The note on a refused file.
-    fn refused(&self) -> Result<Option<String>, AllocError> {
-        let name = shown(self.rt.alloc(), self.file)?;
-        Ok(Some(format!(in self.rt.alloc(); "{name} is not checked")?))
     }
 
     // What is known of a refused file: that it has no bytes, or which bytes it begins with.
-    fn known(&self, refusal: Refusal) -> Result<Option<String>, AllocError> {
-        let alloc = self.rt.alloc();
-        let known = match refusal {
+    fn put_known(&mut self, refusal: Refusal) {
+        match refusal {
             Refusal::Short if self.watch.len() == 0 => {
-                String::from_str(alloc, "has no bytes; to SQLite it is an empty database")?
+                self.put_of_file(" has no bytes; to SQLite it is an empty database");
             }
-            Refusal::Magic => beginning(alloc, self.watch.first())?,
-            _ => return Ok(None),
-        };
-        let name = shown(alloc, self.file)?;
-        Ok(Some(format!(in alloc; "{name} {known}")?))
+            Refusal::Magic => {
+                let line = beginning(self.watch.first());
+                self.put_of_file(str::from_utf8(line.as_slice()).unwrap_or("?"));
+            }
+            _ => {}
+        }
     }
 
-    // The note that the file was changed, if its name still leads to it.
-    fn changed(&self) -> Result<Option<String>, AllocError> {
-        let Some(before) = &self.before else {
-            return Ok(None);
-        };
-        match self.rt.metadata(self.file) {
-            Ok(after) if is_changed(before, &after) => {
-                let name = shown(self.rt.alloc(), self.file)?;
-                Ok(Some(format!(in self.rt.alloc();
-                    "{name} was changed while it was read; the report may be of no state that it had"
-                )?))
-            }
-            _ => Ok(None),
+    // Whether the file was changed, if its name still leads to it.
+    fn has_changed(&self) -> bool {
+        match (&self.before, self.rt.metadata(self.file)) {
+            (Some(before), Ok(after)) => is_changed(before, &after),
+            _ => false,
         }
     }
 }
 
 impl<R: Lookup + AllocGlobal, N: Out> Notes for FileNotes<'_, R, N> {
     fn tell(&mut self, outcome: &Result<Verdict, RunError>) {
-        let text = match outcome {
+        match outcome {
             Ok(verdict) => {
                 if *verdict != Verdict::Clean && has_rest(self.watch) {
                     self.put_copied();
                 }
-                rest(self.rt.alloc(), self.watch)
+                if let Ok(Some(text)) = rest(self.rt.alloc(), self.watch) {
+                    self.put(text.as_str());
+                }
             }
             Err(RunError::Refused(refusal)) => {
-                let refused = self.refused();
-                self.put(refused);
+                self.put_of_file(" is not checked");
                 self.put_copied();
-                self.known(*refusal)
+                self.put_known(*refusal);
             }
-            Err(RunError::ReadFailed) => self.unread(),
-            Err(_) => Ok(None),
-        };
-        self.put(text);
-        if self.is_open {
-            let changed = self.changed();
-            self.put(changed);
+            Err(RunError::ReadFailed) => self.put_unread(),
+            Err(_) => {}
+        }
+        if self.is_open && self.has_changed() {
+            self.put_of_file(
+                " was changed while it was read; the report may be of no state that it had",
+            );
         }
     }
 }
 
-// The first bytes of a file.
-fn beginning(alloc: Global, first: [u8; 16]) -> Result<String, AllocError> {
+// What the first bytes of a file are.
+fn beginning(first: [u8; 16]) -> ArrayVec<u8, 80> {
+    let mut line = ArrayVec::new();
+    append(&mut line, " ");
     if first == [0; 16] {
-        return String::from_str(alloc, "begins with zeros");
+        append(&mut line, "begins with zeros");
+    } else {
+        append_first_bytes(&mut line, &first);
     }
-    let mut line: ArrayVec<u8, 80> = ArrayVec::new();
-    append_first_bytes(&mut line, &first);
-    String::from_str(alloc, str::from_utf8(line.as_slice()).unwrap_or("?"))
+    line
 }
 
 // Whether a file got another length, or was written, between two looks at it.
@@ -203,8 +198,8 @@ fn read_reason(alloc: Global, watch: &Watch) -> Result<String, AllocError> {
     match watch.failed() {
         Some(range) => {
             let (offset, len) = (range.offset, range.len);
-            format!(in alloc; "the {len} bytes at {offset} cannot be read")
+            format!(in alloc; ": the {len} bytes at {offset} cannot be read")
         }
-        None => String::from_str(alloc, "its length is not known"),
+        None => String::from_str(alloc, ": its length is not known"),
     }
 }
