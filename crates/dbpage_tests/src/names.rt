@@ -30,35 +30,35 @@ impl Name<'_> {
 /// is put.
 pub(crate) fn add_name(alloc: Global, of: &str, is_plain: bool, text: &mut Text) -> Option<()> {
     let (encoding, spelled) = of.split_once(' ')?;
+    let encoding = encoding_of(encoding)?;
     let bytes = bytes_of(spelled)?;
     let name = Name {
         bytes: bytes.as_slice(),
-        encoding: encoding_of(encoding)?,
+        encoding,
         is_plain,
     };
     let mut out = MemOut::new(alloc);
     name.put(&mut out).ok()?;
-    add_text(str::from_utf8(out.bytes()).ok()?, text)?;
-    for room in 0..out.bytes().len() {
-        if !leaves_beginning(&name, out.bytes(), room)? {
-            write!(text, ", and another beginning in {room} bytes").ok()?;
-        }
-    }
+    add_text(&name, out.bytes(), text);
     Some(())
 }
 
-fn add_text(shown: &str, text: &mut Text) -> Option<()> {
+fn add_text(name: &Name<'_>, shown: &[u8], text: &mut Text) {
     if !shown.is_empty() {
-        text.try_push(' ').ok()?;
+        let _ = text.try_push(' ');
     }
-    for letter in shown.chars() {
+    for letter in str::from_utf8(shown).unwrap_or("not UTF-8").chars() {
         if letter.is_ascii() {
-            text.try_push(letter).ok()?;
+            let _ = text.try_push(letter);
         } else {
-            write!(text, "\\u{{{:x}}}", letter as u32).ok()?;
+            let _ = write!(text, "\\u{{{:x}}}", letter as u32);
         }
     }
-    Some(())
+    for room in 0..shown.len() {
+        if leaves_beginning(name, shown, room) != Some(true) {
+            let _ = write!(text, ", and another beginning in {room} bytes");
+        }
+    }
 }
 
 // Whether a put into so little room fails, and leaves a beginning of what is shown.

@@ -9,7 +9,7 @@ use std::fmt::Write;
 pub(crate) fn add_varint(spelled: &str, text: &mut Text) -> Option<()> {
     let bytes = bytes_of(spelled)?;
     let whole = varint(bytes.as_slice());
-    write!(text, " {whole:?}").ok()?;
+    let _ = write!(text, " {whole:?}");
     for end in 0..bytes.len() {
         let cut = varint(&bytes.as_slice()[..end]);
         let want = match whole {
@@ -17,7 +17,7 @@ pub(crate) fn add_varint(spelled: &str, text: &mut Text) -> Option<()> {
             _ => None,
         };
         if cut != want {
-            write!(text, ", and {cut:?} of {end} bytes").ok()?;
+            let _ = write!(text, ", and {cut:?} of {end} bytes");
         }
     }
     Some(())

@@ -16,7 +16,6 @@ ghost use Rattle.std.specs.Prelude.{◌≤◌, length};
 
 use crate::Text;
 use crate::spelled::{bytes_of, write_at};
-use dbformat::CellFault;
 use dbpage::{Cell, PageView, content_start, look_of, type_byte, uncounted_coverage};
 use std::alloc::{AllocError, Global};
 use std::fmt::Write;
@@ -91,17 +90,18 @@ fn add_part(
     if usable < 480 || usable > 65536 || usable as usize > room {
         return None;
     }
-    if word == "head" {
-        let (kind, content) = (type_byte(page, number), content_start(page, number));
-        return write!(text, " {kind} {content}").ok();
-    }
-    if word == "look" {
-        return write!(text, " {:?}", look_of(page, number, usable)).ok();
-    }
-    match PageView::new(page, number, usable) {
-        Ok(view) => describe(&view, table, word, text),
-        Err(fault) => write!(text, " {fault:?}").ok(),
-    }
+    let _ = match word {
+        "head" => {
+            let (kind, content) = (type_byte(page, number), content_start(page, number));
+            write!(text, " {kind} {content}")
+        }
+        "look" => write!(text, " {:?}", look_of(page, number, usable)),
+        _ => match PageView::new(page, number, usable) {
+            Ok(view) => return describe(&view, table, word, text),
+            Err(fault) => write!(text, " {fault:?}"),
+        },
+    };
+    Some(())
 }
 
 // What is asked of a page whose head is sound.
@@ -109,75 +109,70 @@ fn describe(view: &PageView<'_>, table: &mut [u8], word: &str, text: &mut Text) 
     requires { view.now.usable ≤ length table.old }
 {
     match word {
-        "kind" => write!(text, " {:?} {}", view.kind(), view.cells()).ok(),
+        "kind" => drop(write!(text, " {:?} {}", view.kind(), view.cells())),
         "cells" => add_cells(view, text),
         "children" => add_children(view, text),
         "freeblocks" => add_freeblocks(view, text),
         "items" => add_items(view, text),
         "totals" => add_totals(view, text),
         "packed" => add_packed(view, table, text),
-        "unused" => write!(text, " {}", view.unused()).ok(),
-        "coverage" => write!(text, " {:?}", uncounted_coverage(view, table)).ok(),
-        _ => None,
-    }
-}
-
-fn add_cells(view: &PageView<'_>, text: &mut Text) -> Option<()> {
-    for i in 0..view.cells() {
-        add_cell(&view.cell(i), text)?;
+        "unused" => drop(write!(text, " {}", view.unused())),
+        "coverage" => drop(write!(text, " {:?}", uncounted_coverage(view, table))),
+        _ => return None,
     }
     Some(())
 }
 
-fn add_cell(cell: &Result<Cell<'_>, CellFault>, text: &mut Text) -> Option<()> {
-    let cell = match cell {
-        Ok(cell) => cell,
-        Err(fault) => return write!(text, " [{fault:?}]").ok(),
-    };
+fn add_cells(view: &PageView<'_>, text: &mut Text) {
+    for i in 0..view.cells() {
+        match view.cell(i) {
+            Ok(cell) => add_cell(&cell, text),
+            Err(fault) => drop(write!(text, " [{fault:?}]")),
+        }
+    }
+}
+
+fn add_cell(cell: &Cell<'_>, text: &mut Text) {
     let (offset, len, local, size) = (cell.offset, cell.len, cell.local.len(), cell.size);
-    write!(text, " [{offset}+{len} {local}/{size}").ok()?;
-    add_number(" left ", cell.left.map(i64::from), text)?;
-    add_number(" key ", cell.key, text)?;
-    add_number(" to ", cell.overflow.map(i64::from), text)?;
-    write!(text, "]").ok()
+    let _ = write!(text, " [{offset}+{len} {local}/{size}");
+    add_number(" left ", cell.left.map(i64::from), text);
+    add_number(" key ", cell.key, text);
+    add_number(" to ", cell.overflow.map(i64::from), text);
+    let _ = text.try_push(']');
 }
 
 // A number after what it is, if there is one.
-fn add_number(name: &str, number: Option<i64>, text: &mut Text) -> Option<()> {
-    match number {
-        Some(number) => write!(text, "{name}{number}").ok(),
-        None => Some(()),
+fn add_number(name: &str, number: Option<i64>, text: &mut Text) {
+    if let Some(number) = number {
+        let _ = write!(text, "{name}{number}");
     }
 }
 
-fn add_children(view: &PageView<'_>, text: &mut Text) -> Option<()> {
+fn add_children(view: &PageView<'_>, text: &mut Text) {
     for i in 0..view.cells().saturating_add(1) {
         if let Some(child) = view.child(i) {
-            write!(text, " {i}:{child}").ok()?;
+            let _ = write!(text, " {i}:{child}");
         }
     }
-    Some(())
 }
 
-fn add_freeblocks(view: &PageView<'_>, text: &mut Text) -> Option<()> {
+fn add_freeblocks(view: &PageView<'_>, text: &mut Text) {
     let mut freeblocks = view.freeblocks();
     for freeblock in freeblocks.by_ref() {
-        write!(text, " [{}+{}]", freeblock.offset, freeblock.size).ok()?;
+        let _ = write!(text, " [{}+{}]", freeblock.offset, freeblock.size);
     }
-    match freeblocks.bad() {
-        Some((number, offset)) => write!(text, " bad {number} {offset}").ok(),
-        None => Some(()),
+    if let Some((number, offset)) = freeblocks.bad() {
+        let _ = write!(text, " bad {number} {offset}");
     }
 }
 
-fn add_items(view: &PageView<'_>, text: &mut Text) -> Option<()> {
+fn add_items(view: &PageView<'_>, text: &mut Text) {
     for item in [0, 1, 2, 3, 4294967295] {
-        write!(text, " {}", view.item_offset(item)).ok()?;
+        let _ = write!(text, " {}", view.item_offset(item));
     }
-    Some(())
 }
 
-fn add_totals(view: &PageView<'_>, text: &mut Text) -> Option<()> {
+fn add_totals(view: &PageView<'_>, text: &mut Text) {
     let (mut cells, mut payload, mut largest) = (0u32, 0usize, 0);
     for i in 0..view.cells() {
         if let Ok(cell) = view.cell(i) {
@@ -186,20 +181,22 @@ fn add_totals(view: &PageView<'_>, text: &mut Text) -> Option<()> {
             largest = largest.max(cell.size);
         }
     }
-    write!(text, " {cells} {payload} {largest}").ok()
+    let _ = write!(text, " {cells} {payload} {largest}");
 }
 
-fn add_packed(view: &PageView<'_>, table: &mut [u8], text: &mut Text) -> Option<()>
+fn add_packed(view: &PageView<'_>, table: &mut [u8], text: &mut Text)
     requires { view.now.usable ≤ length table.old }
 {
     let Some(packed) = view.packed(table) else {
-        return write!(text, " none").ok();
+        let _ = text.try_push_str(" none");
+        return;
     };
     let sums = packed.sums;
     let (payload, greatest, unheld) = (sums.payload, sums.greatest, packed.unheld);
-    write!(text, " {payload} {greatest} {unheld}").ok()?;
-    add_number(" ", sums.first, text)?;
-    add_number(" ", sums.last, text)?;
-    let end = if sums.has_overflow { " goes on" } else { "" };
-    write!(text, "{end}").ok()
+    let _ = write!(text, " {payload} {greatest} {unheld}");
+    add_number(" ", sums.first, text);
+    add_number(" ", sums.last, text);
+    if sums.has_overflow {
+        let _ = text.try_push_str(" goes on");
+    }
 }

@@ -68,18 +68,18 @@ pub(crate) fn write_at(place: &mut [u8], at: usize, bytes: &[u8]) -> Option<()> 
 }
 
 /// Adds the bytes of a name, a long one of a single byte by this byte and how often it comes.
-pub(crate) fn add_name(name: &[u8], text: &mut Text) -> Option<()> {
-    write!(text, " named").ok()?;
+pub(crate) fn add_name(name: &[u8], text: &mut Text) {
+    let _ = text.try_push_str(" named");
     if let Some(first) = name.first()
         && name.len() > 99
         && is_run_of(*first, name)
     {
-        return write!(text, " {first:02x}*{}", name.len()).ok();
+        let _ = write!(text, " {first:02x}*{}", name.len());
+        return;
     }
     for byte in name {
-        write!(text, " {byte:02x}").ok()?;
+        let _ = write!(text, " {byte:02x}");
     }
-    Some(())
 }
 
 fn is_run_of(byte: u8, bytes: &[u8]) -> bool {
