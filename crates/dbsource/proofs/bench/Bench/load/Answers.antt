@@ -27,3 +27,6 @@ returns-in-Some-clause-level g c =
 
 pub invariant_of-self-in-None : goal.invariant_of-self-in-None
 invariant_of-self-in-None g c = let i = c.self.invariant in record { range = i.range; count = i.count; levels = i.levels; chain = i.chain; uses = i.uses }
+
+pub returns-in-Some-clause-count : goal.returns-in-Some-clause-count
+returns-in-Some-clause-count g c = c.read_at.ensures.count
