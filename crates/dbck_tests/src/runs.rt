@@ -35,3 +35,13 @@ pub(crate) fn is_same(one: &Found, other: &Found) -> bool {
         && one.out.bytes() == other.out.bytes()
         && one.err.bytes() == other.err.bytes()
 }
+
+/// Whether each out of a run has a beginning of what another's has.
+pub(crate) fn is_beginning(one: &Found, whole: &Found) -> bool {
+    whole.out.bytes().starts_with(one.out.bytes()) && whole.err.bytes().starts_with(one.err.bytes())
+}
+
+/// Whether a run wrote something.
+pub(crate) fn has_written(found: &Found) -> bool {
+    !found.out.bytes().is_empty() || !found.err.bytes().is_empty()
+}

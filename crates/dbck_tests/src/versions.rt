@@ -1,7 +1,7 @@
 // A run over a file that is written meanwhile, where each read answers bytes of another version: it writes to both outs, and
 // answers, what a run over the one file does that the answers make up under the header that was read first. Where a read fails, a
 // beginning of what there would be is written.
-use crate::runs::{Found, check_of, found_of, is_same, stat_of};
+use crate::runs::{Found, check_of, found_of, has_written, is_beginning, is_same, stat_of};
 use crate::support::bytes::patch;
 use crate::support::cases::lines;
 use crate::support::samples::file_of;
@@ -69,14 +69,13 @@ fn is_each_page_once(answers: &[Answer]) -> bool {
 #[derive(Clone, Copy)]
 struct Case<'a> {
     command: Command,
-    name: &'a str,
     file: &'a [u8],
     seed: u32,
 }
 
 // How many runs were of each kind, and how many would have been reported otherwise of a later version of one page, and of the header
 // that stood on page 1 when that was read as a page.
-#[derive(Clone, Copy)]
+#[derive(Clone, Copy, Default)]
 struct Counts {
     clean: u32,
     faulty: u32,
@@ -90,6 +89,12 @@ struct Counts {
 // One more where this holds.
 fn count(number: &mut u32, holds: bool) {
     *number = number.wrapping_add(u32::from(holds));
+}
+
+// Whether there was a run of each kind.
+fn are_all_met(counts: &Counts) -> bool {
+    let are_answered = counts.clean > 0 && counts.faulty > 0 && counts.refused > 0;
+    are_answered && counts.later > 0 && counts.headed > 0 && counts.begun > 0
 }
 
 // Whether as many lines of faults were written as the verdict says, and nothing else beside the rows.
@@ -135,33 +140,36 @@ fn is_other_in(
     Ok(!is_same(found, &other))
 }
 
-// That a run to its end found what is in the file that its answers make up.
-fn is_found_together(
-    rt: &impl Abort,
+// Whether a run to its end asked for the length once, read each page once, and found what is in the file that its answers make up.
+fn is_whole_run_right(
     alloc: Global,
     case: Case<'_>,
-    answers: &[Answer],
+    source: &ChangingSource<'_>,
     found: &Found,
-) -> Result<(), AllocError> {
-    let of = (case.name, case.seed);
+) -> Result<bool, AllocError> {
+    let answers = source.answers();
     let is_other = is_other_in(alloc, case, answers, found)?;
-    holds!(*rt; !is_other, of);
-    holds!(*rt; has_its_lines(case.command, found), of);
-    Ok(())
+    let is_kept = source.lens() == 1 && answers.len() == source.reads();
+    Ok(is_kept && is_each_page_once(answers) && !is_other && has_its_lines(case.command, found))
 }
 
-// Counts of what kind a run to its end was.
-fn count_whole_run(
+// Counts of what kind an answer is.
+fn count_answer(answer: Result<Verdict, RunError>, counts: &mut Counts) {
+    match answer {
+        Ok(Verdict::Clean) => count(&mut counts.clean, true),
+        Ok(Verdict::Faulty(_)) => count(&mut counts.faulty, true),
+        Err(_) => count(&mut counts.refused, true),
+    }
+}
+
+// Counts whether a run to its end would have found something else under another header, and in a later version of a page.
+fn count_others(
     alloc: Global,
     case: Case<'_>,
     source: &mut ChangingSource<'_>,
     found: &Found,
     counts: &mut Counts,
 ) -> Result<(), AllocError> {
-    let is_clean = found.answer == Ok(Verdict::Clean);
-    count(&mut counts.clean, is_clean);
-    count(&mut counts.faulty, found.answer.is_ok() && !is_clean);
-    count(&mut counts.refused, found.answer.is_err());
     let pages = source.answers().get(1..).unwrap_or(&[]);
     let is_headed = is_other_in(alloc, case, pages, found)?;
     count(&mut counts.headed, !pages.is_empty() && is_headed);
@@ -171,70 +179,78 @@ fn count_whole_run(
     Ok(())
 }
 
-// What is asserted of a run to its end, over a source that was read.
-fn holds_of_whole_run(
-    rt: &impl Abort,
+// How many reads a run to its end made, if it is right.
+fn reads_of(
     alloc: Global,
     case: Case<'_>,
     source: &mut ChangingSource<'_>,
     found: &Found,
     counts: &mut Counts,
-) -> Result<(), AllocError> {
-    let of = (case.name, case.seed);
-    holds!(*rt; source.lens() == 1, of);
-    holds!(*rt; source.answers().len() == source.reads(), of);
-    holds!(*rt; is_each_page_once(source.answers()), of);
-    is_found_together(rt, alloc, case, source.answers(), found)?;
-    count_whole_run(alloc, case, source, found, counts)
+) -> Result<Option<usize>, AllocError> {
+    let reads = source.reads();
+    let is_right = is_whole_run_right(alloc, case, source, found)?;
+    count_answer(found.answer, counts);
+    count_others(alloc, case, source, found, counts)?;
+    Ok(is_right.then_some(reads))
 }
 
-// A run to its end, and how many reads it makes.
+// A run to its end, and how many reads it makes, if it is right.
 fn whole_run(
-    rt: &impl Abort,
     alloc: Global,
     case: Case<'_>,
     counts: &mut Counts,
-) -> Result<usize, AllocError> {
+) -> Result<Option<usize>, AllocError> {
     let mut source = ChangingSource::new(alloc, case.file, case.seed, usize::MAX);
     let found = found_of(alloc, case.command, &mut source);
-    let reads = source.reads();
-    holds_of_whole_run(rt, alloc, case, &mut source, &found, counts)?;
-    Ok(reads)
+    reads_of(alloc, case, &mut source, &found, counts)
 }
 
-// What is asserted of a run whose read of this number failed.
-fn holds_of_failing_run(
-    rt: &impl Abort,
+// Whether what was written is a beginning of what is written of the file that answers make up.
+fn is_beginning_in(
+    alloc: Global,
+    case: Case<'_>,
+    answers: &[Answer],
+    found: &Found,
+) -> Result<bool, AllocError> {
+    let whole = found_in(alloc, case, answers)?;
+    Ok(is_beginning(found, &whole))
+}
+
+// Whether a run whose read of this number failed is right: the length was asked for once, nothing was read after the failure, and what was
+// written is a beginning of what is written of a file with zeros in place of what was not read.
+fn is_failing_run_right(
     alloc: Global,
     case: Case<'_>,
     source: &ChangingSource<'_>,
     fails_at: usize,
     found: &Found,
-) -> Result<(), AllocError> {
-    let of = (case.name, case.seed);
-    let (out, err) = (found.out.bytes(), found.err.bytes());
-    holds!(*rt; found.answer == Err(RunError::ReadFailed), of);
-    holds!(*rt; source.lens() == 1, of);
-    holds!(*rt; source.answers().len() == fails_at, of);
-    holds!(*rt; source.reads() == fails_at.wrapping_add(1), of);
-    let wanted = found_in(alloc, case, source.answers())?;
-    holds!(*rt; wanted.out.bytes().starts_with(out), of);
-    holds!(*rt; wanted.err.bytes().starts_with(err), of);
-    Ok(())
+) -> Result<bool, AllocError> {
+    let calls = (source.lens(), source.answers().len(), source.reads());
+    let has_failed = found.answer == Err(RunError::ReadFailed);
+    let is_beginning = is_beginning_in(alloc, case, source.answers(), found)?;
+    Ok(is_beginning && has_failed && calls == (1, fails_at, fails_at.wrapping_add(1)))
 }
 
-// The same run where one read fails: nothing is read after it, and what is written is a beginning of what is written of a
-// file with zeros in its place. Whether anything is.
+// The same run where one read fails, and whether it is right.
 fn failing_run(
-    rt: &impl Abort,
     alloc: Global,
     case: Case<'_>,
     fails_at: usize,
+    counts: &mut Counts,
 ) -> Result<bool, AllocError> {
     let mut source = ChangingSource::new(alloc, case.file, case.seed, fails_at);
     let found = found_of(alloc, case.command, &mut source);
-    holds_of_failing_run(rt, alloc, case, &source, fails_at, &found)?;
-    Ok(!found.out.bytes().is_empty() || !found.err.bytes().is_empty())
+    count(&mut counts.begun, has_written(&found));
+    is_failing_run_right(alloc, case, &source, fails_at, &found)
+}
+
+// Whether a run to its end is right, and one of which a read fails.
+fn are_runs_right(alloc: Global, case: Case<'_>, counts: &mut Counts) -> Result<bool, AllocError> {
+    let Some(reads) = whole_run(alloc, case, counts)? else {
+        return Ok(false);
+    };
+    let fails_at = (case.seed as usize).checked_rem(reads).unwrap_or(0);
+    failing_run(alloc, case, fails_at, counts)
 }
 
 // Runs a command over the versions of a file, from 100 first values.
@@ -243,31 +259,19 @@ fn runs_over_file(
     alloc: Global,
     command: Command,
     name: &str,
-    file: &[u8],
 ) -> Result<(), AllocError> {
-    let mut counts = Counts {
-        clean: 0,
-        faulty: 0,
-        refused: 0,
-        later: 0,
-        headed: 0,
-        begun: 0,
-    };
+    let file = file_of(alloc, name)?;
+    let file = file.as_slice();
+    let mut counts = Counts::default();
     for seed in 0..100u32 {
         let case = Case {
             command,
-            name,
             file,
             seed,
         };
-        let reads = whole_run(rt, alloc, case, &mut counts)?;
-        let fails_at = (seed as usize).checked_rem(reads).unwrap_or(0);
-        let is_begun = failing_run(rt, alloc, case, fails_at)?;
-        count(&mut counts.begun, is_begun);
+        holds!(*rt; are_runs_right(alloc, case, &mut counts)?, (name, seed));
     }
-    holds!(*rt; counts.clean > 0 && counts.faulty > 0, name);
-    holds!(*rt; counts.later > 0 && counts.headed > 0, name);
-    holds!(*rt; counts.refused > 0 && counts.begun > 0, name);
+    holds!(*rt; are_all_met(&counts), name);
     Ok(())
 }
 
@@ -280,8 +284,7 @@ fn runs_over_versions(rt: &impl Abort, alloc: Global, command: Command) -> Resul
         "TwoLeaves 4",
         "LongSql 3",
     ] {
-        let file = file_of(alloc, name)?;
-        runs_over_file(rt, alloc, command, name, file.as_slice())?;
+        runs_over_file(rt, alloc, command, name)?;
     }
     Ok(())
 }

@@ -8,7 +8,6 @@ use dbreport::Verdict;
 use dbsource::{MemOut, MemSource, RunError};
 use linked_list_allocator::LocalHeap;
 use std::alloc::{AllocError, Global};
-use std::process::Abort;
 use std::test::Fail;
 
 // Two tables of two leaves each, where the last child of `order` is the last one of `customer`, so that its own is lost.
@@ -47,24 +46,28 @@ const LOST_BETWEEN: &str =
     6 0 0a 0000 0000 0200, \
     8 0 0d 0000 0001 01fc 00 01fc, 8 508 00 0b";
 
-// The first `len` bytes of what is written of the file with two owners.
-fn beginning(len: usize) -> &'static [u8] {
-    SHARED.as_bytes().get(..len).unwrap_or(&[])
-}
-
-// The call of the source with this number fails, if there is one: the answer, and how many bytes were written by then.
-fn fails_at_read(
-    rt: &impl Abort,
+// Whether a run answers this, and writes so many bytes of a text: how many entries are listed at most, the call of the source that fails, if
+// there is one, and for how many bytes the out has room.
+fn writes(
     alloc: Global,
     file: &[u8],
-    fails_at: u64,
-    (wanted, written): (Result<Verdict, RunError>, usize),
-) {
+    (limit, fails_at, room): (u32, u64, usize),
+    wanted: Result<Verdict, RunError>,
+    (text, len): (&str, usize),
+) -> bool {
     let mut source = StatedSource::new(file, file.len() as u64, fails_at);
-    let mut out = SmallOut::new(2048);
-    let answer = explain(alloc, 100, &mut source, &mut out);
-    holds!(*rt; answer == wanted, fails_at);
-    holds!(*rt; out.bytes() == beginning(written), fails_at);
+    let mut out = SmallOut::new(room);
+    let answer = explain(alloc, limit, &mut source, &mut out);
+    answer == wanted && Some(out.bytes()) == text.as_bytes().get(..len)
+}
+
+// How many bytes the first lines of a text have.
+fn len_of_lines(text: &str, count: usize) -> usize {
+    let mut len: usize = 0;
+    for line in text.lines().take(count) {
+        len = len.wrapping_add(line.len()).wrapping_add(1);
+    }
+    len
 }
 
 // Each call of the source fails in turn: its length, its header, and the six pages of both trees. No fault was found by then.
@@ -72,74 +75,54 @@ fn fails_at_read(
 #[test]
 fn each_read_fails_in_turn(rt: HostRuntime) -> Result<(), Fail> {
     let file = file_of(rt.alloc(), SHARED_FILE)?;
-    let line = SHARED.find("    page 5").unwrap_or(0);
-    holds!(rt; line > 0);
     for fails_at in 0..11u64 {
-        let wanted = match fails_at {
+        let (answer, len) = match fails_at {
             0..8 => (Err(RunError::ReadFailed), 0),
-            8 => (Err(RunError::ReadFailed), line),
+            8 => (Err(RunError::ReadFailed), len_of_lines(SHARED, 1)),
             _ => (Ok(Verdict::Faulty(2)), SHARED.len()),
         };
-        fails_at_read(&rt, rt.alloc(), file.as_slice(), fails_at, wanted);
+        let run = (100, fails_at, 2048);
+        holds!(rt; writes(rt.alloc(), file.as_slice(), run, answer, (SHARED, len)), fails_at);
     }
     Ok(())
 }
 
-// The lines of a file whose header is wrong, and two of whose map entries are; pages 5 to 7 are in no use.
-const VERSION: &str = "H01 page 1 item 18 value 3: file version is not 1 or 2\n";
-
-const BEFORE_LOST: &str = "H01 page 1 item 18 value 3: file version is not 1 or 2
-M01 page 4 item 5 value 9: pointer map entry differs
-M01 page 8 item 5 value 9: pointer map entry differs
-";
-
-const ONE_LOST: &str = "H01 page 1 item 18 value 3: file version is not 1 or 2
-M01 page 4 item 5 value 9: pointer map entry differs
-M01 page 8 item 5 value 9: pointer map entry differs
-N01 page 5 item 0 value 0: page is not in use
-";
-
-const TWO_LOST: &str = "H01 page 1 item 18 value 3: file version is not 1 or 2
+// The lines of a file whose header is wrong, and two of whose map entries are; pages 5 to 7 are in no use, of which the last was not read.
+const LOST: &str = "H01 page 1 item 18 value 3: file version is not 1 or 2
 M01 page 4 item 5 value 9: pointer map entry differs
 M01 page 8 item 5 value 9: pointer map entry differs
 N01 page 5 item 0 value 0: page is not in use
 N01 page 6 item 0 value 0: page is not in use
 ";
 
-const TWO_LINES: &str = "H01 page 1 item 18 value 3: file version is not 1 or 2
-M01 page 4 item 5 value 9: pointer map entry differs
-";
-
-// The call of the source that fails, how many entries are listed at most, and what is written: after the length and the header come
-// the pages 1, 3, 4 and 8, the map, and the pages 5, 6 and 7.
-const FOUND: [(u64, u32, &str); 15] = [
-    (0, 100, ""),
-    (1, 100, ""),
-    (2, 100, VERSION),
-    (3, 100, VERSION),
-    (4, 100, VERSION),
-    (5, 100, VERSION),
-    (6, 100, VERSION),
-    (7, 100, BEFORE_LOST),
-    (8, 100, ONE_LOST),
-    (9, 100, TWO_LOST),
+// The call of the source that fails, how many entries are listed at most, and how many lines are written: after the length and the header
+// come the pages 1, 3, 4 and 8, the map, and the pages 5, 6 and 7.
+const FOUND: [(u64, u32, usize); 15] = [
+    (0, 100, 0),
+    (1, 100, 0),
+    (2, 100, 1),
+    (3, 100, 1),
+    (4, 100, 1),
+    (5, 100, 1),
+    (6, 100, 1),
+    (7, 100, 3),
+    (8, 100, 4),
+    (9, 100, 5),
     // The entries of lost pages take no other's place.
-    (7, 3, BEFORE_LOST),
-    (9, 4, ONE_LOST),
-    (9, 3, BEFORE_LOST),
-    (9, 2, TWO_LINES),
-    (9, 1, VERSION),
+    (7, 3, 3),
+    (9, 4, 4),
+    (9, 3, 3),
+    (9, 2, 2),
+    (9, 1, 1),
 ];
 
 #[test]
 fn what_was_found_is_written(rt: HostRuntime) -> Result<(), Fail> {
     let file = file_of(rt.alloc(), LOST_BETWEEN)?;
-    for (fails_at, limit, text) in FOUND {
-        let mut source = StatedSource::new(file.as_slice(), file.len() as u64, fails_at);
-        let mut out = SmallOut::new(2048);
-        let answer = explain(rt.alloc(), limit, &mut source, &mut out);
-        holds!(rt; answer == Err(RunError::ReadFailed), (fails_at, limit));
-        holds!(rt; out.bytes() == text.as_bytes(), (fails_at, limit));
+    let failed = Err(RunError::ReadFailed);
+    for (fails_at, limit, lines) in FOUND {
+        let (run, len) = ((limit, fails_at, 2048), len_of_lines(LOST, lines));
+        holds!(rt; writes(rt.alloc(), file.as_slice(), run, failed, (LOST, len)), run);
     }
     Ok(())
 }
@@ -148,54 +131,44 @@ fn what_was_found_is_written(rt: HostRuntime) -> Result<(), Fail> {
 #[test]
 fn a_failed_read_is_answered(rt: HostRuntime) -> Result<(), Fail> {
     let file = file_of(rt.alloc(), LOST_BETWEEN)?;
-    for room in 0..TWO_LOST.len() {
-        let mut source = StatedSource::new(file.as_slice(), file.len() as u64, 9);
-        let mut out = SmallOut::new(room);
-        let answer = explain(rt.alloc(), 100, &mut source, &mut out);
-        holds!(rt; answer == Err(RunError::ReadFailed), room);
-        holds!(rt; out.bytes() == TWO_LOST.as_bytes().get(..room).unwrap_or(&[]), room);
+    let failed = Err(RunError::ReadFailed);
+    for room in 0..LOST.len() {
+        let run = (100, 9, room);
+        holds!(rt; writes(rt.alloc(), file.as_slice(), run, failed, (LOST, room)), room);
     }
     Ok(())
 }
 
 // An out of little room holds a beginning of the report, as long as its room.
-fn ends_at(rt: &impl Abort, alloc: Global, file: &[u8], room: usize) {
-    let mut source = MemSource::new(file);
-    let mut out = SmallOut::new(room);
-    let answer = explain(alloc, 100, &mut source, &mut out);
-    let wanted = if room < SHARED.len() {
-        Err(RunError::WriteFailed)
-    } else {
-        Ok(Verdict::Faulty(2))
-    };
-    holds!(*rt; answer == wanted, room);
-    holds!(*rt; out.bytes().len() == room && out.bytes() == beginning(room), room);
-}
-
 #[test]
 fn each_write_fails_in_turn(rt: HostRuntime) -> Result<(), Fail> {
     let file = file_of(rt.alloc(), SHARED_FILE)?;
     for room in 0..SHARED.len().wrapping_add(1) {
-        ends_at(&rt, rt.alloc(), file.as_slice(), room);
+        let answer = if room < SHARED.len() {
+            Err(RunError::WriteFailed)
+        } else {
+            Ok(Verdict::Faulty(2))
+        };
+        let run = (100, u64::MAX, room);
+        holds!(rt; writes(rt.alloc(), file.as_slice(), run, answer, (SHARED, room)), room);
     }
     Ok(())
 }
 
-// A heap of this many bytes answers so: nothing of it is held then, and nothing was written where it is an error.
-fn in_room(
-    rt: &impl Abort,
+// Whether a run answers this where its memory is a heap of this many bytes: nothing of it is held then, and nothing was written where it
+// is an error.
+fn is_answered_in(
     alloc: Global,
     file: &[u8],
     room: usize,
     wanted: Result<Verdict, RunError>,
-) -> Result<(), AllocError> {
+) -> Result<bool, AllocError> {
     let heap = LocalHeap::new(alloc, room)?;
     let mut source = MemSource::new(file);
     let mut out = MemOut::new(alloc);
     let answer = explain_in(&heap, 100, &mut source, &mut out);
-    holds!(*rt; answer == wanted, room);
-    holds!(*rt; heap.used() == 0 && answer.is_err() == out.bytes().is_empty(), room);
-    Ok(())
+    let is_written = !out.bytes().is_empty();
+    Ok(answer == wanted && heap.used() == 0 && answer.is_ok() == is_written)
 }
 
 // A buffer of a page for each of 22 levels, and four bytes a page of marks. The heap gives units of 16 bytes.
@@ -220,11 +193,11 @@ const ROOTS: usize = TREES + 80;
 
 const NAMES: usize = ROOTS + 16;
 
-// Each is refused where there is room for those before it alone.
+// Each is refused where there is room for those before it alone, and nothing where there is room for all.
 #[test]
 fn each_growth_is_refused(rt: HostRuntime) -> Result<(), Fail> {
     let file = file_of(rt.alloc(), SHARED_FILE)?;
-    let rooms = [
+    for room in [
         512usize,
         DESK - 16,
         DESK,
@@ -235,12 +208,14 @@ fn each_growth_is_refused(rt: HostRuntime) -> Result<(), Fail> {
         TREES,
         ROOTS,
         NAMES,
-    ];
-    let wanted = Err(RunError::OutOfMemory);
-    for room in rooms {
-        in_room(&rt, rt.alloc(), file.as_slice(), room, wanted)?;
+        NAMES + 16,
+    ] {
+        let answer = if room <= NAMES {
+            Err(RunError::OutOfMemory)
+        } else {
+            Ok(Verdict::Faulty(2))
+        };
+        holds!(rt; is_answered_in(rt.alloc(), file.as_slice(), room, answer)?, room);
     }
-    let wanted = Ok(Verdict::Faulty(2));
-    in_room(&rt, rt.alloc(), file.as_slice(), NAMES + 16, wanted)?;
     Ok(())
 }

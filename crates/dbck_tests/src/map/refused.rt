@@ -124,7 +124,7 @@ const ZEROS: usize = ENTRIES + 16;
 // As rows are read, the list of roots takes four rows of 20 bytes, and then 8 bytes of names.
 const ROOTS: usize = ZEROS + 80;
 
-// Each is refused where there is room for those before it alone.
+// Each is refused where there is room for those before it alone, and nothing where there is room for all.
 #[test]
 fn each_growth_is_refused(rt: HostRuntime) -> Result<(), Fail> {
     let file = file_of(rt.alloc(), SMALL)?;
@@ -140,21 +140,14 @@ fn each_growth_is_refused(rt: HostRuntime) -> Result<(), Fail> {
         ENTRIES,
         ZEROS,
         ROOTS,
-    ] {
-        in_room(
-            &rt,
-            rt.alloc(),
-            file.as_slice(),
-            room,
-            Err(RunError::OutOfMemory),
-        )?;
-    }
-    in_room(
-        &rt,
-        rt.alloc(),
-        file.as_slice(),
         ROOTS + 16,
-        Ok(Verdict::Faulty(1)),
-    )?;
+    ] {
+        let wanted = if room <= ROOTS {
+            Err(RunError::OutOfMemory)
+        } else {
+            Ok(Verdict::Faulty(1))
+        };
+        in_room(&rt, rt.alloc(), file.as_slice(), room, wanted)?;
+    }
     Ok(())
 }

@@ -2,55 +2,54 @@
 use crate::support::fake_files::{Allowed, FakeFiles};
 use crate::support::stops::holds;
 use dbsource::{FileSource, Source};
-use std::fs;
 use std::os::unix::fs::FileExt;
-use std::process::Abort;
 use std::test::Fail;
+use std::{fs, io};
 
-// Compares the length, and five bytes from a place on, with what is wanted. Where no bytes are wanted they cannot be read.
-fn compare(rt: &impl Abort, source: &mut impl Source, len: u64, at: u64, bytes: &str) {
+// Whether a source has this length, and gives these five bytes from a place on. Where no bytes are wanted they cannot be read.
+fn gives(source: &mut impl Source, len: u64, at: u64, bytes: &str) -> bool {
     let mut buf = [0u8; 5];
-    holds!(*rt; source.len() == Ok(len), bytes);
+    let has_length = source.len() == Ok(len);
     let is_read = source.read_at(at, &mut buf).is_ok();
-    holds!(*rt; is_read == !bytes.is_empty(), bytes);
-    holds!(*rt; !is_read || buf.as_slice() == bytes.as_bytes(), bytes);
+    has_length && is_read != bytes.is_empty() && (!is_read || buf.as_slice() == bytes.as_bytes())
 }
 
-// Opens a file for reading alone, and reads it twice.
-fn reads(rt: &HostRuntime, stop: &impl Abort, path: &str, len: u64, places: &[(u64, &str)]) {
-    let files = FakeFiles::new(rt, Allowed::Reading);
-    let mut source = FileSource::open(&files, path);
-    holds!(*stop; source.is_ok() && !files.has_refused(), path);
-    if let Ok(source) = &mut source {
-        for (at, bytes) in places {
-            compare(stop, source, len, *at, bytes);
-        }
+// Whether a file is opened for reading alone, and then has this length, and these bytes at these places.
+fn reads(rt: &HostRuntime, allowed: Allowed, path: &str, len: u64, places: &[(u64, &str)]) -> bool {
+    let files = FakeFiles::new(rt, allowed);
+    let Ok(mut source) = FileSource::open(&files, path) else {
+        return false;
+    };
+    let mut are_given = !files.has_refused();
+    for (at, bytes) in places {
+        are_given = gives(&mut source, len, *at, bytes) && are_given;
     }
+    are_given
+}
+
+// Makes a file that holds some bytes from a place on, and zeros before them.
+fn make_file(rt: &HostRuntime, path: &str, at: u64, bytes: &[u8]) -> io::Result<()> {
+    fs::create(rt, path)?.write_all_at(bytes, at)
 }
 
 #[test]
 fn reads_files(rt: HostRuntime) -> Result<(), Fail> {
-    fs::write(&rt, "seven.db", b"7 bytes".as_slice())?;
-    reads(&rt, &rt, "seven.db", 7, &[(2, "bytes"), (3, "")]);
-    fs::remove_file(&rt, "seven.db")?;
+    make_file(&rt, "some.db", 0, b"7 bytes")?;
+    let places = &[(2, "bytes"), (3, "")];
+    holds!(rt; reads(&rt, Allowed::Reading, "some.db", 7, places));
     // A file of 4 GiB and seven bytes, of which the disk holds the last five alone.
-    fs::create(&rt, "far.db")?.write_all_at(b"bytes", 4294967298)?;
+    make_file(&rt, "some.db", 4294967298, b"bytes")?;
     let places = &[(4294967298, "bytes"), (2, "\0\0\0\0\0")];
-    reads(&rt, &rt, "far.db", 4294967303, places);
-    fs::remove_file(&rt, "far.db")?;
+    holds!(rt; reads(&rt, Allowed::Reading, "some.db", 4294967303, places));
+    fs::remove_file(&rt, "some.db")?;
     Ok(())
 }
 
 // The length is that of the end of the file, not the one that was found at its path before it was opened.
 #[test]
 fn goes_to_the_end(rt: HostRuntime) -> Result<(), Fail> {
-    fs::write(&rt, "end.db", b"7 bytes".as_slice())?;
-    let files = FakeFiles::new(&rt, Allowed::Lying);
-    let mut source = FileSource::open(&files, "end.db");
-    holds!(rt; source.is_ok() && !files.has_refused(), "end.db");
-    if let Ok(source) = &mut source {
-        compare(&rt, source, 7, 2, "bytes");
-    }
+    make_file(&rt, "end.db", 0, b"7 bytes")?;
+    holds!(rt; reads(&rt, Allowed::Lying, "end.db", 7, &[(2, "bytes")]));
     fs::remove_file(&rt, "end.db")?;
     Ok(())
 }

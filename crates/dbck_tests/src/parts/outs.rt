@@ -3,7 +3,6 @@ use crate::support::fakes::{FakeWriter, Manner};
 use crate::support::stops::holds;
 use dbsource::{LogSource, MemOut, Out, Source, StreamOut, WriteFailed};
 use linked_list_allocator::LocalHeap;
-use std::process::Abort;
 use std::test::Fail;
 
 #[test]
@@ -14,17 +13,16 @@ fn streams_loop_over_writes(rt: HostRuntime) {
         (Manner::Fails, Err(WriteFailed)),
     ] {
         let mut out = StreamOut::new(FakeWriter::new(manner));
-        holds!(rt; out.put(b"ok\n") == answer);
-        holds!(rt; out.put(b"") == Ok(()));
+        let answers = (out.put(b"ok\n"), out.put(b""));
+        holds!(rt; answers == (answer, Ok(())));
     }
 }
 
 #[test]
 fn memory_holds_what_was_put(rt: HostRuntime) {
     let mut out = MemOut::new(rt.alloc());
-    holds!(rt; out.put(b"more ") == Ok(()));
-    holds!(rt; out.put(b"1\n") == Ok(()));
-    holds!(rt; out.bytes() == b"more 1\n".as_slice());
+    let answers = (out.put(b"more "), out.put(b"1\n"));
+    holds!(rt; answers == (Ok(()), Ok(())) && out.bytes() == b"more 1\n".as_slice());
 }
 
 #[test]
@@ -36,13 +34,11 @@ fn full_memory_holds_nothing(rt: HostRuntime) -> Result<(), Fail> {
     Ok(())
 }
 
-// A source of four bytes gives them, and none after their end. Two reads are kept.
-fn gives_bytes(rt: &impl Abort, source: &mut LogSource<'_>) {
+// Whether a source of four bytes gives them, and none after their end. Two reads are kept.
+fn gives_bytes(source: &mut LogSource<'_>) -> bool {
     let mut buf = [0u8; 2];
-    holds!(*rt; source.len() == Ok(4));
-    holds!(*rt; source.read_at(1, &mut buf).is_ok());
-    holds!(*rt; buf == [2, 3]);
-    holds!(*rt; source.read_at(3, &mut buf).is_err());
+    let has_bytes = source.len() == Ok(4) && source.read_at(1, &mut buf).is_ok();
+    has_bytes && buf == [2, 3] && source.read_at(3, &mut buf).is_err()
 }
 
 #[test]
@@ -50,11 +46,11 @@ fn logs_keep_1024_ranges(rt: HostRuntime) {
     let bytes = [1, 2, 3, 4];
     let mut source = LogSource::new(&bytes);
     let mut buf = [0u8; 2];
-    gives_bytes(&rt, &mut source);
+    let mut are_kept = gives_bytes(&mut source);
     for _ in 0..1022u32 {
-        holds!(rt; source.read_at(0, &mut buf).is_ok());
+        are_kept = source.read_at(0, &mut buf).is_ok() && are_kept;
     }
-    holds!(rt; source.ranges().len() == 1024);
-    holds!(rt; source.read_at(0, &mut buf).is_err());
-    holds!(rt; source.ranges().len() == 1024);
+    holds!(rt; are_kept && source.ranges().len() == 1024);
+    let is_refused = source.read_at(0, &mut buf).is_err();
+    holds!(rt; is_refused && source.ranges().len() == 1024);
 }

@@ -67,6 +67,16 @@ fn is_page_right(source: &mut impl Source, len: u64, number: u64, page: &mut [u8
     is_part_right(source, len, number.wrapping_mul(size), page)
 }
 
+// The same of some pages of 4096 bytes.
+fn are_pages_right(source: &mut impl Source, len: u64, numbers: &[u64]) -> bool {
+    let mut page = [0u8; 4096];
+    let mut are_right = true;
+    for number in numbers {
+        are_right = is_page_right(source, len, *number, &mut page) && are_right;
+    }
+    are_right
+}
+
 // The same of all parts of a file, and two past its end.
 fn are_parts_right(source: &mut impl Source, len: u64, step: u64, buf: &mut [u8]) -> bool {
     let size = buf.len() as u64;
@@ -110,22 +120,35 @@ fn cut(rt: &HostRuntime, path: &str, len: u64) -> Result<(), Fail> {
     Ok(())
 }
 
-// Whether, past the end of a file that was cut short, nothing is read, except what a longer read returned before.
-fn is_cut_file_right(rt: &HostRuntime, bound: Option<u64>) -> Result<bool, Fail> {
-    let mut page = [0u8; 4096];
-    let mut source = open(rt, "cut.db", bound)?;
-    let mut is_right = is_page_right(&mut source, 2 * WINDOW, 0, &mut page);
-    cut(rt, "cut.db", 80_000)?;
-    for number in [200, 2, 300, 19, 18, 5, 6, 7, 8, 9, 10, 11] {
-        is_right = is_page_right(&mut source, 80_000, number, &mut page) && is_right;
-    }
+// To what length a file is cut, and the pages that are read then. Past its end nothing is read, except what a longer read returned before: those
+// pages are said to be in a file without end, and those that are not read any more in an empty one.
+const CUTS: [(u64, u64, &[u64]); 6] = [
+    (2 * WINDOW, 2 * WINDOW, &[0]),
+    (
+        80_000,
+        80_000,
+        &[200, 2, 300, 19, 18, 5, 6, 7, 8, 9, 10, 11],
+    ),
     // The last of these was a longer read of 32768 bytes.
-    cut(rt, "cut.db", 20_000)?;
-    for (number, is_read) in [(12, true), (17, true), (18, false), (2, true), (5, false)] {
-        let len = if is_read { u64::MAX } else { 0 };
-        is_right = is_page_right(&mut source, len, number, &mut page) && is_right;
+    (20_000, u64::MAX, &[12, 17]),
+    (20_000, 0, &[18]),
+    (20_000, u64::MAX, &[2]),
+    (20_000, 0, &[5]),
+];
+
+// Whether these pages are right where the file is cut while it is read.
+fn are_cuts_right(rt: &HostRuntime, source: &mut impl Source) -> Result<bool, Fail> {
+    let mut are_right = true;
+    for (cut_to, len, numbers) in &CUTS {
+        cut(rt, "cut.db", *cut_to)?;
+        are_right = are_pages_right(source, *len, numbers) && are_right;
     }
-    Ok(is_right)
+    Ok(are_right)
+}
+
+fn is_cut_file_right(rt: &HostRuntime, bound: Option<u64>) -> Result<bool, Fail> {
+    let mut source = open(rt, "cut.db", bound)?;
+    are_cuts_right(rt, &mut source)
 }
 
 #[test]
@@ -171,23 +194,21 @@ fn bytes_read(rt: &HostRuntime) -> Option<u64> {
     line.strip_prefix("rchar: ")?.parse::<u64>().ok()
 }
 
+// How many bytes it has read since it had read these, if the system counts them.
+fn read_since(rt: &HostRuntime, before: Option<u64>) -> Option<u64> {
+    Some(bytes_read(rt)?.saturating_sub(before?))
+}
+
 // How many windows are read ahead while some pages of four windows are read, where a read takes `pace` microseconds, and whether the
 // pages are right.
 fn windows_read(rt: &HostRuntime, pace: u64) -> Result<(Option<u64>, bool), Fail> {
     let files = FakeFiles::new(rt, Allowed::Reading);
     files.set_pace(pace);
-    let mut page = [0u8; 4096];
     let mut source = FileSource::open(&files, "ahead.db")?;
     let before = bytes_read(rt);
-    let mut are_right = true;
-    for number in [300, 2, 1000, 400, 9, 600, 1010, 700, 20] {
-        are_right = is_page_right(&mut source, 4 * WINDOW, number, &mut page) && are_right;
-    }
-    let windows = match (before, bytes_read(rt)) {
-        (Some(before), Some(after)) => Some(after.saturating_sub(before) / WINDOW),
-        _ => None,
-    };
-    Ok((windows, are_right))
+    let numbers = [300, 2, 1000, 400, 9, 600, 1010, 700, 20];
+    let are_right = are_pages_right(&mut source, 4 * WINDOW, &numbers);
+    Ok((read_since(rt, before).map(|read| read / WINDOW), are_right))
 }
 
 #[test]
@@ -224,25 +245,35 @@ fn windows_with(
     window: u64,
     buf: &mut [u8],
 ) -> Option<u64> {
-    let before = bytes_read(rt)?;
+    let before = bytes_read(rt);
     let _ = source.read_at(window.wrapping_mul(WINDOW), buf);
-    Some(bytes_read(rt)?.saturating_sub(before) / WINDOW)
+    Some(read_since(rt, before)? / WINDOW)
 }
 
 // Whether so many windows are read ahead with each of these reads, of this size. Of pages of which a few fill a window, one window is read
 // at once.
-fn are_jumps_followed(rt: &HostRuntime, size: usize, is_short: bool) -> Result<bool, Fail> {
-    let files = FakeFiles::new(rt, Allowed::Reading);
-    files.set_pace(1000);
+fn are_followed(
+    rt: &HostRuntime,
+    source: &mut impl Source,
+    size: usize,
+    is_short: bool,
+) -> Result<bool, Fail> {
     let mut buf = vec![in rt.alloc(); 0; size]?;
-    let mut source = FileSource::open(&files, "jumps.db")?;
     let mut are_followed = true;
     for (window, at_once) in JUMPS {
         let wanted = if is_short { at_once } else { 1 };
-        let found = windows_with(rt, &mut source, window, &mut buf);
+        let found = windows_with(rt, source, window, &mut buf);
         are_followed = are_followed && found.unwrap_or(wanted) == wanted;
     }
     Ok(are_followed)
+}
+
+// The same in a file whose reads all come from a device.
+fn are_jumps_followed(rt: &HostRuntime, size: usize, is_short: bool) -> Result<bool, Fail> {
+    let files = FakeFiles::new(rt, Allowed::Reading);
+    files.set_pace(1000);
+    let mut source = FileSource::open(&files, "jumps.db")?;
+    are_followed(rt, &mut source, size, is_short)
 }
 
 #[test]
@@ -256,30 +287,30 @@ fn reads_more_windows_where_reads_jump(rt: HostRuntime) -> Result<(), Fail> {
     Ok(())
 }
 
-// The most bytes that are read for one page of four windows, which are read in their order, and whether the pages are right.
-fn most_read(rt: &HostRuntime) -> Result<(Option<u64>, bool), Fail> {
-    let mut page = [0u8; 4096];
+// The most bytes that are read for one page of four windows, which are read in their order, and whether the pages are right. Where the
+// system does not count them they are 64 KiB.
+fn most_read(rt: &HostRuntime, source: &mut impl Source) -> (u64, bool) {
     let mut most = 0;
     let mut are_right = true;
-    let mut source = open(rt, "along.db", None)?;
     for number in 0..1024 {
         let before = bytes_read(rt);
-        are_right = is_page_right(&mut source, 4 * WINDOW, number, &mut page) && are_right;
-        match (before, bytes_read(rt)) {
-            (Some(before), Some(after)) => most = after.saturating_sub(before).max(most),
-            _ => return Ok((None, are_right)),
-        }
+        are_right = are_pages_right(source, 4 * WINDOW, &[number]) && are_right;
+        most = read_since(rt, before).unwrap_or(65_536).max(most);
     }
-    Ok((Some(most), are_right))
+    (most, are_right)
+}
+
+fn most_read_along(rt: &HostRuntime) -> Result<(u64, bool), Fail> {
+    let mut source = open(rt, "along.db", None)?;
+    Ok(most_read(rt, &mut source))
 }
 
 // The count itself is a read of less than a page.
 #[test]
 fn reads_along_by_64_kib_at_most(rt: HostRuntime) -> Result<(), Fail> {
     make_file(&rt, "along.db", 4 * WINDOW)?;
-    let (most, are_right) = most_read(&rt)?;
-    let most = most.unwrap_or(65_536);
-    holds!(rt; are_right && (65_536..65_536 + 4096).contains(&most), "along");
+    let (most, are_right) = most_read_along(&rt)?;
+    holds!(rt; are_right && (65_536..65_536 + 4096).contains(&most), most);
     fs::remove_file(&rt, "along.db")?;
     Ok(())
 }

@@ -90,37 +90,43 @@ const LONG_SQL_ROWS: &str = "sqlite_schema|/|1|leaf|1|92|303|600|0|512\n\
 
 const UNUSED: &str = "N01 page 2 item 0 value 0: page is not in use\n";
 
-// With room for less than 23 growths all that there is room for are taken, and nothing is written; with room for just these no
-// growth is missed, also none that would be given back. Pages are of 512 bytes.
+// Whether a run has room for this many growths, and no more: with less than 23 all that there is room for are taken, and nothing is
+// written; with room for just these no growth is missed, also none that would be given back. Pages are of 512 bytes.
+fn takes_growths(
+    alloc: Global,
+    (what, _, marks, out, err): &(&str, &str, usize, &str, &str),
+    file: &[u8],
+    growths: usize,
+) -> Result<bool, AllocError> {
+    if growths < 23 {
+        let found = run_in_arena(alloc, what, file, growths.wrapping_mul(512))?;
+        return Ok(found == (Err(RunError::OutOfMemory), 0, 0, 0));
+    }
+    let verdict = verdict_of(if *what == "check" { out } else { err });
+    let found = run_in_arena(alloc, what, file, marks.wrapping_add(22 * 512))?;
+    Ok(found == (Ok(verdict), 0, out.len(), err.len()))
+}
+
 #[test]
 fn takes_23_growths_and_no_more(rt: HostRuntime) -> Result<(), Fail> {
-    for (what, text, marks, out, err) in GROWTHS {
-        let file = file_of(rt.alloc(), text)?;
-        for growths in 0..23usize {
-            let room = growths.wrapping_mul(512);
-            let found = run_in_arena(rt.alloc(), what, file.as_slice(), room)?;
-            holds!(rt; found == (Err(RunError::OutOfMemory), 0, 0, 0), (what, growths));
+    for case in &GROWTHS {
+        let file = file_of(rt.alloc(), case.1)?;
+        for growths in 0..24usize {
+            let is_so = takes_growths(rt.alloc(), case, file.as_slice(), growths)?;
+            holds!(rt; is_so, (case, growths));
         }
-        let verdict = if what == "check" {
-            verdict_of(out)
-        } else {
-            verdict_of(err)
-        };
-        let wanted = (Ok(verdict), 0, out.len(), err.len());
-        let room = marks.wrapping_add(22 * 512);
-        let found = run_in_arena(rt.alloc(), what, file.as_slice(), room)?;
-        holds!(rt; found == wanted, what);
     }
     Ok(())
 }
 
 // The least room, beside the buffers and the marks of the pages, with which a check of a file gets its memory, in steps of 8 bytes.
-fn least_room(alloc: Global, file: &[u8]) -> Result<usize, AllocError> {
+fn least_room(alloc: Global, text: &str) -> Result<usize, AllocError> {
+    let file = file_of(alloc, text)?;
     let marks = (file.len() / 512).wrapping_mul(4);
     for steps in 0..64usize {
         let more = steps.wrapping_mul(8);
         let room = marks.wrapping_add(22 * 512).wrapping_add(more);
-        let (answer, _, _, _) = run_in_arena(alloc, "check", file, room)?;
+        let (answer, _, _, _) = run_in_arena(alloc, "check", file.as_slice(), room)?;
         if answer.is_ok() {
             return Ok(more);
         }
@@ -139,10 +145,8 @@ const ROOTED: [[&str; 2]; 3] = [
 #[test]
 fn trees_take_no_more_than_their_roots(rt: HostRuntime) -> Result<(), Fail> {
     for [text, empty] in ROOTED {
-        let file = file_of(rt.alloc(), text)?;
-        let found = least_room(rt.alloc(), file.as_slice())?;
-        let file = file_of(rt.alloc(), empty)?;
-        let least = least_room(rt.alloc(), file.as_slice())?;
+        let found = least_room(rt.alloc(), text)?;
+        let least = least_room(rt.alloc(), empty)?;
         holds!(rt; found == least && 0 < least && least < 512, (text, found, least));
     }
     Ok(())

@@ -6,7 +6,7 @@ use crate::support::peeking::{PeekingSource, SeenWriter};
 use crate::support::samples::file_of;
 use crate::support::stated::StatedSource;
 use crate::support::stops::holds;
-use dbreport::{Command, run};
+use dbreport::{Verdict, run};
 use dbsource::{MemOut, RunError, StreamOut};
 use std::alloc::Global;
 use std::cell::Cell;
@@ -57,27 +57,34 @@ const READS: [[&str; 4]; 9] = [
     ],
 ];
 
-// Whether a run whose call of this number fails, from 0, wrote this many lines; or, where no call fails, all of the text.
-fn is_written(
-    alloc: Global,
+// What a run answers whose call of this number fails, from 0, and how many lines it writes; where no call fails, all lines.
+fn wanted_of(
     [what, _, text, counts]: &[&str; 4],
-    file: &[u8],
     fails_at: usize,
-) -> bool {
+) -> (Result<Verdict, RunError>, usize) {
+    match counts.split(' ').nth(fails_at) {
+        Some(count) => {
+            let count = count.parse::<usize>().unwrap_or(usize::MAX);
+            (Err(RunError::ReadFailed), count)
+        }
+        // The files of the statistics have no fault.
+        None => (
+            Ok(verdict_of(if *what == "check" { text } else { "" })),
+            lines(text.as_bytes()),
+        ),
+    }
+}
+
+// Whether such a run writes so many whole lines of the text.
+fn is_written(alloc: Global, case: &[&str; 4], file: &[u8], fails_at: usize) -> bool {
     let mut source = StatedSource::new(file, file.len() as u64, fails_at as u64);
     let mut out = SmallOut::new(2048);
     let mut err = SmallOut::new(0);
-    let command = command_of(what);
-    let answer = run(alloc, command, &mut source, &mut out, &mut err);
-    // The files of the statistics have no fault.
-    let report = if *what == "check" { text } else { "" };
-    let wanted = match counts.split(' ').nth(fails_at) {
-        Some(count) => (Err(RunError::ReadFailed), count.parse::<usize>()),
-        None => (Ok(verdict_of(report)), Ok(lines(text.as_bytes()))),
-    };
-    (answer, Ok(lines(out.bytes()))) == wanted
-        && begins(text, out.bytes())
-        && (out.bytes().is_empty() || out.bytes().ends_with(b"\n"))
+    let answer = run(alloc, command_of(case[0]), &mut source, &mut out, &mut err);
+    let out = out.bytes();
+    (answer, lines(out)) == wanted_of(case, fails_at)
+        && begins(case[2], out)
+        && (out.is_empty() || out.ends_with(b"\n"))
 }
 
 // Call 0 is the length, call 1 the header, and the others a page each. No line of a fault is written to the second out.

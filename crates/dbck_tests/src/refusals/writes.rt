@@ -167,10 +167,13 @@ fn runs_to_writers(rt: HostRuntime) -> Result<(), Fail> {
     for (what, text, written) in [("check", "LongRow 3", "ok\n"), ("pages", "Smallest 1", row)] {
         let file = file_of(rt.alloc(), text)?;
         let file = file.as_slice();
-        let taken = (Ok(Verdict::Clean), written);
-        holds!(rt; is_taken(rt.alloc(), what, file, Manner::OneByte, taken), what);
-        holds!(rt; is_taken(rt.alloc(), what, file, Manner::Nothing, failed), what);
-        holds!(rt; is_taken(rt.alloc(), what, file, Manner::Fails, failed), what);
+        for (manner, wanted) in [
+            (Manner::OneByte, (Ok(Verdict::Clean), written)),
+            (Manner::Nothing, failed),
+            (Manner::Fails, failed),
+        ] {
+            holds!(rt; is_taken(rt.alloc(), what, file, manner, wanted), what);
+        }
     }
     Ok(())
 }
