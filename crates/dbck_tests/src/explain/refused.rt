@@ -1,4 +1,4 @@
-// Reads, writes and memory that are refused in turn.
+// Reads and memory that are refused in turn. What a write that fails leaves is said by the clauses of `explain`.
 use crate::support::fakes::SmallOut;
 use crate::support::samples::file_of;
 use crate::support::stated::StatedSource;
@@ -46,17 +46,17 @@ const LOST_BETWEEN: &str =
     6 0 0a 0000 0000 0200, \
     8 0 0d 0000 0001 01fc 00 01fc, 8 508 00 0b";
 
-// Whether a run answers this, and writes so many bytes of a text: how many entries are listed at most, the call of the source that fails, if
-// there is one, and for how many bytes the out has room.
+// Whether a run answers this, and writes so many bytes of a text, where at most `limit` entries are listed and this call of the source fails,
+// if there is one.
 fn writes(
     alloc: Global,
     file: &[u8],
-    (limit, fails_at, room): (u32, u64, usize),
+    (limit, fails_at): (u32, u64),
     wanted: Result<Verdict, RunError>,
     (text, len): (&str, usize),
 ) -> bool {
     let mut source = StatedSource::new(file, file.len() as u64, fails_at);
-    let mut out = SmallOut::new(room);
+    let mut out = SmallOut::new(2048);
     let answer = explain(alloc, limit, &mut source, &mut out);
     answer == wanted && Some(out.bytes()) == text.as_bytes().get(..len)
 }
@@ -81,8 +81,14 @@ fn each_read_fails_in_turn(rt: HostRuntime) -> Result<(), Fail> {
             8 => (Err(RunError::ReadFailed), len_of_lines(SHARED, 1)),
             _ => (Ok(Verdict::Faulty(2)), SHARED.len()),
         };
-        let run = (100, fails_at, 2048);
-        holds!(rt; writes(rt.alloc(), file.as_slice(), run, answer, (SHARED, len)), fails_at);
+        let is_so = writes(
+            rt.alloc(),
+            file.as_slice(),
+            (100, fails_at),
+            answer,
+            (SHARED, len),
+        );
+        holds!(rt; is_so, fails_at);
     }
     Ok(())
 }
@@ -121,36 +127,8 @@ fn what_was_found_is_written(rt: HostRuntime) -> Result<(), Fail> {
     let file = file_of(rt.alloc(), LOST_BETWEEN)?;
     let failed = Err(RunError::ReadFailed);
     for (fails_at, limit, lines) in FOUND {
-        let (run, len) = ((limit, fails_at, 2048), len_of_lines(LOST, lines));
+        let (run, len) = ((limit, fails_at), len_of_lines(LOST, lines));
         holds!(rt; writes(rt.alloc(), file.as_slice(), run, failed, (LOST, len)), run);
-    }
-    Ok(())
-}
-
-// A read fails, and then the out: the answer is that the read failed, and the out took as much of the lines as it has room for.
-#[test]
-fn a_failed_read_is_answered(rt: HostRuntime) -> Result<(), Fail> {
-    let file = file_of(rt.alloc(), LOST_BETWEEN)?;
-    let failed = Err(RunError::ReadFailed);
-    for room in 0..LOST.len() {
-        let run = (100, 9, room);
-        holds!(rt; writes(rt.alloc(), file.as_slice(), run, failed, (LOST, room)), room);
-    }
-    Ok(())
-}
-
-// An out of little room holds a beginning of the report, as long as its room.
-#[test]
-fn each_write_fails_in_turn(rt: HostRuntime) -> Result<(), Fail> {
-    let file = file_of(rt.alloc(), SHARED_FILE)?;
-    for room in 0..SHARED.len().wrapping_add(1) {
-        let answer = if room < SHARED.len() {
-            Err(RunError::WriteFailed)
-        } else {
-            Ok(Verdict::Faulty(2))
-        };
-        let run = (100, u64::MAX, room);
-        holds!(rt; writes(rt.alloc(), file.as_slice(), run, answer, (SHARED, room)), room);
     }
     Ok(())
 }

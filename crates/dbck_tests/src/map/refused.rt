@@ -1,13 +1,12 @@
-// Reads, writes and memory that are refused in turn.
+// Reads and memory that are refused in turn. What a write that fails leaves is said by the clauses of `map`.
 use crate::support::samples::file_of;
 use crate::support::stated::StatedSource;
 use crate::support::stops::holds;
 use dbmap::{map, map_in};
 use dbreport::Verdict;
-use dbsource::{MemOut, MemSource, RunError, StreamOut};
+use dbsource::{MemOut, MemSource, RunError};
 use linked_list_allocator::LocalHeap;
 use std::alloc::{AllocError, Global};
-use std::process::Abort;
 use std::test::Fail;
 
 // A table `a`, whose root is page 2, with a payload that goes on on page 3; an index on page 4; page 5 is a trunk and 6 its leaf; page 7 is in
@@ -19,28 +18,18 @@ const SMALL: &str =
     4 0 0a 0000 0000 0200, \
     5 0 00000000 00000001 00000006";
 
-// The call of the source with this number fails, if there is one: nothing was put by then.
-fn fails_at_read(
-    rt: &impl Abort,
+// Whether a map answers so where the call of the source with this number fails, if there is one: nothing was put by then.
+fn is_answered(
     alloc: Global,
     file: &[u8],
     fails_at: u64,
     wanted: Result<Verdict, RunError>,
-) {
+) -> bool {
     let mut source = StatedSource::new(file, file.len() as u64, fails_at);
     let mut out = MemOut::new(alloc);
-    let verdict = map(alloc, "x", &mut source, &mut out);
-    holds!(*rt; verdict == wanted, fails_at);
-    holds!(*rt; verdict.is_err() == out.bytes().is_empty(), fails_at);
-}
-
-// There is room for some bytes of the picture.
-fn fails_in(rt: &impl Abort, alloc: Global, file: &[u8], held: &mut [u8]) {
-    let room = held.len();
-    let mut source = MemSource::new(file);
-    let mut out = StreamOut::new(held);
-    let verdict = map(alloc, "x", &mut source, &mut out);
-    holds!(*rt; verdict == Err(RunError::WriteFailed), room);
+    let answer = map(alloc, "x", &mut source, &mut out);
+    let is_put = !out.bytes().is_empty();
+    answer == wanted && answer.is_ok() == is_put
 }
 
 // Each call of the source fails in turn: its length, its header, the pages 1 to 5, and last page 7, to which nothing refers. There is no
@@ -54,48 +43,24 @@ fn each_read_fails_in_turn(rt: HostRuntime) -> Result<(), Fail> {
         } else {
             Ok(Verdict::Faulty(1))
         };
-        fails_at_read(&rt, rt.alloc(), file.as_slice(), fails_at, wanted);
+        holds!(rt; is_answered(rt.alloc(), file.as_slice(), fails_at, wanted), fails_at);
     }
     Ok(())
 }
 
-// How many bytes the picture has.
-fn len(rt: &impl Abort, alloc: Global, file: &[u8]) -> usize {
-    let mut source = MemSource::new(file);
-    let mut out = MemOut::new(alloc);
-    let verdict = map(alloc, "x", &mut source, &mut out);
-    holds!(*rt; verdict == Ok(Verdict::Faulty(1)));
-    out.bytes().len()
-}
-
-// No more than 192 bytes are put at a time: in steps of 97 each put fails in turn.
-#[test]
-fn each_write_fails_in_turn(rt: HostRuntime) -> Result<(), Fail> {
-    let file = file_of(rt.alloc(), SMALL)?;
-    let len = len(&rt, rt.alloc(), file.as_slice());
-    holds!(rt; len > 3000);
-    for step in 0..len.div_ceil(97) {
-        let mut held = Vec::from_elem(rt.alloc(), 0u8, step.wrapping_mul(97))?;
-        fails_in(&rt, rt.alloc(), file.as_slice(), held.as_mut_slice());
-    }
-    Ok(())
-}
-
-// A heap of this many bytes answers so: nothing of it is held then, and nothing was put where it is an error.
-fn in_room(
-    rt: &impl Abort,
+// Whether a heap of this many bytes answers so: nothing of it is held then, and nothing was put where it is an error.
+fn is_answered_in(
     alloc: Global,
     file: &[u8],
     room: usize,
     wanted: Result<Verdict, RunError>,
-) -> Result<(), AllocError> {
+) -> Result<bool, AllocError> {
     let heap = LocalHeap::new(alloc, room)?;
     let mut source = MemSource::new(file);
     let mut out = MemOut::new(alloc);
     let answer = map_in(&heap, "x", &mut source, &mut out);
-    holds!(*rt; answer == wanted, room);
-    holds!(*rt; heap.used() == 0 && answer.is_err() == out.bytes().is_empty(), room);
-    Ok(())
+    let is_put = !out.bytes().is_empty();
+    Ok(answer == wanted && heap.used() == 0 && answer.is_ok() == is_put)
 }
 
 // A buffer of a page for each of 22 levels, and four bytes a page of marks.
@@ -147,7 +112,7 @@ fn each_growth_is_refused(rt: HostRuntime) -> Result<(), Fail> {
         } else {
             Ok(Verdict::Faulty(1))
         };
-        in_room(&rt, rt.alloc(), file.as_slice(), room, wanted)?;
+        holds!(rt; is_answered_in(rt.alloc(), file.as_slice(), room, wanted)?, room);
     }
     Ok(())
 }

@@ -2,6 +2,7 @@
 use crate::support::fake_files::{Allowed, FakeFiles};
 use crate::support::stops::holds;
 use dbsource::{FileSource, Source};
+use std::alloc::{AllocError, Global};
 use std::fs;
 use std::fs::File;
 use std::rt::{Clock, Files};
@@ -90,26 +91,45 @@ fn are_parts_right(source: &mut impl Source, len: u64, step: u64, buf: &mut [u8]
     are_right
 }
 
-// The same in each order and of each size.
+// The same in each order.
+fn are_orders_right(source: &mut impl Source, len: u64, buf: &mut [u8]) -> bool {
+    let mut are_right = true;
+    for step in STEPS {
+        are_right = are_parts_right(source, len, step, buf) && are_right;
+    }
+    are_right
+}
+
+// The same of each size.
+fn are_sizes_right(alloc: Global, source: &mut impl Source, len: u64) -> Result<bool, AllocError> {
+    let mut are_right = true;
+    for size in SIZES {
+        let mut buf = vec![in alloc; 0; size]?;
+        are_right = are_orders_right(source, len, &mut buf) && are_right;
+    }
+    Ok(are_right)
+}
+
 fn is_file_right(rt: &HostRuntime, len: u64, bound: Option<u64>) -> Result<bool, Fail> {
     let mut source = open(rt, "parts.db", bound)?;
-    let mut is_right = true;
-    for size in SIZES {
-        let mut buf = vec![in rt.alloc(); 0; size]?;
-        for step in STEPS {
-            is_right = are_parts_right(&mut source, len, step, &mut buf) && is_right;
+    Ok(are_sizes_right(rt.alloc(), &mut source, len)?)
+}
+
+// The same at each bound.
+fn is_right_at_bounds(rt: &HostRuntime, len: u64) -> Result<bool, Fail> {
+    make_file(rt, "parts.db", len)?;
+    for bound in BOUNDS {
+        if !is_file_right(rt, len, bound)? {
+            return Ok(false);
         }
     }
-    Ok(is_right)
+    Ok(true)
 }
 
 #[test]
 fn reads_the_same_at_each_bound(rt: HostRuntime) -> Result<(), Fail> {
     for len in LENGTHS {
-        make_file(&rt, "parts.db", len)?;
-        for bound in BOUNDS {
-            holds!(rt; is_file_right(&rt, len, bound)?, (len, bound));
-        }
+        holds!(rt; is_right_at_bounds(&rt, len)?, len);
     }
     fs::remove_file(&rt, "parts.db")?;
     Ok(())
@@ -147,6 +167,7 @@ fn are_cuts_right(rt: &HostRuntime, source: &mut impl Source) -> Result<bool, Fa
 }
 
 fn is_cut_file_right(rt: &HostRuntime, bound: Option<u64>) -> Result<bool, Fail> {
+    make_file(rt, "cut.db", 2 * WINDOW)?;
     let mut source = open(rt, "cut.db", bound)?;
     are_cuts_right(rt, &mut source)
 }
@@ -154,7 +175,6 @@ fn is_cut_file_right(rt: &HostRuntime, bound: Option<u64>) -> Result<bool, Fail>
 #[test]
 fn reads_a_file_that_is_cut_short(rt: HostRuntime) -> Result<(), Fail> {
     for bound in BOUNDS {
-        make_file(&rt, "cut.db", 2 * WINDOW)?;
         holds!(rt; is_cut_file_right(&rt, bound)?, bound);
     }
     fs::remove_file(&rt, "cut.db")?;
@@ -173,15 +193,23 @@ fn looks(rt: &HostRuntime, bound: Option<u64>, pages: u64) -> Result<u64, Fail> 
     Ok(files.looks())
 }
 
+// Whether it is looked at so often at each bound, in a file of `len` bytes. Without a bound it is never looked at.
+fn are_looks(rt: &HostRuntime, len: u64, count: u64) -> Result<bool, Fail> {
+    make_file(rt, "looks.db", len)?;
+    for bound in BOUNDS {
+        let wanted = if bound.is_some() { count } else { 0 };
+        if looks(rt, bound, len / 4096)? != wanted {
+            return Ok(false);
+        }
+    }
+    Ok(true)
+}
+
+// A look before the read, and one after it.
 #[test]
 fn looks_at_the_clock_once_a_window(rt: HostRuntime) -> Result<(), Fail> {
-    for (len, found) in [(0, 0), (4096, 2), (WINDOW, 2), (WINDOW + 4096, 4)] {
-        make_file(&rt, "looks.db", len)?;
-        for bound in BOUNDS {
-            // A look before the read, and one after it.
-            let wanted = if bound.is_some() { found } else { 0 };
-            holds!(rt; looks(&rt, bound, len / 4096)? == wanted, "looks");
-        }
+    for (len, count) in [(0, 0), (4096, 2), (WINDOW, 2), (WINDOW + 4096, 4)] {
+        holds!(rt; are_looks(&rt, len, count)?, len);
     }
     fs::remove_file(&rt, "looks.db")?;
     Ok(())
@@ -199,24 +227,24 @@ fn read_since(rt: &HostRuntime, before: Option<u64>) -> Option<u64> {
     Some(bytes_read(rt)?.saturating_sub(before?))
 }
 
-// How many windows are read ahead while some pages of four windows are read, where a read takes `pace` microseconds, and whether the
-// pages are right.
-fn windows_read(rt: &HostRuntime, pace: u64) -> Result<(Option<u64>, bool), Fail> {
+// Whether so many windows are read ahead while some pages of four windows are read, where a read takes `pace` microseconds, and the pages
+// are right.
+fn are_windows_read(rt: &HostRuntime, pace: u64, wanted: u64) -> Result<bool, Fail> {
     let files = FakeFiles::new(rt, Allowed::Reading);
     files.set_pace(pace);
     let mut source = FileSource::open(&files, "ahead.db")?;
     let before = bytes_read(rt);
     let numbers = [300, 2, 1000, 400, 9, 600, 1010, 700, 20];
     let are_right = are_pages_right(&mut source, 4 * WINDOW, &numbers);
-    Ok((read_since(rt, before).map(|read| read / WINDOW), are_right))
+    let windows = read_since(rt, before).map(|read| read / WINDOW);
+    Ok(are_right && windows.unwrap_or(wanted) == wanted)
 }
 
 #[test]
 fn reads_ahead_what_a_device_has(rt: HostRuntime) -> Result<(), Fail> {
     make_file(&rt, "ahead.db", 4 * WINDOW)?;
     for (pace, wanted) in [(0, 0), (14, 0), (15, 4), (1000, 4)] {
-        let (found, are_right) = windows_read(&rt, pace)?;
-        holds!(rt; are_right && found.unwrap_or(wanted) == wanted, pace);
+        holds!(rt; are_windows_read(&rt, pace, wanted)?, pace);
     }
     fs::remove_file(&rt, "ahead.db")?;
     Ok(())

@@ -7,7 +7,7 @@ use crate::support::samples::file_of;
 use crate::support::stated::StatedSource;
 use crate::support::stops::holds;
 use dbreport::{Verdict, run};
-use dbsource::{MemOut, RunError, StreamOut};
+use dbsource::{RunError, StreamOut};
 use std::alloc::Global;
 use std::cell::Cell;
 use std::test::Fail;
@@ -108,7 +108,7 @@ fn holds_nothing_back(rt: HostRuntime) -> Result<(), Fail> {
     let stated = StatedSource::new(file.as_slice(), 1024, 3);
     let mut source = PeekingSource::new(stated, &written, &seen);
     let mut out = StreamOut::new(SeenWriter::new(&written));
-    let mut err = MemOut::new(rt.alloc());
+    let mut err = SmallOut::new(0);
     let command = command_of("pages");
     let answer = run(rt.alloc(), command, &mut source, &mut out, &mut err);
     holds!(rt; answer == Err(RunError::ReadFailed));

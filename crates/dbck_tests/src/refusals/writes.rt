@@ -105,7 +105,7 @@ const SECOND_OUTS: [(&str, &str, &str, usize); 3] = [
 // Whether the second out holds a beginning of the lines, as long as its room, and the rows before the line that failed are written.
 fn fills_second(
     alloc: Global,
-    (rows, told, first): (&str, &str, usize),
+    (_, rows, told, first): &(&str, &str, &str, usize),
     file: &[u8],
     room: usize,
 ) -> bool {
@@ -119,7 +119,7 @@ fn fills_second(
         is_told
             && answer == Err(RunError::WriteFailed)
             && begins(rows, out.bytes())
-            && lines(out.bytes()) == lines(err.bytes()).wrapping_add(first)
+            && lines(out.bytes()) == lines(err.bytes()).wrapping_add(*first)
     } else {
         is_told && answer == Ok(verdict_of(told)) && is_text(rows, out.bytes())
     }
@@ -127,11 +127,10 @@ fn fills_second(
 
 #[test]
 fn each_write_to_the_second_out_fails_in_turn(rt: HostRuntime) -> Result<(), Fail> {
-    for (text, rows, told, first) in SECOND_OUTS {
-        let file = file_of(rt.alloc(), text)?;
-        for room in 0..told.len().wrapping_add(2) {
-            let case = (rows, told, first);
-            holds!(rt; fills_second(rt.alloc(), case, file.as_slice(), room), (text, room));
+    for case in &SECOND_OUTS {
+        let file = file_of(rt.alloc(), case.0)?;
+        for room in 0..case.2.len().wrapping_add(2) {
+            holds!(rt; fills_second(rt.alloc(), case, file.as_slice(), room), (case, room));
         }
     }
     Ok(())
