@@ -85,9 +85,8 @@ fn visit_overflow<S: Source, K: Sink, A: Allocator>(
     let next = next_page(bench.page(CHAIN), usable);
     feed_page(bench.page(CHAIN), usable, left, sieve);
     let row = overflow_row(chain, number, page, usable, left);
-    let cause = chain_cause(chain, number, usable, left, number + 1, false);
     let fault = last_fault(usable, left, page, next.page);
-    tell(&row, fault, &cause, sink)?;
+    tell(&row, fault, chain, number, usable, left, sink)?;
     Ok(next)
 }
 

@@ -1,5 +1,5 @@
 // An overflow page: what it holds, and what is reported of it (Database File Format, 1.7).
-ghost use Rattle.std.specs.Prelude.{◌≡◌, ◌+◌, ◌-◌, ◌≤◌, ◌&&◌, ◌==◌, ◌∷◌, length, map, not, nat_le, option_to_list, pos, Some, IfErr, is_some};
+ghost use Rattle.std.specs.Prelude.{◌≡◌, ◌+◌, ◌-◌, ◌≤◌, ◌&&◌, ◌==◌, ◌∷◌, length, map, false, not, nat_le, option_to_list, pos, Some, IfErr, is_some};
 ghost use Rattle.dbformat.specs.Counts.{overflow_counts};
 ghost use Rattle.dbformat.specs.Faults.{fault};
 ghost use Rattle.dbformat.specs.Looks.{is_zeros};
@@ -110,20 +110,27 @@ pub(crate) fn chain_cause(
     })
 }
 
-// Reports a row, and then a fault with its cause, if there is one.
+// Reports the row of page `number` of a chain, where `left` bytes are left, and then its fault with the cause, if there is one.
 pub(crate) fn tell<K: Sink>(
     row: &Row<'_>,
     fault: Option<Fault>,
-    cause: &Cause,
+    chain: &Chain<'_>,
+    number: u32,
+    usable: u32,
+    left: u32,
     sink: &mut K,
 ) -> Result<(), RunError>
+    requires usable { (480 ≤ usable) × (usable ≤ 65536) }
+    requires counted { number + left ≤ most_payload }
     ensures only { IfErr result (λ e. e ≡ run_error.WriteFailed) }
     ensures writes { SinkAfter is_write_failed result (K.held sink.old) (K.held sink.new) }
-    ensures told { Tells K.takes K.drops result sink.old (told_row (row_of row.now) ∷ map (λ f. told_fault f cause.now) (option_to_list fault)) sink.new }
+    ensures told { Tells K.takes K.drops result sink.old (told_row (row_of row.now)
+        ∷ map (λ f. told_fault f (cause.Chain (walked_chain chain.now number usable left (number + 1) false))) (option_to_list fault)) sink.new }
 {
     sink.row(row)?;
     if let Some(fault) = fault {
-        sink.fault(&fault, cause)?;
+        let cause = chain_cause(chain, number, usable, left, number + 1, false);
+        sink.fault(&fault, &cause)?;
     }
     Ok(())
 }

@@ -49,8 +49,8 @@ returns-in_err-tell-clause-log g c =
       told = λ U d p l on head. subst (λ L. Tells {A = NextPage} g.K.Sink.takes g.K.Sink.drops (Err c.in_err-tell.field-0.0) c.args.sink.now L c.tell.new.sink)
           (told_is file U d c.args.chain.now c.args.number c.args.page c.geometry-usable.result.usable c.args.left c.next_page-next.result.page
           c.overflow_row-row.result c.last_fault-fault.result
-          u n p l on r.start r.path r.chain r.page.0 r.page.1 r.counts c.last_fault-fault.ensures c.chain_cause-cause.result
-          (c.chain_cause-cause.ensures ∙ ap (λ x. cause.Chain (walked_chain c.args.chain.now c.args.number x c.args.left (c.args.number + 1) false)) u
+          u n p l on r.start r.path r.chain r.page.0 r.page.1 r.counts c.last_fault-fault.ensures _
+          (ap (λ x. cause.Chain (walked_chain c.args.chain.now c.args.number x c.args.left (c.args.number + 1) false)) u
           ∙ sym (head_cause file U c.args.chain.now c.args.number c.args.left 1 false d l on head)))
           c.in_err-tell.ensures.told;
       fed = tt;
@@ -71,8 +71,8 @@ returns-clause-log g c =
       told = λ U d p l on head. subst (λ L. Moves g.K.Sink.takes c.args.sink.now L c.tell.new.sink)
           (told_is file U d c.args.chain.now c.args.number c.args.page c.geometry-usable.result.usable c.args.left c.next_page-next.result.page
           c.overflow_row-row.result c.last_fault-fault.result
-          u n p l on r.start r.path r.chain r.page.0 r.page.1 r.counts c.last_fault-fault.ensures c.chain_cause-cause.result
-          (c.chain_cause-cause.ensures ∙ ap (λ x. cause.Chain (walked_chain c.args.chain.now c.args.number x c.args.left (c.args.number + 1) false)) u
+          u n p l on r.start r.path r.chain r.page.0 r.page.1 r.counts c.last_fault-fault.ensures _
+          (ap (λ x. cause.Chain (walked_chain c.args.chain.now c.args.number x c.args.left (c.args.number + 1) false)) u
           ∙ sym (head_cause file U c.args.chain.now c.args.number c.args.left 1 false d l on head)))
           c.in_ok-tell.ensures.told;
       fed = λ d p l.
