@@ -1,5 +1,5 @@
 -- Overflow chains as a program walks them, and what a sieve is fed on the way.
-use Rattle.std.specs.Prelude.{ℕ, ◌+◌, ◌≤◌, Bool, List, [], ◌∷◌, ◌++◌, flat_map, Option, Some, None, ◌≡◌, Result, Ok, Err, IfOk, OnOk}
+use Rattle.std.specs.Prelude.{ℕ, ◌+◌, ◌-◌, ◌≤◌, ◌<◌, Bool, List, [], ◌∷◌, ◌++◌, flat_map, Option, Some, None, ◌≡◌, Result, Ok, Err, IfOk, OnOk}
 use Rattle.dbsurvey.specs.Story.{Go}
 use Rattle.dbformat.specs.Reference.{Reference, first_overflow, later_overflow, bytes_left, role_of, from_of, item_of}
 use Rattle.dbformat.specs.Schema.{held_bytes}
@@ -89,14 +89,14 @@ pub record HasHead (file : List ℕ) (chain : Chain) (V : List Reference) (d : R
   pub item : item_of head ≡ chain.cell
   pub rowid : cell_rowid file chain.page chain.cell ≡ chain.rowid
 
--- what an overflow page says of the next one
-pub record IsNextPage (file : List ℕ) (page : ℕ) (next : NextPage) : Type 0 where
+-- what an overflow page says of the next one, where this many bytes are left
+pub record IsNextPage (file : List ℕ) (page left : ℕ) (next : NextPage) : Type 0 where
   pub number : next.page ≡ overflow_next (page_bytes file page)
-  pub zeros : next.is_in_zeros ≡ is_zeros (usable_size file) (page_bytes file page)
+  pub zeros : usable_size file - 4 < left → next.is_in_zeros ≡ is_zeros (usable_size file) (page_bytes file page)
 
 -- What the visit of a page of a chain leaves: the number of the next page, what was reported, and what a sieve was fed.
 pub record IsOverflowVisited {S : Type 0} (takes drops : S → Finding → S → Type 0) (file : List ℕ) (chain : Chain) (number page left : ℕ) (r : Result NextPage RunError) (old new : Option RowSieve) (before after : S) : Type 0 where
-  pub next : IfOk r (IsNextPage file page)
+  pub next : IfOk r (IsNextPage file page left)
   pub told : (U : List Reference) (c : Reference) → c.page ≡ page → bytes_left (role_of c) ≡ Some left → IsOnChain chain number c
       → HasHead file chain U c → Tells takes drops r before (told_at file U (at_page c)) after
   pub fed : OnOk r ((c : Reference) → c.page ≡ page → bytes_left (role_of c) ≡ Some left → Feeds old (held_bytes file c) new)

@@ -82,7 +82,7 @@ fn visit_overflow<S: Source, K: Sink, A: Allocator>(
 {
     bench.load(CHAIN, source, page)?;
     let usable = bench.geometry().usable;
-    let next = next_page(bench.page(CHAIN), usable);
+    let next = next_page(bench.page(CHAIN), usable, left);
     feed_page(bench.page(CHAIN), usable, left, sieve);
     let row = overflow_row(chain, number, page, usable, left);
     let fault = last_fault(usable, left, page, next.page);

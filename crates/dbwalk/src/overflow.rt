@@ -1,5 +1,5 @@
 // An overflow page: what it holds, and what is reported of it (Database File Format, 1.7).
-ghost use Rattle.std.specs.Prelude.{◌≡◌, ◌+◌, ◌-◌, ◌≤◌, ◌&&◌, ◌==◌, ◌∷◌, length, map, false, not, nat_le, option_to_list, pos, Some, IfErr, is_some};
+ghost use Rattle.std.specs.Prelude.{◌≡◌, ◌+◌, ◌-◌, ◌≤◌, ◌<◌, ◌&&◌, ◌==◌, ◌∷◌, length, map, false, not, nat_le, option_to_list, pos, Some, IfErr, is_some};
 ghost use Rattle.dbformat.specs.Counts.{overflow_counts};
 ghost use Rattle.dbformat.specs.Faults.{fault};
 ghost use Rattle.dbformat.specs.Looks.{is_zeros};
@@ -22,23 +22,23 @@ use dbformat::{Counts, FaultCode, u32_at};
 use dbpage::is_zeros;
 use dbsource::RunError;
 
-/// The next page that an overflow page names, and whether this is in a page of zeros.
+/// The next page that an overflow page names, and, where the chain goes on, whether this is in a page of zeros.
 #[derive(Clone, Copy)]
 pub(crate) struct NextPage {
     pub(crate) page: u32,
     pub(crate) is_in_zeros: bool,
 }
 
-// The number of the next page, at the start of an overflow page. A page that names one is not looked at further.
-pub(crate) fn next_page(bytes: &[u8], usable: u32) -> NextPage
+// The next page that an overflow page names. Only a page that names none where the chain goes on is looked at further.
+pub(crate) fn next_page(bytes: &[u8], usable: u32, left: u32) -> NextPage
     requires { (4 ≤ usable) × (usable ≤ length bytes.now) }
     ensures page { result.page ≡ overflow_next bytes.now }
-    ensures zeros { result.is_in_zeros ≡ is_zeros usable bytes.now }
+    ensures zeros { usable - 4 < left → result.is_in_zeros ≡ is_zeros usable bytes.now }
 {
     let page = u32_at(bytes, 0);
     NextPage {
         page,
-        is_in_zeros: page == 0 && is_zeros(bytes, usable),
+        is_in_zeros: left > usable - 4 && page == 0 && is_zeros(bytes, usable),
     }
 }
 

@@ -87,7 +87,8 @@ module _ {S : Type 0} (takes drops : S → Finding → S → Type 0) (file : Lis
 
   -- the next one is after it
   pub turn_more : (marks' : List Mark) (m t : S) (next : NextPage) → Enters takes drops file on.visited on.d (Ok true) marks' s m
-      → Moves takes m (told_at file (on.visited ++ (on.d ∷ [])) (at_page on.d)) t → usable_size file - 4 < place.left → IsNextPage file place.step.page next
+      → Moves takes m (told_at file (on.visited ++ (on.d ∷ [])) (at_page on.d)) t → usable_size file - 4 < place.left
+      → IsNextPage file place.step.page place.left next
       → (new : Option RowSieve) → Feeds old (held_bytes file on.d) new
       → IsOnWay takes file W c before chain (record {
         number = place.number + 1;
@@ -110,7 +111,7 @@ module _ {S : Type 0} (takes drops : S → Finding → S → Type 0) (file : Lis
     };
     left = refl;
     on = next_on_chain chain place.number on.d (place.left - (usable_size file - 4)) (overflow_next (page_bytes file on.d.page)) on.on;
-    zeros = n.zeros ∙ ap (λ p. is_zeros (usable_size file) (page_bytes file p)) (sym on.step.page);
+    zeros = n.zeros l ∙ ap (λ p. is_zeros (usable_size file) (page_bytes file p)) (sym on.step.page);
     head = head_next file chain on.visited place.number on.d on.on on.head on.rest.past (chain_few chain place.number on.d on.on)
         (place.left - (usable_size file - 4)) (overflow_next (page_bytes file on.d.page));
     rest = subst (λ es. IsLeft takes file W (Go c ∷ []) before (on.visited ++ (on.d ∷ [])) es (marks', t))
@@ -119,7 +120,8 @@ module _ {S : Type 0} (takes drops : S → Finding → S → Type 0) (file : Lis
 
   pub turn_more_by : (marks' : List Mark) (m t : S) (next : NextPage) (room : ℕ) → room ≡ usable_size file - 4
       → Enters takes drops file on.visited on.d (Ok true) marks' s m
-      → Moves takes m (told_at file (on.visited ++ (on.d ∷ [])) (at_page on.d)) t → usable_size file - 4 < place.left → IsNextPage file place.step.page next
+      → Moves takes m (told_at file (on.visited ++ (on.d ∷ [])) (at_page on.d)) t → usable_size file - 4 < place.left
+      → IsNextPage file place.step.page place.left next
       → (new : Option RowSieve) → Feeds old (held_bytes file on.d) new
       → IsOnWay takes file W c before chain (record {
         number = place.number + 1;

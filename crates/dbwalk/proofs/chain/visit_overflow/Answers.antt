@@ -1,4 +1,4 @@
-use Rattle.std.proofs.Common.{◌+◌, false, Ok, Err, arith, sym, ap, ap₂, subst, ◌∙◌}
+use Rattle.std.proofs.Common.{◌+◌, ◌-◌, ◌<◌, false, Ok, Err, arith, sym, ap, ap₂, subst, ◌∙◌}
 use Rattle.std.proofs.lemmas.Result.{err_from_is_err_and}
 use Rattle.dbsurvey.specs.Moves.{Moves}
 use Rattle.dbformat.specs.File.{page_bytes}
@@ -67,7 +67,7 @@ returns-clause-log g c =
     let u = ap (λ g. g.usable) (c.geometry-usable.ensures.value ∙ ap (λ b. b.geometry) read.only ∙ e) in
     let r = c.overflow_row-row.ensures in
     record {
-      next = record { number = n; zeros = c.next_page-next.ensures.zeros ∙ ap₂ is_zeros u bytes };
+      next = record { number = n; zeros = λ l. c.next_page-next.ensures.zeros (subst (λ x. x - 4 < c.args.left) (sym u) l) ∙ ap₂ is_zeros u bytes };
       told = λ U d p l on head. subst (λ L. Moves g.K.Sink.takes c.args.sink.now L c.tell.new.sink)
           (told_is file U d c.args.chain.now c.args.number c.args.page c.geometry-usable.result.usable c.args.left c.next_page-next.result.page
           c.overflow_row-row.result c.last_fault-fault.result
