@@ -8,7 +8,8 @@ use itoa::Buffer;
 /// Adds a text, for which the caller has made room.
 pub fn append<const CAP: usize>(line: &mut ArrayVec<u8, CAP>, text: &str)
     requires { array_vec_len line.old + length text.now ≤ CAP }
-    ensures { line.new.items ≡ line.old.items ++ text.now }
+    ensures text { line.new.items ≡ line.old.items ++ text.now }
+    ensures long { array_vec_len line.new ≡ array_vec_len line.old + length text.now }
 {
     let _ = line.try_extend_from_slice(text.as_bytes());
 }

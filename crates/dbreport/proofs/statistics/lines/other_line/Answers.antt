@@ -9,7 +9,7 @@ returns c =
       c.append_counts.ensures.text,
       c.append_text.ensures,
       c.append_count.ensures.text,
-      c.append.ensures,
+      c.append.ensures.text,
       c.new-line.ensures,
       c.other_text.ensures.text,
       c.from.ensures,
