@@ -1,5 +1,6 @@
-use Rattle.std.proofs.Common.{◌≡◌, List, ◌∷◌, [], inl, inr, Ok, Err, refl, sym, ap, ◌∙◌}
+use Rattle.std.proofs.Common.{◌≡◌, List, ◌∷◌, [], inl, inr, Ok, Err, refl, sym, ap, ◌∙◌, arith}
 use Rattle.std.specs.Prelude.{fold, pos}
+use Rattle.std.proofs.lemmas.Grind.{common_steps}
 use Rattle.std.proofs.lemmas.Result.{err_from_is_err_and}
 use Rattle.dbformat.specs.Faults.{fault}
 use Rattle.dbformat.specs.declared.FaultCode.TheVariants.{N01}
@@ -22,6 +23,9 @@ returns-then-not-is_lost-clause-asks g c = record {
       ap (fold added c.args.self.now) (sym none));
   count = refl;
 }
+
+pub look_at-requires : goal.look_at-requires
+look_at-requires g c = grind (arith, common_steps)
 
 pub returns-in_err-cause-clause-asks : goal.returns-in_err-cause-clause-asks
 returns-in_err-cause-clause-asks g c =
