@@ -79,7 +79,7 @@ def usage():
         limit = ["limit N"] if "limited_command(" in body else []
         if "limited_command(" in body:
             body += bodies["limited"]
-        progress = ["no-progress"] if "no_progress_arg(" in body else []
+        progress = ["no-progress"] if "with_file(" in body else []
         program.append((name, limit + flags + progress))
     synopsis = re.search(r"^\.Sh SYNOPSIS\n(.*?)^\.Sh", text_of("docs/dbck.1"), re.S | re.M)[1]
     manual = []

@@ -1,6 +1,5 @@
 -- A command to which an argument is added, where none of its arguments is global.
-use Rattle.std.proofs.Common.{◌≡◌, Bool, false, ◌||◌, Result, Ok, Err, ap₂, ◌∙◌}
-use Rattle.std.specs.Prelude.{IfOk}
+use Rattle.std.proofs.Common.{◌≡◌, Bool, false, ◌||◌, ap₂, ◌∙◌}
 use Rattle.clap.specs.Words.{AddsArg, App, Rule, app_of, rule_of, with_rule}
 use Rattle.clap.specs.declared.builder.arg.Arg.{Arg}
 use Rattle.clap.specs.declared.builder.command.Command.{Command}
@@ -14,8 +13,3 @@ pub one_more : (old : Command) (arg : Arg) (new : Command) (app : App) (rule : R
     → AddsArg old arg new → Takes (with_rule app rule) new
 one_more old arg new app rule was is local adds =
     (adds.shape local ∙ ap₂ with_rule was.0 is, adds.globals ∙ ap₂ (λ (a b : Bool). a || b) was.1 local)
-
-pub last_one : {E : Type 0} (old : Command) (arg : Arg) (answer : Result Command E) (app : App) (rule : Rule) → Takes app old → rule_of arg ≡ rule
-    → arg.global ≡ false → IfOk answer (AddsArg old arg) → IfOk answer (Takes (with_rule app rule))
-last_one old arg (Ok new) app rule was is local adds = one_more old arg new app rule was is local adds
-last_one old arg (Err e) app rule was is local adds = adds

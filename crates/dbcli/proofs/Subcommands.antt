@@ -1,17 +1,18 @@
 -- The subcommand that a parse met.
-use Rattle.std.proofs.Common.{◌≡◌, ◌∙◌, ℕ, List, Option, Some, None, Result, Ok, Err, refl, sym, ap, subst, true, codes, slice_index, arith}
-use Rattle.std.specs.Prelude.{Bool, IfErr, IfNone, not, option_map}
+use Rattle.std.proofs.Common.{◌≡◌, ◌∙◌, ℕ, List, [], Option, Some, None, Result, Ok, Err, refl, sym, ap, subst, true, codes, slice_index, arith}
+use Rattle.std.specs.Prelude.{IfErr, IfNone, IfOk, IfSome, ok_or, option_map}
 use Rattle.std.specs.Result.{IsErrAnd}
 use Rattle.std.specs.Box.{box_value}
-use Rattle.clap.specs.Words.{App, HasKind, Row, Text, fault_of, first_of, found_of, is_simple, is_simple_and_free, rows_of}
-use Rattle.clap.specs.Words.{subcommand_name_of, subcommand_of, subcommand_rows}
+use Rattle.clap.specs.Words.{HasKind, Row, Text, fault_of, first_of, found_of, is_simple, is_simple_and_free, rows_of}
+use Rattle.clap.specs.Words.{subcommand_name_of, subcommand_of, subcommand_rows_of}
 use Rattle.clap.specs.declared.parser.matches.ArgMatches.{ArgMatches}
 use Rattle.clap.specs.declared.parser.matches.ArgMatches.TheViews.{out-ArgMatches, out-SubCommand}
 use Rattle.clap.specs.declared.error.Error.{Error}
+use Rattle.dbcli.specs.declared.command_line.Line.{Line}
 use Rattle.dbcli.specs.declared.command_line.LineError.{LineError}
-use Rattle.dbcli.specs.declared.command_line.LineError.TheVariants.{Words}
+use Rattle.dbcli.specs.declared.command_line.LineError.TheVariants.{Words, Limit}
 use Rattle.clap.proofs.OnLiterals.{clap_on_literals}
-use Rattle.dbcli.specs.CommandLine.{AsksFor, HasLimit, IsErrorOf, IsFlag, IsInRow, IsLimit, IsLimitOf, IsProgressOf, dbck_app, name_of}
+use Rattle.dbcli.specs.CommandLine.{AsksFor, HasLimit, IsErrorOf, IsInRow, IsLimit, IsLimitOf, dbck_app, name_of}
 use Rattle.dbcli.specs.declared.request.Request.{Request}
 use Rattle.dbcli.specs.declared.request.Request.TheVariants.{Report, Explain, Map}
 use Rattle.dbformat.specs.declared.Command.TheVariants.{Check, Stat}
@@ -23,14 +24,11 @@ met_pair : {B N R : Type 0} (f : B → N) (g : B → R) (o : Option B) (n : N) (
 met_pair f g None n r h k = cc
 met_pair f g (Some b) n r h k = let e : f b ≡ n = cc in let d : g b ≡ r = cc in rw (e, d) refl
 
--- the subcommand that the words name is the one that their parse met
-pub named_by : (app : App) (words : List Text) (matches : ArgMatches) (name : Text) (rows : List Row) → app ≡ dbck_app
-    → subcommand_rows (out-ArgMatches matches).subcommand ≡ subcommand_of app words → Some name ≡ subcommand_name_of matches
-    → Some rows ≡ option_map (λ (p : Text × List Row). p.1) (subcommand_rows (out-ArgMatches matches).subcommand)
-    → subcommand_of dbck_app words ≡ Some (name, rows)
-named_by app words matches name rows same parsed named found =
-    sym (parsed ∙ ap (λ a. subcommand_of a words) same)
-    ∙ met_pair (λ b. (out-SubCommand (box_value b)).name.now) (λ b. rows_of (found_of (out-SubCommand (box_value b)).matches))
+-- the subcommand that a parse met, by its name and its rows
+pub named_by : (matches : ArgMatches) (name : Text) (rows : List Row) → Some name ≡ subcommand_name_of matches
+    → Some rows ≡ option_map (λ (p : Text × List Row). p.1) (subcommand_rows_of matches) → subcommand_rows_of matches ≡ Some (name, rows)
+named_by matches name rows named found =
+    met_pair (λ b. (out-SubCommand (box_value b)).name.now) (λ b. rows_of (found_of (out-SubCommand (box_value b)).matches))
     (out-ArgMatches matches).subcommand name rows (sym named) (sym found)
 
 -- `clap` says all of this command
@@ -49,10 +47,20 @@ pub words_error : {A : Type 0} (r : Result A LineError) (e : Error) (words : Lis
 words_error (Ok a) e words h k = tt
 words_error (Err error) e words h k = let P : LineError → Type 0 = λ l. IsErrorOf l words in subst P (sym h) k
 
--- the same by the request that has this name
-pub named_request : (met : Option (Text × List Row)) (name : Text) (rows : List Row) (request : Request) → met ≡ Some (name, rows) → name ≡ name_of request
-    → met ≡ Some (name_of request, rows)
-named_request met name rows request e named = e ∙ ap (λ (n : Text). Some (n, rows)) named
+-- nothing in range that was asked for is an error of the limit
+pub limit_error : (asked : Option Line) (r : Result Line LineError) (words : List Text) (met : Option (Text × List Row)) → r ≡ ok_or asked Limit
+    → fault_of dbck_app words ≡ [] → met ≡ subcommand_of dbck_app words
+    → IfNone asked ((request : Request) (file : Text) → HasLimit request → AsksFor met request file → ⊥) → IfErr r (λ error. IsErrorOf error words)
+limit_error None r words met e taken same none = rw e (
+  taken,
+  subst (λ m. (request : Request) (file : Text) → HasLimit request → AsksFor m request file → ⊥) same none,
+)
+limit_error (Some line) r words met e taken same none = rw e tt
+
+-- and what is said of the line that was asked for is said of the answer
+pub line_handed : (asked : Option Line) (r : Result Line LineError) (P : Line → Type 0) → r ≡ ok_or asked Limit → IfSome asked P → IfOk r P
+line_handed None r P e known = rw e tt
+line_handed (Some line) r P e known = rw e known
 
 -- what a subcommand with these rows asks for has its name, and is in these rows
 pub asked_of : (met : Option (Text × List Row)) (name : Text) (rows : List Row) (request : Request) (file : Text) → met ≡ Some (name, rows)
@@ -90,11 +98,6 @@ only_explains (Report (Check limit)) name rows e none range named value =
 only_explains (Report (Stat aggregate all)) name rows e none range named value =
     other_name (codes "explain") (codes "stat") name e named (λ h. absurd (omega (arith, h)))
 only_explains (Map title) name rows e none range named value = other_name (codes "explain") (codes "map") name e named (λ h. absurd (omega (arith, h)))
-
--- the flag that turns progress off, by the rows that were met
-pub progress_of : (met : Option (Text × List Row)) (name : Text) (rows : List Row) (shown : Bool) → met ≡ Some (name, rows)
-    → IsFlag (not shown) (codes "no-progress") rows → IsProgressOf shown met
-progress_of met name rows shown e flag = rw e flag
 
 -- a row that is there is not away
 pub not_away : (row : Option Text) (text : Text) → row ≡ None → row ≡ Some text → ⊥

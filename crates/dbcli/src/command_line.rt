@@ -1,9 +1,9 @@
 // The command line of the program.
 ghost use Rattle.std.specs.Prelude.{◌≡◌, ◌≤◌, ℕ, List, [], IfOk, IfErr, IfSome, IfNone, codes, map, not, false};
-ghost use Rattle.clap.specs.Words.{Row, Text, App, app_of, fault_of, found_of, kind_of, new_app, rows_of, rule_of, subcommand_of, with_subcommand};
+ghost use Rattle.clap.specs.Words.{Row, Text, App, app_of, fault_of, found_of, kind_of, new_app, rows_of, rule_of, subcommand_of, subcommand_rows_of, with_rule, with_subcommand};
 ghost use Rattle.clap.specs.declared.error.kind.ErrorKind.TheVariants as error_kind;
 ghost use Rattle.clap.specs.declared.builder.command.Command.TheViews.{out-Command as fields_of};
-ghost use Rattle.dbcli.specs.CommandLine.{dbck_app, check_app, explain_app, limited_app, map_app, stat_app, file_rule, flag_rule, limit_rule, name_of};
+ghost use Rattle.dbcli.specs.CommandLine.{dbck_app, check_app, explain_app, limited_app, map_app, stat_app, file_rule, flag_rule, limit_rule, name_of, no_progress_rule};
 ghost use Rattle.dbcli.specs.Status.{line_status};
 ghost use Rattle.dbcli.specs.CommandLine.{AsksFor, HasFlags, HasLimit, IsErrorOf, IsFlag, IsInRow, IsLimit, IsLimitOf, IsNameOf, IsProgressOf};
 ghost use Rattle.dbcli.specs.declared.request.Request.{Request as request_type};
@@ -14,6 +14,7 @@ use crate::help::{
 };
 use crate::request::Request;
 use crate::shown::shown;
+use crate::words::texts_of;
 use clap::{Arg, ArgAction, ArgMatches, Command as Words, value_parser};
 use dbreport::Command;
 use std::alloc::{AllocError, Global};
@@ -125,6 +126,14 @@ fn described<'a>(alloc: Global, name: &'a str, about: &'a str, after: &'a str) -
     Words::new(alloc, name).about(about).after_help(after)
 }
 
+// The command with what each subcommand takes last: the flag that turns progress off, and the file.
+fn with_file<'a>(alloc: Global, command: Words<'a>) -> Result<Words<'a>, AllocError>
+    ensures { (app : App) → app_of command.entry ≡ app → (fields_of command.entry).has_globals ≡ false
+        → IfOk result (λ c. (app_of c ≡ with_rule (with_rule app no_progress_rule) file_rule) × ((fields_of c).has_globals ≡ false)) }
+{
+    command.arg(no_progress_arg(alloc))?.arg(file_arg(alloc))
+}
+
 // A subcommand of this name with a limit of at most `most`.
 fn limited_command<'a>(
     alloc: Global,
@@ -137,10 +146,8 @@ fn limited_command<'a>(
     requires { (1 ≤ most) × (most ≤ 1000000) }
     ensures { IfOk result (λ c. (app_of c ≡ limited_app name.entry.now most) × ((fields_of c).has_globals ≡ false)) }
 {
-    described(alloc, name, about, after)
-        .arg(limit_arg(alloc, most, help))?
-        .arg(no_progress_arg(alloc))?
-        .arg(file_arg(alloc))
+    let command = described(alloc, name, about, after).arg(limit_arg(alloc, most, help))?;
+    with_file(alloc, command)
 }
 
 fn check_command<'a>(alloc: Global) -> Result<Words<'a>, AllocError>
@@ -174,9 +181,7 @@ fn explain_command<'a>(alloc: Global) -> Result<Words<'a>, AllocError>
 fn map_command<'a>(alloc: Global) -> Result<Words<'a>, AllocError>
     ensures { IfOk result (λ c. (app_of c ≡ map_app) × ((fields_of c).has_globals ≡ false)) }
 {
-    described(alloc, "map", MAP_ABOUT, MAP_EXAMPLES)
-        .arg(no_progress_arg(alloc))?
-        .arg(file_arg(alloc))
+    with_file(alloc, described(alloc, "map", MAP_ABOUT, MAP_EXAMPLES))
 }
 
 fn stat_command<'a>(alloc: Global) -> Result<Words<'a>, AllocError>
@@ -184,11 +189,10 @@ fn stat_command<'a>(alloc: Global) -> Result<Words<'a>, AllocError>
 {
     let aggregate = "One row for each tree, with the sums of its pages";
     let all = "Rows for the pages that are in no tree, too";
-    described(alloc, "stat", STAT_ABOUT, STAT_EXAMPLES)
+    let command = described(alloc, "stat", STAT_ABOUT, STAT_EXAMPLES)
         .arg(flag_arg(alloc, "aggregate", aggregate))?
-        .arg(flag_arg(alloc, "all", all))?
-        .arg(no_progress_arg(alloc))?
-        .arg(file_arg(alloc))
+        .arg(flag_arg(alloc, "all", all))?;
+    with_file(alloc, command)
 }
 
 // The command with one more subcommand, if there was memory for that.
@@ -310,6 +314,22 @@ fn request_of<'a>(name: &str, given: &ArgMatches<'_>, file: &'a str) -> Option<R
     }
 }
 
+// What the subcommand that was parsed asks for, of its file.
+fn asked_of<'a>(matches: &ArgMatches<'a>) -> Option<Line<'a>>
+    ensures asks { IfSome result (λ line. AsksFor (subcommand_rows_of matches.now) line.request line.file.now) }
+    ensures limit { IfSome result (λ line. HasLimit line.request) }
+    ensures progress { IfSome result (λ line. IsProgressOf line.progress (subcommand_rows_of matches.now)) }
+    ensures none { IfNone result ((request : request_type) (file : Text) → HasLimit request → AsksFor (subcommand_rows_of matches.now) request file → ⊥) }
+{
+    let (name, given) = matches.subcommand()?;
+    let file = given.get_str("FILE")?;
+    Some(Line {
+        request: request_of(name, given, file)?,
+        file,
+        progress: shows_progress(given),
+    })
+}
+
 /// What the words ask for. The first of them is the program's name.
 ///
 /// # Errors
@@ -326,20 +346,7 @@ pub fn line_of<'a>(alloc: Global, words: &'a [&'a str]) -> Result<Line<'a>, Line
 {
     let command = dbck_command(alloc)?;
     let matches = command.try_get_matches_from(words)?;
-    let Some((name, given)) = matches.subcommand() else {
-        return Err(LineError::Limit);
-    };
-    let Some(file) = given.get_str("FILE") else {
-        return Err(LineError::Limit);
-    };
-    match request_of(name, given, file) {
-        Some(request) => Ok(Line {
-            request,
-            file,
-            progress: shows_progress(given),
-        }),
-        None => Err(LineError::Limit),
-    }
+    asked_of(&matches).ok_or(LineError::Limit)
 }
 
 // The words as they are shown on one line.
@@ -354,10 +361,7 @@ fn shown_words(alloc: Global, words: &[&str]) -> Result<Vec<String>, AllocError>
 // The error of the words as they are shown on one line, if they have one.
 fn error_of_shown(alloc: Global, words: &[&str]) -> Result<Option<clap::Error>, AllocError> {
     let lines = shown_words(alloc, words)?;
-    let mut texts: Vec<&str> = Vec::new(alloc);
-    for line in lines.iter() {
-        texts.push(line.as_str())?;
-    }
+    let texts = texts_of(alloc, lines.as_slice())?;
     match line_of(alloc, texts.as_slice()) {
         Err(LineError::Words(error)) => Ok(Some(error)),
         _ => Ok(None),

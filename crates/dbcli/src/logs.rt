@@ -39,10 +39,7 @@ pub fn put_log_notes<R: Lookup + AllocGlobal, N: Out>(rt: &R, file: &str, notes:
     let Ok(target) = rt.link_target(file) else {
         return;
     };
-    let database = match &target {
-        Some(path) => path.as_str(),
-        None => file,
-    };
+    let database = target.as_deref().unwrap_or(file);
     for log in LOGS {
         let _ = put_note(rt, database, log, notes);
     }

@@ -180,17 +180,18 @@ fn rest(alloc: Global, watch: &Watch) -> Result<Option<String>, AllocError> {
     let page = geometry.pages;
     let size = u64::from(geometry.page_size);
     let rest = watch.len().saturating_sub(u64::from(page) * size);
-    match (rest, rest.checked_div(size).unwrap_or(0)) {
-        (0, _) => Ok(None),
-        (1, _) => Ok(Some(format!(in alloc; "1 byte after page {page} is not read")?)),
-        (_, 0) => Ok(Some(format!(in alloc; "{rest} bytes after page {page} are not read")?)),
-        (_, 1) => Ok(Some(format!(in alloc;
+    let text = match (rest, rest.checked_div(size).unwrap_or(0)) {
+        (0, _) => return Ok(None),
+        (1, _) => format!(in alloc; "1 byte after page {page} is not read"),
+        (_, 0) => format!(in alloc; "{rest} bytes after page {page} are not read"),
+        (_, 1) => format!(in alloc;
             "{rest} bytes after page {page} are not read, 1 whole page among them"
-        )?)),
-        (_, pages) => Ok(Some(format!(in alloc;
+        ),
+        (_, pages) => format!(in alloc;
             "{rest} bytes after page {page} are not read, {pages} whole pages among them"
-        )?)),
-    }
+        ),
+    };
+    text.map(Some)
 }
 
 // Which read of an open file failed.

@@ -71,10 +71,7 @@ impl<'a, R: Files<File = File> + Clock + AllocGlobal> Opener for SystemFiles<'a,
     fn close(&mut self, _file: FileSource<'a, R>) {}
 
     fn reason(&self) -> Option<&str> {
-        match &self.reason {
-            Some(reason) => Some(reason.as_str()),
-            None => None,
-        }
+        self.reason.as_deref()
     }
 }
 

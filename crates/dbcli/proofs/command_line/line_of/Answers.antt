@@ -1,66 +1,45 @@
-use Rattle.std.proofs.Common.{ap, ◌∙◌, sym, subst, map, codes, inl}
-use Rattle.clap.specs.Words.{HasKind, fault_of, first_of, found_of, is_simple, is_simple_and_free, rows_of}
-use Rattle.clap.proofs.WalkLemmas.{first_value-rows}
-use Rattle.dbcli.proofs.Subcommands.{asked_of, is_free_dbck, is_simple_dbck, named_by, named_request, not_away, progress_of, words_error}
+use Rattle.std.proofs.Common.{ap, ◌∙◌, ◌≡◌, sym, subst, map, [], Ok, Err, inl}
+use Rattle.std.specs.Prelude.{IfOk, IfSome}
+use Rattle.clap.specs.Words.{HasKind, fault_of, is_simple, is_simple_and_free, subcommand_of}
+use Rattle.dbcli.proofs.Subcommands.{is_free_dbck, is_simple_dbck, limit_error, line_handed, words_error}
+use Rattle.dbcli.specs.CommandLine.{AsksFor, HasLimit, IsProgressOf, dbck_app}
 use Rattle.dbcli.proofs.command_line.line_of.Goals as goal
 
-pub returns-in-Some-request_of-clause-asks : goal.returns-in-Some-request_of-clause-asks
-returns-in-Some-request_of-clause-asks c =
+pub returns-clause-asks : goal.returns-clause-asks
+returns-clause-asks c =
     let app = c.in_ok-command.ensures.app in
     let words = map (λ word. word.now) c.args.words.now in
-    let matched = c.in_ok-matches.ensures.matches (ap is_simple app ∙ is_simple_dbck) in
-    let rows = rows_of (found_of c.in-Some.given.now) in
-    let met = named_by _ words c.in_ok-matches.matches c.in-Some.name.now rows app matched.1 c.in-Some.ensures.name c.in-Some.ensures.rows in
-    record {
-      rows = rows;
-      named = named_request _ c.in-Some.name.now rows _ met c.in-Some-request_of.ensures.named;
-      file_given = sym (first_value-rows (found_of c.in-Some.given.now) (codes "FILE")) ∙ sym c.in-Some-get_str.ensures;
-      flags = c.in-Some-request_of.ensures.flags;
-      limit = c.in-Some-request_of.ensures.value;
-      title = c.in-Some-request_of.ensures.title;
-    }
+    let met = (c.in_ok-matches.ensures.matches (ap is_simple app ∙ is_simple_dbck)).1 ∙ ap (λ a. subcommand_of a words) app in
+    line_handed c.asked_of.result c.ok_or.result (λ line. AsksFor (subcommand_of dbck_app words) line.request line.file.now) c.ok_or.ensures.value
+    (subst (λ a. IfSome c.asked_of.result (λ line. AsksFor a line.request line.file.now)) met c.asked_of.ensures.asks)
 
-pub returns-in-Some-request_of-clause-taken : goal.returns-in-Some-request_of-clause-taken
-returns-in-Some-request_of-clause-taken c =
+pub returns-clause-progress : goal.returns-clause-progress
+returns-clause-progress c =
     let app = c.in_ok-command.ensures.app in
     let words = map (λ word. word.now) c.args.words.now in
-    sym (ap (λ a. fault_of a words) app) ∙ c.in_ok-matches.ensures.kinds (ap is_simple_and_free app ∙ is_free_dbck)
+    let met = (c.in_ok-matches.ensures.matches (ap is_simple app ∙ is_simple_dbck)).1 ∙ ap (λ a. subcommand_of a words) app in
+    line_handed c.asked_of.result c.ok_or.result (λ line. IsProgressOf line.progress (subcommand_of dbck_app words)) c.ok_or.ensures.value
+    (subst (λ a. IfSome c.asked_of.result (λ line. IsProgressOf line.progress a)) met c.asked_of.ensures.progress)
 
-pub returns-in-Some-request_of-clause-progress : goal.returns-in-Some-request_of-clause-progress
-returns-in-Some-request_of-clause-progress c =
-    let app = c.in_ok-command.ensures.app in
-    let words = map (λ word. word.now) c.args.words.now in
-    let matched = c.in_ok-matches.ensures.matches (ap is_simple app ∙ is_simple_dbck) in
-    let rows = rows_of (found_of c.in-Some.given.now) in
-    let met = named_by _ words c.in_ok-matches.matches c.in-Some.name.now rows app matched.1 c.in-Some.ensures.name c.in-Some.ensures.rows in
-    progress_of _ c.in-Some.name.now rows c.shows_progress.result met c.shows_progress.ensures
+pub returns-clause-limit : goal.returns-clause-limit
+returns-clause-limit c = line_handed c.asked_of.result c.ok_or.result (λ line. HasLimit line.request) c.ok_or.ensures.value c.asked_of.ensures.limit
 
-pub returns-in_default-get_str-clause-refused : goal.returns-in_default-get_str-clause-refused
-returns-in_default-get_str-clause-refused c =
+pub returns-clause-taken : goal.returns-clause-taken
+returns-clause-taken c =
     let app = c.in_ok-command.ensures.app in
     let words = map (λ word. word.now) c.args.words.now in
-    let matched = c.in_ok-matches.ensures.matches (ap is_simple app ∙ is_simple_dbck) in
-    let rows = rows_of (found_of c.in-Some.given.now) in
-    let met = named_by _ words c.in_ok-matches.matches c.in-Some.name.now rows app matched.1 c.in-Some.ensures.name c.in-Some.ensures.rows in
-    let file_row = sym (first_value-rows (found_of c.in-Some.given.now) (codes "FILE")) ∙ sym c.in_default-get_str.ensures in (
-      sym (ap (λ a. fault_of a words) app) ∙ c.in_ok-matches.ensures.kinds (ap is_simple_and_free app ∙ is_free_dbck),
-      λ request file range asks.
-          let asked = asked_of _ c.in-Some.name.now rows request file met asks in
-          not_away (first_of (codes "FILE") rows) file file_row asked.1,
-    )
+    elim c.ok_or.result as (λ r. IfOk r (λ line. fault_of dbck_app words ≡ [])) [
+      | Ok line ↦ sym (ap (λ a. fault_of a words) app) ∙ c.in_ok-matches.ensures.kinds (ap is_simple_and_free app ∙ is_free_dbck)
+      | Err error ↦ tt
+    ]
 
 pub returns-clause-refused : goal.returns-clause-refused
 returns-clause-refused c =
     let app = c.in_ok-command.ensures.app in
     let words = map (λ word. word.now) c.args.words.now in
-    let matched = c.in_ok-matches.ensures.matches (ap is_simple app ∙ is_simple_dbck) in
-    let rows = rows_of (found_of c.in-Some.given.now) in
-    let met = named_by _ words c.in_ok-matches.matches c.in-Some.name.now rows app matched.1 c.in-Some.ensures.name c.in-Some.ensures.rows in (
-      sym (ap (λ a. fault_of a words) app) ∙ c.in_ok-matches.ensures.kinds (ap is_simple_and_free app ∙ is_free_dbck),
-      λ request file range asks.
-          let asked = asked_of _ c.in-Some.name.now rows request file met asks in
-          c.in-None.ensures.none request range asked.0 asked.2,
-    )
+    let met = (c.in_ok-matches.ensures.matches (ap is_simple app ∙ is_simple_dbck)).1 ∙ ap (λ a. subcommand_of a words) app in
+    limit_error c.asked_of.result c.ok_or.result words _ c.ok_or.ensures.value
+    (sym (ap (λ a. fault_of a words) app) ∙ c.in_ok-matches.ensures.kinds (ap is_simple_and_free app ∙ is_free_dbck)) met c.asked_of.ensures.none
 
 pub returns-in_err-command-clause-refused : goal.returns-in_err-command-clause-refused
 returns-in_err-command-clause-refused c =

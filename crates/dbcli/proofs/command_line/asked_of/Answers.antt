@@ -1,0 +1,26 @@
+use Rattle.std.proofs.Common.{Some, ◌∙◌, ap, sym, codes}
+use Rattle.clap.specs.Words.{Text, first_of, found_of, rows_of}
+use Rattle.clap.proofs.WalkLemmas.{first_value-rows}
+use Rattle.dbcli.proofs.Subcommands.{asked_of, named_by, not_away}
+use Rattle.dbcli.proofs.command_line.asked_of.Goals as goal
+
+pub returns-clause-asks : goal.returns-clause-asks
+returns-clause-asks c =
+    let rows = rows_of (found_of c.in_ok-name.given.now) in
+    let met = named_by c.args.matches.now c.in_ok-name.name.now rows c.in_ok-name.ensures.name c.in_ok-name.ensures.rows in
+    record {
+      rows = rows;
+      named = met ∙ ap (λ (name : Text). Some (name, rows)) c.in_ok-request_of.ensures.named;
+      file_given = sym (first_value-rows (found_of c.in_ok-name.given.now) (codes "FILE")) ∙ sym c.in_ok-file.ensures;
+      flags = c.in_ok-request_of.ensures.flags;
+      limit = c.in_ok-request_of.ensures.value;
+      title = c.in_ok-request_of.ensures.title;
+    }
+
+pub returns-in_err-file-clause-none : goal.returns-in_err-file-clause-none
+returns-in_err-file-clause-none c =
+    let rows = rows_of (found_of c.in_ok-name.given.now) in
+    let met = named_by c.args.matches.now c.in_ok-name.name.now rows c.in_ok-name.ensures.name c.in_ok-name.ensures.rows in
+    let file_row = sym (first_value-rows (found_of c.in_ok-name.given.now) (codes "FILE")) ∙ sym c.in_err-file.ensures in
+    rw c.from_residual-in_err-file.ensures (λ request file range asks.
+    not_away (first_of (codes "FILE") rows) file file_row (asked_of _ c.in_ok-name.name.now rows request file met asks).1)
