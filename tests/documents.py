@@ -70,16 +70,17 @@ def statuses():
 def usage():
     """Commands with their options, by the functions that make them."""
     source = text_of("crates/dbcli/src/command_line.rt")
-    bodies = {name: body for name, body in re.findall(r"^fn (\w+)_command<.*?\n\{\n(.*?)^\}", source, re.M | re.S)}
-    names = re.findall(r"with_command\(command, (\w+)_command\(", bodies["dbck"])
+    bodies = dict(re.findall(r"^fn (\w+)<.*?\n\{\n(.*?)^\}", source, re.M | re.S))
+    names = re.findall(r"with_command\(command, (\w+)_command\(", bodies["dbck_command"])
     program = []
     for name in names:
-        body = bodies[name]
+        body = bodies[f"{name}_command"]
         flags = re.findall(r'flag_arg\(\s*alloc,\s*"(\w+)"', body)
         limit = ["limit N"] if "limited_command(" in body else []
-        if "limited_command(" in body:
-            body += bodies["limited"]
-        progress = ["no-progress"] if "with_file(" in body else []
+        for helper in ("limited_command", "with_file"):
+            if f"{helper}(" in body:
+                body += bodies[helper]
+        progress = ["no-progress"] if "no_progress_arg(" in body else []
         program.append((name, limit + flags + progress))
     synopsis = re.search(r"^\.Sh SYNOPSIS\n(.*?)^\.Sh", text_of("docs/dbck.1"), re.S | re.M)[1]
     manual = []
