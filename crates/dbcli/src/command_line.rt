@@ -1,9 +1,11 @@
 // The command line of the program.
 ghost use Rattle.std.specs.Prelude.{◌≡◌, ◌≤◌, ℕ, List, [], IfOk, IfErr, IfSome, IfNone, codes, map, not, false};
-ghost use Rattle.clap.specs.Words.{Row, Text, App, app_of, fault_of, found_of, kind_of, new_app, rows_of, rule_of, subcommand_of, subcommand_rows_of, with_rule, with_subcommand};
+ghost use Rattle.clap.specs.Words.{Row, Text, App, app_of, fault_of, found_of, kind_of, new_app, rows_of, rule_of};
+ghost use Rattle.clap.specs.Words.{subcommand_of, subcommand_rows_of, with_rule, with_subcommand};
 ghost use Rattle.clap.specs.declared.error.kind.ErrorKind.TheVariants as error_kind;
 ghost use Rattle.clap.specs.declared.builder.command.Command.TheViews.{out-Command as fields_of};
-ghost use Rattle.dbcli.specs.CommandLine.{dbck_app, check_app, explain_app, limited_app, map_app, stat_app, file_rule, flag_rule, limit_rule, name_of, no_progress_rule};
+ghost use Rattle.dbcli.specs.CommandLine.{dbck_app, check_app, explain_app, limited_app, map_app, stat_app};
+ghost use Rattle.dbcli.specs.CommandLine.{file_rule, flag_rule, limit_rule, name_of, no_progress_rule};
 ghost use Rattle.dbcli.specs.Status.{line_status};
 ghost use Rattle.dbcli.specs.CommandLine.{AsksFor, HasFlags, HasLimit, IsErrorOf, IsFlag, IsInRow, IsLimit, IsLimitOf, IsNameOf, IsProgressOf};
 ghost use Rattle.dbcli.specs.declared.request.Request.{Request as request_type};

@@ -111,9 +111,12 @@ impl<'a, R: Lookup + AllocGlobal, N: Out> FileNotes<'a, R, N> {
 
     // Whether the file was changed, if its name still leads to it.
     fn has_changed(&self) -> bool {
-        match (&self.before, self.rt.metadata(self.file)) {
-            (Some(before), Ok(after)) => is_changed(before, &after),
-            _ => false,
+        let Some(before) = &self.before else {
+            return false;
+        };
+        match self.rt.metadata(self.file) {
+            Ok(after) => is_changed(before, &after),
+            Err(_) => false,
         }
     }
 }
