@@ -1,4 +1,5 @@
 // Reads and memory that are refused in turn. What a write that fails leaves is said by the clauses of `explain`.
+use crate::support::cases::{are_lines, lines};
 use crate::support::fakes::SmallOut;
 use crate::support::samples::file_of;
 use crate::support::stated::StatedSource;
@@ -46,28 +47,19 @@ const LOST_BETWEEN: &str =
     6 0 0a 0000 0000 0200, \
     8 0 0d 0000 0001 01fc 00 01fc, 8 508 00 0b";
 
-// Whether a run answers this, and writes so many bytes of a text, where at most `limit` entries are listed and this call of the source fails,
-// if there is one.
+// Lists at most `limit` entries, while the source fails at one call, if that comes. True if this is the answer, and the first `count` lines
+// of the text are written.
 fn writes(
     alloc: Global,
     file: &[u8],
     (limit, fails_at): (u32, u64),
     wanted: Result<Verdict, RunError>,
-    (text, len): (&str, usize),
+    (text, count): (&str, usize),
 ) -> bool {
     let mut source = StatedSource::new(file, file.len() as u64, fails_at);
     let mut out = SmallOut::new(2048);
     let answer = explain(alloc, limit, &mut source, &mut out);
-    answer == wanted && Some(out.bytes()) == text.as_bytes().get(..len)
-}
-
-// How many bytes the first lines of a text have.
-fn len_of_lines(text: &str, count: usize) -> usize {
-    let mut len: usize = 0;
-    for line in text.lines().take(count) {
-        len = len.wrapping_add(line.len()).wrapping_add(1);
-    }
-    len
+    answer == wanted && are_lines(text, count, out.bytes())
 }
 
 // Each call of the source fails in turn: its length, its header, and the six pages of both trees. No fault was found by then.
@@ -76,17 +68,17 @@ fn len_of_lines(text: &str, count: usize) -> usize {
 fn each_read_fails_in_turn(rt: HostRuntime) -> Result<(), Fail> {
     let file = file_of(rt.alloc(), SHARED_FILE)?;
     for fails_at in 0..11u64 {
-        let (answer, len) = match fails_at {
+        let (answer, count) = match fails_at {
             0..8 => (Err(RunError::ReadFailed), 0),
-            8 => (Err(RunError::ReadFailed), len_of_lines(SHARED, 1)),
-            _ => (Ok(Verdict::Faulty(2)), SHARED.len()),
+            8 => (Err(RunError::ReadFailed), 1),
+            _ => (Ok(Verdict::Faulty(2)), lines(SHARED.as_bytes())),
         };
         let is_so = writes(
             rt.alloc(),
             file.as_slice(),
             (100, fails_at),
             answer,
-            (SHARED, len),
+            (SHARED, count),
         );
         holds!(rt; is_so, fails_at);
     }
@@ -126,9 +118,9 @@ const FOUND: [(u64, u32, usize); 15] = [
 fn what_was_found_is_written(rt: HostRuntime) -> Result<(), Fail> {
     let file = file_of(rt.alloc(), LOST_BETWEEN)?;
     let failed = Err(RunError::ReadFailed);
-    for (fails_at, limit, lines) in FOUND {
-        let (run, len) = ((limit, fails_at), len_of_lines(LOST, lines));
-        holds!(rt; writes(rt.alloc(), file.as_slice(), run, failed, (LOST, len)), run);
+    for (fails_at, limit, count) in FOUND {
+        let run = (limit, fails_at);
+        holds!(rt; writes(rt.alloc(), file.as_slice(), run, failed, (LOST, count)), run);
     }
     Ok(())
 }

@@ -227,8 +227,8 @@ fn read_since(rt: &HostRuntime, before: Option<u64>) -> Option<u64> {
     Some(bytes_read(rt)?.saturating_sub(before?))
 }
 
-// Whether so many windows are read ahead while some pages of four windows are read, where a read takes `pace` microseconds, and the pages
-// are right.
+// Reads some pages of a file of four windows, where each read takes `pace` microseconds. True if the pages are right, and `wanted` windows
+// are read ahead.
 fn are_windows_read(rt: &HostRuntime, pace: u64, wanted: u64) -> Result<bool, Fail> {
     let files = FakeFiles::new(rt, Allowed::Reading);
     files.set_pace(pace);

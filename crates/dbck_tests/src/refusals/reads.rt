@@ -1,5 +1,5 @@
 // Each read of a run fails in turn: the answer, and what was written by then.
-use crate::support::cases::{begins, command_of, lines, verdict_of};
+use crate::support::cases::{are_lines, command_of, lines, verdict_of};
 use crate::support::fakes::SmallOut;
 use crate::support::files::{LONG_ROW_ROWS, MAPPED_ROWS, OLD_VERSION};
 use crate::support::peeking::{PeekingSource, SeenWriter};
@@ -75,16 +75,14 @@ fn wanted_of(
     }
 }
 
-// Whether such a run writes so many whole lines of the text.
+// True if the run gives that answer and writes that many lines.
 fn is_written(alloc: Global, case: &[&str; 4], file: &[u8], fails_at: usize) -> bool {
     let mut source = StatedSource::new(file, file.len() as u64, fails_at as u64);
     let mut out = SmallOut::new(2048);
     let mut err = SmallOut::new(0);
     let answer = run(alloc, command_of(case[0]), &mut source, &mut out, &mut err);
-    let out = out.bytes();
-    (answer, lines(out)) == wanted_of(case, fails_at)
-        && begins(case[2], out)
-        && (out.is_empty() || out.ends_with(b"\n"))
+    let (wanted, count) = wanted_of(case, fails_at);
+    answer == wanted && are_lines(case[2], count, out.bytes())
 }
 
 // Call 0 is the length, call 1 the header, and the others a page each. No line of a fault is written to the second out.

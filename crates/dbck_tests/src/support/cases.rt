@@ -44,3 +44,9 @@ pub(crate) fn begins(text: &str, bytes: &[u8]) -> bool {
 pub(crate) fn is_text(text: &str, bytes: &[u8]) -> bool {
     bytes.len() == text.len() && begins(text, bytes)
 }
+
+/// Whether some bytes are the first `count` lines of a text in which each tab is written `|`.
+pub(crate) fn are_lines(text: &str, count: usize, bytes: &[u8]) -> bool {
+    let are_whole = bytes.is_empty() || bytes.ends_with(b"\n");
+    are_whole && lines(bytes) == count && begins(text, bytes)
+}
