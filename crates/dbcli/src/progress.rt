@@ -35,11 +35,13 @@ impl<W: Print> Progress<W> {
         self.is_on.set(false);
     }
 
+    /// Whether it is shown.
+    pub fn is_on(&self) -> bool {
+        self.is_on.get()
+    }
+
     /// Whether it is due after `count` pages of this size: after each 65536th, and of pages above 4096 bytes after each 256 MiB.
     pub fn is_due(&self, count: u64, page_size: u32) -> bool {
-        if !self.is_on.get() {
-            return false;
-        }
         let step = BYTES
             .checked_div(u64::from(page_size))
             .unwrap_or(PAGES)

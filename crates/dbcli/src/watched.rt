@@ -60,18 +60,28 @@ impl Watch {
         self.reads.get().saturating_sub(1)
     }
 
+    // Counts a read. Nothing else is kept of most.
     fn see_read(&self, offset: u64, bytes: &[u8], is_read: bool) {
+        let before = self.reads.get();
+        self.reads.set(before.saturating_add(1));
+        if !is_read || before == 0 || offset == 0 {
+            self.keep_read(offset, bytes, is_read, before == 0);
+        }
+    }
+
+    // Keeps what is asked for later of the first read, of one from the start of the file, and of one that failed.
+    #[inline(never)]
+    fn keep_read(&self, offset: u64, bytes: &[u8], is_read: bool, is_first: bool) {
         if !is_read {
             let len = bytes.len() as u64;
             self.failed.set(Some(ByteRange { offset, len }));
-        } else if self.reads.get() == 0 {
+        } else if is_first {
             self.first.set(first_of(bytes));
             self.geometry.set(geometry_of(bytes, self.len()));
         }
         if is_read && offset == 0 {
             self.copied.set(Copied::of(bytes));
         }
-        self.reads.set(self.reads.get().saturating_add(1));
     }
 }
 
@@ -147,6 +157,17 @@ impl<'w, 'p, S: Source, W: Print> Watched<'w, 'p, S, W> {
         }
     }
 
+    // Shows the progress, where it is due.
+    #[inline(never)]
+    fn show_progress(&self) {
+        let count = self.watch.pages_read();
+        if let Some(geometry) = self.watch.geometry()
+            && self.progress.is_due(count, geometry.page_size)
+        {
+            self.progress.show(count, u64::from(geometry.pages));
+        }
+    }
+
     /// The source below it.
     pub fn into_inner(self) -> S
         ensures { result ≡ self.entry.source }
@@ -171,11 +192,8 @@ impl<S: Source, W: Print> Source for Watched<'_, '_, S, W> {
     fn read_at(&mut self, offset: u64, buf: &mut [u8]) -> Result<(), ReadFailed> {
         let read = self.source.read_at(offset, buf);
         self.watch.see_read(offset, buf, read.is_ok());
-        let count = self.watch.pages_read();
-        if let Some(geometry) = self.watch.geometry()
-            && self.progress.is_due(count, geometry.page_size)
-        {
-            self.progress.show(count, u64::from(geometry.pages));
+        if self.progress.is_on() {
+            self.show_progress();
         }
         read
     }

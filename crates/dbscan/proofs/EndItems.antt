@@ -1,7 +1,7 @@
 -- What is reported at the end: page after page by the marks, and all of it by the visits.
 use Rattle.std.proofs.Common.{◌≡◌, ℕ, ◌+◌, ◌-◌, ◌≤◌, Bool, true, false, cond, ◌&&◌, List, [], ◌∷◌, ◌++◌, map, Option, Some, None, Result, Ok, Err, refl, sym}
 use Rattle.std.proofs.Common.{ap, ap₂, subst, ◌∙◌, arith}
-use Rattle.std.specs.Prelude.{count_by, flat_map, option_to_list, nat_lt, pos}
+use Rattle.std.specs.Prelude.{◌*◌, ◌/◌, count_by, flat_map, nat_le, not, option_map, option_to_list, nat_lt, pos}
 use Rattle.std.specs.List.{range_with_len}
 use Rattle.std.specs.Option.{option_map_or}
 use Rattle.std.proofs.lemmas.Grind.{flat_map-append}
@@ -12,8 +12,8 @@ use Rattle.dbsurvey.proofs.Moving.{Moves-append, Moves-one}
 use Rattle.dbformat.proofs.Looping.{range-parts}
 use Rattle.dbformat.specs.EndFaults.{visit_of, end_faults, sum_faults, page_end_faults, page_numbers, has_rows}
 use Rattle.dbformat.specs.Faults.{fault}
-use Rattle.dbformat.specs.File.{geometry, map_entry, MapEntry}
-use Rattle.dbformat.specs.FixedPages.{is_fixed}
+use Rattle.dbformat.specs.File.{geometry, map_entry, entry_in, MapEntry}
+use Rattle.dbformat.specs.FixedPages.{is_fixed, is_page, map_page_of, entries_per_map}
 use Rattle.dbformat.specs.Header.{has_pointer_map, schema_format, encoding_number, greatest_root, freelist_count}
 use Rattle.dbformat.specs.Reference.{Role, root, child, first_overflow, later_overflow, trunk, free_leaf, Reference, role_of, from_of}
 use Rattle.dbformat.specs.Survey.{Survey}
@@ -34,7 +34,7 @@ use Rattle.dbmarks.specs.declared.marks.Mark.{Mark}
 use Rattle.dbmarks.specs.declared.marks.Mark.TheVariants.{Unmarked, Fixed, Root, Trunk, FreeLeaf, FirstOverflow, LaterOverflow, Child}
 use Rattle.dbmarks.proofs.LateRoots.{marks_tell_the_end}
 use Rattle.dbwalk.proofs.Telling.Belows.{stops_by_after}
-use Rattle.dbscan.specs.EndPass.{counted_faults, is_fixed_mark, page_notices, pages_items}
+use Rattle.dbscan.specs.EndPass.{counted_faults, is_fixed_mark, is_unmarked, page_notices, pages_items}
 use Rattle.dbscan.specs.Telling.{items_of}
 use Rattle.dbscan.proofs.CountedMarks.{numbers_more}
 
@@ -63,6 +63,33 @@ pub other_items : (file : List ℕ) (least : Option ℕ) (p : ℕ) (m : Mark) (a
 other_items file least p m a b e has is own ea eb =
     ap (λ l. map (whole part.End) (option_to_list a ++ l)) (append-nil (option_to_list b))
     ∙ ap (map (whole part.End)) (ap₂ (λ x y. x ++ y) (ea ∙ ap (λ o. mark_fault p o m) is) (eb ∙ ap (λ h. late_fault h p m least) own))
+
+-- without a map no page has an entry
+no_entry : (file : List ℕ) (p : ℕ) → (geometry file).has_map ≡ false → map_entry file p ≡ None
+unfolding map_entry map_page_of
+no_entry file p off = ap (λ h. option_map (entry_in file p) (cond (h && nat_le 3 p && is_page (geometry file) p && not (is_fixed (geometry file) p))
+    (Some (2 + (p - 2) / (entries_per_map (geometry file) + 1) * (entries_per_map (geometry file) + 1))) None)) off
+
+-- and nothing is reported of one that is used
+pub used_items : (file : List ℕ) (least : Option ℕ) (p : ℕ) (m : Mark) → (geometry file).has_map ≡ false → is_unmarked m ≡ false
+    → page_notices file least p m ≡ []
+used_items file least p m off used =
+    ap (map (whole part.End)) (ap₂ (λ a b. a ++ b) (ap (λ e. mark_fault p e m) (no_entry file p off) ∙ of_use m used)
+    (ap (λ h. late_fault h p m least) off ∙ of_place least))
+  where
+    of_use : (m : Mark) → is_unmarked m ≡ false → mark_fault p None m ≡ []
+    of_use Unmarked h = cc
+    of_use Fixed h = refl
+    of_use Root h = refl
+    of_use Trunk h = refl
+    of_use FreeLeaf h = refl
+    of_use (FirstOverflow from) h = refl
+    of_use (LaterOverflow from) h = refl
+    of_use (Child from) h = refl
+
+    of_place : (least : Option ℕ) → late_fault false p m least ≡ []
+    of_place None = refl
+    of_place (Some least) = refl
 
 -- a mark is that of fixed use exactly where the page has one
 role_not_fixed : (role : Role) (from : ℕ) → is_fixed_mark (role_mark role from) ≡ false

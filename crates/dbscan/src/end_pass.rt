@@ -13,7 +13,7 @@ ghost use Rattle.dbmarks.specs.Marking.{AreMarksOf, page_mark};
 ghost use Rattle.dbwalk.specs.Telling.{Tells, IsReadOrWrite, SinkAfter};
 ghost use Rattle.dbmarks.specs.declared.marks.Mark as marking;
 ghost use Rattle.dbscan.specs.Desks.{shape_of};
-ghost use Rattle.dbscan.specs.EndPass.{is_fixed_mark, page_notices, pages_items};
+ghost use Rattle.dbscan.specs.EndPass.{is_fixed_mark, is_unmarked, page_notices, pages_items};
 ghost use Rattle.dbscan.specs.MapReads.{HasMapFor, IsMapInUse, IsMapTurn, MapReads};
 ghost use Rattle.dbscan.specs.Notices.{end_notices};
 
@@ -44,6 +44,12 @@ fn is_fixed(mark: Mark) -> bool
     ensures { result ≡ is_fixed_mark mark }
 {
     matches!(&mark, Mark::Fixed)
+}
+
+fn is_unmarked(mark: Mark) -> bool
+    ensures { result ≡ is_unmarked mark }
+{
+    matches!(&mark, Mark::Unmarked)
 }
 
 // The entry of a page in the map page that was read last.
@@ -79,17 +85,21 @@ fn end_page<S: Source, K: Reporter, A: Allocator, B: Allocator>(
     ensures bench { bench.new ≡ record bench.old { chain = bench.new.chain } }
 {
     let mark = marks.get(page);
+    let geometry = bench.geometry();
     if is_fixed(mark) {
-        if is_map_in_use(bench.geometry(), page) {
+        if is_map_in_use(geometry, page) {
             bench.load(CHAIN, source, page)?;
         }
         return Ok(());
     }
+    // In a file without a pointer map there is nothing to say of a page that is used.
+    if !geometry.has_map && !is_unmarked(mark) {
+        return Ok(());
+    }
     let entry = entry_of(bench, page);
-    let has_map = bench.geometry().has_map;
     let faults = [
         use_fault(page, entry, mark),
-        late_fault(has_map, page, mark, least_other),
+        late_fault(geometry.has_map, page, mark, least_other),
     ];
     tell_all(Part::End, &faults, reporter)
 }

@@ -10,11 +10,14 @@ use std::time::{Duration, Instant};
 // an SSD at the rate at which it reads a whole file.
 const WINDOW: usize = 1_048_576;
 
-// Reads that jump from window to window will need most of them, and a disk is faster the more it reads at once. So after this many
-// slow reads, each in a window that does not follow the last, four times as many windows are read at once, up to the greatest number.
-const JUMPS: u32 = 4;
+// Reads that jump through the file will need most of its windows, and a disk is faster the more it reads at once. So after this many
+// slow reads, each in a window before the last, the next of them reads `TIMES` as many windows at once, up to the greatest number. Reads
+// that only go on, with gaps, are left to the system, which reads ahead of them by itself.
+const JUMPS: u32 = 2;
 
-const MOST_AT_ONCE: u64 = 16;
+const TIMES: u64 = 16;
+
+const MOST_AT_ONCE: u64 = 256;
 
 // The longest page for which more than one window is read at once. A few longer ones fill a window.
 const LONGEST: usize = 16_384;
@@ -41,7 +44,7 @@ pub(crate) struct ReadAhead<'r, C> {
     seen: Vec<u64>,
     windows: u64,
     buffer: Vec<u8>,
-    // How many windows are read at once, the last window with a slow read, and how many of them did not follow the one before.
+    // How many windows are read at once, the last window with a slow read, and how many of them came before the last.
     at_once: u64,
     last: u64,
     jumps: u32,
@@ -87,6 +90,7 @@ impl<'r, C: Clock> ReadAhead<'r, C> {
 
     /// Reads from `offset` on, as the file does, and then ahead if the window is new and the read was slow. An error is
     /// that of the read itself.
+    #[inline(never)]
     pub fn read(&mut self, file: &File, offset: u64, buf: &mut [u8]) -> io::Result<()> {
         let window = offset / WINDOW as u64;
         if !self.is_new(window) {
@@ -111,13 +115,13 @@ impl<'r, C: Clock> ReadAhead<'r, C> {
 
     // Notes a slow read in a window, after which more windows may be read at once.
     fn grow(&mut self, window: u64) {
-        if window != self.last.saturating_add(1) {
+        if window < self.last {
             self.jumps = self.jumps.saturating_add(1);
         }
         self.last = window;
         if self.jumps > JUMPS {
             self.jumps = 0;
-            self.at_once = MOST_AT_ONCE.min(self.at_once.saturating_mul(4));
+            self.at_once = MOST_AT_ONCE.min(self.at_once.saturating_mul(TIMES));
         }
     }
 

@@ -5,13 +5,13 @@ use std::fs::File;
 use std::os::unix::fs::FileExt;
 
 // After this many reads in a row the next one is a longer one. Fewer often follow one another by chance.
-const ROW: u32 = 4;
+const ROW: u32 = 2;
 
 // The sizes of longer reads in bytes: each in a row is twice as long as the one before, up to the greatest. Beyond that
 // the calls are few, and what is read is no longer near in the processor's caches when it is copied.
-const LEAST: usize = 32_768;
+const LEAST: usize = 16_384;
 
-const GREATEST: usize = 65_536;
+const GREATEST: usize = 131_072;
 
 // The longest page that is read so. A longer one costs more to copy than a call of the system takes.
 const LONGEST: usize = 4096;

@@ -7,7 +7,8 @@ ghost use Rattle.dbformat.specs.Log.{page_range};
 ghost use Rattle.dbformat.specs.Payload.{most_payload};
 ghost use Rattle.dbformat.specs.Reference.{Reference};
 ghost use Rattle.dbbytes.specs.declared.sieve.RowSieve.{RowSieve};
-ghost use Rattle.dbwalk.specs.Chains.{IsChainOf, IsOnWay, IsOverflowVisited, Turns, FeedsChain, IsPlace};
+ghost use Rattle.dbtrace.specs.declared.Cause.TheVariants as cause;
+ghost use Rattle.dbwalk.specs.Chains.{walked_chain, IsChainOf, IsOnWay, IsOverflowVisited, Turns, FeedsChain, IsPlace};
 ghost use Rattle.dbwalk.specs.Done.{IsDone};
 ghost use Rattle.dbwalk.specs.Entered.{IsNext};
 ghost use Rattle.dbmarks.specs.Marking.{AreMarksOf};
@@ -113,15 +114,20 @@ fn enter_overflow<S: Source, K: Sink, A: Allocator>(
     ensures next { IfOk result (λ o. IfSome o (λ next. IsPlace next × (next.left < place.left))) }
 {
     let usable = bench.geometry().usable;
-    let cause = chain_cause(
-        chain,
-        place.number,
-        usable,
-        place.left,
-        place.number,
-        place.is_in_zeros,
-    );
-    if !enter(marks, place.step, &cause, sink)? {
+    let cause = ||
+        requires { (480 ≤ usable) × (usable ≤ 65536) × (place.number + place.left ≤ most_payload) }
+        ensures { result ≡ cause.Chain (walked_chain chain.entry.now place.number usable place.left place.number place.is_in_zeros) }
+    {
+        chain_cause(
+            chain,
+            place.number,
+            usable,
+            place.left,
+            place.number,
+            place.is_in_zeros,
+        )
+    };
+    if !enter(marks, place.step, cause, sink)? {
         return Ok(None);
     }
     let page = place.step.page;

@@ -7,6 +7,7 @@ ghost use Rattle.dbmarks.specs.declared.marks.Mark.TheVariants as use_mark;
 ghost use Rattle.dbmarks.specs.Marking.{AreMarksOf, page_mark, named_page};
 ghost use Rattle.dbwalk.specs.Entered.{IsNext, IsStepOf, Enters};
 ghost use Rattle.dbtrace.specs.Causes.{refusal_cause};
+ghost use Rattle.dbtrace.specs.declared.Cause.TheVariants as cause;
 ghost use Rattle.dbsource.specs.Errors.{is_write_failed};
 ghost use Rattle.dbwalk.specs.Telling.{SinkAfter};
 
@@ -30,18 +31,27 @@ pub(crate) struct Step {
     pub(crate) is_too_deep: bool,
 }
 
-/// Marks the page of a reference that may be followed, or reports why it may not, with the cause. True if the page was marked.
+/// The cause of a fault that goes back to nothing else, made where it is asked for.
+pub(crate) fn itself() -> Cause
+    ensures { result ≡ cause.Itself }
+{
+    Cause::Itself
+}
+
+/// Marks the page of a reference that may be followed, or reports why it may not, with the cause, which is made only then. True if
+/// the page was marked.
 ///
 /// # Errors
 ///
 /// [`RunError::WriteFailed`] where the sink failed.
-pub(crate) fn enter<K: Sink, A: Allocator>(
+pub(crate) fn enter<K: Sink, A: Allocator, F: FnOnce() -> Cause>(
     marks: &mut Marks<A>,
     step: Step,
-    cause: &Cause,
+    cause: F,
     sink: &mut K,
 ) -> Result<bool, RunError>
-    requires { IsPageNumber (named_page step.mark) }
+    requires named { IsPageNumber (named_page step.mark) }
+    requires caused { F.pre cause }
     ensures marked { IfOk result (λ yes. IsTrue yes → (page_mark marks.old step.page ≡ Some use_mark.Unmarked)
         × (marks.new ≡ slice_set marks.old (step.page - 1) step.mark)) }
     ensures page { IfOk result (λ yes. IsTrue yes → (1 ≤ step.page) × (step.page ≤ most_pages)) }
@@ -50,13 +60,13 @@ pub(crate) fn enter<K: Sink, A: Allocator>(
     ensures after_error { IfErr result (λ e. (e ≡ run_error.WriteFailed) × (marks.new ≡ marks.old)) }
     ensures writes { SinkAfter is_write_failed result (K.held sink.old) (K.held sink.new) }
     ensures entered { (file : List ℕ) (W : List Reference) (c : Reference) → IsStepOf step c → IsNext W c → AreMarksOf file W marks.old
-        → refusal_cause file W c ≡ cause.now → Enters K.takes K.drops file W c result marks.new sink.old sink.new }
+        → ((why : _) → F.post cause why → refusal_cause file W c ≡ why) → Enters K.takes K.drops file W c result marks.new sink.old sink.new }
 {
     match marks.follow(step.page, step.mark, step.is_too_deep) {
         None => Ok(true),
         Some(code) => {
             let fault = Fault::new(code, step.from, step.item, step.page);
-            sink.fault(&fault, cause)?;
+            sink.fault(&fault, &cause())?;
             Ok(false)
         }
     }

@@ -23,7 +23,7 @@ ghost use Rattle.dbsource.specs.Failures.{failures_after};
 ghost use Rattle.dbsource.specs.Sources.{Asks, HasLog};
 
 use crate::chain::CHAIN;
-use crate::entering::{Step, enter};
+use crate::entering::{Step, enter, itself};
 use crate::{Cause, Fault, Mark, Marks, Sink};
 use dbformat::{FREELIST_START, FaultCode, u32_at};
 use dbsource::{Bench, RunError, Source};
@@ -61,7 +61,7 @@ pub(crate) fn walk_leaves<K: Sink, A: Allocator>(
             item: index,
             is_too_deep: false,
         };
-        enter(marks, step, &Cause::Itself, sink)?;
+        enter(marks, step, itself, sink)?;
     }
     Ok(())
 }
@@ -134,7 +134,7 @@ fn enter_trunk<S: Source, K: Sink, A: Allocator>(
     ensures trunk { IfOk result (λ o. IfSome o (λ next. next.mark ≡ use_mark.Trunk)) }
     ensures less { IfOk result (λ o. IfSome o (λ next. unmarked_pages marks.new < unmarked_pages marks.old)) }
 {
-    if !enter(marks, step, &Cause::Itself, sink)? {
+    if !enter(marks, step, itself, sink)? {
         return Ok(None);
     }
     bench.load(CHAIN, source, step.page)?;

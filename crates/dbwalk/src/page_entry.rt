@@ -11,10 +11,10 @@ ghost use Rattle.dbwalk.specs.Entered.{IsStepOf};
 ghost use Rattle.dbmarks.specs.Marking.{IsUse, unmarked_pages, named_page};
 ghost use Rattle.dbwalk.specs.Points.{AtPage, AtReference};
 
-use crate::entering::{Step, enter};
+use crate::entering::{Step, enter, itself};
 use crate::page_report::{PageFound, tell_page};
 use crate::tree_walk::TreeWalk;
-use crate::{Cause, Mark, Sink, Taker};
+use crate::{Mark, Sink, Taker};
 use dbsource::{Bench, RunError, Source};
 use std::alloc::Allocator;
 
@@ -109,7 +109,7 @@ impl<A: Allocator, S: Source, K: Sink, T: Taker> TreeWalk<'_, '_, '_, '_, A, S, 
     {
         let level = self.tree.path.len();
         let step = tree_step(level, page, from, item);
-        if !enter(self.marks, step, &Cause::Itself, self.sink)? {
+        if !enter(self.marks, step, itself, self.sink)? {
             return Ok(false);
         }
         bench.load(level, self.source, page)?;

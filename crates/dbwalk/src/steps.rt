@@ -6,7 +6,7 @@ ghost use Rattle.dbformat.specs.Cell.{count};
 ghost use Rattle.dbwalk.specs.Steps.{AreEmpty, HasNext, IsEmptyAt, IsNextStep, child_of};
 
 use crate::page::undamaged;
-use dbformat::TreeKind;
+use dbformat::{PageKind, TreeKind};
 use dbpage::PageView;
 use dbsource::Bench;
 use std::alloc::Allocator;
@@ -119,6 +119,10 @@ fn chain_at(view: &PageView<'_>, cells: u32, i: u32) -> Next
     if i == cells {
         return Next::Nothing;
     }
+    // The cells of an interior page of a table have no payload.
+    if let PageKind::InteriorTable = view.kind() {
+        return Next::Nothing;
+    }
     match view.cell(i) {
         Ok(cell) => match cell.overflow {
             Some(first) => Next::Chain {
@@ -166,6 +170,10 @@ fn key_at(view: &PageView<'_>, cells: u32, i: u32) -> Next
 {
     if i >= cells {
         return Next::End;
+    }
+    // The cells of an index have no rowids.
+    if let PageKind::InteriorIndex = view.kind() {
+        return Next::Nothing;
     }
     match view.cell(i) {
         Ok(cell) => match cell.key {

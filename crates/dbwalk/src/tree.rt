@@ -18,13 +18,13 @@ ghost use Rattle.dbwalk.specs.Watching.{fails, watches};
 ghost use Rattle.dbwalk.specs.Done.{IsTreeDone};
 ghost use Rattle.dbwalk.specs.declared.root.RootKind.TheVariants as root_kind;
 
-use crate::entering::enter;
+use crate::entering::{enter, itself};
 use crate::page_entry::tree_step;
 use crate::root::{Root, root_kind};
 use crate::state::Tree;
 use crate::steps::{StackFrame, step_of};
 use crate::tree_walk::TreeWalk;
-use crate::{Cause, Marks, Sink, Taker};
+use crate::{Marks, Sink, Taker};
 use arrayvec::ArrayVec;
 use dbsource::{Bench, RunError, Source};
 use std::alloc::Allocator;
@@ -87,7 +87,7 @@ pub fn walk_tree<A: Allocator, S: Source, K: Sink, T: Taker>(
     ensures others { 1 ≤ root.start → (taker.new ≡ taker.old) × IfErr result IsReadOrWrite }
 {
     let step = tree_step(0, root.page, 0, root.start);
-    if !enter(marks, step, &Cause::Itself, sink)? {
+    if !enter(marks, step, itself, sink)? {
         return Ok(());
     }
     bench.load(0, source, root.page)?;

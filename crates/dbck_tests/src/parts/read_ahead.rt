@@ -11,6 +11,9 @@ use std::time::Duration;
 
 const WINDOW: u64 = 1_048_576;
 
+// The longest read that answers later ones.
+const MOST_ALONG: u64 = 131_072;
+
 // The bounds, in microseconds: each window is read ahead, those that come from a device, and none.
 const BOUNDS: [Option<u64>; 3] = [Some(0), Some(15), None];
 
@@ -144,14 +147,10 @@ fn cut(rt: &HostRuntime, path: &str, len: u64) -> Result<(), Fail> {
 // pages are said to be in a file without end, and those that are not read any more in an empty one.
 const CUTS: [(u64, u64, &[u64]); 6] = [
     (2 * WINDOW, 2 * WINDOW, &[0]),
-    (
-        80_000,
-        80_000,
-        &[200, 2, 300, 19, 18, 5, 6, 7, 8, 9, 10, 11],
-    ),
-    // The last of these was a longer read of 32768 bytes.
-    (20_000, u64::MAX, &[12, 17]),
-    (20_000, 0, &[18]),
+    (80_000, 80_000, &[200, 2, 300, 19, 18, 5, 6, 7, 8, 9]),
+    // Page 8 came with a longer read, of 16384 bytes.
+    (20_000, u64::MAX, &[10, 11]),
+    (20_000, 0, &[12]),
     (20_000, u64::MAX, &[2]),
     (20_000, 0, &[5]),
 ];
@@ -250,20 +249,24 @@ fn reads_ahead_what_a_device_has(rt: HostRuntime) -> Result<(), Fail> {
     Ok(())
 }
 
-// Reads that jump through a file of 64 windows: a window for each, and how many windows are read ahead with it. After four jumps four
-// windows are read at once, and after four more sixteen, of which the ones that were read before are left out.
-const JUMPS: [(u64, u64); 11] = [
+// Reads that jump through a file of 320 windows: a window for each, and how many windows are read ahead with it. The third that goes back
+// reads sixteen at once, and the third after it 256, of which the ones that were read before are left out.
+const JUMPS: [(u64, u64); 15] = [
     (0, 1),
-    (20, 1),
-    (40, 1),
     (60, 1),
-    (10, 4),
-    (30, 4),
-    (50, 4),
-    (5, 4),
-    (25, 4),
-    (45, 15),
-    (15, 7),
+    (40, 1),
+    (50, 1),
+    (20, 1),
+    (10, 15),
+    (30, 15),
+    (5, 0),
+    (100, 16),
+    (80, 16),
+    (70, 16),
+    (33, 173),
+    (300, 64),
+    (200, 0),
+    (319, 0),
 ];
 
 // How many windows are read ahead with a read of some bytes at the beginning of a window.
@@ -307,7 +310,7 @@ fn are_jumps_followed(rt: &HostRuntime, size: usize, is_short: bool) -> Result<b
 #[test]
 fn reads_more_windows_where_reads_jump(rt: HostRuntime) -> Result<(), Fail> {
     fs::write(&rt, "jumps.db", b"")?;
-    cut(&rt, "jumps.db", 64 * WINDOW)?;
+    cut(&rt, "jumps.db", 320 * WINDOW)?;
     for (size, is_short) in [(4096, true), (32_768, false)] {
         holds!(rt; are_jumps_followed(&rt, size, is_short)?, size);
     }
@@ -316,14 +319,14 @@ fn reads_more_windows_where_reads_jump(rt: HostRuntime) -> Result<(), Fail> {
 }
 
 // The most bytes that are read for one page of four windows, which are read in their order, and whether the pages are right. Where the
-// system does not count them they are 64 KiB.
+// system does not count them they are 128 KiB.
 fn most_read(rt: &HostRuntime, source: &mut impl Source) -> (u64, bool) {
     let mut most = 0;
     let mut are_right = true;
     for number in 0..1024 {
         let before = bytes_read(rt);
         are_right = are_pages_right(source, 4 * WINDOW, &[number]) && are_right;
-        most = read_since(rt, before).unwrap_or(65_536).max(most);
+        most = read_since(rt, before).unwrap_or(MOST_ALONG).max(most);
     }
     (most, are_right)
 }
@@ -335,10 +338,10 @@ fn most_read_along(rt: &HostRuntime) -> Result<(u64, bool), Fail> {
 
 // The count itself is a read of less than a page.
 #[test]
-fn reads_along_by_64_kib_at_most(rt: HostRuntime) -> Result<(), Fail> {
+fn reads_along_by_128_kib_at_most(rt: HostRuntime) -> Result<(), Fail> {
     make_file(&rt, "along.db", 4 * WINDOW)?;
     let (most, are_right) = most_read_along(&rt)?;
-    holds!(rt; are_right && (65_536..65_536 + 4096).contains(&most), most);
+    holds!(rt; are_right && (MOST_ALONG..MOST_ALONG + 4096).contains(&most), most);
     fs::remove_file(&rt, "along.db")?;
     Ok(())
 }

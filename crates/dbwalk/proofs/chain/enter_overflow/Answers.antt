@@ -24,8 +24,8 @@ returns-in_err-enter-clause-log g c = log_none c.args.bench.now.geometry.page_si
     (left_untold g.K.Sink.takes file W (Go d ∷ []) before on.visited c.args.marks.now c.args.sink.now g.K.Sink.drops c.enter.new.sink c.enter.new.marks
     c.in_err-enter.field-0.0 on.d [] on.rest
     (c.in_err-enter.ensures.entered file on.visited on.d on.step on.rest.past on.rest.marked
-    (refusal_here file (ap (λ s. s.usable) (c.geometry-usable.ensures.value ∙ e)) c.args.chain.now c.args.place.number c.args.place.left on.d on.visited
-    on.zeros on.left on.on on.head c.chain_cause-cause.ensures))))
+    (λ why p. refusal_here file (ap (λ s. s.usable) (c.geometry.ensures.value ∙ e)) c.args.chain.now c.args.place.number c.args.place.left on.d on.visited
+    on.zeros on.left on.on on.head p))))
 
 pub returns-then-not-branch-clause-log : goal.returns-then-not-branch-clause-log
 returns-then-not-branch-clause-log g c = log_none c.args.bench.now.geometry.page_size c.args.marks.now c.enter.new.marks (g.S.Source.held c.args.source.now)
@@ -34,8 +34,8 @@ returns-then-not-branch-clause-log g c = log_none c.args.bench.now.geometry.page
     c.enter.new.sink
     (subst (λ b. Enters g.K.Sink.takes g.K.Sink.drops file on.visited on.d (Ok b) c.enter.new.marks c.args.sink.now c.enter.new.sink) c.if-not-branch.true
     (c.in_ok-enter.ensures.entered file on.visited on.d on.step on.rest.past on.rest.marked
-    (refusal_here file (ap (λ s. s.usable) (c.geometry-usable.ensures.value ∙ e)) c.args.chain.now c.args.place.number c.args.place.left on.d on.visited
-    on.zeros on.left on.on on.head c.chain_cause-cause.ensures))))
+    (λ why p. refusal_here file (ap (λ s. s.usable) (c.geometry.ensures.value ∙ e)) c.args.chain.now c.args.place.number c.args.place.left on.d on.visited
+    on.zeros on.left on.on on.head p))))
 
 pub returns-in_err-next-clause-log : goal.returns-in_err-next-clause-log
 returns-in_err-next-clause-log g c =
@@ -46,8 +46,8 @@ returns-in_err-next-clause-log g c =
     let n = subst (λ b. Enters g.K.Sink.takes g.K.Sink.drops file on.visited on.d (Ok b) c.enter.new.marks c.args.sink.now c.enter.new.sink)
     c.if-not-branch.false
     (c.in_ok-enter.ensures.entered file on.visited on.d on.step on.rest.past on.rest.marked
-    (refusal_here file (ap (λ s. s.usable) (c.geometry-usable.ensures.value ∙ e)) c.args.chain.now c.args.place.number c.args.place.left on.d on.visited
-    on.zeros on.left on.on on.head c.chain_cause-cause.ensures)) in
+    (λ why p. refusal_here file (ap (λ s. s.usable) (c.geometry.ensures.value ∙ e)) c.args.chain.now c.args.place.number c.args.place.left on.d on.visited
+    on.zeros on.left on.on on.head p)) in
     subst (λ r. Turns g.K.Sink.takes g.K.Sink.drops file W d before c.args.chain.now r c.enter.new.marks c.visit_overflow.new.sink first
     c.visit_overflow.new.sieve) (sym (q.1 ∙ ap Err q.2))
     (turn_stopped g.K.Sink.takes g.K.Sink.drops file W d before c.args.chain.now c.args.place c.args.marks.now c.args.sink.now on c.in_err-next.field-0.0
@@ -63,9 +63,9 @@ returns-then-place-room-clause-log g c =
     let n = subst (λ b. Enters g.K.Sink.takes g.K.Sink.drops file on.visited on.d (Ok b) c.enter.new.marks c.args.sink.now c.enter.new.sink)
     c.if-not-branch.false
     (c.in_ok-enter.ensures.entered file on.visited on.d on.step on.rest.past on.rest.marked
-    (refusal_here file (ap (λ s. s.usable) (c.geometry-usable.ensures.value ∙ e)) c.args.chain.now c.args.place.number c.args.place.left on.d on.visited
-    on.zeros on.left on.on on.head c.chain_cause-cause.ensures)) in
-    let u : c.geometry-usable.result.usable ≡ usable_size file = ap (λ s. s.usable) (c.geometry-usable.ensures.value ∙ e) in
+    (λ why p. refusal_here file (ap (λ s. s.usable) (c.geometry.ensures.value ∙ e)) c.args.chain.now c.args.place.number c.args.place.left on.d on.visited
+    on.zeros on.left on.on on.head p)) in
+    let u : c.geometry.result.usable ≡ usable_size file = ap (λ s. s.usable) (c.geometry.ensures.value ∙ e) in
     let l : c.args.place.left ≤ usable_size file - 4 = subst (λ s. c.args.place.left ≤ s - 4) u c.if-place-room.true in
     turn_last g.K.Sink.takes g.K.Sink.drops file W d before c.args.chain.now c.args.place c.args.marks.now c.args.sink.now on c.enter.new.marks c.enter.new.sink
     c.visit_overflow.new.sink
@@ -81,12 +81,12 @@ returns-clause-log g c =
     let n = subst (λ b. Enters g.K.Sink.takes g.K.Sink.drops file on.visited on.d (Ok b) c.enter.new.marks c.args.sink.now c.enter.new.sink)
     c.if-not-branch.false
     (c.in_ok-enter.ensures.entered file on.visited on.d on.step on.rest.past on.rest.marked
-    (refusal_here file (ap (λ s. s.usable) (c.geometry-usable.ensures.value ∙ e)) c.args.chain.now c.args.place.number c.args.place.left on.d on.visited
-    on.zeros on.left on.on on.head c.chain_cause-cause.ensures)) in
-    let u : c.geometry-usable.result.usable ≡ usable_size file = ap (λ s. s.usable) (c.geometry-usable.ensures.value ∙ e) in
+    (λ why p. refusal_here file (ap (λ s. s.usable) (c.geometry.ensures.value ∙ e)) c.args.chain.now c.args.place.number c.args.place.left on.d on.visited
+    on.zeros on.left on.on on.head p)) in
+    let u : c.geometry.result.usable ≡ usable_size file = ap (λ s. s.usable) (c.geometry.ensures.value ∙ e) in
     let l : usable_size file - 4 < c.args.place.left = subst (λ s. s - 4 < c.args.place.left) u c.if-place-room.false in
     turn_more_by g.K.Sink.takes g.K.Sink.drops file W d before c.args.chain.now c.args.place c.args.marks.now c.args.sink.now on c.enter.new.marks
-    c.enter.new.sink c.visit_overflow.new.sink c.in_ok-next.next (c.geometry-usable.result.usable - 4)
+    c.enter.new.sink c.visit_overflow.new.sink c.in_ok-next.next (c.geometry.result.usable - 4)
     (ap (λ s. s - 4) u) n ((v e).told (on.visited ++ (on.d ∷ [])) on.d on.step.page on.left on.on
     (head_visited file c.args.chain.now on.visited c.args.place.number on.d on.on on.head)) l (v e).next c.visit_overflow.new.sieve
     ((v e).fed on.d on.step.page on.left))
@@ -96,5 +96,5 @@ visit_overflow-requires g c = (search rules, ((c.in_ok-enter.ensures.page (searc
 
 pub returns-clause-next : goal.returns-clause-next
 returns-clause-next g c =
-    let on = place_on _ _ _ _ c.requires.place.counted c.geometry-usable.ensures.range.usable.0 c.if-place-room.false in
+    let on = place_on _ _ _ _ c.requires.place.counted c.geometry.ensures.range.usable.0 c.if-place-room.false in
     (record { named = (c.in_ok-enter.ensures.page (search rules)).1; used = record { some = refl; cleared = refl }; counted = on.0 }, on.1)

@@ -33,14 +33,16 @@ returns-in_err-enter-clause-log g c = log_none c.args.bench.now.geometry.page_si
     subst (λ r. TrunkTurns g.K.Sink.takes g.K.Sink.drops file W d before r c.enter.new.marks c.enter.new.sink) (sym (q.1 ∙ ap Err q.2))
     (left_untold g.K.Sink.takes file W (Go d ∷ []) before on.visited c.args.marks.now c.args.sink.now g.K.Sink.drops c.enter.new.sink c.enter.new.marks
     c.in_err-enter.field-0.0 on.d [] on.rest
-    (c.in_err-enter.ensures.entered file on.visited on.d on.step on.rest.past on.rest.marked (no_chain_refusal file on.visited on.d (ap bytes_left on.role)))))
+    (c.in_err-enter.ensures.entered file on.visited on.d on.step on.rest.past on.rest.marked
+    (λ why p. no_chain_refusal file on.visited on.d (ap bytes_left on.role) ∙ sym p))))
 
 pub returns-then-not-branch-clause-log : goal.returns-then-not-branch-clause-log
 returns-then-not-branch-clause-log g c = log_none c.args.bench.now.geometry.page_size c.args.marks.now c.enter.new.marks (g.S.Source.held c.args.source.now)
     (c.in_ok-enter.ensures.unmarked c.if-not-branch.true) (λ file e W d before on.
     trunk_refused g.K.Sink.takes g.K.Sink.drops file W d before c.args.step c.args.marks.now c.args.sink.now on c.enter.new.marks c.enter.new.sink
     (subst (λ b. Enters g.K.Sink.takes g.K.Sink.drops file on.visited on.d (Ok b) c.enter.new.marks c.args.sink.now c.enter.new.sink) c.if-not-branch.true
-    (c.in_ok-enter.ensures.entered file on.visited on.d on.step on.rest.past on.rest.marked (no_chain_refusal file on.visited on.d (ap bytes_left on.role)))))
+    (c.in_ok-enter.ensures.entered file on.visited on.d on.step on.rest.past on.rest.marked
+    (λ why p. no_chain_refusal file on.visited on.d (ap bytes_left on.role) ∙ sym p))))
 
 pub returns-in_err-load-clause-log : goal.returns-in_err-load-clause-log
 returns-in_err-load-clause-log g c =
@@ -53,7 +55,8 @@ returns-in_err-load-clause-log g c =
     let q = err_from_is_err_and c.from_residual-in_err-load.result c.from_residual-in_err-load.ensures.1 in
     let n = subst (λ b. Enters g.K.Sink.takes g.K.Sink.drops file on.visited on.d (Ok b) c.enter.new.marks c.args.sink.now c.enter.new.sink)
     c.if-not-branch.false
-    (c.in_ok-enter.ensures.entered file on.visited on.d on.step on.rest.past on.rest.marked (no_chain_refusal file on.visited on.d (ap bytes_left on.role))) in
+    (c.in_ok-enter.ensures.entered file on.visited on.d on.step on.rest.past on.rest.marked
+    (λ why p. no_chain_refusal file on.visited on.d (ap bytes_left on.role) ∙ sym p)) in
     subst (λ r. TrunkTurns g.K.Sink.takes g.K.Sink.drops file W d before r c.enter.new.marks c.enter.new.sink) (sym (q.1 ∙ ap Err q.2))
     (trunk_unread g.K.Sink.takes g.K.Sink.drops file W d before c.args.step c.args.marks.now c.args.sink.now on ReadFailed c.enter.new.marks c.enter.new.sink n
     refl))
@@ -71,7 +74,8 @@ returns-in_err-item-clause-log g c =
     let u = ap (λ g. g.usable) (c.geometry-usable.ensures.value ∙ ap (λ b. b.geometry) read.only ∙ e) in
     let n = subst (λ b. Enters g.K.Sink.takes g.K.Sink.drops file on.visited on.d (Ok b) c.enter.new.marks c.args.sink.now c.enter.new.sink)
     c.if-not-branch.false
-    (c.in_ok-enter.ensures.entered file on.visited on.d on.step on.rest.past on.rest.marked (no_chain_refusal file on.visited on.d (ap bytes_left on.role))) in
+    (c.in_ok-enter.ensures.entered file on.visited on.d on.step on.rest.past on.rest.marked
+    (λ why p. no_chain_refusal file on.visited on.d (ap bytes_left on.role) ∙ sym p)) in
     let o = c.in_err-item.ensures.opened file W d before on.visited on.d c.args.marks.now on.step.page on.role b u n.0 n.1
     (subst (λ s. IsLeft g.K.Sink.takes file W (Go d ∷ []) before on.visited (Go on.d ∷ []) (c.args.marks.now, s)) n.2 on.rest) in
     let q = err_from_is_err_and c.from_residual-in_err-item.result c.from_residual-in_err-item.ensures.1 in
@@ -90,7 +94,8 @@ returns-clause-log g c =
     let u = ap (λ g. g.usable) (c.geometry-usable.ensures.value ∙ ap (λ b. b.geometry) read.only ∙ e) in
     let n = subst (λ b. Enters g.K.Sink.takes g.K.Sink.drops file on.visited on.d (Ok b) c.enter.new.marks c.args.sink.now c.enter.new.sink)
     c.if-not-branch.false
-    (c.in_ok-enter.ensures.entered file on.visited on.d on.step on.rest.past on.rest.marked (no_chain_refusal file on.visited on.d (ap bytes_left on.role))) in
+    (c.in_ok-enter.ensures.entered file on.visited on.d on.step on.rest.past on.rest.marked
+    (λ why p. no_chain_refusal file on.visited on.d (ap bytes_left on.role) ∙ sym p)) in
     let o = c.in_ok-item.ensures.opened file W d before on.visited on.d c.args.marks.now on.step.page on.role b u n.0 n.1
     (subst (λ s. IsLeft g.K.Sink.takes file W (Go d ∷ []) before on.visited (Go on.d ∷ []) (c.args.marks.now, s)) n.2 on.rest) in
     subst (λ o. TrunkTurns g.K.Sink.takes g.K.Sink.drops file W d before (Ok o) c.open_trunk.new.marks c.open_trunk.new.sink)

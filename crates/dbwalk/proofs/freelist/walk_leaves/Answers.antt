@@ -33,7 +33,7 @@ returns-in_err-enter-clause-done g c = λ file W errands before U d tail p h.
     c.in_err-enter.field-0.0 e es l
     (c.in_err-enter.ensures.entered file k.0 e (record { page = sym c.u32_at.ensures; mark = refl; from = p; item = refl; deep = refl })
     (next_of_left g.K.Sink.takes g.K.Sink.drops file W errands before k.0 e es c.loop-index.marks c.enter.new.marks c.loop-index.sink c.enter.new.sink l)
-    l.marked refl))
+    l.marked (λ why p. sym p)))
 
 pub loop-index-preserved : goal.loop-index-preserved
 loop-index-preserved g c = record {
@@ -65,7 +65,7 @@ loop-index-preserved g c = record {
       l c.in_ok-enter.field-0 refl
       (c.in_ok-enter.ensures.entered file k.0 e (record { page = sym c.u32_at.ensures; mark = refl; from = p; item = refl; deep = refl })
       (next_of_left g.K.Sink.takes g.K.Sink.drops file W errands before k.0 e es c.loop-index.marks c.enter.new.marks c.loop-index.sink c.enter.new.sink l)
-      l.marked refl) in (
+      l.marked (λ why p. sym p)) in (
         r.0,
         subst (λ n. IsLeft g.K.Sink.takes file W errands before r.0 (leaves_from d c.args.bytes.now (c.loop-index.index + 1) n ++ tail)
             (c.enter.new.marks, c.enter.new.sink)) m r.1,

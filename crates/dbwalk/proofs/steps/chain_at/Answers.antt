@@ -1,5 +1,8 @@
-use Rattle.std.proofs.Common.{◌≡◌, ◌≤◌, refl, sym, arith, ◌∙◌, ap}
-use Rattle.dbformat.specs.Cell.{Cell, count}
+use Rattle.std.proofs.Common.{◌≡◌, ℕ, ◌<◌, ◌≤◌, None, Ok, refl, sym, subst, arith, ◌∙◌, ap}
+use Rattle.dbformat.proofs.CellParts.{Fits, at_offset, cell_fits}
+use Rattle.dbformat.specs.Cell.{Cell, cell, count}
+use Rattle.dbformat.specs.Head.{View}
+use Rattle.dbformat.specs.declared.PageKind.TheVariants.{InteriorTable}
 use Rattle.dbwalk.specs.Steps.{no_chain}
 use Rattle.dbwalk.proofs.Leaves.LeafCells.{no_overflow, bad_cell}
 use Rattle.dbwalk.proofs.steps.chain_at.Goals as goal
@@ -9,6 +12,16 @@ returns-then-i-cells-2 c =
     let n : c.args.cells ≡ count c.args.view.now = c.requires in
     let l : c.args.i ≤ count c.args.view.now = omega arith in
     no_chain c.args.i refl l (λ x m e. absurd (let f : ⊥ = omega arith in f))
+
+-- a cell of an interior page of a table has no overflow page
+no_payload : (v : View) (n : ℕ) → v.kind ≡ InteriorTable → (x : Cell) → n < count v → cell v n ≡ Ok x → x.overflow ≡ None
+no_payload v n kind x low e = let h = at_offset v n x e in (subst (λ k. Fits k x) kind (cell_fits v.kind v h.0 x h.1)).0
+
+pub returns-in-InteriorTable : goal.returns-in-InteriorTable
+returns-in-InteriorTable c =
+    let n : c.args.cells ≡ count c.args.view.now = c.requires in
+    let l : c.args.i ≤ count c.args.view.now = omega arith in
+    no_chain c.args.i refl l (no_payload c.args.view.now c.args.i (sym c.kind.ensures ∙ c.in-InteriorTable.is))
 
 pub returns-in-None : goal.returns-in-None
 returns-in-None c =

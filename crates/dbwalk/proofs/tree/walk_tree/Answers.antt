@@ -40,7 +40,7 @@ returns-in_err-enter-clause-asks g c =
           let one = root_address d.address root.start at.candidate.depth at.candidate.start in
           subst (λ r. IsTreeDone g.K.Sink.takes g.K.Sink.drops g.T.Taker.takes g.T.Taker.refuses file W d r c.enter.new.marks
           (c.args.sink.now, c.args.taker.now) (c.enter.new.sink, c.args.taker.now)) (sym (q.1 ∙ ap Err q.2))
-          (let n = c.in_err-enter.ensures.entered file W d is next at.marked (tree_refusal file W d at.candidate) in
+          (let n = c.in_err-enter.ensures.entered file W d is next at.marked (λ why p. tree_refusal file W d at.candidate ∙ sym p) in
           tree_refused g.K.Sink.takes g.K.Sink.drops g.T.Taker.takes g.T.Taker.refuses file root.start W d one at.early (Err c.in_err-enter.field-0.0)
           c.enter.new.marks c.args.sink.now c.enter.new.sink c.args.taker.now (inr c.in_err-enter.ensures.after_error.0) n.0 n.1 n.2));
       count = subst (λ r. (g.S.Source.held c.args.source.now).failures ≡ failures_after is_read_failed r (g.S.Source.held c.args.source.now).failures)
@@ -61,7 +61,7 @@ returns-then-not-branch-clause-asks g c = record {
       let next = root_next file (kind_in file root) root.start root.page 0 root.start W d at.candidate at.early in
       let one = root_address d.address root.start at.candidate.depth at.candidate.start in
       let none = subst (λ b. Enters g.K.Sink.takes g.K.Sink.drops file W d (Ok b) c.enter.new.marks c.args.sink.now c.enter.new.sink) c.if-not-branch.true
-      (c.in_ok-enter.ensures.entered file W d is next at.marked (tree_refusal file W d at.candidate)) in
+      (c.in_ok-enter.ensures.entered file W d is next at.marked (λ why p. tree_refusal file W d at.candidate ∙ sym p)) in
       tree_refused g.K.Sink.takes g.K.Sink.drops g.T.Taker.takes g.T.Taker.refuses file root.start W d one at.early (Ok tt) c.enter.new.marks c.args.sink.now
       c.enter.new.sink c.args.taker.now tt none.0 none.1 none.2);
   count = refl;
@@ -83,7 +83,7 @@ returns-in_err-load-clause-asks g c =
           let next = root_next file (kind_in file root) root.start root.page 0 root.start W d at.candidate at.early in
           let one = root_address d.address root.start at.candidate.depth at.candidate.start in
           let n = subst (λ b. Enters g.K.Sink.takes g.K.Sink.drops file W d (Ok b) c.enter.new.marks c.args.sink.now c.enter.new.sink) c.if-not-branch.false
-          (c.in_ok-enter.ensures.entered file W d is next at.marked (tree_refusal file W d at.candidate)) in
+          (c.in_ok-enter.ensures.entered file W d is next at.marked (λ why p. tree_refusal file W d at.candidate ∙ sym p)) in
           subst (λ r. IsTreeDone g.K.Sink.takes g.K.Sink.drops g.T.Taker.takes g.T.Taker.refuses file W d r c.enter.new.marks
           (c.args.sink.now, c.args.taker.now) (c.enter.new.sink, c.args.taker.now)) (sym (q.1 ∙ ap Err q.2))
           (subst (λ s. IsTreeDone g.K.Sink.takes g.K.Sink.drops g.T.Taker.takes g.T.Taker.refuses file W d (Err ReadFailed) c.enter.new.marks
@@ -138,7 +138,7 @@ returns-clause-asks g c =
           ∙ ap (kind_of root.kind root.page) (there (bytes_at c.load.new.self 0) c.root_kind.ensures.there) in
           let starts = c.new-tree.ensures.names.0 in
           let n = subst (λ b. Enters g.K.Sink.takes g.K.Sink.drops file W d (Ok b) c.enter.new.marks c.args.sink.now c.enter.new.sink) c.if-not-branch.false
-          (c.in_ok-enter.ensures.entered file W d is next at.marked (tree_refusal file W d at.candidate)) in
+          (c.in_ok-enter.ensures.entered file W d is next at.marked (λ why p. tree_refusal file W d at.candidate ∙ sym p)) in
           subst (λ s. IsTreeDone g.K.Sink.takes g.K.Sink.drops g.T.Taker.takes g.T.Taker.refuses file W d c.walk_pages.result c.walk_pages.new.self.marks.now
           (s, c.args.taker.now) (c.walk_pages.new.self.sink.now, c.walk_pages.new.self.taker.now)) (sym n.2)
           (tree_done g.K.Sink.takes g.K.Sink.drops g.T.Taker.takes g.T.Taker.refuses file root.start W d one at.early c.walk_pages.result

@@ -35,7 +35,7 @@ returns-in_err-enter-clause-log g c = log_none c.args.bench.now.geometry.page_si
     let is = c.tree_step-step.ensures.step t.kind t.start t.path.items d (sym c.len-level.ensures.value) candidate in
     let f = c.in_err-enter.ensures.after_error.0 in
     let r : Result (Unit {0}) RunError = Err c.in_err-enter.field-0.0 in
-    let n = c.in_err-enter.ensures.entered file from.visits d is next at.0 (tree_refusal file from.visits d candidate) in
+    let n = c.in_err-enter.ensures.entered file from.visits d is next at.0 (λ why p. tree_refusal file from.visits d candidate ∙ sym p) in
     entered_err (watches g.K.Sink.takes g.T.Taker.takes) (fails g.K.Sink.takes g.K.Sink.drops g.T.Taker.takes g.T.Taker.refuses) file from d
     c.args.bench.now.levels _ c.in_err-enter.field-0.0 (c.enter.new.marks, c.args.self.now.tree) (c.args.self.now.sink.now, c.args.self.now.taker.now)
     (c.enter.new.sink, c.args.self.now.taker.now) (q.1 ∙ ap Err q.2)
@@ -51,7 +51,7 @@ returns-then-not-branch-clause-log g c = log_none c.args.bench.now.geometry.page
     let t = c.args.self.now.tree in
     let is = c.tree_step-step.ensures.step t.kind t.start t.path.items d (sym c.len-level.ensures.value) candidate in
     let n = subst (λ b. Enters g.K.Sink.takes g.K.Sink.drops file from.visits d (Ok b) c.enter.new.marks c.args.self.now.sink.now c.enter.new.sink)
-    c.if-not-branch.true (c.in_ok-enter.ensures.entered file from.visits d is next at.0 (tree_refusal file from.visits d candidate)) in
+    c.if-not-branch.true (c.in_ok-enter.ensures.entered file from.visits d is next at.0 (λ why p. tree_refusal file from.visits d candidate ∙ sym p)) in
     entered_past (watches g.K.Sink.takes g.T.Taker.takes) (fails g.K.Sink.takes g.K.Sink.drops g.T.Taker.takes g.T.Taker.refuses) file from d
     c.args.bench.now.levels false (c.enter.new.marks, c.args.self.now.tree) (c.args.self.now.sink.now, c.args.self.now.taker.now)
     (c.enter.new.sink, c.args.self.now.taker.now)
@@ -83,7 +83,7 @@ returns-in_err-load-clause-log g c =
     let q = err_from_is_err_and c.from_residual-in_err-load.result c.from_residual-in_err-load.ensures.1 in
     let is = c.tree_step-step.ensures.step t.kind t.start t.path.items d (sym c.len-level.ensures.value) candidate in
     let n = subst (λ b. Enters g.K.Sink.takes g.K.Sink.drops file from.visits d (Ok b) c.enter.new.marks c.args.self.now.sink.now c.enter.new.sink)
-    c.if-not-branch.false (c.in_ok-enter.ensures.entered file from.visits d is next at.0 (tree_refusal file from.visits d candidate)) in
+    c.if-not-branch.false (c.in_ok-enter.ensures.entered file from.visits d is next at.0 (λ why p. tree_refusal file from.visits d candidate ∙ sym p)) in
     subst (λ s. HasDone (watches g.K.Sink.takes g.T.Taker.takes) (fails g.K.Sink.takes g.K.Sink.drops g.T.Taker.takes g.T.Taker.refuses) file
     (entered file from d c.from_residual-in_err-load.result) c.from_residual-in_err-load.result (c.enter.new.marks, c.args.self.now.tree)
     (c.args.self.now.sink.now, c.args.self.now.taker.now) (s, c.args.self.now.taker.now)
@@ -133,7 +133,7 @@ returns-clause-log g c =
     let t = c.args.self.now.tree in
     let is = c.tree_step-step.ensures.step t.kind t.start t.path.items d (sym c.len-level.ensures.value) candidate in
     let n = subst (λ b. Enters g.K.Sink.takes g.K.Sink.drops file from.visits d (Ok b) c.enter.new.marks c.args.self.now.sink.now c.enter.new.sink)
-    c.if-not-branch.false (c.in_ok-enter.ensures.entered file from.visits d is next at.0 (tree_refusal file from.visits d candidate)) in
+    c.if-not-branch.false (c.in_ok-enter.ensures.entered file from.visits d is next at.0 (λ why p. tree_refusal file from.visits d candidate ∙ sym p)) in
     let read = page_read file change.bytes c.args.bench.now.geometry.page_size c.args.page change.size h (sym (ap (λ s. s.page_size) e)) in
     let there = subst (λ l. HasPageAt c.load.new.self.levels l (page_bytes file c.args.page)) c.len-level.ensures.value
     (read_there c.args.bench.now c.load.new.self c.len-level.result low change.bytes change.only (page_bytes file c.args.page) read) in
