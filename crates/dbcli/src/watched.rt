@@ -69,7 +69,8 @@ impl Watch {
         }
     }
 
-    // Keeps what is asked for later of the first read, of one from the start of the file, and of one that failed.
+    // Keeps what is asked for later of the first read, of one from the start of the file, and of one that failed. Most reads do not
+    // reach this call.
     #[inline(never)]
     fn keep_read(&self, offset: u64, bytes: &[u8], is_read: bool, is_first: bool) {
         if !is_read {

@@ -16,7 +16,7 @@ use std::{fs, io};
 /// A file, opened for reading only. It has no told bytes: no contract knows what the file holds.
 ///
 /// It may ask the system for more than its caller asks for. Where reads of at most 4096 bytes follow one another it makes
-/// longer ones, of at most 128 KiB, and answers from these. Of a file that is not in memory it reads each MiB once as a
+/// longer ones, of at most 256 KiB, and answers from these. Of a file that is not in memory it reads each MiB once as a
 /// whole when the first read falls into it, so that the system has it in memory; and where such reads jump through the file,
 /// with it the MiB beside it, up to 256 at once. It takes the buffer for either when it first needs it, so that what a run
 /// needs comes first, and reads page by page where there is no memory for it.

@@ -90,6 +90,7 @@ impl<'r, C: Clock> ReadAhead<'r, C> {
 
     /// Reads from `offset` on, as the file does, and then ahead if the window is new and the read was slow. An error is
     /// that of the read itself.
+    // Reads that follow one another do not reach this call.
     #[inline(never)]
     pub fn read(&mut self, file: &File, offset: u64, buf: &mut [u8]) -> io::Result<()> {
         let window = offset / WINDOW as u64;

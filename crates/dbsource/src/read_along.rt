@@ -11,7 +11,7 @@ const ROW: u32 = 2;
 // the calls are few, and what is read is no longer near in the processor's caches when it is copied.
 const LEAST: usize = 16_384;
 
-const GREATEST: usize = 131_072;
+const GREATEST: usize = 262_144;
 
 // The longest page that is read so. A longer one costs more to copy than a call of the system takes.
 const LONGEST: usize = 4096;

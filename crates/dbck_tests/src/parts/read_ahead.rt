@@ -12,7 +12,7 @@ use std::time::Duration;
 const WINDOW: u64 = 1_048_576;
 
 // The longest read that answers later ones.
-const MOST_ALONG: u64 = 131_072;
+const MOST_ALONG: u64 = 262_144;
 
 // The bounds, in microseconds: each window is read ahead, those that come from a device, and none.
 const BOUNDS: [Option<u64>; 3] = [Some(0), Some(15), None];
@@ -319,7 +319,7 @@ fn reads_more_windows_where_reads_jump(rt: HostRuntime) -> Result<(), Fail> {
 }
 
 // The most bytes that are read for one page of four windows, which are read in their order, and whether the pages are right. Where the
-// system does not count them they are 128 KiB.
+// system does not count them they are 256 KiB.
 fn most_read(rt: &HostRuntime, source: &mut impl Source) -> (u64, bool) {
     let mut most = 0;
     let mut are_right = true;
@@ -338,7 +338,7 @@ fn most_read_along(rt: &HostRuntime) -> Result<(u64, bool), Fail> {
 
 // The count itself is a read of less than a page.
 #[test]
-fn reads_along_by_128_kib_at_most(rt: HostRuntime) -> Result<(), Fail> {
+fn reads_along_by_256_kib_at_most(rt: HostRuntime) -> Result<(), Fail> {
     make_file(&rt, "along.db", 4 * WINDOW)?;
     let (most, are_right) = most_read_along(&rt)?;
     holds!(rt; are_right && (MOST_ALONG..MOST_ALONG + 4096).contains(&most), most);
