@@ -28,13 +28,13 @@ use Rattle.dbsource.specs.declared.error.RunError.{RunError}
 use Rattle.dbmarks.specs.EndMarks.{is_free_mark, greatest_root_marked, least_other_marked, mark_fault, late_fault}
 use Rattle.dbtrace.specs.declared.Part.TheVariants as part
 use Rattle.dbscan.specs.Notices.{Notice, whole, walked, end_notices}
-use Rattle.dbmarks.specs.Marking.{mark_of, marks_of, role_mark, visit_mark, AreMarksOf}
+use Rattle.dbmarks.specs.Marking.{is_none, mark_of, marks_of, role_mark, visit_mark, AreMarksOf}
 use Rattle.dbwalk.specs.Telling.{Tells}
 use Rattle.dbmarks.specs.declared.marks.Mark.{Mark}
 use Rattle.dbmarks.specs.declared.marks.Mark.TheVariants.{Unmarked, Fixed, Root, Trunk, FreeLeaf, FirstOverflow, LaterOverflow, Child}
 use Rattle.dbmarks.proofs.LateRoots.{marks_tell_the_end}
 use Rattle.dbwalk.proofs.Telling.Belows.{stops_by_after}
-use Rattle.dbscan.specs.EndPass.{counted_faults, is_fixed_mark, is_unmarked, page_notices, pages_items}
+use Rattle.dbscan.specs.EndPass.{counted_faults, is_fixed_mark, page_notices, pages_items}
 use Rattle.dbscan.specs.Telling.{items_of}
 use Rattle.dbscan.proofs.CountedMarks.{numbers_more}
 
@@ -71,13 +71,13 @@ no_entry file p off = ap (λ h. option_map (entry_in file p) (cond (h && nat_le 
     (Some (2 + (p - 2) / (entries_per_map (geometry file) + 1) * (entries_per_map (geometry file) + 1))) None)) off
 
 -- and nothing is reported of one that is used
-pub used_items : (file : List ℕ) (least : Option ℕ) (p : ℕ) (m : Mark) → (geometry file).has_map ≡ false → is_unmarked m ≡ false
+pub used_items : (file : List ℕ) (least : Option ℕ) (p : ℕ) (m : Mark) → (geometry file).has_map ≡ false → is_none m ≡ false
     → page_notices file least p m ≡ []
 used_items file least p m off used =
     ap (map (whole part.End)) (ap₂ (λ a b. a ++ b) (ap (λ e. mark_fault p e m) (no_entry file p off) ∙ of_use m used)
     (ap (λ h. late_fault h p m least) off ∙ of_place least))
   where
-    of_use : (m : Mark) → is_unmarked m ≡ false → mark_fault p None m ≡ []
+    of_use : (m : Mark) → is_none m ≡ false → mark_fault p None m ≡ []
     of_use Unmarked h = cc
     of_use Fixed h = refl
     of_use Root h = refl

@@ -11,7 +11,7 @@ use Rattle.dbformat.specs.declared.FaultCode.TheVariants.{H08, H09, H10}
 use Rattle.dbmarks.specs.EndMarks.{mark_fault, late_fault}
 use Rattle.dbmarks.specs.Marking.{mark_of}
 use Rattle.dbmarks.specs.declared.marks.Mark.{Mark}
-use Rattle.dbmarks.specs.declared.marks.Mark.TheVariants.{Fixed, Unmarked}
+use Rattle.dbmarks.specs.declared.marks.Mark.TheVariants.{Fixed}
 use Rattle.dbtrace.specs.declared.Part.TheVariants as part
 use Rattle.dbscan.specs.Notices.{Notice, whole}
 
@@ -26,11 +26,6 @@ counted_faults header rows greatest free =
 abbrev pub is_fixed_mark : Mark → Bool
 is_fixed_mark Fixed = true
 is_fixed_mark _ = false
-
--- whether it is that of a page that was not reached, and has no fixed use
-abbrev pub is_unmarked : Mark → Bool
-is_unmarked Unmarked = true
-is_unmarked _ = false
 
 -- what is reported of page p, by its mark and the least page that is no root
 abbrev pub page_notices : List ℕ → Option ℕ → ℕ → Mark → List Notice

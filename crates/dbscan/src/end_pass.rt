@@ -9,11 +9,11 @@ ghost use Rattle.dbsource.specs.Errors.{is_read_failed, is_write_failed};
 ghost use Rattle.dbsource.specs.Headers.{IsHeaderOf};
 ghost use Rattle.dbsource.specs.Sources.{Asks};
 ghost use Rattle.dbmarks.specs.EndMarks.{entry_value};
-ghost use Rattle.dbmarks.specs.Marking.{AreMarksOf, page_mark};
+ghost use Rattle.dbmarks.specs.Marking.{AreMarksOf, is_none, page_mark};
 ghost use Rattle.dbwalk.specs.Telling.{Tells, IsReadOrWrite, SinkAfter};
 ghost use Rattle.dbmarks.specs.declared.marks.Mark as marking;
 ghost use Rattle.dbscan.specs.Desks.{shape_of};
-ghost use Rattle.dbscan.specs.EndPass.{is_fixed_mark, is_unmarked, page_notices, pages_items};
+ghost use Rattle.dbscan.specs.EndPass.{is_fixed_mark, page_notices, pages_items};
 ghost use Rattle.dbscan.specs.MapReads.{HasMapFor, IsMapInUse, IsMapTurn, MapReads};
 ghost use Rattle.dbscan.specs.Notices.{end_notices};
 
@@ -47,7 +47,7 @@ fn is_fixed(mark: Mark) -> bool
 }
 
 fn is_unmarked(mark: Mark) -> bool
-    ensures { result ≡ is_unmarked mark }
+    ensures { result ≡ is_none mark }
 {
     matches!(&mark, Mark::Unmarked)
 }

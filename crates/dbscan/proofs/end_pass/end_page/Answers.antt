@@ -10,8 +10,9 @@ use Rattle.dbformat.specs.declared.Geometry.{Geometry}
 use Rattle.dbsource.specs.Bench.{Pages}
 use Rattle.dbsource.proofs.Logs.{has_weaker}
 use Rattle.dbmarks.specs.EndMarks.{mark_fault, late_fault}
+use Rattle.dbmarks.specs.Marking.{is_none}
 use Rattle.dbwalk.specs.Telling.{Tells}
-use Rattle.dbscan.specs.EndPass.{is_fixed_mark, is_unmarked, page_notices}
+use Rattle.dbscan.specs.EndPass.{is_fixed_mark, page_notices}
 use Rattle.dbmarks.specs.EndMarks.{entry_value}
 use Rattle.dbscan.specs.MapReads.{HasMapFor, IsMapInUse}
 use Rattle.dbscan.proofs.EndItems.{fixed_items, other_items, used_items}
@@ -77,7 +78,7 @@ returns-then-not-is_unmarked-clause-asks g c = asks_nothing g.S.Source.step _ _ 
     let free : is_fixed (geometry file) c.args.page ≡ false = sym same ∙ ap is_fixed_mark k ∙ sym c.is_fixed.ensures ∙ c.if-is_fixed.false in
     let off : (geometry file).has_map ≡ false = ap (λ (g : Geometry). g.has_map) (sym (c.geometry-geometry.ensures.value ∙ e))
     ∙ not-true _ c.if-not-geometry.true in
-    let used : is_unmarked mark ≡ false = ap is_unmarked k ∙ sym c.if-not-is_unmarked.ensures in (
+    let used : is_none mark ≡ false = ap is_none k ∙ sym c.if-not-is_unmarked.ensures in (
       subst (λ l. Moves g.K.Reporter.hears c.args.reporter.now l c.args.reporter.now) (sym (used_items file c.args.least_other c.args.page mark off used)) refl,
       next_kept file c.args.bench.now.chain c.args.page ok c.requires.page.0 (λ z. absurd (not_map (geometry file) c.args.page free z)) chain,
     ))
