@@ -1,4 +1,4 @@
-# Builds and installs dbck: make, make install, make uninstall, make deb, make static.
+# Builds, checks and installs dbck: make, make check, make test, make install, make uninstall, make deb, make static.
 PREFIX ?= /usr/local
 DESTDIR ?=
 INSTALL ?= install
@@ -13,12 +13,24 @@ DOCUMENTS := DECISIONS FAULTS FORMAT REPAIR
 # Where the toolchain is.
 KIT = $(patsubst %/,%,$(dir $(shell rt doc)))
 
-.PHONY: all install uninstall deb static version
+# The folders that `uninstall` removes if they are empty. Those that every system has below /usr and /usr/local stay.
+SHARED := $(if $(filter /usr /usr/local,$(PREFIX)),,bin share/man/man1)
+EMPTIED := share/doc/dbck share/bash-completion/completions share/zsh/site-functions share/fish/vendor_completions.d $(SHARED)
+
+.PHONY: all check test install uninstall deb static version
 
 # `rt run` builds only what is proved, and again only what has changed. The other targets depend on it, so that none of them takes
 # a program that is older than the sources.
 all:
 	cd crates/dbck && rt run -- --version
+
+# The gate: every proof, must-fail edit, test and program, and then the runs of the built program. CI calls this.
+check:
+	tests/gate.sh
+
+# What can be run without a proof, in minutes: the tests, and the runs of the program that is built, if there is one.
+test:
+	tests/unproved.sh $(PROGRAM)
 
 install: all
 	$(INSTALL) -D -m 755 $(PROGRAM) $(BIN)/dbck
@@ -33,7 +45,7 @@ uninstall:
 	rm -f $(BIN)/dbck $(SHARE)/man/man1/dbck.1 $(SHARE)/bash-completion/completions/dbck \
 	    $(SHARE)/zsh/site-functions/_dbck $(SHARE)/fish/vendor_completions.d/dbck.fish
 	rm -f $(DOCUMENTS:%=$(SHARE)/doc/dbck/%.md)
-	-rmdir $(SHARE)/doc/dbck
+	-cd $(DESTDIR)$(PREFIX) && rmdir -p --ignore-fail-on-non-empty $(EMPTIED)
 
 deb: all
 	packaging/make-deb $(PROGRAM) $(VERSION)

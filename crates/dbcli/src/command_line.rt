@@ -71,7 +71,7 @@ impl From<AllocError> for LineError {
 }
 
 /// The version of the program, which is stated only here.
-const VERSION: &str = "0.1.0";
+const VERSION: &str = "0.2.0";
 
 /// The most faults that `check` shows.
 const MOST_SHOWN: u32 = 1000000;
