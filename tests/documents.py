@@ -18,8 +18,8 @@ ALL_WORDS = 27000
 WIDTH = 160
 # Sections that have to be there: what a reader acts on, and what a length must not take away.
 SECTIONS = {
-    "README.md": ["Install", "Your own file", "What `ok` means", "A database in use", "A damaged database", "Many databases", "Usage",
-                  "Why to believe it"],
+    "README.md": ["One damaged spot, many faults", "Install", "Usage", "What `ok` means", "A database in use", "A damaged database",
+                  "Many databases", "Why to believe it", "Documents"],
     "CONTRIBUTING.md": ["Report a bug", "What is where", "Prove one crate", "Before a push", "Commits", "Read a goal that fails",
                         "Run a test, or the program on a file", "Try an edit", "Words"],
     "docs/DECISIONS.md": ["What is reported", "The program", "Names and forms"],
