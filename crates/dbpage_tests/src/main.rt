@@ -10,6 +10,7 @@
 //! | `varint BYTES` | the number that begins them, and its length |
 //! | `serial N` | how many bytes a column of this serial type has |
 //! | `local KIND USABLE N` | how many of the N bytes of a payload are in the cell of a `table` leaf or of an `index` |
+//! | `use SIZE N plain P` | the fixed use of page P of N, and the map page that has its entry; `mapped` in place of `plain` where there is a map |
 //! | `record ENCODING N: BYTES` | the row of the schema whose record has N bytes, in any pieces; with `\|` between pieces, the one after each |
 //! | `name ENCODING BYTES` | how a name is shown, of which a beginning is put where there is too little room |
 //! | `plain ENCODING BYTES` | the same where it must not turn a line around |
@@ -42,6 +43,7 @@ fn answer(alloc: Global, page: &mut Page, question: &str, text: &mut Text) -> Op
         "varint" => numbers::add_varint(of, text),
         "serial" => numbers::add_serial(of, text),
         "local" => numbers::add_local(of, text),
+        "use" => numbers::add_use(of, text),
         "record" => records::add_rows(of, text),
         "name" => names::add_name(alloc, of, false, text),
         "plain" => names::add_name(alloc, of, true, text),

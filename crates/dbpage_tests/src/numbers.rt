@@ -1,8 +1,8 @@
-// Varints, the lengths of serial types, and how much of a payload is in its cell.
+// Varints, the lengths of serial types, how much of a payload is in its cell, and pages of fixed use.
 use crate::Text;
 use crate::spelled::bytes_of;
 use dbbytes::{local_len, serial_len, varint};
-use dbformat::PayloadKind;
+use dbformat::{Fixed, Geometry, PayloadKind};
 use std::fmt::Write;
 
 /// Adds the number that begins some bytes. One that is cut has no value, and bytes after it change nothing.
@@ -43,4 +43,28 @@ pub(crate) fn add_local(of: &str, text: &mut Text) -> Option<()> {
         return None;
     }
     write!(text, " {}", local_len(kind, usable, payload)).ok()
+}
+
+/// Adds the fixed use of a page, and the map page that has its entry, by the page size, the number of pages, and whether there is a map.
+pub(crate) fn add_use(of: &str, text: &mut Text) -> Option<()> {
+    let mut words = of.split(' ');
+    let page_size = words.next()?.parse::<u32>().ok()?;
+    let pages = words.next()?.parse::<u32>().ok()?;
+    let has_map = words.next()? == "mapped";
+    let page = words.next()?.parse::<u32>().ok()?;
+    if page_size < 512 || page_size > 65536 || pages < 1 || pages > 67108864 {
+        return None;
+    }
+    let geometry = Geometry {
+        page_size,
+        usable: page_size,
+        pages,
+        has_map,
+    };
+    let fixed = match geometry.fixed(page) {
+        Some(Fixed::Lock) => "lock",
+        Some(Fixed::Map) => "map",
+        None => "none",
+    };
+    write!(text, " {fixed} {:?}", geometry.map_page_of(page)).ok()
 }
