@@ -1,0 +1,132 @@
+# What the tests of the built program share; each file of this folder begins with `load common`. The program is $DBCK, or what `rt` built.
+# A test that cannot be run here says what it lacks (`needs`), and is skipped. shellcheck shell=bash
+root=$(cd "${BASH_SOURCE[0]%/*}/../.." && pwd)
+DBCK=$(realpath "${DBCK:-$root/crates/dbck/out/dbck}")
+export DBCK LC_ALL=C.UTF-8
+data=crates/dbck/data
+
+# A fault line, a row, the beginning of a picture, and two errors.
+unused=$'N01 page 8 item 0 value 0: page is not in use\n'
+twice=$'R03 page 2 item 2 value 7: page is already in use\n'
+page=$'sqlite_schema\t/\t1\tleaf\t0\t0\t404\t0\t0\t512\n'
+tree=$'sqlite_schema\t-\t1\t-\t0\t0\t404\t0\t-\t512\n'
+picture='<svg xmlns=*<title>Pages of'
+unread=$'dbck: E8 the file cannot be read\n'
+unwritten=$'dbck: E10 the output cannot be written\n'
+four=(check explain map stat)
+
+# Each test begins at the top of the repository, with a folder of its own that is gone after it.
+setup() {
+    [ -x "$DBCK" ] || { echo "there is no program $DBCK" && return 1; }
+    cd "$root" || return
+    work=$(mktemp -d "${BATS_TMPDIR:-/tmp}/dbck.XXXXXX")
+    as=()
+}
+
+teardown() {
+    [ -z "${work:-}" ] || rm -rf "$work"
+}
+
+# needs TOOL..: skips the test where one of the tools is not there.
+needs() {
+    local tool
+    for tool in "$@"; do
+        command -v "$tool" > /dev/null || skip "there is no $tool"
+    done
+}
+
+# fail TEXT: ends the test, and says why.
+fail() {
+    printf '%s\n' "$1"
+    return 1
+}
+
+# dbck WORDS..: runs the program, as somebody else where `as` says so. Its outputs are the files out and err, and its end is $status.
+dbck() {
+    status=0
+    "${as[@]}" "$DBCK" "$@" > "$work/out" 2> "$work/err" < /dev/null 3>&- || status=$?
+}
+
+# show FILE: what a file begins with, in one line that harms no terminal.
+show() {
+    local text
+    text=$(head -c 4000 "$1" | tr -d '\0' && echo .)
+    printf '%q' "${text%.}"
+}
+
+# differs WANTED..: says what was wanted and what came, and fails.
+differs() {
+    printf 'wanted: %q\n' "$@"
+    printf 'status: %s\nout: %s\nerr: %s\n' "$status" "$(show "$work/out")" "$(show "$work/err")"
+    return 1
+}
+
+# ended STATUS OUT ERR: the last run has ended so. The texts are patterns of the shell, so one that ends with '*' may go on.
+ended() {
+    local out err
+    out=$(tr -d '\0' < "$work/out" && echo .) err=$(tr -d '\0' < "$work/err" && echo .)
+    # shellcheck disable=SC2053
+    [[ $status == "$1" && ${out%.} == $2 && ${err%.} == $3 ]] || differs "$@"
+}
+
+# ended_exactly STATUS OUT ERR: the same, byte for byte.
+ended_exactly() {
+    if printf %s "$2" | cmp -s - "$work/out" && printf %s "$3" | cmp -s - "$work/err" && [ "$status" = "$1" ]; then
+        return 0
+    fi
+    differs "$@"
+}
+
+# expect STATUS OUT ERR WORDS..: runs the program, which has to end so, by patterns; exactly: byte for byte.
+expect() {
+    dbck "${@:4}"
+    ended "$1" "$2" "$3" || fail "$(printf 'of dbck' && printf ' %q' "${@:4}")"
+}
+exactly() {
+    dbck "${@:4}"
+    ended_exactly "$1" "$2" "$3" || fail "$(printf 'of dbck' && printf ' %q' "${@:4}")"
+}
+
+# put_at FILE OFFSET BYTES: writes bytes into a file.
+put_at() {
+    printf '%b' "$3" | dd of="$1" bs=1 seek="$2" conv=notrunc status=none
+}
+
+# changed NAME OFFSET BYTES: makes NAME.db, the empty database with these bytes at an offset.
+changed() {
+    cp "$data/empty.db" "$work/$1.db"
+    put_at "$work/$1.db" "$2" "$3"
+}
+
+# sparse FILE BYTES: gives a file a length without taking the room for it; skips the test where the file system does not take it.
+sparse() {
+    truncate -s "$2" "$1" 2> "$work/why" || skip "no file of $2 bytes here: $(cat "$work/why")"
+}
+
+# on_terminal LINE: runs a line of the shell on a terminal, whose text is the output.
+on_terminal() {
+    status=0
+    script -qec "$1" /dev/null > "$work/out" 2> "$work/err" < /dev/null 3>&- || status=$?
+}
+
+# meanwhile FILE COMMAND..: runs the statistics of all pages of a file, and the command while the run waits for its reader: the
+# rows have to be so many that they fit into no pipe.
+meanwhile() {
+    local started
+    rm -f "$work/pipe"
+    mkfifo "$work/pipe"
+    "$DBCK" stat --all "$1" > "$work/pipe" 2> "$work/err" < /dev/null 3>&- &
+    started=$!
+    { head -c 1 > "$work/out" && "${@:2}" && cat >> "$work/out"; } < "$work/pipe"
+    status=0
+    wait "$started" || status=$?
+}
+
+# to_be_nobody: lets `as` run the program as nobody, who may not do what root may; skips the test where that cannot be.
+to_be_nobody() {
+    [ "$(id -u)" = 0 ] || return 0
+    needs setpriv
+    chmod 755 "$work"
+    as=(setpriv --reuid 65534 --regid 65534 --clear-groups)
+    "${as[@]}" "$DBCK" --version > /dev/null 3>&- || skip 'nobody cannot run the program here'
+}
