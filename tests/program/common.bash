@@ -1,5 +1,6 @@
 # What the tests of the built program share; each file of this folder begins with `load common`. The program is $DBCK, or what `rt` built.
-# A test that cannot be run here says what it lacks (`needs`), and is skipped. shellcheck shell=bash
+# A test that cannot be run here says what it lacks (`needs`), and is skipped.
+# shellcheck shell=bash disable=SC2034
 root=$(cd "${BASH_SOURCE[0]%/*}/../.." && pwd)
 DBCK=$(realpath "${DBCK:-$root/crates/dbck/out/dbck}")
 export DBCK LC_ALL=C.UTF-8
