@@ -22,10 +22,23 @@ setup() {
     cd "$root" || return
     work=$(mktemp -d "${BATS_TMPDIR:-/tmp}/dbck.XXXXXX")
     as=()
+    rows=0
+    failing=$BATS_TEST_TMPDIR/failing
 }
 
+# A row that does not hold is named at once, and fails its test here: so all rows of a table are looked at.
 teardown() {
     [ -z "${work:-}" ] || rm -rf "$work"
+    [ ! -s "${failing:-}" ]
+}
+
+# row NAME TEST..: a row of a table, which is named where its test fails, before what the test says.
+row() {
+    rows=$((rows + 1))
+    "${@:2}" > "$work/said" 2>&1 || {
+        echo "FAILED: ${1//[^[:print:]]/?}" | tee -a "$failing"
+        head -n 40 "$work/said"
+    }
 }
 
 # needs TOOL..: skips the test where one of the tools is not there.
@@ -78,14 +91,19 @@ ended_exactly() {
     differs "$@"
 }
 
-# expect STATUS OUT ERR WORDS..: runs the program, which has to end so, by patterns; exactly: byte for byte.
+# expect STATUS OUT ERR WORDS..: a row: the program is run, and has to end so, by patterns; exactly: byte for byte.
 expect() {
     dbck "${@:4}"
-    ended "$1" "$2" "$3" || fail "$(printf 'of dbck' && printf ' %q' "${@:4}")"
+    row "dbck ${*:4}" ended "$1" "$2" "$3"
 }
 exactly() {
     dbck "${@:4}"
-    ended_exactly "$1" "$2" "$3" || fail "$(printf 'of dbck' && printf ' %q' "${@:4}")"
+    row "dbck ${*:4}" ended_exactly "$1" "$2" "$3"
+}
+
+# table NAME: the lines of NAME.txt beside the tests, without its comments.
+table() {
+    grep -v '^#' "$BATS_TEST_DIRNAME/$1.txt"
 }
 
 # put_at FILE OFFSET BYTES: writes bytes into a file.
@@ -130,4 +148,17 @@ to_be_nobody() {
     chmod 755 "$work"
     as=(setpriv --reuid 65534 --regid 65534 --clear-groups)
     "${as[@]}" "$DBCK" --version > /dev/null 3>&- || skip 'nobody cannot run the program here'
+}
+
+# small NAME: makes the databases of tests/small/NAME.txt, and lists them in `list`: number, limit and name of each.
+small() {
+    needs python3
+    tests/small/make.py "tests/small/$1.txt" "$work/small" > "$work/list"
+}
+
+# large_database: makes large.db, a table of one row of 66930 overflow pages; $pages is how many pages it has.
+large_database() {
+    needs sqlite3
+    sqlite3 "$work/large.db" 'PRAGMA page_size = 512; CREATE TABLE t (b); INSERT INTO t VALUES (zeroblob(34000000));'
+    pages=$(($(wc -c < "$work/large.db") / 512))
 }

@@ -1,0 +1,54 @@
+#!/usr/bin/env bats
+# Damaged databases: verdicts beside those of SQLite, a slow checker, and repairs.
+load common
+
+@test 'the examples of docs/SQLITE.md have the faults that it says' {
+    while read -r name wanted; do
+        dbck check "tests/beside/$name.db"
+        row "$name: $wanted" [ "$(cut -d ' ' -f 1 "$work/out" | paste -sd ' ')" = "$wanted" ]
+    done < <(table examples)
+    expect 3 '' '*dbck: E5 *' check tests/beside/less-than-a-page.db
+    [ "$rows" = 18 ]
+}
+
+# make_damaged: makes damaged databases in a folder `damaged`.
+make_damaged() {
+    needs python3
+    tests/damage.py --of tests/sqlite --copies 2 "$work/damaged" > "$work/out"
+}
+
+# are_those_of_the_table: they have the names of tests/damaged.txt.
+are_those_of_the_table() {
+    (cd "$work/damaged" && printf '%s\n' *) | LC_ALL=C sort > "$work/names"
+    grep -v '^#' tests/damaged.txt | cut -f 3 | LC_ALL=C sort | diff - "$work/names"
+}
+
+# verdict FILE: `ok`, `faults` or `refused`, by the first line and the status of the run.
+verdict() {
+    dbck check --limit 1 "$1"
+    case $status,$(< "$work/out") in
+        0,ok) echo ok ;;
+        1,*) echo faults ;;
+        3,) echo refused ;;
+        *) echo "status $status" ;;
+    esac
+}
+
+@test 'each damaged database has the verdict of SQLite, or one that docs/SQLITE.md gives the reason for' {
+    make_damaged
+    row 'damaged databases are made' are_those_of_the_table
+    while IFS=$'\t' read -r wanted _ name; do
+        row "$name: $wanted" [ "$(verdict "$work/damaged/$name")" = "$wanted" ]
+    done < <(grep -v '^#' tests/damaged.txt)
+    [ "$rows" -gt 1 ]
+}
+
+@test 'a slow checker finds those files sound that the program does' {
+    make_damaged
+    row 'a slow checker agrees' tests/slow.py "$DBCK" "$work/slow" tests/sqlite/*.db "$work"/damaged/*
+}
+
+@test 'docs/REPAIR.md saves of twenty damaged databases each row that another recipe saves' {
+    needs python3 sqlite3
+    row 'twenty repairs' tests/repair.py --few "$DBCK" "$work/repairs"
+}

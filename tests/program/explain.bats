@@ -1,0 +1,68 @@
+#!/usr/bin/env bats
+# What explain writes below each fault, and the summary at the end.
+load common
+
+note='table note'
+twice_below="    page 2 at byte 512: root of $note"$'\n'"    page 7 at byte 3072: in $note, child of page 2"$'\n'
+unused_below=$'    page 8 at byte 3584: in no tree, overflow chain or freelist\n    looks like a leaf of a table with 6 cells, rowids 25 to 30\n'
+summary=$'2 faults\n    1 R03 page is already in use\n    1 N01 page is not in use\n    1 in table note (root page 2), on 1 of its 5 pages\n'
+summary+=$'    1 in the whole file\n    0 of 1 table and 1 of 1 index without a fault\n'
+
+@test 'explain says ok of a sound database' {
+    expect 0 $'ok\n' '' explain "$data/whole.db"
+}
+
+@test 'explain says below each fault where its pages are, and sums up all' {
+    expect 1 "$twice$twice_below$unused$unused_below$summary" '' explain "$data/two-owners.db"
+    expect 1 "$twice$twice_below$unused$unused_below$summary" '' explain --no-progress "$data/two-owners.db" --limit=10000
+    expect 1 $'H10 page 1 item 0 value 3: freelist count differs from the header\n    header: 99\n1 fault\n    1 H10 freelist count differs from the header\n    1 in the whole file\n    1 of 1 table and 0 of 0 indexes without a fault\n' '' \
+        explain "$data/view-last.db"
+}
+
+@test 'explain --limit shows fewer entries, and sums up all faults' {
+    expect 1 "$twice$twice_below"$'more 1\n'"$summary" '' explain --limit 1 "$data/two-owners.db"
+}
+
+# is_explained TEXT: the last run has written the text of a file, byte for byte.
+is_explained() {
+    [ "$status" = 1 ] && [ ! -s "$work/err" ] && diff "$1" "$work/out"
+}
+
+@test 'explain writes of each database of tests/explain the text beside it, byte for byte' {
+    for text in tests/explain/*.explain; do
+        dbck explain "${text%.explain}.db"
+        row "explain ${text%.explain}.db" is_explained "$text"
+    done
+    [ "$rows" = 14 ]
+}
+
+# sums FILE: the summary that a text ends with.
+sums() {
+    sed -n '/^[0-9]* faults*$/,$p' "$1"
+}
+
+# has_sums TEXT: the last run has ended with the summary of a text.
+has_sums() {
+    [ "$status" = 1 ] && diff <(sums "$1") <(sums "$work/out")
+}
+
+@test 'explain --limit 1 sums up all faults of each database of tests/explain' {
+    for text in tests/explain/*.explain; do
+        dbck explain --limit 1 "${text%.explain}.db"
+        row "explain --limit 1 ${text%.explain}.db" has_sums "$text"
+    done
+    [ "$rows" = 14 ]
+}
+
+@test 'explain writes of each database of tests/small/explain.txt what stands there' {
+    local wanted
+    small explain
+    while IFS='|' read -r number limit name; do
+        dbck explain --limit "$limit" "$work/small/$number.db"
+        row "explain --limit $limit $name" diff "$work/small/$number.text" "$work/out"
+        wanted=1
+        [ "$(< "$work/small/$number.text")" != ok ] || wanted=0
+        row "the status of $name" ended "$wanted" '*' ''
+    done < "$work/list"
+    [ "$rows" -gt 0 ]
+}

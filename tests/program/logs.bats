@@ -1,0 +1,55 @@
+#!/usr/bin/env bats
+# Notes on logs that lie beside a file and are not read. They come before all else.
+load common
+
+# noted: makes noted.db; $wal and $journal are the notes on its logs.
+noted() {
+    cp "$data/empty.db" "$work/noted.db"
+    wal="dbck: note: $work/noted.db-wal is not read, and may hold changes; let SQLite open a copy of both files to checkpoint it, and check that copy"$'\n'
+    journal="dbck: note: $work/noted.db-journal is not read, and may hold changes; let SQLite open a copy of both files to recover it, and check that copy"$'\n'
+}
+
+@test 'an empty log holds nothing, and a folder is none' {
+    noted
+    : > "$work/noted.db-journal"
+    mkdir "$work/noted.db-wal"
+    expect 0 $'ok\n' '' check "$work/noted.db"
+}
+
+@test 'each log that may hold changes has a note' {
+    noted
+    echo log > "$work/noted.db-wal"
+    : > "$work/noted.db-journal"
+    expect 0 $'ok\n' "$wal" check "$work/noted.db"
+    echo log > "$work/noted.db-journal"
+    for words in check explain 'stat --all'; do
+        # shellcheck disable=SC2086
+        dbck $words "$work/noted.db"
+        row "the notes of $words on two logs" ended 0 '*' "$wal$journal"
+    done
+    rm "$work/noted.db-wal"
+    expect 0 $'ok\n' "$journal" check "$work/noted.db"
+}
+
+@test 'the logs of a link lie beside what it leads to' {
+    noted
+    echo log > "$work/noted.db-wal"
+    echo log > "$work/noted.db-journal"
+    mkdir "$work/links"
+    ln -s ../noted.db "$work/links/link.db"
+    expect 0 $'ok\n' "$wal$journal" check "$work/links/link.db"
+}
+
+@test 'a note shows control characters of a name, and what turns text around, by codes' {
+    local name=$'two\nlines\xc2\x9b\xe2\x80\xae.db'
+    noted
+    cp "$data/empty.db" "$work/$name"
+    echo log > "$work/$name-wal"
+    expect 0 $'ok\n' "${wal/noted/two\\\\x0alines\\\\xc2\\\\x9b\\\\xe2\\\\x80\\\\xae}" check "$work/$name"
+}
+
+@test 'the note on a log comes before those on a file that is refused' {
+    cp tests/program/logs.bats "$work/text.db"
+    echo log > "$work/text.db-wal"
+    expect 3 '' "dbck: note: $work/text.db-wal is not read, and may hold changes; *dbck: note: $work/text.db is not checked"$'\n'"dbck: note: $work/text.db begins with *"$'\ndbck: E2 *' check "$work/text.db"
+}

@@ -1,0 +1,65 @@
+#!/usr/bin/env bats
+# The pictures of map.
+load common
+
+@test 'a picture names its file and says how many faults there are' {
+    expect 0 "$picture"$' whole.db</title>\n*, no fault; *</svg>\n' '' map "$data/whole.db"
+    expect 1 "$picture"$' two-owners.db</title>\n*, 2 faults; *<title>page 8: in no tree, *, with N01</title>*</svg>\n' '' map "$data/two-owners.db"
+}
+
+@test 'a file name that would be markup is text in its picture' {
+    cp "$data/empty.db" "$work/<b>&.db"
+    expect 0 "$picture"$' &lt;b&gt;&amp;.db</title>\n*</svg>\n' '' map "$work/<b>&.db"
+    row 'the label of a picture' grep -qF ' role="img" aria-label="Pages of &lt;b&gt;&amp;.db">' "$work/out"
+}
+
+@test 'pictures are XML that refers to nothing' {
+    needs xmllint python3
+    cp "$data/empty.db" "$work/<b>&.db"
+    row 'pictures are XML' tests/pictures.sh "$DBCK" "$data"/*.db "$work/<b>&.db" tests/sqlite/*.db
+}
+
+# has_lines TEXT: the last run has written a picture that has the lines of a text, in their order.
+has_lines() {
+    awk '
+        NR == FNR { wanted[n++] = $0; next }
+        { rest = rest $0 "\n" }
+        END {
+            for (i = 0; i < n; i++) {
+                if (!(at = index(rest, wanted[i]))) { print "not there, or not in its order: " wanted[i]; exit 1 }
+                rest = substr(rest, at + length(wanted[i]))
+            }
+            exit rest !~ /<\/g>\n<\/svg>\n$/
+        }' "$1" "$work/out"
+}
+
+@test 'map draws of each database of tests/small/map.txt the lines that stand there' {
+    small map
+    while IFS='|' read -r number _ name; do
+        dbck map "$work/small/$number.db"
+        row "map $name" has_lines "$work/small/$number.text"
+    done < "$work/list"
+    [ "$rows" -gt 0 ]
+}
+
+@test 'each of 10000 squares has a title, and so has the picture' {
+    small map
+    IFS='|' read -r number _ < <(grep -F '|kinds 40000: 1 28 00009c40' "$work/list")
+    dbck map "$work/small/$number.db"
+    row 'a title for each of 10000 squares, and one for the picture' [ "$(grep -o '</title>' "$work/out" | wc -l)" = 10001 ]
+}
+
+# Three squares of two pages each after one another, by half in the freelist and in no tree: each has three bands of either.
+@test 'a square whose pages are of two kinds is in bands' {
+    local free lost
+    cp "$data/empty.db" "$work/mixed.db"
+    put_at "$work/mixed.db" 32 '\0\0\0\03\0\0\0\03'
+    put_at "$work/mixed.db" 1024 '\0\0\0\0\0\0\0\02\0\0\0\05\0\0\0\07'
+    truncate -s $((512 * 16386)) "$work/mixed.db"
+    dbck map "$work/mixed.db"
+    for x in 7 14 21; do
+        free="<rect class=\"t13\" x=\"$x\" y=\"0\" width=\"6\" height=\"3\"/>"
+        lost="<rect class=\"t15\" x=\"$x\" y=\"3\" width=\"6\" height=\"3\"/>"
+        row "the bands of the square at $x" grep -qF "$free$lost" "$work/out"
+    done
+}

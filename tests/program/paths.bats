@@ -1,0 +1,30 @@
+#!/usr/bin/env bats
+# Paths: a path of any length that the system takes is that of its file, and so is one with blanks at its ends.
+load common
+
+@test 'blanks at the ends of a name belong to it' {
+    cp "$data/empty.db" "$work/ blank.db  "
+    expect 0 $'ok\n' '' check "$work/ blank.db  "
+    expect 0 "$picture"$'  blank.db  </title>\n*</svg>\n' '' map "$work/ blank.db  "
+    expect 4 '' "dbck: note: $work/ blank.db: No such file or directory"$'\n'"$unread" check "$work/ blank.db"
+}
+
+# of_path NAME STATUS OUT ERR WORDS..: a row whose name says how long the path is.
+of_path() {
+    dbck "${@:5}"
+    row "$1 of $length bytes" ended "$2" "$3" "$4"
+}
+
+@test 'a path of 300 bytes, and one of 4000, is that of its file' {
+    local length path
+    cp "$data/empty.db" "$work/long.db"
+    for length in 300 4000; do
+        path=$(printf '%*s' $(((length - ${#work} - 8) / 2)) '')
+        path=$work/${path// /./}long.db
+        of_path 'check --limit 7 of a path' 0 $'ok\n' '' check --limit 7 "$path"
+        of_path 'explain of a path' 0 $'ok\n' '' explain "$path"
+        of_path 'map of a path' 0 "$picture"$' long.db</title>\n*</svg>\n' '' map "$path"
+        of_path 'stat of a path' 0 "$page" '' stat "$path"
+        of_path 'no path' 4 '' "dbck: note: ${path%.db}: No such file or directory"$'\n'"$unread" check "${path%.db}"
+    done
+}

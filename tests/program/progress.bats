@@ -1,0 +1,64 @@
+#!/usr/bin/env bats
+# Progress, on a terminal alone: it is wiped before another line and at the end.
+load common
+
+blank=$'\r                                        \r'
+
+# progress_of_large: makes large.db; $wiped is the progress of a run over it.
+progress_of_large() {
+    needs script
+    on_terminal true
+    [ "$status" = 0 ] || skip 'script makes no terminal here'
+    large_database
+    wiped="dbck: 65536 of $pages pages, 97%"$'\r'$blank
+}
+
+@test 'progress is shown on a terminal, and wiped' {
+    progress_of_large
+    on_terminal "'$DBCK' check '$work/large.db'"
+    row 'progress' ended 0 "$wiped"$'ok\r\n' ''
+}
+
+@test 'progress is shown beside a report that goes to a file' {
+    progress_of_large
+    on_terminal "'$DBCK' check '$work/large.db' > '$work/report'"
+    row 'progress beside a report' ended 0 "$wiped" ''
+    row 'a report beside progress' grep -qx ok "$work/report"
+}
+
+@test 'there is no progress with --no-progress' {
+    progress_of_large
+    on_terminal "'$DBCK' check --no-progress '$work/large.db'"
+    row '--no-progress' ended 0 $'ok\r\n' ''
+}
+
+@test 'there is no progress where standard error is no terminal' {
+    progress_of_large
+    on_terminal "'$DBCK' check '$work/large.db' 2> '$work/report'"
+    row 'no progress where standard error is a file' ended 0 $'ok\r\n' ''
+    expect 0 $'ok\n' '' check "$work/large.db"
+}
+
+@test 'progress is wiped before the fault that comes after it' {
+    local chain version='H01 page 1 item 18 value 3: file version is not 1 or 2'
+    progress_of_large
+    put_at "$work/large.db" 18 '\03'
+    put_at "$work/large.db" $((512 * pages - 512)) '\0\0\0\01'
+    printf 'sevenby' >> "$work/large.db"
+    echo log > "$work/large.db-wal"
+    on_terminal "'$DBCK' stat '$work/large.db' > '$work/report'"
+    chain="O01 page $pages item 0 value 1: last overflow page names a next page"
+    row 'progress between faults and notes' ended 1 "dbck: note: $work/large.db-wal is not read, and may hold changes; *$version"$'\r\n'"$wiped$chain"$'\r\n'\
+"dbck: note: 7 bytes after page $pages are not read"$'\r\n' ''
+}
+
+# `explain` reads each page that is not in use.
+@test 'progress is shown after each 65536 pages, also after the last' {
+    needs script
+    on_terminal true
+    [ "$status" = 0 ] || skip 'script makes no terminal here'
+    cp "$data/empty.db" "$work/twice.db"
+    truncate -s $((512 * 131072)) "$work/twice.db"
+    on_terminal "'$DBCK' explain --limit 1 '$work/twice.db' > '$work/report'"
+    row 'progress twice' ended 1 $'dbck: 65536 of 131072 pages, 50%\rdbck: 131072 of 131072 pages, 100%\r'"$blank" ''
+}

@@ -1,0 +1,117 @@
+#!/usr/bin/env bats
+# The two outputs: in one log, on a full disk, and how many writes they take.
+load common
+
+# in_one_log FILE WORDS..: rows and faults of a run are in one log in their order, as `> log 2>&1` writes it: the fault of each
+# page without a type after its row, and those of pages that are not in use at the end.
+in_one_log() {
+    status=0
+    "$DBCK" "${@:2}" "$1" > "$work/log" 2>&1 < /dev/null 3>&- || status=$?
+    dbck_rows "$@" | awk -F '\t' '
+        { print }
+        $4 == "damaged" { print "P01 page " $3 " item 0 value 0: unknown page type" }
+        $4 == "unowned" { lost[++n] = $3 }
+        END { for (i = 1; i <= n; i++) print "N01 page " lost[i] " item 0 value 0: page is not in use" }' > "$work/out"
+    [ "$status" = 1 ] && cmp "$work/out" "$work/log" && [ "$(wc -l < "$work/err")" -gt 3000 ]
+}
+
+# dbck_rows FILE WORDS..: the first output of a run; the second is the file err.
+dbck_rows() {
+    "$DBCK" "${@:2}" "$1" 2> "$work/err" < /dev/null 3>&-
+}
+
+# Pages 200 to 1200 of a table's 1500 are zeros, and 2500 are in no tree: more than 65536 bytes of rows with no fault between.
+@test 'in one log rows and faults are in their order' {
+    needs sqlite3
+    sqlite3 "$work/tall.db" "PRAGMA page_size = 512; CREATE TABLE t (id INTEGER PRIMARY KEY, b);
+        WITH RECURSIVE k(n) AS (SELECT 1 UNION ALL SELECT n + 1 FROM k WHERE n < 6000) INSERT INTO t SELECT n, zeroblob(110) FROM k;"
+    dd if=/dev/zero of="$work/tall.db" bs=512 seek=199 count=1001 conv=notrunc status=none
+    put_at "$work/tall.db" 28 '\0\0\0\0'
+    truncate -s $((512 * 4000)) "$work/tall.db"
+    row 'rows and faults in one log' in_one_log "$work/tall.db" stat --all
+}
+
+@test 'in one log the row of a tree comes after its faults' {
+    changed trees 100 '\05'
+    put_at "$work/trees.db" 108 '\0\0\0\02'
+    truncate -s 1024 "$work/trees.db"
+    status=0
+    "$DBCK" stat --aggregate "$work/trees.db" > "$work/out" 2>&1 < /dev/null 3>&- || status=$?
+    : > "$work/err"
+    row 'the row of a tree after its faults' ended 1 $'P01 page 2 item 0 value 0: unknown page type\nsqlite_schema\t-\t2\t-\t0\t0\t400\t0\t-\t1024\n' ''
+}
+
+# to_full_disk WORDS..: runs the program with an output that takes nothing.
+to_full_disk() {
+    status=0
+    "$DBCK" "$@" > /dev/full 2> "$work/err" < /dev/null 3>&- || status=$?
+    : > "$work/out"
+}
+
+@test 'a report that cannot be written ends with 6' {
+    for words in check explain map stat 'stat --all' 'stat --aggregate'; do
+        # shellcheck disable=SC2086
+        to_full_disk $words "$data/whole.db"
+        row "$words to a full disk" ended 6 '' "$unwritten"
+    done
+}
+
+@test 'help and a version that cannot be written end with 6' {
+    for words in --help --version help 'check --help'; do
+        # shellcheck disable=SC2086
+        to_full_disk $words
+        row "$words to a full disk" ended 6 '' "$unwritten"
+    done
+}
+
+@test 'notes that cannot be written change no status' {
+    cp "$data/empty.db" "$work/noted.db"
+    printf 'sevenby' >> "$work/noted.db"
+    status=0
+    "$DBCK" check "$work/noted.db" > "$work/out" 2> /dev/full < /dev/null 3>&- || status=$?
+    : > "$work/err"
+    row 'notes to a full disk' ended 0 $'ok\n' ''
+}
+
+# written MOST LINE: a line of the shell takes at most so many writes, and at least half of them. The system counts them.
+written() {
+    local count
+    on_terminal "bash '$work/writes' '$work/count' \"$2\""
+    count=$(< "$work/count")
+    if [ "$count" -gt "$1" ] || [ "$count" -lt $(($1 / 2)) ]; then
+        fail "$count writes, of at most $1"
+    fi
+}
+
+# many_lines: makes lines.db, of which a check has 6000 lines of $bytes bytes, and the script that counts writes.
+many_lines() {
+    needs script
+    [ -r /proc/self/io ] || skip 'there is no /proc/self/io'
+    on_terminal true
+    [ "$status" = 0 ] || skip 'script makes no terminal here'
+    cat > "$work/writes" << 'END'
+writes() { while read -r key value; do [ "$key" != syscw: ] || writes=$value; done < /proc/$$/io; }
+writes
+before=$writes
+eval "$2"
+writes
+echo $((writes - before)) > "$1"
+END
+    cp "$data/empty.db" "$work/lines.db"
+    truncate -s $((512 * 6001)) "$work/lines.db"
+    dbck check --limit 6000 "$work/lines.db"
+    bytes=$(wc -c < "$work/out")
+    [ "$bytes" -gt $((6000 * 40)) ]
+}
+
+@test 'lines go to a file by at least 32 KiB at once' {
+    many_lines
+    row 'writes of 6000 lines to a file' written $((bytes / 32768)) "'$DBCK' check --limit 6000 '$work/lines.db' > '$work/report'"
+    row 'writes of 6000 faults to a file' written $((bytes / 32768 + 1)) "'$DBCK' stat '$work/lines.db' 2> '$work/report'"
+}
+
+@test 'lines go to a terminal one by one, whatever the other output leads to' {
+    many_lines
+    row 'writes of 6000 lines to a terminal' written 6000 "'$DBCK' check --limit 6000 '$work/lines.db' 2> '$work/report'"
+    row 'writes of 6000 faults to a terminal' written 6001 "'$DBCK' stat '$work/lines.db' > '$work/report'"
+}

@@ -1,0 +1,62 @@
+#!/usr/bin/env bats
+# What cannot be read: status 4, and a note that says why.
+load common
+
+@test 'a device and standard input are no regular files' {
+    for command in "${four[@]}"; do
+        for path in /dev/null /dev/zero -; do
+            expect 4 '' "dbck: note: $path: not a regular file: unpack it first"$'\n'"$unread" "$command" "$path"
+        done
+    done
+}
+
+@test 'a folder is not read' {
+    for command in "${four[@]}"; do
+        expect 4 '' "dbck: note: $work: a directory"$'\n'"$unread" "$command" "$work"
+    done
+}
+
+@test 'what is not there is not read, and its name is shown without control characters' {
+    : > "$work/no-bytes.db"
+    for command in "${four[@]}"; do
+        for path in "$work/missing.db" '' "$work/"$'no\e'; do
+            expect 4 '' "dbck: note: ${path/$'\e'/\\\\x1b}: No such file or directory"$'\n'"$unread" "$command" "$path"
+        done
+        expect 4 '' "dbck: note: $work/no-bytes.db/x: Not a directory"$'\n'"$unread" "$command" "$work/no-bytes.db/x"
+    done
+}
+
+@test 'a named pipe is not waited for' {
+    mkfifo "$work/named"
+    as=(timeout 10)
+    for command in "${four[@]}"; do
+        dbck "$command" "$work/named"
+        row "$command of a named pipe" ended 4 '' "dbck: note: $work/named: not a regular file: unpack it first"$'\n'"$unread"
+    done
+}
+
+@test 'a file that the caller may not read is not read' {
+    cp "$data/empty.db" "$work/closed.db"
+    chmod 000 "$work/closed.db"
+    to_be_nobody
+    for command in "${four[@]}"; do
+        expect 4 '' "dbck: note: $work/closed.db: Permission denied"$'\n'"$unread" "$command" "$work/closed.db"
+    done
+}
+
+@test 'of a file that has fewer bytes than it says a note names those that are not there' {
+    local lying=/sys/devices/system/cpu/online
+    [ -f "$lying" ] || skip "there is no $lying"
+    expect 4 '' "dbck: note: $lying: the 100 bytes at 0 cannot be read"$'\n'"$unread" check "$lying"
+}
+
+# The file is cut to its first page while its rows are read: the page that cannot be read is the one after that of the last row.
+@test 'a page that cannot be read ends a run, and a note says which bytes they are' {
+    local pages at version='H01 page 1 item 18 value 3: file version is not 1 or 2'
+    large_database
+    put_at "$work/large.db" 18 '\03'
+    meanwhile "$work/large.db" truncate -s 512 "$work/large.db"
+    at=$((512 * $(wc -l < "$work/out")))
+    row 'a page that cannot be read' ended 4 $'sqlite_schema\t/\t1\t*' "*$version"$'\n'\
+"dbck: note: $work/large.db: the 512 bytes at $at cannot be read"$'\n'"dbck: note: $work/large.db was changed while it was read; *"$'\n'"$unread"
+}

@@ -1,0 +1,38 @@
+#!/usr/bin/env bats
+# The words of the command line: their order, and those that are refused.
+load common
+
+@test 'options may come before the file and after it' {
+    expect 1 "$twice$unused" '' check --limit +7 "$data/two-owners.db"
+    expect 1 "$twice$unused" '' check --no-progress "$data/two-owners.db"
+    expect 0 "$tree" '' stat "$data/empty.db" --aggregate --no-progress --all
+}
+
+@test 'after -- a word is a file, whatever it looks like' {
+    for command in "${four[@]}"; do
+        expect 4 '' $'dbck: note: --all: No such file or directory\n'"$unread" "$command" -- --all
+    done
+    cp "$data/empty.db" "$work/-x"
+    cd "$work" || return
+    expect 0 $'ok\n' '' check -- -x
+    expect 0 "$picture"$' -x</title>\n*</svg>\n' '' map --no-progress -- -x
+}
+
+@test 'of a wrong command line only standard error says why, and the status is 2' {
+    while IFS='|' read -r words text; do
+        # shellcheck disable=SC2086
+        expect 2 '' "dbck: $text*" $words
+    done < <(table wrong-words)
+    [ "$rows" = 22 ]
+}
+
+@test 'a word that is refused is shown without control characters' {
+    expect 2 '' $'dbck: a word of the command line is not UTF-8\n' check $'\xff'
+    expect 2 '' "dbck: unexpected argument 'y\\\\x1b\\[2J\\\\x0az' found"$'\n*' check x $'y\x1b[2J\nz'
+    expect 2 '' "dbck: unrecognized subcommand 'a\\\\x0ab\\\\xc2\\\\x9b'"$'\n*' $'a\nb\xc2\x9b'
+    expect 2 '' "dbck: invalid value '5\\\\x0a' for '--limit <N>'*" check --limit $'5\n' x
+}
+
+@test 'the completions offer the words of the help' {
+    row 'the words of the completions' tests/completions.sh "$DBCK"
+}
