@@ -55,10 +55,12 @@ fail() {
     return 1
 }
 
-# dbck WORDS..: runs the program, as somebody else where `as` says so. Its outputs are the files out and err, and its end is $status.
+# dbck WORDS..: runs the program, as somebody else where `as` says so. Its outputs are the files out and err, and its end is $status, which is
+# 124 where it takes more than $most seconds.
+most=100
 dbck() {
     status=0
-    "${as[@]}" "$DBCK" "$@" > "$work/out" 2> "$work/err" < /dev/null 3>&- || status=$?
+    "${as[@]}" timeout "$most" "$DBCK" "$@" > "$work/out" 2> "$work/err" < /dev/null 3>&- || status=$?
 }
 
 # show FILE: what a file begins with, in one line that harms no terminal.
@@ -139,6 +141,63 @@ meanwhile() {
     { head -c 1 > "$work/out" && "${@:2}" && cat >> "$work/out"; } < "$work/pipe"
     status=0
     wait "$started" || status=$?
+}
+
+# waits_with PROCESS FILE: whether a process has a file open, and sleeps.
+waits_with() {
+    local link
+    for link in "/proc/$1/fd"/*; do
+        [ "$link" -ef "$2" ] || continue
+        # It sleeps, and still does so a little later.
+        for _ in 1 2 3; do
+            grep -q '^State:.*sleeping' "/proc/$1/status" || return
+            sleep 0.01
+        done
+        return 0
+    done
+    return 1
+}
+
+# at_first_note COMMAND WORDS..: runs the program by words whose last is a file, which gets a log beside it. The first line is the note on
+# that, and cannot be written, since the pipe is full: so the program waits when it has opened the file and read nothing. Then comes the
+# command, a line of the shell in which $pid is the program, and then it goes on.
+at_first_note() {
+    local pid file=${*: -1} times=0
+    echo log > "$file-wal"
+    rm -f "$work/pipe"
+    mkfifo "$work/pipe"
+    exec 7<> "$work/pipe"
+    dd if=/dev/zero of="$work/pipe" bs=4096 oflag=nonblock 2> "$work/why" || true
+    "$DBCK" "${@:2}" > "$work/out" 2> "$work/pipe" < /dev/null 3>&- 7>&- &
+    pid=$!
+    until waits_with "$pid" "$file"; do
+        times=$((times + 1))
+        if [ "$times" -gt 1000 ] || ! kill -0 "$pid" 2> "$work/why"; then
+            exec 7>&-
+            fail 'the program did not wait with the file open'
+            return
+        fi
+        sleep 0.01
+    done
+    eval "$1"
+    exec 8< "$work/pipe" 7>&-
+    tr -d '\0' <&8 > "$work/err"
+    exec 8<&-
+    status=0
+    wait "$pid" || status=$?
+    rm "$file-wal"
+}
+
+# log_notes FILE: the notes on the logs of a database, as the program names it: wal and journal.
+log_notes() {
+    local rest='is not read, and may hold changes; let SQLite open a copy of both files to'
+    wal="dbck: note: $1-wal $rest checkpoint it, and check that copy"$'\n'
+    journal="dbck: note: $1-journal $rest recover it, and check that copy"$'\n'
+}
+
+# changed_note FILE: the note on a file that was written meanwhile.
+changed_note() {
+    printf 'dbck: note: %s was changed while it was read; the report may be of no state that it had\n.' "$1"
 }
 
 # to_be_nobody: lets `as` run the program as nobody, who may not do what root may; skips the test where that cannot be.

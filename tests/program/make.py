@@ -1,0 +1,125 @@
+#!/usr/bin/env python3
+"""Makes large databases that are sound: make.py tables COUNT LENGTH FILE, make.py long GIB FILE.
+
+A `tables` file has as many tables as COUNT, each with a name of LENGTH bytes and an empty page of 512 bytes. First comes its schema, a tree
+in levels, and then the roots, in the order of their rows.
+
+A `long` file has pages of 65536 bytes and takes little room, and each page is in use: of a table t, whose pages lie in its second half, or
+of the freelist, whose trunks lie all over the file.
+
+What lies where is printed, in lines that a shell reads: for `tables` the first root, and the leaf and cell of the last row; for `long` the
+pages of the table, and of the last trunk its page, how many leaves it has, and the last of them.
+"""
+
+import os
+import sys
+from array import array
+
+sys.path.insert(0, os.path.join(os.path.dirname(os.path.abspath(__file__)), "..", "small"))
+
+from make import INTERIOR_TABLE, LEAF_TABLE, Database, be, record, text, varint  # noqa: E402
+
+# The children of an interior page of 512 bytes, with numbers and keys as long as they are here.
+CHILDREN = 40
+
+
+class Sparse(Database):
+    """A database in a file, with holes for the pages that are not written."""
+
+    def __init__(self, path, pages, size):
+        self.size = size
+        self.file = open(path, "wb")
+        self.file.truncate(size * pages)
+        self.put(1, 0, b"SQLite format 3\0" + be(size % 65535, 2) + bytes([1, 1, 0, 64, 32, 32]))
+        self.set_format(1)
+
+    def put(self, page, at, piece):
+        self.file.seek(self.size * (page - 1) + at)
+        self.file.write(piece)
+
+
+def tell(**numbers):
+    for name, number in numbers.items():
+        print(f"{name}={number}")
+
+
+def row(number, name, root):
+    """A row of the schema. Its root is always of four bytes, so its length is known before the root is."""
+    name = name.encode()
+    payload = record(text(b"table"), text(name), text(name), (4, be(root)), text(b"CREATE TABLE " + name + b"(a)"))
+    return varint(len(payload)) + varint(number) + payload
+
+
+def groups(items, most):
+    return [items[k:k + most] for k in range(0, len(items), most)]
+
+
+def tables(count, length, path):
+    def cell(number, root=0):
+        return row(number, f"t{number:0{length - 1}}", root)
+
+    leaves = groups(range(1, count + 1), (512 - 8) // (len(cell(count)) + 2))
+    # The levels of the schema from its root on: of each page the numbers of its children on the next level.
+    levels = [groups(range(len(leaves)), CHILDREN)]
+    while len(levels[0]) > 1:
+        levels.insert(0, groups(range(len(levels[0])), CHILDREN))
+    starts = [1]
+    for level in [*levels, leaves]:
+        starts.append(starts[-1] + len(level))
+    roots = starts.pop()
+    db = Sparse(path, roots - 1 + count, 512)
+    for number, leaf in enumerate(leaves):
+        db.tree_page(starts[-1] + number, LEAF_TABLE, [cell(k, roots + k - 1) for k in leaf])
+    keys = [leaf[-1] for leaf in leaves]
+    for level, start, below in reversed([*zip(levels, starts, starts[1:])]):
+        for number, children in enumerate(level):
+            cells = [be(below + child) + varint(keys[child]) for child in children[:-1]]
+            db.tree_page(start + number, INTERIOR_TABLE, cells, below + children[-1])
+        keys = [keys[children[-1]] for children in level]
+    db.put(roots, 0, (bytes([LEAF_TABLE, 0, 0, 0, 0]) + be(512, 2) + bytes(505)) * count)
+    db.file.close()
+    tell(roots=roots, leaf=roots - 1, item=len(leaves[-1]) - 1)
+
+
+def big_endian(numbers):
+    words = array("I", numbers)
+    if sys.byteorder == "little":
+        words.byteswap()
+    return words.tobytes()
+
+
+def long(gib, path):
+    size, local = 65536, 8199
+    pages = (gib << 30) // size
+    root, left, right, first, last = pages // 8 * 7 + 1, pages - 1, pages // 16 * 15 + 1, pages, pages // 2 + 3
+    db = Sparse(path, pages, size)
+    db.tree_page(1, LEAF_TABLE, [row(1, "t", root)])
+    db.interior(root, right, (left, 5))
+    db.long_rows(left, (local + 2 * (size - 4), local, first))
+    db.put(first, 0, be(last))
+    db.leaf(right, 9)
+    # Page 16385 is the lock-byte page. Trunks lie behind each power of two, and everywhere between.
+    used = {1, 16385, root, left, right, first, last}
+    room = size // 4 - 2
+    count = -(-(pages - len(used)) // (room + 1))
+    powers = [(1 << k) + 1 for k in range(15, 26) if 1 << k < pages]
+    places = [2 + k * (pages // count) for k in range(count)]
+    trunks = sorted([place for place in {*powers, *places} - used][:count])
+    used.update(trunks)
+    ends = sorted(used)
+    free = pages - len(used)
+    leaves = big_endian(n for low, high in zip(ends, [*ends[1:], pages + 1]) for n in range(low + 1, high))
+    for k, trunk in enumerate(trunks):
+        piece = leaves[4 * room * k:4 * room * (k + 1)]
+        db.put(trunk, 0, be(trunks[k + 1] if k + 1 < count else 0) + be(len(piece) // 4) + piece)
+    end = int.from_bytes(piece[-4:], "big")
+    db.put(1, 32, be(trunks[0]) + be(free + count))
+    db.file.close()
+    tell(pages=pages, root=root, left=left, right=right, first=first, last=last, trunk=trunks[-1], leaves=len(piece) // 4, lost=end)
+
+
+if __name__ == "__main__":
+    if sys.argv[1] == "tables":
+        tables(int(sys.argv[2]), int(sys.argv[3]), sys.argv[4])
+    else:
+        long(int(sys.argv[2]), sys.argv[3])

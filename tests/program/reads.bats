@@ -1,0 +1,173 @@
+# What is read of a file, as the system counts it: bytes and calls of a process, without those of a run that opens no file.
+load common
+
+setup_file() {
+    command -v python3 > /dev/null && [ -r /proc/self/io ] || export CANNOT_COUNT=1
+}
+
+# counted WORDS..: runs the program, whose $bytes and $calls are those that it read; `options` go to io.py.
+options=()
+counted() {
+    [ ! "${CANNOT_COUNT:-}" ] || skip 'there is no python3, or no /proc/self/io'
+    local none
+    python3 tests/program/io.py "$work/counts" "$DBCK" check "$work/none" 2> "$work/err" || fail "$(cat "$work/err")"
+    read -r _ none zero < "$work/counts"
+    python3 tests/program/io.py "$work/counts" "${options[@]}" "$DBCK" "$@" > "$work/out" 2> "$work/err" < /dev/null
+    read -r status bytes calls < "$work/counts"
+    bytes=$((bytes - none))
+    calls=$((calls - zero))
+}
+
+# reads BYTES CALLS WORDS..: the program reads exactly so many bytes, by at most so many calls. A read that takes long counts as one from a
+# device, after which the MiB around it is read as a whole; so this is of the best of many runs. What is read twice is so in each.
+reads() {
+    local most=0
+    for _ in {1..40}; do
+        counted "${@:3}"
+        [ "$bytes" != "$1" ] || [ "$calls" -gt "$2" ] || return 0
+    done
+    fail "$(printf '%s ' "${@:3}"): $bytes bytes by $calls calls, not $1 by $2"
+}
+
+# pages_of TYPE..: how many rows of the last run of `stat --all` have one of these types.
+pages_of() {
+    local type count=0
+    for type in "$@"; do
+        count=$((count + $(cut -f 4 "$work/out" | grep -cx "$type" || true)))
+    done
+    echo "$count"
+}
+
+# row_of PAGES PAGE_SIZE FILE: a sound database of a table's one row, whose overflow pages follow one another to the end of the file.
+row_of() {
+    needs sqlite3
+    sqlite3 "$3" "PRAGMA page_size = $2; CREATE TABLE t (b); INSERT INTO t VALUES (zeroblob(($1 - 2) * ($2 - 4)));"
+    size=$(wc -c < "$3")
+}
+
+@test 'a file in memory is read once, and its header' {
+    row_of 300 65536 "$work/x.db"
+    for words in check stat 'stat --all --aggregate' explain map; do
+        # Each page is one call, and two where it is the first of a MiB; and one is the header's.
+        # shellcheck disable=SC2086
+        reads $((100 + size)) $((1 + size / 65536 + size / 1048576 + 1)) $words "$work/x.db"
+        [ "$status" = 0 ]
+    done
+}
+
+@test 'pages that follow one another are read many at once, and still once' {
+    for size in 512 4096; do
+        row_of 9000 "$size" "$work/x.db"
+        for words in check 'stat --aggregate' explain map; do
+            # shellcheck disable=SC2086
+            reads $((100 + size)) $((size / 262144 + 16)) $words "$work/x.db"
+            [ "$status" = 0 ]
+        done
+        rm "$work/x.db"
+    done
+}
+
+@test 'what is not looked at is not read' {
+    # A page that is used, and 20000 that are not: only explain and map look at these.
+    cp "$data/empty.db" "$work/x.db"
+    sparse "$work/x.db" $((512 * 20001))
+    for words in check 'check --limit 20000' stat 'stat --all'; do
+        # shellcheck disable=SC2086
+        reads 612 2 $words "$work/x.db"
+        [ "$status" = 1 ]
+    done
+    for words in explain map; do
+        reads $((100 + 512 * 20001)) $((512 * 20001 / 262144 + 16)) $words "$work/x.db"
+        [ "$status" = 1 ]
+    done
+}
+
+@test 'no leaf of the freelist is read' {
+    row_of 300 65536 "$work/x.db"
+    sqlite3 "$work/x.db" 'DELETE FROM t'
+    [ "$(wc -c < "$work/x.db")" = "$size" ]
+    # Pages 1 and 2 and the trunk.
+    for words in check 'stat --all' explain map; do
+        # shellcheck disable=SC2086
+        reads $((100 + 3 * 65536)) 8 $words "$work/x.db"
+        [ "$status" = 0 ]
+    done
+}
+
+@test 'of a refused file the header alone is read, once' {
+    for command in "${four[@]}"; do
+        reads 100 1 "$command" tests/program.sh
+        [ "$status" = 3 ]
+    done
+    changed page-size 16 '\03'
+    sparse "$work/page-size.db" 10000000
+    changed few 0 S
+    truncate -s 99 "$work/few.db"
+    cp "$data/empty.db" "$work/many.db"
+    sparse "$work/many.db" 34359738880
+    for command in "${four[@]}"; do
+        reads 100 1 "$command" "$work/page-size.db"
+        reads 100 1 "$command" "$work/many.db"
+        reads 0 0 "$command" "$work/few.db"
+        [ "$status" = 3 ]
+    done
+}
+
+@test 'nothing is read of what is not opened' {
+    mkdir "$work/folder"
+    mkfifo "$work/pipe"
+    for name in "$work/folder" "$work/pipe" /dev/zero "$work/missing" /proc/self/mem; do
+        for command in "${four[@]}"; do
+            reads 0 0 "$command" "$name"
+            [ "$status" = 4 ]
+        done
+    done
+}
+
+@test 'a read that failed is not asked for again' {
+    # It has fewer bytes than it says: a call gets these, and a second one none.
+    lying=/sys/devices/system/cpu/online
+    [ -f "$lying" ] || skip "there is no $lying"
+    for command in "${four[@]}"; do
+        reads "$(cat "$lying" | wc -c)" 2 "$command" "$lying"
+        [ "$status" = 4 ]
+    done
+}
+
+@test 'nothing is read after a read that failed' {
+    # The rows fill a pipe while most pages are still to be read, and then the file is cut to its first page: the next read gets no byte.
+    row_of 20000 512 "$work/x.db"
+    needs python3
+    options=(--cut "$work/x.db")
+    counted stat --all "$work/x.db"
+    [ "$status" = 4 ]
+    rows=$(wc -l < "$work/out")
+    grep -q "x.db: the 512 bytes at $((512 * rows)) cannot be read" "$work/err"
+    # Longer reads as far as it came, and a few that got nothing.
+    [ "$calls" -lt $((512 * rows / 262144 + 40)) ] || fail "$calls calls for $rows rows"
+}
+
+@test 'a file that is not in memory is read at most twice, and its header' {
+    needs python3
+    for size in 4096 65536; do
+        row_of $((30000000 / size)) "$size" "$work/x.db"
+        options=(--forget "$work/x.db")
+        counted check "$work/x.db"
+        [ "$status" = 0 ]
+        [ "$bytes" -ge $((100 + size)) ]
+        [ "$bytes" -le $((100 + 2 * size + 1048576)) ] || fail "$bytes bytes of $size"
+        rm "$work/x.db"
+    done
+}
+
+@test 'nothing is read once the output takes nothing' {
+    row_of 60000 512 "$work/x.db"
+    for words in 'stat' 'stat --all'; do
+        # Rows are handed on by at least 32 KiB, which is less than 2000 rows.
+        # shellcheck disable=SC2086
+        python3 tests/program/io.py "$work/counts" "$DBCK" $words "$work/x.db" > /dev/full 2> "$work/err"
+        read -r status bytes _ < "$work/counts"
+        [ "$status" = 6 ]
+        [ "$bytes" -lt 3000000 ]
+    done
+}
