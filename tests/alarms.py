@@ -3,7 +3,8 @@
 
     tests/alarms.py                  each edit has a line and each line an edit; a line names a function that the edit changes;
                                      where a changed function has a hand-written answer or invariant, a right twin is named;
-                                     an answer that is only a tactic which a check tries itself needs none
+                                     an answer that is only a tactic which a check tries itself needs none; and each edit of
+                                     NEEDED, and each test of TESTED, is there
     tests/alarms.py --try NAME..     also tries the edits of these crates, with `rt must-fail`, and compares the goals
 
 A line of a table is: edit, function, goals, right twin. The function is written with its module, as `header::Header::read`. A
@@ -20,6 +21,62 @@ import sys
 TOP = os.path.dirname(os.path.dirname(os.path.abspath(__file__)))
 FUNCTION = re.compile(r"( *)(?:pub(?:\(\w+\))? )?(?:const )?fn (\w+)")
 OWN = re.compile(r"[\w+-]+ (?:g )?c = (?:search rules|grind \(arith, (?:common_steps|elements)\))")
+
+# The edits that have to be there, since nothing else guards what they show: by what that is, the crate and its edits. They may be written
+# again for another body, and then under the same name.
+NEEDED = {
+    "a wrong program that the promises were made against": {
+        "dbbytes": "name_cut_misread ninth_byte_seven_bits split_length_unchecked",
+        "dbcli": "status_always_zero",
+        "dbmarks": "range_check_only",
+        "dbpage": "lanes_drop_tail sizes_summed",
+        "dbreport": "failed_line_skipped ok_before_map refusal_as_verdict stops_counting_at_limit",
+        "dbscan": "freelist_count_from_header map_page_reread map_type_only",
+        "dbsource": "always_read_failed always_short failed_chain_read_as_zeros failed_read_as_zeros",
+        "dbwalk": "buffer_per_child chain_ignores_length children_before_chains late_mark late_mark_of_a_child local_bytes_only "
+        "neighbour_keys_only reload_per_cell reload_per_child",
+    },
+    "what is written is the report of the file (run, explain, map: read)": {
+        "dbentries": "fault_past_the_limit_not_counted last_entry_not_listed lost_page_listed_as_it_is_heard",
+        "dbexplain": "explained_100_at_most line_after_the_entries_of_a_failed_read",
+        "dbpicture": "fault_not_counted picture_of_another_name square_left_out",
+        "dbreport": "forms_swapped outs_swapped",
+        "dbscan": "end_told_as_without_rows old_marks_kept row_never_taken",
+        "dbsource": "header_put_at_byte_1",
+    },
+    "the verdict is that of the faults (run: sound, ok)": {"dbformat": "verdict_of_one_fault"},
+    "a failure is answered exactly where one was, and memory is out where it was refused (failed, run_on: desk)": {
+        "dbreport": "run_hidden_by_out_of_memory",
+        "dbsource": "file_failure_uncounted stream_failure_as_success",
+        "dbwalk": "buffer_per_trunk",
+    },
+    "page 1 is read twice at most, and no other page more than once": {
+        "dbcli": "file_run_twice read_after_the_run",
+        "dbreport": "header_read_twice",
+        "dbscan": "visited_page_looked_at",
+        "dbsource": "failed_range_not_kept",
+        "dbwalk": "page_left_unmarked",
+    },
+    "rows count each page, and a summary each fault (CountsPages, summary_counts_all_faults)": {
+        "dbexplain": "code_left_out_of_the_summary pages_counted_twice",
+        "dbformat": "code_left_out_of_the_list",
+        "dbreport": "unowned_pages_left_out",
+    },
+    "the words are taken as they are, and refused before anything is put (answer_words)": {
+        "dbcli": "help_as_mistake limit_at_most_100 refused_line_puts",
+    },
+    "each output gets its part, whole, and the line of the error (finish)": {
+        "dbcli": "error_line_missing line_after_what_explain_found streams_exchanged",
+        "dbsource": "buffered_line_torn half_of_the_buffer_flushed memory_put_dropped",
+    },
+}
+
+# Wrong programs that prove, since no clause can refuse them, and the test that does: its file, and what of it has to be there.
+TESTED = {
+    "always_out_of_memory": ("crates/dbck_tests/src/refusals/growths.rt", "fn takes_23_growths_and_no_more("),
+    "always_usage": ("tests/program.sh", "expect 0 $'ok\\n' '' check \"$data/whole.db\""),
+    "buffers_beside_desk": ("crates/dbck_tests/src/refusals/growths.rt", "fn takes_23_growths_and_no_more("),
+}
 
 
 def text_of(path):
@@ -122,6 +179,19 @@ def complaints(crate):
     return [f"{os.path.basename(crate)}: {it}" for it in said]
 
 
+def missing():
+    """The edits and tests that have to be there and are not."""
+    said = []
+    for shown, by_crate in NEEDED.items():
+        for crate, edits in by_crate.items():
+            gone = [it for it in edits.split() if not os.path.isfile(f"{TOP}/crates/{crate}/must-fail/{it}.edit")]
+            said += [f"{crate}: {it}.edit has to be there: {shown}" for it in gone]
+    for edit, (file, wanted) in TESTED.items():
+        if not os.path.isfile(f"{TOP}/{file}") or wanted not in text_of(f"{TOP}/{file}"):
+            said.append(f"{file}: the test that refuses {edit} has to be there: {wanted}")
+    return said
+
+
 def tried(name):
     """Tries the edits of a crate, and says where the goal that is refused is none of its line."""
     ran = subprocess.run(["rt", "must-fail", name], cwd=TOP, stdout=subprocess.PIPE, stderr=subprocess.STDOUT, text=True)
@@ -142,7 +212,7 @@ def tried(name):
 
 def main(words):
     crates = sorted(glob.glob(f"{TOP}/crates/*/must-fail"))
-    said = [it for folder in crates for it in complaints(os.path.dirname(folder))]
+    said = missing() + [it for folder in crates for it in complaints(os.path.dirname(folder))]
     if words[:1] == ["--try"]:
         said += [it for name in words[1:] for it in tried(name)]
     elif words:
