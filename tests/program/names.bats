@@ -167,22 +167,22 @@ END
 }
 
 @test 'words that are refused are shown' {
-    # first LINE: the first line on standard error, whatever it has.
-    first() {
-        printf '%s\n' "$1" | cmp -s - <(head -n 1 "$work/err") || fail "wanted $(printf %q "$1"), not $(show "$work/err")" || return
+    # begins TEXT: standard error begins with a text, whatever that has.
+    begins() {
+        printf '%s' "$1" | cmp -s - <(head -c "$(printf '%s' "$1" | wc -c)" "$work/err") || fail "wanted $(printf %q "$1"), not $(show "$work/err")" || return
         [ "$status" = 2 ] && [ ! -s "$work/out" ] && harmless "$work/err"
     }
     refused() {
         dbck check x "./$name"
-        first "dbck: unexpected argument './$shown' found" || return
+        begins "dbck: unexpected argument './$shown' found" || return
         dbck "a$name"
-        first "dbck: unrecognized subcommand 'a$shown'" || return
+        begins "dbck: unrecognized subcommand 'a$shown'" || return
         dbck check --limit "a$name" x
-        first "dbck: invalid value 'a$shown' for '--limit <N>'" || return
+        begins "dbck: invalid value 'a$shown' for '--limit <N>'" || return
         dbck check "--limit=a$name" x
-        first "dbck: invalid value 'a$shown' for '--limit <N>'" || return
+        begins "dbck: invalid value 'a$shown' for '--limit <N>'" || return
         dbck stat "--all=a$name" x
-        first "dbck: unexpected value 'a$shown' for '--all' found; no more were expected" || return
+        begins "dbck: unexpected value 'a$shown' for '--all' found; no more were expected" || return
         dbck map "--x$name" x
         [ "$status" = 2 ] && [ ! -s "$work/out" ] && harmless "$work/err"
     }

@@ -9,9 +9,10 @@ setup_file() {
 options=()
 counted() {
     [ ! "${CANNOT_COUNT:-}" ] || skip 'there is no python3, or no /proc/self/io'
-    local none
-    python3 tests/program/io.py "$work/counts" "$DBCK" check "$work/none" 2> "$work/err" || fail "$(cat "$work/err")"
-    read -r _ none zero < "$work/counts"
+    if [ ! "${none:-}" ]; then
+        python3 tests/program/io.py "$work/counts" "$DBCK" check "$work/none" 2> "$work/err"
+        read -r _ none zero < "$work/counts"
+    fi
     python3 tests/program/io.py "$work/counts" "${options[@]}" "$DBCK" "$@" > "$work/out" 2> "$work/err" < /dev/null
     read -r status bytes calls < "$work/counts"
     bytes=$((bytes - none))
