@@ -65,6 +65,7 @@ NEEDED = {
     "the words are taken as they are, and refused before anything is put (answer_words)": {
         "dbcli": "help_as_mistake limit_at_most_100 refused_line_puts",
     },
+    "the file that the words name is opened, and no other, once (answer_words)": {"dbcli": "another_file_opened second_file_opened"},
     "each output gets its part, whole, and the line of the error (finish)": {
         "dbcli": "error_line_missing line_after_what_explain_found streams_exchanged",
         "dbsource": "buffered_line_torn half_of_the_buffer_flushed memory_put_dropped",
