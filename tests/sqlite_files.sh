@@ -1,6 +1,6 @@
 #!/bin/sh
 # Makes small databases by the sqlite3 program (3.37 or later), one of each kind, in the folder that it is given. Each is
-# sound, so `dbck check` has to say `ok` of each (program.sh).
+# sound, so `dbck check` has to say `ok` of each (program/sound.bats).
 set -eu
 folder=${1:?give a folder}
 mkdir -p "$folder"

@@ -2,10 +2,17 @@
 # Damaged databases: verdicts beside those of SQLite, a slow checker, and repairs.
 load common
 
+# has_codes CODES: the codes of the lines of the last run.
+has_codes() {
+    local codes
+    codes=$(cut -d ' ' -f 1 "$work/out" | paste -sd ' ')
+    [ "$codes" = "$1" ] || fail "they are: $codes"
+}
+
 @test 'the examples of docs/SQLITE.md have the faults that it says' {
     while read -r name wanted; do
         dbck check "tests/beside/$name.db"
-        row "$name: $wanted" [ "$(cut -d ' ' -f 1 "$work/out" | paste -sd ' ')" = "$wanted" ]
+        row "$name: $wanted" has_codes "$wanted"
     done < <(table examples)
     expect 3 '' '*dbck: E5 *' check tests/beside/less-than-a-page.db
     [ "$rows" = 18 ]
@@ -23,22 +30,24 @@ are_those_of_the_table() {
     grep -v '^#' tests/damaged.txt | cut -f 3 | LC_ALL=C sort | diff - "$work/names"
 }
 
-# verdict FILE: `ok`, `faults` or `refused`, by the first line and the status of the run.
-verdict() {
+# has_verdict FILE WANTED: a check of the file is `ok`, `faults` or `refused`, by its first line and its status.
+has_verdict() {
+    local verdict
     dbck check --limit 1 "$1"
     case $status,$(< "$work/out") in
-        0,ok) echo ok ;;
-        1,*) echo faults ;;
-        3,) echo refused ;;
-        *) echo "status $status" ;;
+        0,ok) verdict=ok ;;
+        1,*) verdict=faults ;;
+        3,) verdict=refused ;;
+        *) verdict="status $status" ;;
     esac
+    [ "$verdict" = "$2" ] || fail "it is: $verdict"
 }
 
 @test 'each damaged database has the verdict of SQLite, or one that docs/SQLITE.md gives the reason for' {
     make_damaged
     row 'damaged databases are made' are_those_of_the_table
     while IFS=$'\t' read -r wanted _ name; do
-        row "$name: $wanted" [ "$(verdict "$work/damaged/$name")" = "$wanted" ]
+        row "$name: $wanted" has_verdict "$work/damaged/$name" "$wanted"
     done < <(grep -v '^#' tests/damaged.txt)
     [ "$rows" -gt 1 ]
 }

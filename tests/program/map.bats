@@ -21,16 +21,19 @@ load common
 
 # has_lines TEXT: the last run has written a picture that has the lines of a text, in their order.
 has_lines() {
-    awk '
-        NR == FNR { wanted[n++] = $0; next }
-        { rest = rest $0 "\n" }
-        END {
-            for (i = 0; i < n; i++) {
-                if (!(at = index(rest, wanted[i]))) { print "not there, or not in its order: " wanted[i]; exit 1 }
-                rest = substr(rest, at + length(wanted[i]))
-            }
-            exit rest !~ /<\/g>\n<\/svg>\n$/
-        }' "$1" "$work/out"
+    python3 - "$1" "$work/out" << 'END'
+import sys
+
+lines, picture = (open(path, "rb").read() for path in sys.argv[1:])
+at = 0
+for line in lines.splitlines():
+    found = picture.find(line, at)
+    if found < 0:
+        sys.exit(f"not there, or not in its order: {line.decode()}")
+    at = found + len(line)
+if not picture[at:].endswith(b"</g>\n</svg>\n"):
+    sys.exit("the picture does not end so")
+END
 }
 
 @test 'map draws of each database of tests/small/map.txt the lines that stand there' {
