@@ -26,11 +26,11 @@ all:
 
 # The gate: every proof, must-fail edit, test and program, and then the runs of the built program. CI calls this.
 check:
-	tests/gate.sh
+	@tests/gate.sh
 
 # What can be run without a proof, in minutes: the tests, and the runs of the program that is built, if there is one.
 test:
-	tests/unproved.sh $(PROGRAM)
+	@tests/unproved.sh $(PROGRAM)
 
 install: all
 	$(INSTALL) -D -m 755 $(PROGRAM) $(BIN)/dbck

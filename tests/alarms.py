@@ -75,7 +75,7 @@ NEEDED = {
 # Wrong programs that prove, since no clause can refuse them, and the test that does: its file, and what of it has to be there.
 TESTED = {
     "always_out_of_memory": ("crates/dbck_tests/src/refusals/growths.rt", "fn takes_23_growths_and_no_more("),
-    "always_usage": ("tests/program.sh", "expect 0 $'ok\\n' '' check \"$data/whole.db\""),
+    "always_usage": ("tests/program/statuses.bats", "expect 0 $'ok\\n' '' check \"$data/whole.db\""),
     "buffers_beside_desk": ("crates/dbck_tests/src/refusals/growths.rt", "fn takes_23_growths_and_no_more("),
 }
 

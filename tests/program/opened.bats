@@ -45,7 +45,7 @@ state() {
     mkdir "$work/here"
     cp -p "$data/whole.db" "$work/here/sound.db"
     cp -p "$data/two-owners.db" "$work/here/faults.db"
-    cp tests/program.sh "$work/here/refused.db"
+    cp tests/slow.py "$work/here/refused.db"
     : > "$work/here/none.db"
     echo log > "$work/here/sound.db-wal"
     echo log > "$work/here/faults.db-journal"

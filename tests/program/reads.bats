@@ -97,7 +97,7 @@ row_of() {
 
 @test 'of a refused file the header alone is read, once' {
     for command in "${four[@]}"; do
-        reads 100 1 "$command" tests/program.sh
+        reads 100 1 "$command" tests/slow.py
         [ "$status" = 3 ]
     done
     changed page-size 16 '\03'
