@@ -85,7 +85,7 @@ def statuses():
 def usage():
     """Commands with their options, by the functions that make them."""
     source = text_of("crates/dbcli/src/command_line.rt")
-    bodies = dict(re.findall(r"^fn (\w+)<.*?\n\{\n(.*?)^\}", source, re.M | re.S))
+    bodies = dict(re.findall(r"^(?:pub\(crate\) )?fn (\w+)<.*?\n\{\n(.*?)^\}", source, re.M | re.S))
     names = re.findall(r"with_command\(command, (\w+)_command\(", bodies["dbck_command"])
     program = []
     for name in names:

@@ -1,5 +1,5 @@
 -- The subcommand that a parse met.
-use Rattle.std.proofs.Common.{◌≡◌, ◌∙◌, ℕ, List, [], Option, Some, None, Result, Ok, Err, refl, sym, ap, subst, true, codes, slice_index, arith}
+use Rattle.std.proofs.Common.{◌≡◌, ◌∙◌, ◌⊎◌, inl, inr, ℕ, List, [], Option, Some, None, Result, Ok, Err, refl, sym, ap, subst, true, codes, slice_index, arith}
 use Rattle.std.specs.Prelude.{IfErr, IfNone, IfOk, IfSome, ok_or, option_map}
 use Rattle.std.specs.Result.{IsErrAnd}
 use Rattle.std.specs.Box.{box_value}
@@ -8,11 +8,14 @@ use Rattle.clap.specs.Words.{subcommand_name_of, subcommand_of, subcommand_rows_
 use Rattle.clap.specs.declared.parser.matches.ArgMatches.{ArgMatches}
 use Rattle.clap.specs.declared.parser.matches.ArgMatches.TheViews.{out-ArgMatches, out-SubCommand}
 use Rattle.clap.specs.declared.error.Error.{Error}
+use Rattle.clap.specs.declared.error.kind.ErrorKind.{ErrorKind}
+use Rattle.clap.specs.declared.error.kind.ErrorKind.TheVariants.{OutOfMemory}
+use Rattle.clap.specs.Values.{kind_of}
 use Rattle.dbcli.specs.declared.command_line.Line.{Line}
 use Rattle.dbcli.specs.declared.command_line.LineError.{LineError}
 use Rattle.dbcli.specs.declared.command_line.LineError.TheVariants.{Words, Limit}
 use Rattle.clap.proofs.OnLiterals.{clap_on_literals}
-use Rattle.dbcli.specs.CommandLine.{AsksFor, HasLimit, IsErrorOf, IsInRow, IsLimit, IsLimitOf, dbck_app, name_of}
+use Rattle.dbcli.specs.CommandLine.{AsksFor, HasLimit, IsErrorOf, IsInRow, IsKindOf, IsLimit, IsLimitOf, dbck_app, name_of}
 use Rattle.dbcli.specs.declared.request.Request.{Request}
 use Rattle.dbcli.specs.declared.request.Request.TheVariants.{Report, Explain, Map}
 use Rattle.dbformat.specs.declared.Command.TheVariants.{Check, Stat}
@@ -41,11 +44,20 @@ pub is_free_dbck : is_simple_and_free dbck_app ≡ true
 unfolding clap_on_literals
 is_free_dbck = refl
 
--- an error of the parser, handed on as one of the line
-pub words_error : {A : Type 0} (r : Result A LineError) (e : Error) (words : List Text)
-    → IsErrAnd r (λ error. error ≡ Words e) → HasKind (fault_of dbck_app words) e → IfErr r (λ error. IsErrorOf error words)
-words_error (Ok a) e words h k = tt
-words_error (Err error) e words h k = let P : LineError → Type 0 = λ l. IsErrorOf l words in subst P (sym h) k
+-- want of memory, handed on as an error of the line
+pub memory_error : {A : Type 0} (r : Result A LineError) (words : List Text)
+    → IsErrAnd r (λ error. error ≡ Words OutOfMemory) → IfErr r (λ error. IsErrorOf error words)
+memory_error (Ok a) words h = tt
+memory_error (Err error) words h = let P : LineError → Type 0 = λ l. IsErrorOf l words in subst P (sym h) (inl refl)
+
+-- an error of the parser, said of the words as they are shown
+pub words_error : (error : LineError) (e : Error) (kind : ErrorKind) (words : List Text) → (error ≡ Words kind) ⊎ (error ≡ Words OutOfMemory) → kind ≡ kind_of e
+    → HasKind (fault_of dbck_app words) e → IsErrorOf error words
+words_error error e kind words (inl h) same k =
+    let P : LineError → Type 0 = λ l. IsErrorOf l words in
+    let Q : ErrorKind → Type 0 = λ k. IsKindOf k words in
+    subst P (sym h) (subst Q (sym same) k)
+words_error error e kind words (inr h) same k = let P : LineError → Type 0 = λ l. IsErrorOf l words in subst P (sym h) (inl refl)
 
 -- nothing in range that was asked for is an error of the limit
 pub limit_error : (asked : Option Line) (r : Result Line LineError) (words : List Text) (met : Option (Text × List Row)) → r ≡ ok_or asked Limit

@@ -1,10 +1,12 @@
 -- The command line, as `clap` sees it, and what a line that it takes says.
-use Rattle.std.specs.Prelude.{◌≡◌, ◌≤◌, ℕ, pos, Bool, true, false, not, List, [], ◌∷◌, Option, Some, None, codes, unwrap_or, ⊤}
+use Rattle.std.specs.Prelude.{◌≡◌, ◌≤◌, ◌⊎◌, ℕ, pos, Bool, true, false, not, List, [], ◌∷◌, Option, Some, None, codes, unwrap_or, ⊤}
 use Rattle.std.specs.Path.{path_file_name}
 use Rattle.std.specs.Str.Parse.{IsNumeral, digits_value, without_leading_plus}
 use Rattle.clap.specs.Words.{App, Row, Rule, Text, first_of, new_app, new_rule, one_of, with_rule, with_subcommand}
-use Rattle.clap.specs.Words.{HasKind, fault_of, subcommand_of}
+use Rattle.clap.specs.Words.{IsAmong, fault_of, subcommand_of}
 use Rattle.clap.specs.declared.builder.action.ArgAction.TheVariants.{SetTrue}
+use Rattle.clap.specs.declared.error.kind.ErrorKind.{ErrorKind}
+use Rattle.clap.specs.declared.error.kind.ErrorKind.TheVariants.{OutOfMemory}
 use Rattle.clap.specs.declared.builder.value_parser.ValueParser.TheVariants as parser
 use Rattle.dbcli.specs.declared.command_line.LineError.{LineError}
 use Rattle.dbcli.specs.declared.command_line.LineError.TheVariants.{Words, Limit, NotText}
@@ -128,10 +130,14 @@ pub record AsksFor (met : Option (Text × List Row)) (request : Request) (file :
   pub limit : IsLimitOf request rows
   pub title : IsNameOf request file
 
+-- want of memory, or a kind of fault that `clap` finds in the words
+abbrev pub IsKindOf : ErrorKind → List Text → Type 0
+IsKindOf kind words = (kind ≡ OutOfMemory) ⊎ IsAmong kind (fault_of dbck_app words)
+
 -- Why the words are not taken: one of the kinds of fault that `clap` finds in them, or want of memory. Where it finds
 -- none, only words that make no request with a limit in range are refused.
 abbrev pub IsErrorOf : LineError → List Text → Type 0
-IsErrorOf (Words e) words = HasKind (fault_of dbck_app words) e
+IsErrorOf (Words kind) words = IsKindOf kind words
 IsErrorOf Limit words = (fault_of dbck_app words ≡ [])
     × ((request : Request) (file : Text) → HasLimit request → AsksFor (subcommand_of dbck_app words) request file → ⊥)
 IsErrorOf NotText words = ⊥

@@ -3,6 +3,7 @@ pub mod ErrorLines
 pub mod Exit
 pub mod Finishing
 pub mod Handing
+pub mod NoteLines
 pub mod Requests
 pub mod Running
 pub mod Status

@@ -1,6 +1,5 @@
 -- The exit status for each outcome of a run, and for a command line that is not taken.
 use Rattle.std.specs.Prelude.{ℕ, Result, Ok, Err}
-use Rattle.clap.specs.Values.{kind_of}
 use Rattle.clap.specs.declared.error.kind.ErrorKind.{ErrorKind}
 use Rattle.clap.specs.declared.error.kind.ErrorKind.TheVariants.{DisplayHelp, DisplayVersion, OutOfMemory as NoMemory}
 use Rattle.dbformat.specs.Report.{status}
@@ -26,6 +25,6 @@ kind_status NoMemory = 5
 kind_status _ = 2
 
 abbrev pub line_status : LineError → ℕ
-line_status (Words error) = kind_status (kind_of error)
+line_status (Words kind) = kind_status kind
 line_status Limit = 2
 line_status NotText = 2

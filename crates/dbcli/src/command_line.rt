@@ -1,12 +1,11 @@
 // The command line of the program.
-ghost use Rattle.std.specs.Prelude.{◌≡◌, ◌≤◌, ℕ, List, [], IfOk, IfErr, IfSome, IfNone, codes, map, not, false};
-ghost use Rattle.clap.specs.Words.{Row, Text, App, app_of, fault_of, found_of, kind_of, new_app, rows_of, rule_of};
+ghost use Rattle.std.specs.Prelude.{◌≡◌, ◌≤◌, ◌⊎◌, ℕ, List, [], IfOk, IfErr, IfSome, IfNone, codes, map, not, false};
+ghost use Rattle.clap.specs.Words.{Row, Text, App, app_of, fault_of, found_of, new_app, rows_of, rule_of};
 ghost use Rattle.clap.specs.Words.{subcommand_of, subcommand_rows_of, with_rule, with_subcommand};
 ghost use Rattle.clap.specs.declared.error.kind.ErrorKind.TheVariants as error_kind;
 ghost use Rattle.clap.specs.declared.builder.command.Command.TheViews.{out-Command as fields_of};
 ghost use Rattle.dbcli.specs.CommandLine.{dbck_app, check_app, explain_app, limited_app, map_app, stat_app};
 ghost use Rattle.dbcli.specs.CommandLine.{file_rule, flag_rule, limit_rule, name_of, no_progress_rule};
-ghost use Rattle.dbcli.specs.Status.{line_status};
 ghost use Rattle.dbcli.specs.CommandLine.{AsksFor, HasFlags, HasLimit, IsErrorOf, IsFlag, IsInRow, IsLimit, IsLimitOf, IsNameOf, IsProgressOf};
 ghost use Rattle.dbcli.specs.declared.request.Request.{Request as request_type};
 
@@ -15,8 +14,9 @@ use crate::help::{
     STAT_ABOUT, STAT_EXAMPLES, STATUSES,
 };
 use crate::request::Request;
-use crate::shown::shown;
-use crate::words::texts_of;
+use crate::shown::shown_words;
+use crate::words_error::WordsError;
+use clap::error::ErrorKind;
 use clap::{Arg, ArgAction, ArgMatches, Command as Words, value_parser};
 use dbreport::Command;
 use std::alloc::{AllocError, Global};
@@ -39,7 +39,7 @@ pub struct Line<'a> {
 pub enum LineError {
     /// What the parser of the words reports.
     #[error(transparent)]
-    Words(clap::Error),
+    Words(WordsError),
     /// The limit passed the parser, but is no number in its range.
     #[error("dbck: the limit is not a number in its range")]
     Limit,
@@ -48,25 +48,15 @@ pub enum LineError {
     NotText,
 }
 
-impl From<clap::Error> for LineError {
-    ghost use Rattle.std.specs.Prelude.{◌≡◌};
-    ghost use Rattle.dbcli.specs.declared.command_line.LineError.TheVariants.{Words};
-
-    ghost from_gives = { λ e error. error ≡ Words e };
-
-    fn from(error: clap::Error) -> LineError {
-        LineError::Words(error)
-    }
-}
-
 impl From<AllocError> for LineError {
     ghost use Rattle.std.specs.Prelude.{◌≡◌};
-    ghost use Rattle.dbcli.specs.Status.{line_status};
+    ghost use Rattle.clap.specs.declared.error.kind.ErrorKind.TheVariants.{OutOfMemory};
+    ghost use Rattle.dbcli.specs.declared.command_line.LineError.TheVariants.{Words};
 
-    ghost from_gives = { λ _ error. line_status error ≡ 5 };
+    ghost from_gives = { λ _ error. error ≡ Words OutOfMemory };
 
-    fn from(error: AllocError) -> LineError {
-        LineError::Words(clap::Error::from(error))
+    fn from(_error: AllocError) -> LineError {
+        LineError::Words(WordsError::out_of_memory())
     }
 }
 
@@ -208,9 +198,9 @@ fn with_command<'a>(
     command.subcommand(made?)
 }
 
-fn dbck_command<'a>(alloc: Global) -> Result<Words<'a>, clap::Error>
-    ensures app { IfOk result (λ c. app_of c ≡ dbck_app) }
-    ensures memory { IfErr result (λ e. kind_of e ≡ error_kind.OutOfMemory) }
+/// The command `dbck`, with its subcommands.
+pub(crate) fn dbck_command<'a>(alloc: Global) -> Result<Words<'a>, AllocError>
+    ensures { IfOk result (λ c. app_of c ≡ dbck_app) }
 {
     let command = described(alloc, "dbck", ABOUT, STATUSES)
         .version(VERSION)
@@ -332,12 +322,23 @@ fn asked_of<'a>(matches: &ArgMatches<'a>) -> Option<Line<'a>>
     })
 }
 
+// An error of this kind, of these words.
+fn error_of(alloc: Global, kind: ErrorKind, words: &[&str]) -> LineError
+    ensures { (result ≡ LineError.Words kind) ⊎ (result ≡ LineError.Words error_kind.OutOfMemory) }
+{
+    match shown_words(alloc, words) {
+        Ok(shown) => LineError::Words(WordsError::new(alloc, kind, shown.as_slice())),
+        Err(error) => LineError::from(error),
+    }
+}
+
 /// What the words ask for. The first of them is the program's name.
 ///
 /// # Errors
 ///
 /// [`LineError::Words`] where they ask for help or the version, where they are no command line of the program, or for
-/// want of memory; its kind says which. [`LineError::Limit`] where the parser took a limit that is out of range.
+/// want of memory; its kind says which. Its text has the words as they are shown on one line. [`LineError::Limit`] where
+/// the parser took a limit that is out of range.
 pub fn line_of<'a>(alloc: Global, words: &'a [&'a str]) -> Result<Line<'a>, LineError>
     ensures asks { IfOk result (λ line. AsksFor (subcommand_of dbck_app (map (λ word. word.now) words.entry.now)) line.request line.file.now) }
     ensures limit { IfOk result (λ line. HasLimit line.request) }
@@ -347,40 +348,8 @@ pub fn line_of<'a>(alloc: Global, words: &'a [&'a str]) -> Result<Line<'a>, Line
     ensures refused { IfErr result (λ error. IsErrorOf error (map (λ word. word.now) words.entry.now)) }
 {
     let command = dbck_command(alloc)?;
-    let matches = command.try_get_matches_from(words)?;
-    asked_of(&matches).ok_or(LineError::Limit)
-}
-
-// The words as they are shown on one line.
-fn shown_words(alloc: Global, words: &[&str]) -> Result<Vec<String>, AllocError> {
-    let mut lines = Vec::new(alloc);
-    for word in words {
-        lines.push(shown(alloc, word)?)?;
-    }
-    Ok(lines)
-}
-
-// The error of the words as they are shown on one line, if they have one.
-fn error_of_shown(alloc: Global, words: &[&str]) -> Result<Option<clap::Error>, AllocError> {
-    let lines = shown_words(alloc, words)?;
-    let texts = texts_of(alloc, lines.as_slice())?;
-    match line_of(alloc, texts.as_slice()) {
-        Err(LineError::Words(error)) => Ok(Some(error)),
-        _ => Ok(None),
-    }
-}
-
-/// An error of the words, whose text has the words as they are shown on one line, so that no control character of a
-/// word reaches a terminal. It has the same kind and the same status.
-pub fn shown_error(alloc: Global, words: &[&str], error: LineError) -> LineError
-    ensures kept { (texts : List (List ℕ)) → IsErrorOf error texts → IsErrorOf result texts }
-    ensures status { line_status result ≡ line_status error }
-{
-    let LineError::Words(error) = error else {
-        return error;
-    };
-    match error_of_shown(alloc, words) {
-        Ok(Some(shown)) if shown.kind() == error.kind() => LineError::Words(shown),
-        _ => LineError::Words(error),
+    match command.try_get_matches_from(words) {
+        Ok(matches) => asked_of(&matches).ok_or(LineError::Limit),
+        Err(error) => Err(error_of(alloc, error.kind(), words)),
     }
 }

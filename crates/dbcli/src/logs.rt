@@ -1,11 +1,12 @@
 // The logs of SQLite beside a database, which a check does not read.
 use crate::lookup::Lookup;
-use crate::shown::shown;
+use crate::note::{NoteOut, Piece};
+use crate::shown::Shown;
 use dbsource::Out;
 use std::alloc::AllocError;
 
 // What a log's name has after that of its database, and what SQLite does with it.
-const LOGS: [(&str, &str); 2] = [("-wal", "checkpoint"), ("-journal", "recover")];
+const LOGS: [(&str, &'static str); 2] = [("-wal", "checkpoint"), ("-journal", "recover")];
 
 // Whether there is a file at this path that is not empty.
 fn has_bytes<R: Lookup>(rt: &R, path: &str) -> bool {
@@ -15,27 +16,35 @@ fn has_bytes<R: Lookup>(rt: &R, path: &str) -> bool {
     }
 }
 
-// Puts the line of the log that is named so beside a database, if it is not empty.
+// Puts a note on the log that is named so beside a database, if it is not empty.
 fn put_note<R: Lookup + AllocGlobal, N: Out>(
     rt: &R,
     database: &str,
-    (suffix, duty): (&str, &str),
-    notes: &mut N,
+    (suffix, duty): (&str, &'static str),
+    notes: &mut NoteOut<'_, N>,
 ) -> Result<(), AllocError> {
     let path = format!(in rt.alloc(); "{database}{suffix}")?;
     if has_bytes(rt, path.as_str()) {
-        let name = shown(rt.alloc(), path.as_str())?;
-        let line = format!(in rt.alloc();
-            "dbck: note: {name} is not read, and may hold changes; let SQLite open a copy of both files to {duty} it, and check that copy\n"
-        )?;
-        let _ = notes.put(line.as_str().as_bytes());
+        let name = Shown::of(rt.alloc(), path.as_str())?;
+        let said = [
+            Piece::Words(
+                " is not read, and may hold changes; let SQLite open a copy of both files to ",
+            ),
+            Piece::Words(duty),
+            Piece::Words(" it, and check that copy"),
+        ];
+        notes.put(&name, &said);
     }
     Ok(())
 }
 
-/// Puts a line to `notes` for each log of SQLite beside the database at `file` that is not empty: beside the database itself, where
+/// Puts a note for each log of SQLite beside the database at `file` that is not empty: beside the database itself, where
 /// `file` is a link to it. An error in looking for one is ignored, and so is a line that cannot be put.
-pub fn put_log_notes<R: Lookup + AllocGlobal, N: Out>(rt: &R, file: &str, notes: &mut N) {
+pub(crate) fn put_log_notes<R: Lookup + AllocGlobal, N: Out>(
+    rt: &R,
+    file: &str,
+    notes: &mut NoteOut<'_, N>,
+) {
     let Ok(target) = rt.link_target(file) else {
         return;
     };

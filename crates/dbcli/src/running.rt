@@ -3,7 +3,8 @@ ghost use Rattle.std.specs.Prelude.{◌≡◌, IfErr, IfOk, OnErr, map};
 ghost use Rattle.dbcli.specs.CommandLine.{IsErrorOf};
 ghost use Rattle.dbcli.specs.Running.{AnswersWords, IsErrorStatus, IsUnrun, RunsLine, RunsWords};
 
-use crate::command_line::{Line, LineError, line_of, shown_error};
+use crate::command_line::{Line, LineError, line_of};
+use crate::error_lines::error_line;
 use crate::finishing::{end, finish};
 use crate::lookup::Lookup;
 use crate::notes::FileNotes;
@@ -11,6 +12,7 @@ use crate::opening::Opener;
 use crate::progress::Progress;
 use crate::status::line_status;
 use crate::watched::{Watch, Watched};
+use crate::words_error::WordsError;
 use clap::error::ErrorKind;
 use dbsource::{Out, RunError};
 use std::io;
@@ -74,7 +76,7 @@ pub fn run_line<R: Lookup + AllocGlobal, F: Opener, O: Out, E: Out, N: Out, W: P
 ///
 /// # Errors
 ///
-/// As [`line_of`], with its words as [`shown_error`] has them. Then nothing was opened and nothing was put.
+/// As [`line_of`]. Then nothing was opened and nothing was put.
 pub fn run_words<'a, R: Lookup + AllocGlobal, F: Opener, O: Out, E: Out, N: Out, W: Print>(
     system: &mut System<'_, R, F>,
     words: &'a [&'a str],
@@ -92,7 +94,7 @@ pub fn run_words<'a, R: Lookup + AllocGlobal, F: Opener, O: Out, E: Out, N: Out,
 {
     let line = match line_of(system.rt.alloc(), words) {
         Ok(line) => line,
-        Err(error) => return Err(shown_error(system.rt.alloc(), words, error)),
+        Err(error) => return Err(error),
     };
     Ok(run_line(system, line, out, err, notes, progress))
 }
@@ -126,13 +128,13 @@ pub fn answer_words<
 }
 
 // Prints what is wrong with the words, with the program's own name before it.
-fn print_error<R: Eprint + Print + AllocGlobal>(rt: &R, words: &clap::Error) -> io::Result<()> {
+fn print_error<R: Eprint + AllocGlobal>(rt: &R, words: &WordsError) -> io::Result<()> {
     let Ok(text) = words.to_string(rt.alloc()) else {
-        return words.print(rt);
+        return rt.eprint(words);
     };
     match text.as_str().strip_prefix("error: ") {
         Some(said) => eprint!(rt; "dbck: {said}"),
-        None => words.print(rt),
+        None => rt.eprint(words),
     }
 }
 
@@ -144,14 +146,14 @@ pub fn tell<R: Print + Eprint + AllocGlobal>(rt: &R, error: &LineError) -> u8
     let status = line_status(error);
     let printed = match error {
         LineError::Words(words) => match words.kind() {
-            ErrorKind::OutOfMemory => rt.eprintln("dbck: E9 out of memory"),
-            ErrorKind::DisplayHelp | ErrorKind::DisplayVersion => words.print(rt),
+            ErrorKind::OutOfMemory => rt.eprint(error_line(RunError::OutOfMemory)),
+            ErrorKind::DisplayHelp | ErrorKind::DisplayVersion => rt.print(words),
             _ => print_error(rt, words),
         },
         _ => rt.eprintln(error),
     };
     if status == 0 && printed.is_err() {
-        let _ = rt.eprintln("dbck: E10 the output cannot be written");
+        let _ = rt.eprint(error_line(RunError::WriteFailed));
         return 6;
     }
     status

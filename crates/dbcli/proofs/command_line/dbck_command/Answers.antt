@@ -13,8 +13,8 @@ required a = record a { top = record a.top { subcommand_required = true } }
 abbrev after : App → App → App
 after sub a = with_subcommand a sub.top
 
-pub returns-clause-app : goal.returns-clause-app
-returns-clause-app c =
+pub returns : goal.returns
+returns c =
     let first : app_of c.version.result ≡ versioned (new_app (codes "dbck")) = ap app_of_fields c.version.ensures ∙ ap versioned c.described.ensures.app in
     let top : app_of c.subcommand_required-command.result ≡ required (versioned (new_app (codes "dbck"))) =
     ap app_of_fields c.subcommand_required-command.ensures ∙ ap required first in

@@ -1,0 +1,67 @@
+// The note on bytes after the last page.
+
+use crate::note::{NoteOut, Piece};
+use crate::shown::Shown;
+use dbsource::{Geometry, Out};
+
+// What stands between the number of bytes and that of the last page.
+fn after_words(rest: u64) -> &'static str {
+    if rest == 1 {
+        " byte after page "
+    } else {
+        " bytes after page "
+    }
+}
+
+// That these bytes are not read.
+fn read_words(rest: u64) -> &'static str {
+    if rest == 1 {
+        " is not read"
+    } else {
+        " are not read"
+    }
+}
+
+// That so many whole pages are among them.
+fn whole_words(pages: u64) -> &'static str {
+    if pages == 1 {
+        " whole page among them"
+    } else {
+        " whole pages among them"
+    }
+}
+
+// Puts the note on so many bytes after this page, which have so many whole pages.
+fn put_counts<N: Out>(notes: &mut NoteOut<'_, N>, none: &Shown, rest: u64, page: u64, pages: u64) {
+    let after = Piece::Words(after_words(rest));
+    let read = Piece::Words(read_words(rest));
+    let (rest, page) = (Piece::Number(rest), Piece::Number(page));
+    if pages == 0 {
+        notes.put(none, &[rest, after, page, read]);
+        return;
+    }
+    let whole = Piece::Words(whole_words(pages));
+    let (comma, pages) = (Piece::Words(", "), Piece::Number(pages));
+    notes.put(none, &[rest, after, page, read, comma, pages, whole]);
+}
+
+// How many bytes there are after the last page of a file of this length.
+fn bytes_after(len: u64, geometry: Geometry) -> u64 {
+    len.saturating_sub(u64::from(geometry.pages) * u64::from(geometry.page_size))
+}
+
+/// Puts the note on the bytes after the last page of a file of this length, if there are some: how many, and how many whole pages
+/// these are.
+pub(crate) fn put_rest<N: Out>(
+    notes: &mut NoteOut<'_, N>,
+    none: &Shown,
+    len: u64,
+    geometry: Geometry,
+) {
+    let rest = bytes_after(len, geometry);
+    if rest == 0 {
+        return;
+    }
+    let pages = rest.checked_div(u64::from(geometry.page_size)).unwrap_or(0);
+    put_counts(notes, none, rest, u64::from(geometry.pages), pages);
+}
