@@ -62,13 +62,13 @@ fn has_ends_of_lines(bytes: &[u8]) -> bool {
 // Whether there are some bytes above 127, and all bytes are well-formed UTF-8; the last character may be cut.
 fn is_changed_text(bytes: &[u8]) -> bool {
     let high = bytes.iter().filter(|byte| **byte > 127).count();
-    high >= HIGH_BYTES && (0..4).any(|cut| is_utf8(bytes, cut))
+    high >= HIGH_BYTES && is_utf8_so_far(bytes)
 }
 
-// Whether some bytes without the last of them are well-formed UTF-8.
-fn is_utf8(bytes: &[u8], cut: usize) -> bool {
-    match bytes.get(..bytes.len().saturating_sub(cut)) {
-        Some(rest) => str::from_utf8(rest).is_ok(),
-        None => false,
+// Whether the bytes begin a well-formed UTF-8 text: an error has no length where more bytes may follow.
+fn is_utf8_so_far(bytes: &[u8]) -> bool {
+    match str::from_utf8(bytes) {
+        Ok(_) => true,
+        Err(error) => error.error_len().is_none(),
     }
 }
