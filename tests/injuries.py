@@ -15,6 +15,35 @@ PRICE = (
 PICTURE = "CREATE TABLE picture(id INTEGER PRIMARY KEY, title TEXT, kind INT, body TEXT, width INT, height INT);"
 STOCK = "CREATE TABLE stock(place TEXT PRIMARY KEY, amount INT) WITHOUT ROWID;"
 LOG = "CREATE TABLE log(id INTEGER PRIMARY KEY AUTOINCREMENT, text TEXT); CREATE VIEW last AS SELECT max(id) FROM log;"
+# Of odd shape: no key and equal rows; keys that are the same in capitals; quotes in names; generated columns; a trigger that fires at
+# each row; columns by the names of the rowid; types that are checked, indexes of some rows and of expressions.
+REPEATED = "CREATE TABLE repeated(kind, text); CREATE INDEX repeated_kind ON repeated(kind);"
+CODE = "CREATE TABLE code(code TEXT PRIMARY KEY COLLATE NOCASE, text TEXT COLLATE NOCASE, number INT);"
+COUNTRY = "CREATE TABLE country(code TEXT COLLATE NOCASE, part INT, name TEXT COLLATE NOCASE, size, PRIMARY KEY (part, code)) WITHOUT ROWID;"
+QUOTED = (
+    'CREATE TABLE "sold ""on"" sale"("the ""id""" INTEGER PRIMARY KEY, "select" TEXT, "it\'s, [so] `it`" INT);'
+    'CREATE INDEX "by ""select""" ON "sold ""on"" sale"("select"); CREATE VIEW "all ""sold""" AS SELECT * FROM "sold ""on"" sale";'
+)
+QUOTED_KEY = 'CREATE TABLE "key ""of"" two"("a ""b""" TEXT, "order" INT, "c)" TEXT, d, PRIMARY KEY ("order", "a ""b""")) WITHOUT ROWID;'
+WEIGHT = (
+    "CREATE TABLE weight(id INTEGER PRIMARY KEY, twice AS (grams * 2), grams INT, kilos REAL AS (grams / 1000.0) STORED, label TEXT);"
+    "CREATE INDEX weight_twice ON weight(twice);"
+)
+LENGTH = (
+    "CREATE TABLE length(half AS (mm / 2), name TEXT, mm INT, metres REAL AS (mm / 1000.0) STORED, kind TEXT, day TEXT, PRIMARY KEY (kind, name))"
+    " WITHOUT ROWID;"
+)
+ORDERS = (
+    "CREATE TABLE orders(id INTEGER PRIMARY KEY AUTOINCREMENT, text TEXT); CREATE TABLE history(text TEXT, at INT, kind TEXT);"
+    "CREATE TRIGGER ordered AFTER INSERT ON orders BEGIN INSERT INTO history VALUES ('ordered ' || new.text, new.id, 'new'); END;"
+)
+NAMED = "CREATE TABLE named(_rowid_ TEXT, text TEXT); CREATE INDEX named_text ON named(text);"
+NO_NAME = "CREATE TABLE no_name(rowid, _ROWID_ TEXT, oid INT);"
+CHECKED = (
+    "CREATE TABLE checked(a INTEGER PRIMARY KEY, b TEXT CHECK (length(b) > 2), c REAL NOT NULL, d INT UNIQUE, e ANY) STRICT;"
+    "CREATE INDEX checked_e ON checked(a + d); CREATE VIEW checked_sum AS SELECT sum(c) FROM checked;"
+)
+PARTIAL = "CREATE TABLE partial(a, b INTEGER NOT NULL, c TEXT); CREATE UNIQUE INDEX partial_c ON partial(c) WHERE b > 100;"
 
 # The rows of each, with the number i of the row.
 VALUES = {
@@ -25,9 +54,25 @@ VALUES = {
     "stock": "'place ' || (i * 7919 % 10007), i",
     "log": "NULL, 'entry ' || i || ' of the log'",
     "words": "'word' || (i % 17) || ' and ' || i, 'more text ' || (i * 31)",
+    "repeated": "i / 9, 'text ' || (i / 5)",
+    "code": "iif(i % 2, 'CODE ', 'code ') || i, iif(i % 3, 'Text', 'TEXT') || (i / 4), i",
+    "country": "iif(i % 2, 'AB', 'ab') || i, i % 13, iif(i % 3, 'Name', 'NAME') || (i / 4), iif(i % 5, i, NULL)",
+    '"sold ""on"" sale"': "i, 'a \"name\" of ' || i, i * 3",
+    '"key ""of"" two"': "'key ' || (i * 7919 % 10007), i, 'it''s \"' || i, i * 2",
+    "weight(grams, label)": "i * 7, 'weight of ' || i",
+    "length(name, mm, kind, day)": "'name ' || (i * 7919 % 10007), i * 12, 'kind ' || (i % 7), 'day ' || i",
+    "orders(text)": "'order ' || i",
+    "named": "'row ' || i, 'text ' || (i * 31 % 97)",
+    "no_name": "i / 9, 'row ' || (i / 5), i / 7",
+    "checked": "i, 'text ' || i, i / 8.0, i * 3, iif(i % 3, i, 'any')",
+    "partial": "i, i * 5, 'c' || i",
 }
 # What tells the rows that are deleted again.
-NUMBER = {"customer": "id", "invoice": "number", "price": "day", "picture": "id", "stock": "amount", "log": "id"}
+NUMBER = {
+    "customer": "id", "invoice": "number", "price": "day", "picture": "id", "stock": "amount", "log": "id", "code": "number", "country": "size",
+    '"sold ""on"" sale"': '"the ""id"""', '"key ""of"" two"': '"order"', "weight(grams, label)": "grams", "length(name, mm, kind, day)": "mm",
+    "orders(text)": "id", "named": "rowid", "checked": "a", "partial": "a",
+}
 
 
 def numbered(first, last, table):
@@ -40,7 +85,9 @@ def two_steps(count, tables):
     """The statements that fill tables: two thirds of the rows, then the others, and some are deleted again."""
     first = "".join(numbered(1, count * 2 // 3, table) for table in tables)
     second = "".join(numbered(count * 2 // 3 + 1, count, table) for table in tables)
-    return first, second + "".join(f"DELETE FROM {table} WHERE {NUMBER[table]} % 11 = 5;" for table in tables if table in NUMBER)
+    return first, second + "".join(
+        f"DELETE FROM {table.split('(')[0]} WHERE {NUMBER[table]} % 11 = 5;" for table in tables if table in NUMBER
+    )
 
 
 # By name: the page size, settings, what is made, and how many rows of which tables.
@@ -60,6 +107,12 @@ SHAPES = {
     "fts5-1024": (1024, "", "CREATE VIRTUAL TABLE words USING fts5(a, b);" + CUSTOMER, 120, ("words", "customer")),
     "fts4-2048": (2048, "", "CREATE VIRTUAL TABLE words USING fts4(a, b);" + INVOICE, 200, ("words", "invoice")),
     "pages-65536": (65536, "", CUSTOMER + PRICE + INVOICE, 4000, ("customer", "price", "invoice")),
+    "repeated-512": (512, "", REPEATED + CODE + COUNTRY, 150, ("repeated", "code", "country")),
+    "quoted-512": (512, "", QUOTED + QUOTED_KEY, 150, ('"sold ""on"" sale"', '"key ""of"" two"')),
+    "generated-512": (512, "", WEIGHT + LENGTH + CUSTOMER, 120, ("weight(grams, label)", "length(name, mm, kind, day)", "customer")),
+    "triggers-1024": (1024, "", ORDERS + PRICE, 200, ("orders(text)", "price")),
+    "named-512": (512, "", NAMED + NO_NAME, 200, ("named", "no_name")),
+    "checked-512": (512, "", CHECKED + PARTIAL, 150, ("checked", "partial")),
 }
 # What the second step makes.
 LATER = {"late-1024": (PRICE, "price")}

@@ -2,14 +2,17 @@
 """Injures databases and repairs each as docs/REPAIR.md says: repair.py [--few] [--list FILE] DBCK FOLDER.
 
 It makes databases in FOLDER by the sqlite3 program, and injuries of them by a fixed seed. Over each it runs every recipe of
-docs/REPAIR.md, and compares each row of each table with the database before its injury. The last column of its table is of the recipe
-that `explain` leads to. It ends with 1 where that one loses a row that another one saves.
+docs/REPAIR.md, and compares each row of each table, and of the schema, with the database before its injury. The last column of its
+table is of the recipe that `explain` leads to. It ends with 1 where that one loses a row that another one saves, or has a row that
+is neither of the database nor read out of the damaged file by a single command.
 
 Recipes with .recover need a sqlite3 that has it: SQLITE_RECOVER=PATH; docs/REPAIR.md says how to build one.
 """
 
 import argparse
 import collections
+import concurrent.futures
+import functools
 import os
 import pathlib
 import re
@@ -23,21 +26,39 @@ import injuries
 
 Counter = collections.Counter
 REPAIR = pathlib.Path(__file__).resolve().parent.parent / "docs" / "REPAIR.md"
+BOTH_WAYS = REPAIR.with_name("both-ways.sh")
 
 
 # The choice, as docs/REPAIR.md has it.
 
+def groups_of(explained):
+    """The groups that `dbck explain` writes: the first line of each, and the indented ones below it."""
+    return re.findall(r"^([A-Z][0-9]{2} page .*)\n((?:    .*\n)*)", explained, re.M)
+
+
+def wrong_roots(explained):
+    """The tables whose root page may be wrong, in groups of which one is: that of each `start`, with the other one of an R03; and, where a
+    page that nothing refers to looks like an interior page of a table, each root that a P01, P02 or R03 names."""
+    lost = "    looks like an interior page of a table " in explained
+    for head, lines in groups_of(explained):
+        start = re.search("^    start [0-9]+: root of table ", lines, re.M)
+        if start or (lost and head[:3] in ("P01", "P02", "R03")):
+            names = re.findall("^    (?:start|page) [0-9]+.*?: root of (?:table|index) (.*)$", lines, re.M)
+            if names and (start or ": root of table " in lines):
+                yield names
+
+
 def recipe_of(explained, status, done=()):
     """The recipe by what `dbck explain` writes to standard output, and its status. Steps that were done are not taken again."""
     lines = explained.splitlines()
-    codes = {line[:3] for line in lines if re.match("[A-Z][0-9]{2} page ", line)}
+    codes = {head[:3] for head, _ in groups_of(explained)}
     looks = [line for line in lines if line.startswith("    looks like ")]
     # Steps before a recipe.
-    if (status == 3 or re.search("^P0[123] page 1 ", explained, re.M)) and "Page 1" not in done:
+    if (status == 3 or re.search("^P0[123] page 1 item ", explained, re.M)) and "Page 1" not in done:
         return "Page 1"
     if codes & {"H01", "H02", "H03", "H04"} and "The header" not in done:
         return "The header"
-    if re.search("^    start [0-9]+: root of table ", explained, re.M) and "The root page" not in done:
+    if any(wrong_roots(explained)) and "The root page" not in done:
         return "The root page"
     # The recipes.
     if lines == ["ok"]:
@@ -47,7 +68,8 @@ def recipe_of(explained, status, done=()):
         return "Both ways"
     if whole[3] == whole[4] and not looks and "H06" not in codes:
         return "VACUUM INTO"
-    if not any(" of a table " in line for line in looks) and "R03" not in codes:
+    # A page of a table without rowid looks like one of an index.
+    if not looks and "R03" not in codes:
         return ".dump"
     return "Both ways"
 
@@ -64,26 +86,34 @@ def recipes():
 class Workshop:
     """Where copies are repaired."""
 
-    def __init__(self, dbck, folder):
+    def __init__(self, dbck, folder, name):
         self.dbck = dbck
-        self.folder = folder / "work"
+        self.folder = folder / "work" / name
         self.recipes = recipes()
         self.copy, self.new = self.folder / "copy.db", self.folder / "new.db"
         self.path = os.environ["PATH"]
         self.recovers = "SQLITE_RECOVER" in os.environ
+        self.plain = [recipe for recipe in PLAIN if self.recovers or recipe not in (".recover", "Both ways")]
         if self.recovers:
-            (folder / "bin").mkdir(exist_ok=True)
-            (folder / "bin" / "sqlite3").unlink(missing_ok=True)
-            (folder / "bin" / "sqlite3").symlink_to(pathlib.Path(os.environ["SQLITE_RECOVER"]).resolve())
-            self.path = f"{folder / 'bin'}:{self.path}"
+            programs = folder / "bin" / name
+            programs.mkdir(parents=True, exist_ok=True)
+            (programs / "sqlite3").unlink(missing_ok=True)
+            (programs / "sqlite3").symlink_to(pathlib.Path(os.environ["SQLITE_RECOVER"]).resolve())
+            self.path = f"{programs}:{self.path}"
 
     def begin(self, damage):
-        """A folder with a copy of the damaged file, and the statements that made its tables."""
+        """A folder with a copy of the damaged file, what lies beside docs/REPAIR.md, and the statements that made its tables."""
         self.encoding = damage.encoding
         shutil.rmtree(self.folder, ignore_errors=True)
-        self.folder.mkdir()
+        self.folder.mkdir(parents=True)
         shutil.copyfile(damage.file, self.copy)
+        shutil.copyfile(BOTH_WAYS, self.folder / BOTH_WAYS.name)
         (self.folder / "schema.sql").write_text(damage.schema)
+
+    def again(self):
+        """The folder as it was before the last recipe made a database; the copy stays as the steps before it left it."""
+        for made in ("new.db", "replaced.db", "dumped.db", "both-ways.log"):
+            (self.folder / made).unlink(missing_ok=True)
 
     def run(self, recipe, **values):
         """Runs a recipe or commands, and gives whether an error was printed."""
@@ -96,28 +126,52 @@ class Workshop:
         return done.stdout, done.returncode
 
 
+def quoted(name):
+    return '"' + name.replace('"', '""') + '"'
+
+
 class Table:
     """A table of a database before its injury."""
 
     def __init__(self, connection, name, without_rowid):
-        info = connection.execute(f"PRAGMA table_info({name})").fetchall()
+        # Of each column: number, name, type, not null, default, place in the key, and 2 or 3 where it is generated, and not stored or stored.
+        info = connection.execute(f"PRAGMA table_xinfo({quoted(name)})").fetchall()
         keys = [row[1] for row in sorted(info, key=lambda row: row[5]) if row[5]]
         self.name = name
-        self.columns = [row[1] for row in info]
-        self.stored = keys + [column for column in self.columns if column not in keys] if without_rowid else self.columns
+        self.columns = [row[1] for row in info if row[6] == 0]
+        stored = [row[1] for row in info if row[6] != 2]
+        self.stored = keys + [column for column in stored if column not in keys] if without_rowid else stored
         types = {row[1]: row[2] for row in info}
         self.rowid = keys[0] if len(keys) == 1 and types[keys[0]] == "INTEGER" and not without_rowid else None
-        self.rows = rows_of(connection, f"SELECT {', '.join(self.columns)} FROM {name} NOT INDEXED")
+        self.query = f"SELECT {', '.join(map(quoted, self.columns))} FROM {quoted(name)} NOT INDEXED"
+        self.rows = rows_of(connection, self.query)
 
     def lost(self):
         """The query that gives rows of lost_and_found as rows of this table."""
         place = {column: "id" if column == self.rowid else f"c{at}" for at, column in enumerate(self.stored)}
-        return f"SELECT {', '.join(place[column] for column in self.columns)} FROM lost_and_found WHERE nfield = {len(self.columns)}"
+        return f"SELECT {', '.join(place[column] for column in self.columns)} FROM lost_and_found WHERE nfield = {len(self.stored)}"
+
+
+class Schema:
+    """The rows of the schema, but for the root pages, and for the statistics, which ANALYZE makes anew."""
+
+    name = "sqlite_schema"
+    query = (
+        "SELECT type, name, tbl_name, sql FROM sqlite_schema"
+        " WHERE sql IS NOT NULL AND name NOT GLOB 'lost_and_found*' AND name NOT GLOB 'sqlite_stat?'"
+    )
+
+    def __init__(self, connection):
+        self.rows = rows_of(connection, self.query)
+
+    def lost(self):
+        return "SELECT 1 WHERE false"
 
 
 def opened(path):
     connection = sqlite3.connect(f"file:{path}?mode=ro", uri=True)
-    connection.text_factory = lambda text: text.decode(errors="surrogateescape")
+    # Each run of bytes that are no text is one character: how many they are depends on the encoding that they went through.
+    connection.text_factory = lambda text: re.sub("\ufffd+", "\ufffd", text.decode(errors="replace"))
     return connection
 
 
@@ -135,31 +189,48 @@ def tables_of(path):
     """The tables of a sound database."""
     connection = opened(path)
     names = [row[:1] + row[4:5] for row in connection.execute("SELECT name, 0, 0, 0, wr FROM pragma_table_list WHERE type IN ('table', 'shadow')")]
-    return [Table(connection, name, wr) for name, wr in names if name != "sqlite_schema" and name != "sqlite_temp_schema"]
+    return [Table(connection, name, wr) for name, wr in names if name != "sqlite_schema" and name != "sqlite_temp_schema"] + [Schema(connection)]
 
 
 Result = collections.namedtuple("Result", "there lost wrong sound")
 
 
 def result_of(folder, file, tables):
-    """What a repaired file has: by table the right rows; those that are kept elsewhere; how many are wrong; and whether it is sound."""
-    there, lost, wrong, sound = {}, {}, 0, False
+    """What a repaired file has, by table: the right rows, those that are kept elsewhere, and the wrong ones; and whether it is sound."""
+    there, lost, wrong = ({table.name: Counter() for table in tables} for _ in range(3))
     if not file.exists():
-        return Result({t.name: Counter() for t in tables}, {t.name: Counter() for t in tables}, 0, False)
+        return Result(there, lost, wrong, False)
     connection = opened(file)
-    other = opened(folder / "replaced.db") if (folder / "replaced.db").exists() else None
+    others = [opened(folder / name) for name in ("replaced.db", "dumped.db") if (folder / name).exists()]
     for table in tables:
-        query = f"SELECT {', '.join(table.columns)} FROM {table.name} NOT INDEXED"
-        found = rows_of(connection, query)
+        found = rows_of(connection, table.query)
         there[table.name] = found & table.rows
-        wrong += (found - table.rows).total()
+        wrong[table.name] = found - table.rows
         missing = table.rows - found
         lost[table.name] = rows_of(connection, table.lost()) & missing
-        if other:
-            lost[table.name] |= rows_of(other, query) & missing
+        for other in others:
+            lost[table.name] |= rows_of(other, table.query) & missing
     sound = list(rows_of(connection, "PRAGMA integrity_check")) == [("ok",)]
-    connection.close()
+    for one in (connection, *others):
+        one.close()
     return Result(there, lost, wrong, sound)
+
+
+def read_of(file, tables):
+    """What a program reads of the tables of a file, up to the first error from either end."""
+    there, wrong = {}, {}
+    connection = opened(file)
+    # With it SQLite reads what it can of a damaged schema.
+    connection.execute("PRAGMA writable_schema = ON")
+    for table in tables:
+        found = Counter()
+        # A row of the schema is no use by itself: of that nothing is made.
+        for backwards in (0, 1) if isinstance(table, Table) else ():
+            connection.execute(f"PRAGMA reverse_unordered_selects = {backwards}")
+            found |= rows_of(connection, table.query)
+        there[table.name], wrong[table.name] = found & table.rows, found - table.rows
+    connection.close()
+    return Result(there, collections.defaultdict(Counter), wrong, False)
 
 
 def pages_like(explained, kind):
@@ -181,20 +252,24 @@ KINDS = ("an interior page of a table", "a leaf of a table", "an interior page o
 
 
 def with_roots(shop, explained):
-    """Gives each table whose root page is wrong one of the pages that nothing refers to: the one that leaves the fewest faults. After R03
-    the wrong number may be that of the other tree."""
-    for first, second in re.findall("^    start [0-9]+: root of table (.*)$(?:\n    page .*: root of (?:table|index) (.*)$)?", explained, re.M):
+    """Gives each table whose root page may be wrong one of the pages that nothing refers to: the one that leaves the fewest faults, if
+    these are fewer than before."""
+    for names in wrong_roots(explained):
         kept = shop.copy.read_bytes()
-        tried = []
+        tried = [(*faults_of(shop), 0, kept)]
         for kind in KINDS:
             for root in pages_like(explained, kind)[:8]:
-                for table in filter(None, (first, second)):
+                for table in dict.fromkeys(names):
                     shop.copy.write_bytes(kept)
                     shop.run("The root page", table=table, root=str(root))
-                    count = re.search(r"^(\d+) faults?$", shop.explain()[0], re.M)
-                    sound = count is None and result_of(shop.folder, shop.copy, []).sound
-                    tried.append((int(count[1]) if count else 0, not sound, len(tried), shop.copy.read_bytes()))
-        shop.copy.write_bytes(min(tried)[3] if tried else kept)
+                    tried.append((*faults_of(shop), len(tried), shop.copy.read_bytes()))
+        shop.copy.write_bytes(min(tried)[3])
+
+
+def faults_of(shop):
+    """How many faults the copy has, and whether it is not sound to SQLite."""
+    count = re.search(r"^(\d+) faults?$", shop.explain()[0], re.M)
+    return (int(count[1]) if count else 0), bool(count) or not result_of(shop.folder, shop.copy, []).sound
 
 
 def with_header(shop, explained):
@@ -230,8 +305,8 @@ def chosen(shop, damage):
         if result_of(shop.folder, shop.copy, []).sound:
             return steps, shop.copy
         steps.append(".dump")
-    # Where a recipe prints an error, the next is taken.
-    while steps[-1] != "Both ways" and shop.run(steps[-1]):
+    # Where a recipe prints an error, or makes a file that is not sound to SQLite, the next is taken.
+    while steps[-1] != "Both ways" and (shop.run(steps[-1]) or not result_of(shop.folder, shop.new, []).sound):
         shop.new.unlink(missing_ok=True)
         steps.append(".dump" if steps[-1] == "VACUUM INTO" else "Both ways")
     if steps[-1] == "Both ways":
@@ -243,6 +318,7 @@ def chosen(shop, damage):
 
 PLAIN = ("VACUUM INTO", ".dump", ".dump and sed", ".recover", "Both ways")
 FEW = 20
+FEW_SHAPES = ("rowid-512", "without-rowid-512", "incremental-1024", "full-vacuum-512", "repeated-512", "generated-512")
 Damage = collections.namedtuple("Damage", "kind name file page_size encoding schema tables")
 
 
@@ -267,17 +343,16 @@ class Ward:
         return Damage(kind, file.stem, file, self.page_size, self.data[59], self.schema, self.tables)
 
 
-def damages(dbck, folder, copies):
-    """So many injuries of each class and shape."""
-    for shape in injuries.SHAPES:
-        ward = Ward(dbck, folder, shape)
-        for kind in injuries.INJURIES:
-            yield from filter(None, (ward.damage(kind, copy) for copy in range(copies)))
+def damages(dbck, folder, copies, shape):
+    """So many injuries of each class, of a shape."""
+    ward = Ward(dbck, folder, shape)
+    for kind in injuries.INJURIES:
+        yield from filter(None, (ward.damage(kind, copy) for copy in range(copies)))
 
 
 def few(dbck, folder):
-    """Injuries of all classes in turn, of four small databases."""
-    wards = [Ward(dbck, folder, shape) for shape in ("rowid-512", "without-rowid-512", "incremental-1024", "full-vacuum-512")]
+    """Injuries of all classes in turn, of some small databases."""
+    wards = [Ward(dbck, folder, shape) for shape in FEW_SHAPES]
     for turn in range(3 * len(wards)):
         for place, kind in enumerate(injuries.INJURIES):
             damage = wards[(place + turn) % len(wards)].damage(kind, turn)
@@ -285,29 +360,51 @@ def few(dbck, folder):
                 yield damage
 
 
-def repaired(shop, damage, plain):
-    """The steps that are chosen, and the result of each recipe of `plain`, and of these steps as `chosen`; none where they cannot be run."""
+Outcome = collections.namedtuple("Outcome", "name kind steps results lost invented")
+
+
+def repaired(shop, damage):
+    """What comes of an injury: the steps that are chosen, the result of each recipe, and of these steps as `chosen`; no results where
+    they cannot be run. Of the copy, as it is behind the steps before the last recipe, what each command reads counts too."""
     shop.begin(damage)
     steps, file = chosen(shop, damage)
     if file is None:
-        return steps, {}
+        return Outcome(damage.name, damage.kind, steps, {}, {}, 0)
     results = {"chosen": result_of(shop.folder, file, damage.tables)}
-    for recipe in plain:
+    later = [read_of(shop.copy, damage.tables)]
+    if (shop.folder / "replaced.db").exists():
+        # What .recover reads, also of tables at which the recipe of that name ends.
+        later.append(result_of(shop.folder, shop.folder / "replaced.db", damage.tables))
+    if steps[0] in ("Page 1", "The header", "The root page"):
+        for recipe in shop.plain:
+            shop.again()
+            shop.run(recipe)
+            later.append(result_of(shop.folder, shop.new, damage.tables))
+    for recipe in shop.plain:
         shop.begin(damage)
         shop.run(recipe)
         results[recipe] = result_of(shop.folder, shop.new, damage.tables)
-    return steps, results
+    later.append(read_of(damage.file, damage.tables))
+    readers = [result for recipe, result in results.items() if recipe not in ("chosen", "Both ways")]
+    return Outcome(damage.name, damage.kind, steps, results, losses(results, later, damage.tables), invented(results["chosen"], readers + later))
 
 
-def losses(results, tables):
+def losses(results, later, tables):
     """How many rows each recipe loses, of those that some recipe gets back."""
     readable = {table.name: Counter() for table in tables}
-    for result in results.values():
+    for result in [*results.values(), *later]:
         for name in readable:
             readable[name] |= result.there[name] + result.lost[name]
     return {
         recipe: sum((readable[name] - result.there[name] - result.lost[name]).total() for name in readable) for recipe, result in results.items()
     }
+
+
+def invented(result, readers):
+    """How many wrong rows of a result none of the readers has, so that the recipe made them: the others are in the damaged file."""
+    return sum(
+        (rows - functools.reduce(lambda all, reader: all | reader.wrong[name], readers, Counter())).total() for name, rows in result.wrong.items()
+    )
 
 
 class Sums:
@@ -321,7 +418,7 @@ class Sums:
         self.whole += lost == 0
         self.lost += lost
         self.sound += result.sound
-        self.wrong += result.wrong
+        self.wrong += sum(rows.total() for rows in result.wrong.values())
         self.elsewhere += sum(rows.total() for rows in result.lost.values())
 
     def __str__(self):
@@ -341,44 +438,56 @@ def report(of_class, of_steps, of_recipe):
     columns = [recipe for recipe in (*PLAIN, "chosen") if recipe in of_recipe]
     lines = [[kind, by["chosen"].injuries] + [by[recipe] for recipe in columns] for kind, by in of_class.items()]
     lines.append(["all", of_recipe["chosen"].injuries] + [of_recipe[recipe] for recipe in columns])
-    table(["Injury", "Files", *columns], lines)
+    table(["Damage", "Files", *columns], lines)
     table(["Recipe", "Rows lost", "Rows wrong", "Rows elsewhere"], [[recipe, by.lost, by.wrong, by.elsewhere] for recipe, by in of_recipe.items()])
     table(["Chosen", "Files", *columns], [[steps, by["chosen"].injuries] + [by[recipe] for recipe in columns] for steps, by in sorted(of_steps.items())])
+
+
+def outcomes(dbck, folder, shape, copies):
+    """The outcomes of one shape, or of the first few injuries of all."""
+    shop = Workshop(dbck, folder, shape or "few")
+    found = (repaired(shop, damage) for damage in (damages(dbck, folder, copies, shape) if shape else few(dbck, folder)))
+    if shape:
+        return list(found)
+    compared = []
+    for outcome in found:
+        compared.append(outcome)
+        if sum(bool(it.results) for it in compared) == FEW:
+            break
+    return compared
 
 
 def main():
     words = argparse.ArgumentParser(description="Injures databases, and repairs them as docs/REPAIR.md says.")
     words.add_argument("--few", action="store_true", help=f"{FEW} injuries of small databases")
     words.add_argument("--copies", type=int, default=2, metavar="N", help="injuries of each class and database (2)")
+    words.add_argument("--shape", action="append", metavar="NAME", help="of this database only; may be repeated")
+    words.add_argument("--processes", type=int, default=1, metavar="N", help="so many databases at a time (1)")
     words.add_argument("--list", type=pathlib.Path, metavar="FILE", help="a line for each injury and recipe")
     words.add_argument("dbck", type=pathlib.Path, metavar="DBCK")
     words.add_argument("folder", type=pathlib.Path, metavar="FOLDER")
     given = words.parse_args()
     folder = given.folder.resolve()
     folder.mkdir(parents=True, exist_ok=True)
-    shop = Workshop(given.dbck.resolve(), folder)
-    plain = [recipe for recipe in PLAIN if shop.recovers or "recover" not in shop.recipes[recipe]]
+    one = functools.partial(outcomes, given.dbck.resolve(), folder, copies=given.copies)
     sums = collections.defaultdict(lambda: collections.defaultdict(Sums))
-    failed = left_out = compared = 0
-    with open(given.list or os.devnull, "w") as listed:
-        for damage in few(shop.dbck, folder) if given.few else damages(shop.dbck, folder, given.copies):
-            steps, results = repaired(shop, damage, plain)
-            if not results:
-                left_out += 1
-                continue
-            compared += 1
-            lost = losses(results, damage.tables)
-            for recipe, result in results.items():
-                for group in ("class", damage.kind), ("steps", ", ".join(steps)), ("all", "all"):
-                    sums[group][recipe].add(lost[recipe], result)
-                print(damage.name, ", ".join(steps), recipe, lost[recipe], result.wrong, result.sound, sep="\t", file=listed, flush=True)
-            if lost["chosen"]:
-                failed += 1
-                print(f"{damage.name}: {', '.join(steps)} loses {lost['chosen']} rows that another recipe saves")
-            if given.few and compared == FEW:
-                break
+    failed = left_out = 0
+    with open(given.list or os.devnull, "w") as listed, concurrent.futures.ProcessPoolExecutor(given.processes) as pool:
+        for outcome in (it for found in pool.map(one, [None] if given.few else given.shape or injuries.SHAPES) for it in found):
+            steps = ", ".join(outcome.steps)
+            left_out += not outcome.results
+            for recipe, result in outcome.results.items():
+                for group in ("class", outcome.kind), ("steps", steps), ("all", "all"):
+                    sums[group][recipe].add(outcome.lost[recipe], result)
+                wrong = sum(rows.total() for rows in result.wrong.values())
+                made = outcome.invented if recipe == "chosen" else ""
+                print(outcome.name, steps, recipe, outcome.lost[recipe], wrong, made, result.sound, sep="\t", file=listed, flush=True)
+            for what, count in ("loses", outcome.lost.get("chosen")), ("invents", outcome.invented):
+                if count:
+                    failed += 1
+                    print(f"{outcome.name}: {steps} {what} {count} rows")
     report({kind: by for (group, kind), by in sums.items() if group == "class"}, {s: by for (g, s), by in sums.items() if g == "steps"}, sums["all", "all"])
-    if not shop.recovers:
+    if left_out:
         print(f"left out: {left_out} injuries of which the recipe needs a sqlite3 with .recover (SQLITE_RECOVER)")
     sys.exit(1 if failed else 0)
 
