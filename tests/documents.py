@@ -3,8 +3,9 @@
 
 The codes of docs/FAULTS.md are those of `FaultCode`, in its order and with its words. Commands, options, limits and exit statuses of
 the manual, and those of README, are the program's. The columns of FAULTS are those of the help. README and PROOFS state one
-theorem, and PROOFS names calls and clauses that there are. Each section of a list is there, and each link leads somewhere. No document
-is longer than it may be, and no line of a proof is wider than 160 columns. What fails is printed, and then the status is 1.
+theorem, and PROOFS names calls and clauses that there are. The choice of a recipe stands in REPAIR, and where README or the manual
+repeat it, they do so word for word. Each section of a list is there, and each link leads somewhere. No document is longer than it may
+be, and no line of a proof is wider than 160 columns. What fails is printed, and then the status is 1.
 """
 
 import glob
@@ -158,6 +159,34 @@ def links():
             failed.append(f"docs/dbck.1: there is no section {head}")
 
 
+def table_of(text):
+    """The rows of the first table of a text, but for the line below its head."""
+    rows = re.search(r"(?:^\|.*\n)+", text, re.M)
+    return [row for row in rows[0].splitlines() if not re.fullmatch(r"[|-]+", row)] if rows else []
+
+
+def choice():
+    """The choice of a recipe for a damaged database, which REPAIR has. README repeats it or refers to it; the manual refers to it, and has
+    none of its conditions. Each recipe that it names has a heading there, and a name in tests/repair.py."""
+    repair = text_of("docs/REPAIR.md")
+    rows = table_of(repair.split("## Which recipe\n")[1])
+    readme = text_of("README.md").split("## A damaged database\n")[1].split("\n## ")[0]
+    if table_of(readme) and table_of(readme) != rows:
+        failed.append("README.md, the choice of a recipe is not that of docs/REPAIR.md:")
+        failed.extend(f"    {row}" for row in table_of(readme) if row not in rows)
+    page = re.search(r"^\.S[sh] What to do about a fault\n(.*?)^\.S[sh] ", text_of("docs/dbck.1"), re.M | re.S)[1].split("\nWhat is lost")[0]
+    for path, text in ("README.md", readme), ("docs/dbck.1", page):
+        if "REPAIR.md" not in text:
+            failed.append(f"{path}: what it says of a damaged database does not name REPAIR.md")
+    for condition in sorted({"without a fault", *re.findall(r"\b[A-Z]\d\d\b|looks like|in sqlite_schema|root of table", "".join(rows))}):
+        if condition in plain(page):
+            failed.append(f"docs/dbck.1: the choice of a recipe is that of docs/REPAIR.md, and is not repeated: {condition}")
+    test = text_of("tests/repair.py")
+    for recipe in re.findall(r"\*([^*]+)\*", "".join(row.split("|")[2] for row in rows[1:])):
+        if f"\n### {recipe}\n" not in repair or f'"{recipe}"' not in test:
+            failed.append(f"docs/REPAIR.md: the recipe {recipe} has no heading, or tests/repair.py does not know it")
+
+
 def sections():
     for path, wanted in SECTIONS.items():
         heads = re.findall(r"^(?:##+|\.S[hs]) (.*)$", text_of(path), re.M)
@@ -184,7 +213,7 @@ def widths():
 def main():
     if sys.argv[1:]:
         sys.exit(__doc__)
-    for check in (codes, statuses, usage, columns, theorem, clauses, sections, links, lengths, widths):
+    for check in (codes, statuses, usage, columns, theorem, clauses, choice, sections, links, lengths, widths):
         check()
     print("\n".join(failed) if failed else "the documents are as the sources")
     sys.exit(1 if failed else 0)
