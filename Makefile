@@ -40,11 +40,12 @@ install: all
 	$(INSTALL) -D -m 644 completions/dbck.fish $(SHARE)/fish/vendor_completions.d/dbck.fish
 	$(INSTALL) -d $(SHARE)/doc/dbck
 	$(INSTALL) -m 644 $(DOCUMENTS:%=docs/%.md) $(SHARE)/doc/dbck
+	$(INSTALL) -m 755 docs/both-ways.sh $(SHARE)/doc/dbck
 
 uninstall:
 	rm -f $(BIN)/dbck $(SHARE)/man/man1/dbck.1 $(SHARE)/bash-completion/completions/dbck \
 	    $(SHARE)/zsh/site-functions/_dbck $(SHARE)/fish/vendor_completions.d/dbck.fish
-	rm -f $(DOCUMENTS:%=$(SHARE)/doc/dbck/%.md)
+	rm -f $(DOCUMENTS:%=$(SHARE)/doc/dbck/%.md) $(SHARE)/doc/dbck/both-ways.sh
 	-cd $(DESTDIR)$(PREFIX) && rmdir -p --ignore-fail-on-non-empty $(EMPTIED)
 
 deb: all
