@@ -17,6 +17,8 @@ use Rattle.dbformat.specs.declared.Verdict.{Verdict}
 use Rattle.dbformat.specs.declared.Verdict.TheVariants.{Clean, Faulty}
 use Rattle.dbreport.specs.Runs.{AsksHeaderAlone, IsAnswerOf, IsRunBy, IsUnwritten}
 use Rattle.dbreport.proofs.RunAnswers.{says_ok}
+use Rattle.dbformat.proofs.Theory.{one_survey}
+use Rattle.dbexplain.proofs.ReadReports.{explain_says_ok}
 use Rattle.dbsource.proofs.Beginnings.{all_begun}
 use Rattle.dbsource.specs.Answers.{Step, Trail}
 use Rattle.dbsource.specs.Headers.{IsOpenLog}
@@ -274,7 +276,7 @@ answer_of (request.Report command) file outcome out out' err mid run = (run.answ
 answer_of (request.Explain limit) file outcome out out' err mid run = (run.1, run.2)
 answer_of (request.Map name) file outcome out out' err mid run = (run.answer, run.sound)
 
--- at a verdict a check says whether the file is sound
+-- at a verdict a check says whether the file is sound, and so does an explanation
 ok_for : (asked : Request) (file : List ℕ) (outcome : Result Verdict RunError) (out out' err mid : OutState)
     → IsEndFor asked file outcome out out' err mid → exit_status outcome ≤ 1 → SaysOkFor asked file out out'
 ok_for (request.Report command) file (Ok v) out out' err mid run m =
@@ -283,7 +285,12 @@ ok_for (request.Report command) file (Err (Refused e)) out out' err mid run m = 
 ok_for (request.Report command) file (Err ReadFailed) out out' err mid run m = absurd (omega arith)
 ok_for (request.Report command) file (Err OutOfMemory) out out' err mid run m = absurd (omega arith)
 ok_for (request.Report command) file (Err WriteFailed) out out' err mid run m = absurd (omega arith)
-ok_for (request.Explain limit) file outcome out out' err mid run m = tt
+ok_for (request.Explain limit) file (Ok v) out out' err mid run m =
+    let s = (one_survey file).0 in explain_says_ok limit file (survey file) out.bytes out'.bytes s (run.0 (survey file) s).0
+ok_for (request.Explain limit) file (Err (Refused e)) out out' err mid run m = absurd (omega arith)
+ok_for (request.Explain limit) file (Err ReadFailed) out out' err mid run m = absurd (omega arith)
+ok_for (request.Explain limit) file (Err OutOfMemory) out out' err mid run m = absurd (omega arith)
+ok_for (request.Explain limit) file (Err WriteFailed) out out' err mid run m = absurd (omega arith)
 ok_for (request.Map name) file outcome out out' err mid run m = tt
 
 -- what finishing left of a file, by what its run left of it

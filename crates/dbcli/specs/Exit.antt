@@ -12,7 +12,7 @@ use Rattle.dbformat.specs.declared.Verdict.TheVariants.{Clean, Faulty}
 use Rattle.dbsource.specs.Failures.{one_more}
 use Rattle.dbsource.specs.Outs.{Begins, OutState}
 use Rattle.dbpicture.specs.Pictures.{map_picture}
-use Rattle.dbreport.specs.Runs.{SaysOkWhereSound}
+use Rattle.dbreport.specs.Runs.{SaysOk, SaysOkWhereSound}
 use Rattle.dbexplain.specs.Explained.{IsFoundText, explain_report}
 use Rattle.dbcli.specs.ErrorLines.{exit_line}
 use Rattle.dbcli.specs.declared.request.Request.{Request}
@@ -127,10 +127,10 @@ IsExitOf status (request.Map name) file out out' err err' =
     (V : List Reference) → Survey file V
     → IsExit status (map_report name.now file V) (refusal file) out out' err err' × ((4 ≤ status) × (status ≤ 5) → Keeps out.bytes out'.bytes)
 
--- Of a check: what the first Out got is the line `ok` exactly where the file is sound.
+-- Of a check and of an explanation: what the first Out got is the line `ok` exactly where the file is sound.
 abbrev pub SaysOkFor : Request → List ℕ → OutState → OutState → Type 0
 SaysOkFor (request.Report command) file out out' = SaysOkWhereSound command file out.bytes out'.bytes
-SaysOkFor (request.Explain limit) file out out' = Unit {0}
+SaysOkFor (request.Explain limit) file out out' = SaysOk file out.bytes out'.bytes
 SaysOkFor (request.Map name) file out out' = Unit {0}
 
 -- What an exit status says of a file.
@@ -139,7 +139,7 @@ pub record IsFinishOf (status : ℕ) (asked : Request) (file : List ℕ) (out ou
   pub exit : IsExitOf status asked file out out' err err'
   -- of the two statuses of a verdict 0 is that of a sound file
   pub sound : status ≤ 1 → status ≡ 0 ↔ Sound file
-  -- at these two a check says so
+  -- at these two a check says so, and an explanation
   pub ok : status ≤ 1 → SaysOkFor asked file out out'
   -- want of memory ends the run of a file that is read alone
   pub memory : status ≡ 5 → refusal file ≡ None

@@ -1,16 +1,11 @@
 -- What a run of `explain` leaves of a file that is read.
 use Rattle.std.proofs.Common.{◌≡◌, ◌⊎◌, ℕ, zero, suc, false, List, [], Ok, Err, None, Result, inl, inr, refl, sym, ap, subst, ◌∙◌}
-use Rattle.std.specs.Prelude.{◌↔◌, IfErr, IfOk}
+use Rattle.std.specs.Prelude.{◌↔◌, IfErr, IfOk, OnOk}
 use Rattle.dbformat.specs.File.{geometry, refusal}
 use Rattle.dbformat.specs.Reference.{Reference}
-use Rattle.dbformat.specs.Report.{Report, faults, verdict}
-use Rattle.dbformat.specs.Sound.{Sound}
 use Rattle.dbformat.specs.Survey.{Survey, survey}
-use Rattle.dbformat.specs.declared.Command.TheVariants.{Check}
 use Rattle.dbformat.specs.declared.Verdict.{Verdict}
-use Rattle.dbformat.specs.declared.Verdict.TheVariants.{Clean}
 use Rattle.dbformat.proofs.Theory.{one_survey}
-use Rattle.dbsound.proofs.Soundness.{sound_by_verdict}
 use Rattle.dbsource.specs.Errors.{is_write_failed}
 use Rattle.dbsource.specs.Failures.{failures_after, is_any, one_more}
 use Rattle.dbsource.specs.Outs.{OutState, Puts, Writes}
@@ -21,10 +16,9 @@ use Rattle.dbsource.proofs.Puts.{appends_nothing}
 use Rattle.dbwalk.specs.Telling.{IsReadWriteOrMemory}
 use Rattle.dbscan.specs.Finishes.{Leaves}
 use Rattle.dbscan.specs.Notices.{CutsNever}
-use Rattle.dbreport.specs.Runs.{IsAnswerOf}
+use Rattle.dbreport.specs.Runs.{IsAnswerOf, SaysOk}
 use Rattle.dbreport.proofs.NotBegun.{no_failure}
 use Rattle.dbreport.proofs.RunAnswers.{if_ok, read_answer}
-use Rattle.dbreport.proofs.RunReports.{check_answer}
 use Rattle.dbentries.specs.Listed.{listed_entries, listed_faults}
 use Rattle.dbentries.specs.Listing.{entries}
 use Rattle.dbentries.specs.Lists.{ListsFirst}
@@ -35,30 +29,7 @@ use Rattle.dbexplain.specs.Runs.{IsExplained, OutFailures, PutsFound, WritesRepo
 use Rattle.dbexplain.specs.declared.reporter.ExplainReporter.{ExplainReporter}
 use Rattle.dbexplain.proofs.KeptEntries.{found_lines}
 use Rattle.dbexplain.proofs.Left.{is_left}
-
--- ---- the report of a file that is read
-
-module _ (limit : ℕ) (file : List ℕ) (V : List Reference) (read : refusal file ≡ None) where
-  abbrev read_report : Report
-  read_report = record { out = explain_text limit file V (listed_entries file V); err = []; answer = Ok (verdict (faults file V)) }
-
-  explain_is : explain_report limit file V ≡ read_report
-  unfolding explain_report
-  explain_is = rw read refl
-
-  out_is : explain_text limit file V (listed_entries file V) ≡ (explain_report limit file V).out
-  out_is = sym (ap (λ (r : Report). r.out) explain_is)
-
-  answer_is : (v : Verdict) → v ≡ verdict (faults file V) → (explain_report limit file V).answer ≡ Ok v
-  answer_is v e = ap (λ (r : Report). r.answer) explain_is ∙ ap Ok (sym e)
-
--- its verdict is that of a check
-explain_sound : (limit : ℕ) (file : List ℕ) → refusal file ≡ None → (v : Verdict) → (explain_report limit file (survey file)).answer ≡ Ok v → v
-    ≡ Clean ↔ Sound file
-explain_sound limit file read v e =
-    let V = survey file in
-    sound_by_verdict file (Check limit) V (one_survey file).0 v
-    (check_answer limit file V read (verdict (faults file V)) refl ∙ sym (answer_is limit file V read (verdict (faults file V)) refl) ∙ e)
+use Rattle.dbexplain.proofs.ReadReports.{answer_is, explain_says_ok, explain_sound, out_is}
 
 -- ---- by what a run leaves of the reporter, and then the lines after a failed read
 
@@ -135,7 +106,13 @@ is_explained limit file r old new only read told = record {
   verdict = λ V s. (told V s).1;
   answer = read_answer file r only read;
   sound = if_ok r (explain_sound limit file read) (told (survey file) (one_survey file).0).1;
+  ok = ok_at r (told (survey file) (one_survey file).0).0;
 }
+
+  where
+    ok_at : (r : Result Verdict RunError) → WritesReport limit file (survey file) r old new → OnOk r (SaysOk file old.bytes new.bytes)
+    ok_at (Ok v) w = explain_says_ok limit file (survey file) old.bytes new.bytes (one_survey file).0 w
+    ok_at (Err e) w = tt
 
 -- there was no run
 pub not_explained : (limit : ℕ) (file : List ℕ) (e : RunError) (out : OutState) → IsAnswerOf {A = Verdict} (Err e) file → IsExplained limit file (Err e) out out
@@ -145,6 +122,7 @@ not_explained limit file e out answer = record {
   verdict = λ V s. tt;
   answer = answer;
   sound = tt;
+  ok = tt;
 }
   where
     none : (n : ℕ) → [] ≡ found_text n []

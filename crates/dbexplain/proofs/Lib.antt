@@ -6,6 +6,7 @@ pub mod KeptEntries
 pub mod Left
 pub mod PagePieces
 pub mod ReachedPages
+pub mod ReadReports
 pub mod Reports
 pub mod SumLaws
 pub mod SumPieces

@@ -1,5 +1,5 @@
 -- What a run of `explain` leaves.
-use Rattle.std.specs.Prelude.{◌≡◌, ◌⊎◌, ◌↔◌, ℕ, List, Result, Ok, Err, IfOk}
+use Rattle.std.specs.Prelude.{◌≡◌, ◌⊎◌, ◌↔◌, ℕ, List, Result, Ok, Err, IfOk, OnOk}
 use Rattle.dbformat.specs.File.{geometry}
 use Rattle.dbformat.specs.Log.{IsRunLog, IsSomeRunLog}
 use Rattle.dbformat.specs.Reference.{Reference}
@@ -18,7 +18,7 @@ use Rattle.dbsource.specs.declared.error.RunError.TheVariants.{ReadFailed}
 use Rattle.dbsource.specs.declared.out.WriteFailed.{WriteFailed}
 use Rattle.dbsource.specs.declared.out.Out.{Ghosts as OutWords}
 use Rattle.dbsource.specs.declared.source.Source.{Ghosts as SourceWords}
-use Rattle.dbreport.specs.Runs.{IsAnswerOf}
+use Rattle.dbreport.specs.Runs.{IsAnswerOf, SaysOk}
 use Rattle.dbexplain.specs.Explained.{IsFoundText, explain_report}
 
 -- After a failed read the lines of the entries found so far were put, and nothing else: a beginning of them where the Out failed too.
@@ -34,13 +34,14 @@ WritesReport limit file V (Err ReadFailed) old new = PutsFound limit file V old 
 WritesReport limit file V r old new = Writes r old.bytes new.bytes (explain_report limit file V).out
 
 -- What a run left is so of a file: the file has a survey, and by any survey of it this was written and found; `Clean` is what a
--- sound file is answered, and no other.
+-- sound file is answered, and the line `ok` what is written of it, and of no other.
 pub record IsExplained (limit : ℕ) (file : List ℕ) (r : Result Verdict RunError) (old new : OutState) : Type 0 where
   pub survey : Survey file (survey file)
   pub written : (V : List Reference) → Survey file V → WritesReport limit file V r old new
   pub verdict : (V : List Reference) → Survey file V → IfOk r (λ v. (explain_report limit file V).answer ≡ Ok v)
   pub answer : IsAnswerOf r file
   pub sound : IfOk r (λ v. v ≡ Clean ↔ Sound file)
+  pub ok : OnOk r (SaysOk file old.bytes new.bytes)
 
 -- how often an Out had failed before and after: it may fail once more after a failed read; else just where that is answered
 abbrev pub OutFailures : Result Verdict RunError → ℕ → ℕ → Type 0

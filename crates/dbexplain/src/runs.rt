@@ -1,6 +1,9 @@
 // A run of `explain`: from the bytes of a database to what is written of them.
+ghost use Rattle.std.specs.Prelude.{OnOk};
+ghost use Rattle.dbformat.specs.Log.{IsSomeRunLog};
 ghost use Rattle.dbscan.specs.DeskSizes.{DeskFitsInMemory};
-ghost use Rattle.dbreport.specs.Runs.{IsUntouched};
+ghost use Rattle.dbsource.specs.Snapshots.{HasRead};
+ghost use Rattle.dbreport.specs.Runs.{IsUntouched, SaysOk};
 ghost use Rattle.dbexplain.specs.Runs.{ExplainFails, HasExplained};
 
 use crate::kept::Kept;
@@ -62,6 +65,9 @@ pub fn explain_in<A: Allocator + Copy, S: Source, O: Out>(
     // The desk fits in memory, as it does unless the allocator itself is nearly that large.
     requires fits { DeskFitsInMemory A.row A.Allocator }
     ensures read { HasExplained S.Source O.Out limit result (source.old, out.old) (source.new, out.new) }
+    // At a verdict the line `ok` was written, and nothing else, exactly where the file is sound.
+    ensures ok { HasRead S.step S.lengths IsSomeRunLog
+        (λ file ranges. OnOk result (SaysOk file (O.held out.old).bytes (O.held out.new).bytes)) (S.held source.old) (S.held source.new) }
     ensures failed { ExplainFails S.Source O.Out result (source.old, out.old) (source.new, out.new) }
     ensures refused { IsUntouched S.Source O.Out result (source.old, out.old) (source.new, out.new) }
 {
@@ -91,6 +97,9 @@ pub fn explain<S: Source, O: Out>(
     // Whatever the source answers: there is a file, of the length that it answered, that agrees with every byte that the run
     // used, and of each such file this was the run.
     ensures read { HasExplained S.Source O.Out limit result (source.old, out.old) (source.new, out.new) }
+    // At a verdict the line `ok` was written, and nothing else, exactly where the file is sound.
+    ensures ok { HasRead S.step S.lengths IsSomeRunLog
+        (λ file ranges. OnOk result (SaysOk file (O.held out.old).bytes (O.held out.new).bytes)) (S.held source.old) (S.held source.new) }
     ensures failed { ExplainFails S.Source O.Out result (source.old, out.old) (source.new, out.new) }
     ensures refused { IsUntouched S.Source O.Out result (source.old, out.old) (source.new, out.new) }
 {

@@ -26,7 +26,7 @@ use Rattle.dbsource.specs.declared.error.RunError.{RunError}
 use Rattle.dbsource.specs.declared.error.RunError.TheVariants.{Refused, ReadFailed, OutOfMemory, WriteFailed}
 use Rattle.dbwalk.specs.Telling.{IsReadWriteOrMemory}
 use Rattle.dbsource.proofs.Beginnings.{begins_nothing}
-use Rattle.dbreport.specs.Runs.{AsksHeaderAlone, IsAnswerOf, IsReported, IsReportedBy, IsRunBy, IsRunOf, IsUnwritten, SaysOkWhereSound}
+use Rattle.dbreport.specs.Runs.{AsksHeaderAlone, IsAnswerOf, IsReported, IsReportedBy, IsRunBy, IsRunOf, IsUnwritten, SaysOk, SaysOkWhereSound}
 use Rattle.dbreport.proofs.RunReports.{counts_pages}
 
 -- the header was not read
@@ -113,16 +113,19 @@ none_by rep file e out err answer = record {
   sound = tt;
 }
 
+-- a text that is the line `ok` exactly where the file is sound was added
+pub said_ok : (file text : List ℕ) (old new : Option (List ℕ)) → text ≡ ok_line ↔ Sound file → Appends old new text → SaysOk file old new
+said_ok file text None new is k = tt
+said_ok file text (Some had) None is k = absurd k
+said_ok file text (Some had) (Some has) is k = (
+  (λ e. let h : has ≡ had ++ ok_line = cc in is.0 (append_cancel_left had text ok_line (sym k ∙ h))),
+  (λ sound. ap Some (k ∙ ap (λ l. had ++ l) (is.1 sound))),
+)
+
 -- what a check wrote says whether the file is sound
 pub says_ok : (command : Command) (file : List ℕ) (V : List Reference) (old new : Option (List ℕ)) → Survey file V → Appends old new (report command file V).out
     → SaysOkWhereSound command file old new
-says_ok (Check limit) file V None new s k = tt
-says_ok (Check limit) file V (Some had) None s k = absurd k
-says_ok (Check limit) file V (Some had) (Some has) s k =
-    let by = sound_by_ok file limit V s in (
-      (λ e. let h : has ≡ had ++ ok_line = cc in by.0 (append_cancel_left had (report (Check limit) file V).out ok_line (sym k ∙ h))),
-      (λ sound. ap Some (k ∙ ap (λ l. had ++ l) (by.1 sound))),
-    )
+says_ok (Check limit) file V old new s k = said_ok file (report (Check limit) file V).out old new (sound_by_ok file limit V s) k
 says_ok (Stat aggregate all) file V old new s k = tt
 
 ok_by : (command : Command) (file : List ℕ) (r : Result Verdict RunError) (out_old out_new err_old err_new : Option (List ℕ))

@@ -58,9 +58,13 @@ CountsPages (Stat aggregate true) file V =
 CountsPages (Stat aggregate false) file V = CountsNoPageTwice (record { aggregate = aggregate; all = false }) file V
 CountsPages (Check limit) file V = Unit {0}
 
--- Of a check: what its Out got, where it tells its bytes, is the line `ok` exactly where the file is sound.
+-- What an Out got, where it tells its bytes, is the line `ok` exactly where the file is sound.
+abbrev pub SaysOk : List ℕ → Option (List ℕ) → Option (List ℕ) → Type 0
+SaysOk file old new = IfSome old (λ had. new ≡ Some (had ++ ok_line) ↔ Sound file)
+
+-- so it is of a check
 abbrev pub SaysOkWhereSound : Command → List ℕ → Option (List ℕ) → Option (List ℕ) → Type 0
-SaysOkWhereSound (Check limit) file old new = IfSome old (λ had. new ≡ Some (had ++ ok_line) ↔ Sound file)
+SaysOkWhereSound (Check limit) file old new = SaysOk file old new
 SaysOkWhereSound (Stat aggregate all) file old new = Unit {0}
 
 -- What a run left, by a survey of a file whose report this is: on each Out its part of the report, at an error a beginning of it;

@@ -1,4 +1,6 @@
 use Rattle.std.proofs.Common.{rules, ◌≡◌}
+use Rattle.dbformat.specs.Log.{IsSomeRunLog}
+use Rattle.dbsource.proofs.Runs.{read_weaker}
 use Rattle.dbreport.proofs.OneOut.{one_ended, one_read, one_untouched}
 use Rattle.dbexplain.specs.ExplainJobs.{Says, out_of}
 use Rattle.dbexplain.specs.Runs.{OutFailures}
@@ -10,6 +12,9 @@ returns-clause-read g c =
     let same = (one_ended g.S.Source g.O.Out out_of Says OutFailures c.run_job.ensures unfailed).same_out in
     let k : c.out-1.given.0 ≡ c.run_job.new.job.out.now = search (rules, same) in
     rw k (one_read g.S.Source g.O.Out out_of Says OutFailures c.run_job.ensures (not_explained c.args.limit))
+
+pub returns-clause-ok : goal.returns-clause-ok
+returns-clause-ok g c = read_weaker IsSomeRunLog _ (returns-clause-read g c) (λ ranges p. p) (λ file ranges p t. t.1.ok)
 
 pub returns-clause-failed : goal.returns-clause-failed
 returns-clause-failed g c =
