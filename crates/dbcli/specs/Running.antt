@@ -40,14 +40,16 @@ module _ {F S O E : Type 0} (opens : F → List ℕ → Result S Unread → F �
     pub limit : HasLimit request
     pub ran : RunsLine request file status old new
 
-  -- What became of words that are not: no file was opened, and nothing was put to an Out.
-  pub record IsUnrun (old new : F × O × E) : Type 0 where
-    pub files : new.0 ≡ old.0
-    pub first : new.1 ≡ old.1
-    pub second : err.held new.2 ≡ err.held old.2
+  module _ {N : Type 0} (notes : OutWords N) where
+    -- What became of words that are not: no file was opened, and nothing was put to an Out or to the notes.
+    pub record IsUnrun (old new : F × O × E × N) : Type 0 where
+      pub files : new.0 ≡ old.0
+      pub first : new.1 ≡ old.1
+      pub second : err.held new.2 ≡ err.held old.2
+      pub notes_kept : notes.held new.3 ≡ notes.held old.3
 
-  -- And of any words: they were taken; or they have an error, and the status says which.
-  abbrev pub AnswersWords : List Text → ℕ → F × O × E → F × O × E → Type 0
-  AnswersWords words status old new =
-      RunsWords words status old new
-      ⊎ ((error : LineError) × IsErrorOf error words × IsErrorStatus status error × IsUnrun old new)
+    -- And of any words: they were taken; or they have an error, and the status says which.
+    abbrev pub AnswersWords : List Text → ℕ → F × O × E × N → F × O × E × N → Type 0
+    AnswersWords words status old new =
+        RunsWords words status (old.0, old.1, old.2) (new.0, new.1, new.2)
+        ⊎ ((error : LineError) × IsErrorOf error words × IsErrorStatus status error × IsUnrun old new)

@@ -33,7 +33,7 @@ pub use lookup::Lookup;
 pub use opening::{Opener, SystemFiles};
 pub use progress::Progress;
 pub use request::Request;
-pub use running::{System, answer_words, run_line, run_words, tell};
+pub use running::{System, answer_words, run_line, tell};
 pub use status::{line_status, status_of};
 pub use words::{texts_of, words_of};
 pub use words_error::WordsError;

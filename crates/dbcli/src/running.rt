@@ -1,7 +1,6 @@
 // From the words of a command line to an exit status.
-ghost use Rattle.std.specs.Prelude.{◌≡◌, IfErr, IfOk, OnErr, map};
-ghost use Rattle.dbcli.specs.CommandLine.{IsErrorOf};
-ghost use Rattle.dbcli.specs.Running.{AnswersWords, IsErrorStatus, IsUnrun, RunsLine, RunsWords};
+ghost use Rattle.std.specs.Prelude.{◌≡◌, map};
+ghost use Rattle.dbcli.specs.Running.{AnswersWords, IsErrorStatus, RunsLine};
 
 use crate::command_line::{Line, LineError, line_of};
 use crate::error_lines::error_line;
@@ -72,35 +71,9 @@ pub fn run_line<R: Lookup + AllocGlobal, F: Opener, O: Out, E: Out, N: Out, W: P
     }
 }
 
-/// Runs what the words ask for, and answers the exit status. The first of them is the program's name.
-///
-/// # Errors
-///
-/// As [`line_of`]. Then nothing was opened and nothing was put.
-pub fn run_words<'a, R: Lookup + AllocGlobal, F: Opener, O: Out, E: Out, N: Out, W: Print>(
-    system: &mut System<'_, R, F>,
-    words: &'a [&'a str],
-    out: &mut O,
-    err: &mut E,
-    notes: &mut N,
-    progress: &Progress<W>,
-) -> Result<u8, LineError>
-    ensures ran { IfOk result (λ status. RunsWords F.opens F.closes F.File.Source O.Out E.Out (map (λ word. word.now) words.entry.now) status
-        (system.old.files, out.old, err.old) (system.new.files, out.new, err.new)) }
-    ensures refused { IfErr result (λ error. IsErrorOf error (map (λ word. word.now) words.entry.now)) }
-    ensures unrun { OnErr result (IsUnrun F.opens F.closes F.File.Source O.Out E.Out
-        (system.old.files, out.old, err.old) (system.new.files, out.new, err.new)) }
-    ensures notes { OnErr result (N.held notes.new ≡ N.held notes.old) }
-{
-    let line = match line_of(system.rt.alloc(), words) {
-        Ok(line) => line,
-        Err(error) => return Err(error),
-    };
-    Ok(run_line(system, line, out, err, notes, progress))
-}
-
 /// Runs what the words ask for, or prints why they are not taken or the help that they ask for, and answers the exit
-/// status. The first of them is the program's name.
+/// status. The first of them is the program's name. What is printed is the error of [`line_of`]; then nothing was opened,
+/// and nothing was put to an Out or to the notes.
 pub fn answer_words<
     'a,
     R: Lookup + AllocGlobal + Print + Eprint,
@@ -117,12 +90,12 @@ pub fn answer_words<
     notes: &mut N,
     progress: &Progress<W>,
 ) -> u8
-    ensures { AnswersWords F.opens F.closes F.File.Source O.Out E.Out (map (λ word. word.now) words.entry.now) result
-        (system.old.files, out.old, err.old) (system.new.files, out.new, err.new) }
+    ensures { AnswersWords F.opens F.closes F.File.Source O.Out E.Out N.Out (map (λ word. word.now) words.entry.now) result
+        (system.old.files, out.old, err.old, notes.old) (system.new.files, out.new, err.new, notes.new) }
 {
     let rt = system.rt;
-    match run_words(system, words, out, err, notes, progress) {
-        Ok(status) => status,
+    match line_of(rt.alloc(), words) {
+        Ok(line) => run_line(system, line, out, err, notes, progress),
         Err(error) => tell(rt, &error),
     }
 }

@@ -1,6 +1,5 @@
 pub mod Below
 pub mod Explained
-pub mod ExplainJobs
 pub mod Facts
 pub mod Keeping
 pub mod Notes

@@ -31,4 +31,4 @@ mod zeros;
 pub use dbformat::Verdict;
 pub use dbsource::{Out, RunError, Source};
 pub use laws::{summary_counts_all_faults, told_files_are_explained};
-pub use runs::{explain, explain_in};
+pub use runs::explain;

@@ -1,4 +1,4 @@
--- The reporter and the job of `map`: what a fault makes of the reporter, what it answers at the end, and what the job says of a run over a file.
+-- The reporter of `map`: what a fault makes of it, and what it answers at the end.
 use Rattle.std.specs.Prelude.{◌≡◌, ℕ, List, Result, IfOk}
 use Rattle.dbformat.specs.File.{geometry}
 use Rattle.dbformat.specs.Reference.{Reference}
@@ -11,12 +11,9 @@ use Rattle.dbscan.specs.Notices.{Notice}
 use Rattle.dbentries.specs.Reported.{HearsReported}
 use Rattle.dbpicture.specs.Keeping.{Adds, HearsNone, Notes}
 use Rattle.dbpicture.specs.Pictures.{map_picture}
-use Rattle.dbmap.specs.Maps.{IsMapOf, PutsMap}
+use Rattle.dbmap.specs.Maps.{PutsMap}
 use Rattle.dbmap.specs.declared.map_reporter.MapReporter.{MapReporter}
-use Rattle.std.specs.Borrow.{MutBor}
-use Rattle.dbformat.specs.declared.Geometry.{Geometry}
 use Rattle.dbpicture.specs.declared.kept.KeptFaults.{KeptFaults}
-use Rattle.dbmap.specs.declared.maps.MapJob.{MapJob}
 
 module _ {A O : Type 0} where
   -- what is kept changes so, and nothing is put
@@ -38,14 +35,3 @@ abbrev pub LeavesMap : {A O : Type 0} → (O → OutState) → List ℕ → List
 LeavesMap held file V r s t =
     HearsNone (geometry file).pages s.kept.now
     → IfOk r (λ v. v ≡ verdict (faults file V)) × PutsMap r (held s.out.now).bytes (held t.out.now).bytes (map_picture file V s.name.now)
-
--- no fault is known of the file yet, and there is room for its pages
-abbrev pub HasRoom : {A O : Type 0} → Geometry → MapJob O → KeptFaults A → Type 0
-HasRoom g job kept = HearsNone g.pages kept
-
-abbrev pub out_of : {O : Type 0} → MapJob O → MutBor O
-out_of job = job.out
-
--- what a run leaves of a file, under the job's name
-abbrev pub Says : {O : Type 0} → MapJob O → List ℕ → Result Verdict RunError → OutState → OutState → Type 0
-Says job file r old new = IsMapOf job.name.now file r old.bytes new.bytes

@@ -19,4 +19,4 @@ mod maps;
 
 pub use dbformat::Verdict;
 pub use dbsource::{Out, RunError, Source};
-pub use maps::{map, map_in, told_files_are_drawn};
+pub use maps::{map, told_files_are_drawn};

@@ -4,10 +4,8 @@ pub mod Flushed
 pub mod Hexes
 pub mod ListedNames
 pub mod NotBegun
-pub mod OneOut
 pub mod Openings
 pub mod OtherRows
-pub mod ReportJobs
 pub mod ReporterStates
 pub mod RunAnswers
 pub mod RunLogs

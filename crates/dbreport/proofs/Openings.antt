@@ -1,11 +1,15 @@
--- What is said of a run, by how its file was opened.
-use Rattle.std.proofs.Common.{◌≡◌, ◌⊎◌, ℕ, false, inl, inr, List, Err, Result, refl, ap, ◌∙◌}
-use Rattle.dbformat.specs.Log.{IsSomeRunLog}
+-- What is said of a run from the header on, by how its file was opened.
+use Rattle.std.proofs.Common.{◌≡◌, ℕ, false, List, Err, Result, refl, ap, ◌∙◌}
+use Rattle.std.specs.Prelude.{IfErr}
+use Rattle.dbformat.specs.File.{geometry}
+use Rattle.dbformat.specs.FixedPages.{geometry_of}
+use Rattle.dbformat.specs.Log.{IsPageLog, IsRunLog, IsSomeRunLog}
 use Rattle.dbformat.specs.declared.Verdict.{Verdict}
 use Rattle.dbsource.specs.Errors.{is_read_failed, is_write_failed, run_error}
 use Rattle.dbsource.specs.Failures.{failures_after}
 use Rattle.dbsource.specs.HeaderBytes.{HeaderBytes}
 use Rattle.dbsource.specs.Headers.{Opens}
+use Rattle.dbsource.specs.Snapshots.{HasRead, HasReadAfterHeader}
 use Rattle.dbsource.specs.declared.error.OpenError.{OpenError}
 use Rattle.dbsource.specs.declared.error.OpenError.TheVariants as opening
 use Rattle.dbsource.specs.declared.error.RunError.{RunError}
@@ -13,12 +17,11 @@ use Rattle.dbsource.specs.declared.error.RunError.TheVariants.{OutOfMemory}
 use Rattle.dbsource.specs.declared.source.Source.{Ghosts as SourceWords}
 use Rattle.dbsource.proofs.Logs.{has_ranges, open_failures}
 use Rattle.dbsource.proofs.Runs.{read_weaker}
-use Rattle.dbscan.specs.Desks.{DeskView}
+use Rattle.dbwalk.specs.Telling.{IsReadWriteOrMemory}
 use Rattle.dbscan.proofs.AfterHeader.{after_weaker}
 use Rattle.dbreport.specs.Opening.{IsNotOpened, IsOpened}
-use Rattle.dbreport.specs.Jobs.{HasRunJob, HasRunOver, IsNotBegun}
-use Rattle.dbreport.specs.Runs.{IsAnswerOf}
-use Rattle.dbreport.proofs.RunAnswers.{read_answer, read_refused, read_unwritten, refused_answer, refused_log, refused_unwritten}
+use Rattle.dbreport.specs.Runs.{AsksHeaderAlone, IsAnswerOf}
+use Rattle.dbreport.proofs.RunAnswers.{read_refused, refused_answer, refused_log}
 use Rattle.dbreport.proofs.RunLogs.{header_run, opened_run, whole_run}
 
 never_written : (e : OpenError) → is_write_failed (run_error e) ≡ false
@@ -45,27 +48,30 @@ module _ {S : Type 0} (source : SourceWords S) (old : S) where
     no_failed_write = refl;
   }
 
-  -- ---- a run of a job, by how the file was opened
+  -- A run from the header on, whatever the source answered: there is a file, of the length that it answered, that agrees with every
+  -- byte that the run used, and what was asked for is a log of its geometry; and of each such file this is so. The source failed, once,
+  -- exactly at a failed read. At a refusal the header alone was asked for.
+  pub record IsRun (Says : List ℕ → Type 0) (r : Result Verdict RunError) (new : S) : Type 0 where
+    pub read : HasRead source.step source.lengths IsSomeRunLog (λ file ranges. IsRunLog (geometry file) ranges × Says file) (source.held old) (source.held new)
+    pub reads : (source.held new).failures ≡ failures_after is_read_failed r (source.held old).failures
+    pub asked : AsksHeaderAlone source.step r (source.held old).trail (source.held new).trail
 
-  module _ {J : Type 0} (leaves : List ℕ → Result Verdict RunError → J → J → Type 0) (ends : Result Verdict RunError → J → J → Type 0) where
-    pub not_begun : (e : RunError) (new : S) → IsNotOpened source e old new → (j : J) → HasRunJob source leaves ends (Err e) (old, j) (new, j)
-    not_begun e new k j =
-        let none : IsNotBegun (Err e) j j = record { error = e; is = refl; no_failed_write = k.no_failed_write; same = refl } in record {
-          read = read_weaker IsSomeRunLog _ k.read (λ ranges p. p) (λ file ranges p t. (t.0, (t.1, inl none)));
-          reads = k.reads;
-          ended = inl none;
-          asked = k.asked;
-          untouched = refused_unwritten (Err e) j;
-        }
+  -- there was no run: what is so of each file of which the error is an answer
+  pub unopened : {Says : List ℕ → Type 0} (e : RunError) (new : S) → IsNotOpened source e old new
+      → ((file : List ℕ) → IsAnswerOf {A = Verdict} (Err e) file → Says file) → IsRun Says (Err e) new
+  unopened e new k says = record {
+    read = read_weaker IsSomeRunLog _ k.read (λ ranges p. p) (λ file ranges p t. (t.0, says file t.1));
+    reads = k.reads;
+    asked = k.asked;
+  }
 
-    pub has_run : (d : DeskView) (mid new : S) → IsOpened source d.header old mid → (r : Result Verdict RunError) (j j' : J)
-        → HasRunOver source leaves ends r d (mid, j) (new, j')
-        → HasRunJob source leaves ends r (old, j) (new, j')
-    has_run d mid new k r j j' over = record {
-      read = whole_run {T = λ file. IsAnswerOf r file × (IsNotBegun r j j' ⊎ leaves file r j j')} d.header k.opens k.read k.accepted k.range
-          (after_weaker _ _ over.read (λ file is left. (read_answer file r over.only is.is_read, inr left)));
-      reads = over.reads ∙ ap (failures_after is_read_failed r) k.opens.asks.count;
-      ended = inr over.ended;
-      asked = read_refused source.step r _ _ over.only;
-      untouched = read_unwritten r j j' over.only;
-    }
+  -- the file was opened, and this is what was read after its header
+  pub opened : {Says : List ℕ → Type 0} (h : HeaderBytes) (mid new : S) → IsOpened source h old mid → (r : Result Verdict RunError)
+      → HasReadAfterHeader source.step (IsPageLog (geometry_of h.bytes h.file_len)) h Says (source.held mid) (source.held new)
+      → (source.held new).failures ≡ failures_after is_read_failed r (source.held mid).failures
+      → IfErr r IsReadWriteOrMemory → IsRun Says r new
+  opened h mid new k r read reads only = record {
+    read = whole_run h k.opens k.read k.accepted k.range read;
+    reads = reads ∙ ap (failures_after is_read_failed r) k.opens.asks.count;
+    asked = read_refused source.step r _ _ only;
+  }

@@ -8,14 +8,12 @@
 #![tactic(auto)]
 
 mod checking;
-mod jobs;
 mod opening;
 mod runs;
 mod statistics;
 
 pub use dbformat::{Command, Verdict};
-pub use dbscan::{Desk, RootList, Viewed};
+pub use dbscan::{Desk, RootList};
 pub use dbsource::{Geometry, Header, Out, RunError, Source};
-pub use jobs::{Job, run_job};
 pub use opening::open_in;
-pub use runs::{run, run_in, run_on, told_files_are_run};
+pub use runs::{run, run_on, told_files_are_run};

@@ -1,72 +1,21 @@
 // A run: from the bytes of a database to what is written of them.
-ghost use Rattle.std.specs.Prelude.{◌≡◌, ◌↔◌, List, IfOk, IfSome, Ok, OnOk};
+ghost use Rattle.std.specs.Prelude.{◌≡◌, ◌↔◌, IfOk, IfSome, OnOk};
 ghost use Rattle.dbformat.specs.FixedPages.{geometry_of};
 ghost use Rattle.dbformat.specs.Log.{IsPageLog, IsSomeRunLog};
-ghost use Rattle.dbformat.specs.Reference.{Reference};
-ghost use Rattle.dbformat.specs.Report.{report};
 ghost use Rattle.dbformat.specs.Sound.{Sound};
-ghost use Rattle.dbformat.specs.Survey.{Survey};
-ghost use Rattle.dbformat.specs.declared.Command.TheVariants.{Check, Stat};
 ghost use Rattle.dbscan.specs.DeskSizes.{DeskFitsInMemory};
 ghost use Rattle.dbscan.specs.Kept.{HasUsed};
-ghost use Rattle.dbreport.specs.Runs.{FailsAsAnswered, HasRun, HasRunAfterHeader, IsCheck, IsLeftAlone, IsReported, SaysOkWhereSound, ToldReportsAreRead, ToldRunsAreRead, ToldRunsOnAreRead};
-ghost use Rattle.dbreport.specs.StatReporter.{failures_of_each};
-ghost use Rattle.dbsource.specs.Errors.{is_read_failed, is_write_failed};
-ghost use Rattle.dbsource.specs.Failures.{CountsAfter, failures_after};
+ghost use Rattle.dbreport.specs.Runs.{FailsAsAnswered, HasRun, HasRunAfterHeader, IsCheck, IsLeftAlone, SaysOkWhereSound, ToldReportsAreRead, ToldRunsAreRead, ToldRunsOnAreRead};
 ghost use Rattle.dbsource.specs.Headers.{IsHeaderOf};
-ghost use Rattle.dbsource.specs.Outs.{Writes};
 ghost use Rattle.dbsource.specs.Snapshots.{HasRead, HasReadAfterHeader};
 
 use crate::checking::CheckReporter;
-use crate::jobs::{Job, run_job};
+use crate::opening::open_in;
 use crate::statistics::{Form, StatReporter};
 use dbformat::{Command, Verdict};
 use dbscan::{Desk, run_over};
-use dbsource::{Geometry, Out, RunError, Source};
-use std::alloc::{AllocError, Allocator, Global};
-
-// A check of the file whose header is on the desk.
-fn check_on<A: Allocator, S: Source, O: Out>(
-    limit: u32,
-    desk: &mut Desk<A>,
-    source: &mut S,
-    out: &mut O,
-) -> Result<Verdict, RunError>
-    ensures read { HasReadAfterHeader S.step (IsPageLog (geometry_of desk.old.header.bytes desk.old.header.file_len)) desk.old.header
-        (λ file. (V : List Reference) → Survey file V
-        → Writes result (O.held out.old).bytes (O.held out.new).bytes (report (Check limit) file V).out
-        × IfOk result (λ v. (report (Check limit) file V).answer ≡ Ok v))
-        (S.held source.old) (S.held source.new) }
-    ensures count { (S.held source.new).failures ≡ failures_after is_read_failed result (S.held source.old).failures }
-    ensures out_failures { (O.held out.new).failures ≡ failures_after is_write_failed result (O.held out.old).failures }
-    ensures desk { HasUsed result desk.old desk.new }
-{
-    let mut reporter = CheckReporter::new(out, limit);
-    run_over(desk, source, &mut reporter)
-}
-
-// The statistics of the file whose header is on the desk.
-fn stat_on<A: Allocator, S: Source, O: Out, E: Out>(
-    form: Form,
-    desk: &mut Desk<A>,
-    source: &mut S,
-    out: &mut O,
-    err: &mut E,
-) -> Result<Verdict, RunError>
-    ensures read { HasReadAfterHeader S.step (IsPageLog (geometry_of desk.old.header.bytes desk.old.header.file_len)) desk.old.header
-        (λ file. (V : List Reference) → Survey file V
-        → IsReported (Stat form.aggregate form.all) file V result (O.held out.old).bytes (O.held out.new).bytes (E.held err.old).bytes (E.held err.new).bytes)
-        (S.held source.old) (S.held source.new) }
-    ensures count { (S.held source.new).failures ≡ failures_after is_read_failed result (S.held source.old).failures }
-    ensures writes { CountsAfter is_write_failed result (failures_of_each (O.held out.old) (E.held err.old))
-        (failures_of_each (O.held out.new) (E.held err.new)) }
-    ensures desk { HasUsed result desk.old desk.new }
-{
-    let encoding = desk.header().encoding();
-    let page_size = desk.geometry().page_size;
-    let mut reporter = StatReporter::new(out, err, encoding, page_size, form);
-    run_over(desk, source, &mut reporter)
-}
+use dbsource::{Out, RunError, Source};
+use std::alloc::Allocator;
 
 /// Writes what `command` asks of the file whose header is on the desk: for a check the fault lines to `out`, and nothing to
 /// `err`; for the statistics the rows to `out`, and all fault lines to `err`. The header is not read again, and a desk may be
@@ -99,81 +48,23 @@ pub fn run_on<A: Allocator, S: Source, O: Out, E: Out>(
     ensures desk { HasUsed result desk.old desk.new }
 {
     match command {
-        Command::Check { limit } => check_on(limit, desk, source, out),
+        Command::Check { limit } => {
+            let mut reporter = CheckReporter::new(out, limit);
+            run_over(desk, source, &mut reporter)
+        }
         Command::Stat { aggregate, all } => {
-            stat_on(Form { aggregate, all }, desk, source, out, err)
+            let form = Form { aggregate, all };
+            let encoding = desk.header().encoding();
+            let page_size = desk.geometry().page_size;
+            let mut reporter = StatReporter::new(out, err, encoding, page_size, form);
+            run_over(desk, source, &mut reporter)
         }
     }
 }
 
-// The job of a check, and of the statistics: a command, and the Outs that it writes to.
-#[derive(Drop)]
-struct ReportJob<'a, O, E> {
-    command: Command,
-    out: &'a mut O,
-    err: &'a mut E,
-}
-
-// It keeps nothing of a file but the desk.
-impl<A: Allocator, O: Out, E: Out> Job<A, Desk<A>> for ReportJob<'_, O, E> {
-    ghost use Rattle.std.specs.Prelude.{⊤};
-    ghost use Rattle.dbreport.specs.ReportJobs.{EndsJob, LeavesJob};
-
-    type Kept = ();
-
-    ghost begins = { λ _ _ _. ⊤ };
-
-    ghost leaves = { LeavesJob O.held E.held };
-
-    ghost ends = { EndsJob O.held E.held };
-
-    fn keep(&self, _alloc: A, _geometry: &Geometry) -> Result<(), AllocError> {
-        Ok(())
-    }
-
-    fn run_on<S: Source>(
-        &mut self,
-        desk: &mut Desk<A>,
-        _kept: &mut (),
-        source: &mut S,
-    ) -> Result<Verdict, RunError> {
-        run_on(self.command, desk, source, self.out, self.err)
-    }
-}
-
-/// Does what [`run`] does, in memory from any allocator: the clauses are the same.
-///
-/// # Errors
-///
-/// As of [`run`].
-pub fn run_in<A: Allocator + Copy, S: Source, O: Out, E: Out>(
-    alloc: A,
-    command: Command,
-    source: &mut S,
-    out: &mut O,
-    err: &mut E,
-) -> Result<Verdict, RunError>
-    // The desk fits in memory, as it does unless the allocator itself is nearly that large.
-    requires fits { DeskFitsInMemory A.row A.Allocator }
-    ensures read { HasRun S.Source O.Out E.Out command result (source.old, out.old, err.old) (source.new, out.new, err.new) }
-    // The verdict is `Clean` exactly where the file is sound: each file that agrees with what was read, and so told bytes.
-    ensures sound { HasRead S.step S.lengths IsSomeRunLog (λ file ranges. IfOk result (λ v. v ≡ Verdict.Clean ↔ Sound file))
-        (S.held source.old) (S.held source.new) }
-    ensures told { IfSome (S.held source.old).bytes (λ file. IfOk result (λ v. v ≡ Verdict.Clean ↔ Sound file)) }
-    // A check wrote the line `ok` exactly where the file is sound.
-    ensures ok { HasRead S.step S.lengths IsSomeRunLog
-        (λ file ranges. OnOk result (SaysOkWhereSound command file (O.held out.old).bytes (O.held out.new).bytes)) (S.held source.old) (S.held source.new) }
-    ensures failed { FailsAsAnswered S.Source O.Out E.Out command result (source.old, out.old, err.old) (source.new, out.new, err.new) }
-    ensures refused { IsLeftAlone S.Source O.Out E.Out result (source.old, out.old, err.old) (source.new, out.new, err.new) }
-    ensures second { IsCheck command → err.new ≡ err.old }
-{
-    let mut job = ReportJob { command, out, err };
-    run_job(alloc, &mut job, source)
-}
-
 /// Reads the database that `source` gives, and writes what `command` asks of it: for a check the fault lines to `out`,
 /// and nothing to `err`; for the statistics the rows to `out`, and all fault lines to `err`. What it keeps of the file
-/// is on a [`Desk`], in memory from `alloc`.
+/// is on a [`Desk`], in memory from `alloc`, which may be any allocator.
 ///
 /// The statistics flush the one Out before they put to the other, so that rows and faults come in the order of the report
 /// where both lead to one place. What was put last may be pending at the end: a caller flushes both.
@@ -183,13 +74,15 @@ pub fn run_in<A: Allocator + Copy, S: Source, O: Out, E: Out>(
 /// [`RunError::Refused`] where the file is not read at all: then nothing but its header was asked for, and nothing was
 /// written. [`RunError::ReadFailed`] where the source failed, [`RunError::OutOfMemory`] where a growth was refused, and
 /// [`RunError::WriteFailed`] where an out failed: then each out holds what it had and a beginning of its part of the report.
-pub fn run<S: Source, O: Out, E: Out>(
-    alloc: Global,
+pub fn run<A: Allocator + Copy, S: Source, O: Out, E: Out>(
+    alloc: A,
     command: Command,
     source: &mut S,
     out: &mut O,
     err: &mut E,
 ) -> Result<Verdict, RunError>
+    // The desk fits in memory, as it does unless the allocator itself is nearly that large.
+    requires fits { DeskFitsInMemory A.row A.Allocator }
     // Whatever the source answers: there is a file, of the length that it answered, that agrees with every byte that the run
     // used, and of each such file this was the run.
     ensures read { HasRun S.Source O.Out E.Out command result (source.old, out.old, err.old) (source.new, out.new, err.new) }
@@ -204,7 +97,10 @@ pub fn run<S: Source, O: Out, E: Out>(
     ensures refused { IsLeftAlone S.Source O.Out E.Out result (source.old, out.old, err.old) (source.new, out.new, err.new) }
     ensures second { IsCheck command → err.new ≡ err.old }
 {
-    run_in(alloc, command, source, out, err)
+    match open_in(alloc, source) {
+        Ok(mut desk) => run_on(command, &mut desk, source, out, err),
+        Err(error) => Err(error),
+    }
 }
 
 /// What [`run`] says of each file that agrees with what was read is so of the bytes that a source tells, as memory does: by any

@@ -4,7 +4,7 @@ use crate::support::fakes::SmallOut;
 use crate::support::samples::file_of;
 use crate::support::stated::StatedSource;
 use crate::support::stops::holds;
-use dbexplain::{explain, explain_in};
+use dbexplain::explain;
 use dbreport::Verdict;
 use dbsource::{MemOut, MemSource, RunError};
 use linked_list_allocator::LocalHeap;
@@ -136,7 +136,7 @@ fn is_answered_in(
     let heap = LocalHeap::new(alloc, room)?;
     let mut source = MemSource::new(file);
     let mut out = MemOut::new(alloc);
-    let answer = explain_in(&heap, 100, &mut source, &mut out);
+    let answer = explain(&heap, 100, &mut source, &mut out);
     let is_written = !out.bytes().is_empty();
     Ok(answer == wanted && heap.used() == 0 && answer.is_ok() == is_written)
 }

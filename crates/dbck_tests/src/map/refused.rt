@@ -2,7 +2,7 @@
 use crate::support::samples::file_of;
 use crate::support::stated::StatedSource;
 use crate::support::stops::holds;
-use dbmap::{map, map_in};
+use dbmap::map;
 use dbreport::Verdict;
 use dbsource::{MemOut, MemSource, RunError};
 use linked_list_allocator::LocalHeap;
@@ -58,7 +58,7 @@ fn is_answered_in(
     let heap = LocalHeap::new(alloc, room)?;
     let mut source = MemSource::new(file);
     let mut out = MemOut::new(alloc);
-    let answer = map_in(&heap, "x", &mut source, &mut out);
+    let answer = map(&heap, "x", &mut source, &mut out);
     let is_put = !out.bytes().is_empty();
     Ok(answer == wanted && heap.used() == 0 && answer.is_ok() == is_put)
 }

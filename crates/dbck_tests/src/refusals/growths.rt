@@ -5,7 +5,7 @@ use crate::support::files::{DEEP_ROWS, EMPTY_PAGES, LONG_ROW_ROWS, OLD_VERSION};
 use crate::support::samples::file_of;
 use crate::support::stops::holds;
 use bumpalo::Bump;
-use dbreport::{Verdict, run_in};
+use dbreport::{Verdict, run};
 use dbsource::{MemSource, RunError};
 use linked_list_allocator::LocalHeap;
 use std::alloc::{AllocError, Global};
@@ -48,7 +48,7 @@ fn run_in_arena(alloc: Global, what: &str, file: &[u8], room: usize) -> Result<G
     let mut source = MemSource::new(file);
     let mut out = SmallOut::new(2048);
     let mut err = SmallOut::new(2048);
-    let answer = run_in(&arena, command_of(what), &mut source, &mut out, &mut err);
+    let answer = run(&arena, command_of(what), &mut source, &mut out, &mut err);
     let left = arena.chunk_capacity();
     Ok((answer, left, out.bytes().len(), err.bytes().len()))
 }
@@ -178,7 +178,7 @@ fn run_in_heap(
     let mut source = MemSource::new(file);
     let mut out = SmallOut::new(2048);
     let mut err = SmallOut::new(2048);
-    let answer = run_in(&heap, command_of(what), &mut source, &mut out, &mut err);
+    let answer = run(&heap, command_of(what), &mut source, &mut out, &mut err);
     let are_begun = begins(rows, out.bytes()) && begins(told, err.bytes());
     let written = (answer, out.bytes().len(), err.bytes().len());
     Ok((are_begun && heap.used() == 0).then_some(written))

@@ -1,53 +1,86 @@
+use Rattle.std.proofs.Common.{rules, ◌≡◌, ap, ◌∙◌}
+use Rattle.dbformat.specs.Header.{encoding as encoding_of}
 use Rattle.dbformat.specs.declared.Command.TheVariants.{Check, Stat}
-use Rattle.dbreport.proofs.RunAnswers.{IsSoundAnswer, first_failures, run_of}
+use Rattle.dbsource.specs.Errors.{is_write_failed}
+use Rattle.dbsource.specs.Failures.{failures_after}
+use Rattle.dbsource.specs.HeaderBytes.{HeaderBytes}
 use Rattle.dbsource.proofs.Runs.{of_told_after}
 use Rattle.dbscan.proofs.AfterHeader.{after_weaker}
+use Rattle.dbscan.proofs.Tellers.{first}
+use Rattle.dbreport.proofs.Checked.{check_reported}
+use Rattle.dbreport.proofs.ReporterStates.{lent_same, one_failed, second}
+use Rattle.dbreport.proofs.RunAnswers.{IsSoundAnswer, first_failures, run_of}
 use Rattle.dbreport.proofs.RunReports.{check_err}
+use Rattle.dbreport.proofs.StatReports.{for_file, stat_reported}
 use Rattle.dbreport.proofs.runs.run_on.Goals as goal
 
+-- ---- a check
+
 pub returns-in-Check-clause-read : goal.returns-in-Check-clause-read
-returns-in-Check-clause-read g c = rw c.in-Check.is (after_weaker _ _ c.check_on.ensures.read (λ file is told.
-    run_of (Check c.in-Check.limit) file c.check_on.result (g.O.Out.held c.args.out.now).bytes (g.O.Out.held c.check_on.new.out).bytes
-    (g.E.Out.held c.args.err.now).bytes (g.E.Out.held c.args.err.now).bytes
-    c.check_on.ensures.desk.only is.is_read
-    (λ V s. record {
-      out = (told V s).0;
-      err = check_err c.in-Check.limit file V is.is_read c.check_on.result (g.E.Out.held c.args.err.now).bytes;
-      verdict =
-          (told V s).1;
+returns-in-Check-clause-read g c =
+    let limit = c.in-Check.limit in
+    let r = c.run_over.result in
+    let ran = c.run_over.ensures in
+    let new = c.new-reporter.ensures in
+    let same = ap first (lent_same r _ _ ran.keeps.writes) in
+    let k : c.out-1.given.0 ≡ c.run_over.new.reporter.out.now = search (rules, same) in
+    rw c.in-Check.is (after_weaker _ _ ran.read (λ file is told.
+    run_of (Check limit) file r (g.O.Out.held c.args.out.now).bytes (g.O.Out.held c.out-1.given.0).bytes
+    (g.E.Out.held c.args.err.now).bytes (g.E.Out.held c.args.err.now).bytes ran.keeps.desk.only is.is_read (λ V s.
+    let by = check_reported g.O.Out.held file V s r c.new-reporter.result c.run_over.new.reporter c.args.out.now c.out-1.given.0 limit new.out new.limit
+    new.shown new.more k is.is_read (told V s) in record {
+      out = by.0;
+      err = check_err limit file V is.is_read r (g.E.Out.held c.args.err.now).bytes;
+      verdict = by.1;
     })))
 
 pub returns-in-Check-clause-sound : goal.returns-in-Check-clause-sound
 returns-in-Check-clause-sound g c = after_weaker _ _ (returns-in-Check-clause-read g c) (λ file is t. t.run.sound)
 
 pub returns-in-Check-clause-told : goal.returns-in-Check-clause-told
-returns-in-Check-clause-told g c = of_told_after _ (IsSoundAnswer c.check_on.result) (returns-in-Check-clause-sound g c)
+returns-in-Check-clause-told g c = of_told_after _ (IsSoundAnswer c.run_over.result) (returns-in-Check-clause-sound g c)
 
 pub returns-in-Check-clause-ok : goal.returns-in-Check-clause-ok
 returns-in-Check-clause-ok g c = after_weaker _ _ (returns-in-Check-clause-read g c) (λ file is t. t.ok)
 
 pub returns-in-Check-clause-failed : goal.returns-in-Check-clause-failed
-returns-in-Check-clause-failed g c = record {
-  reads = c.check_on.ensures.count;
-  writes = first_failures c.check_on.result (g.O.Out.held c.args.out.now).failures (g.O.Out.held c.check_on.new.out).failures
-      (g.E.Out.held c.args.err.now).failures c.check_on.ensures.out_failures;
-  first = λ i. c.check_on.ensures.out_failures;
-}
+returns-in-Check-clause-failed g c =
+    let r = c.run_over.result in
+    let same = ap first (lent_same r _ _ c.run_over.ensures.keeps.writes) in
+    let k : c.out-1.given.0 ≡ c.run_over.new.reporter.out.now = search (rules, same) in
+    let out : (g.O.Out.held c.out-1.given.0).failures ≡ failures_after is_write_failed r (g.O.Out.held c.args.out.now).failures =
+        ap (λ o. (g.O.Out.held o).failures) k ∙ one_failed r _ _ _ _ c.run_over.ensures.keeps.writes
+        ∙ ap (λ o. failures_after is_write_failed r (g.O.Out.held o).failures) c.new-reporter.ensures.out in record {
+      reads = c.run_over.ensures.reads;
+      writes = first_failures r (g.O.Out.held c.args.out.now).failures (g.O.Out.held c.out-1.given.0).failures (g.E.Out.held c.args.err.now).failures out;
+      first = λ i. out;
+    }
+
+-- ---- the statistics
 
 pub returns-in-Stat-clause-read : goal.returns-in-Stat-clause-read
-returns-in-Stat-clause-read g c = rw c.in-Stat.is (after_weaker _ _ c.stat_on.ensures.read (λ file is told.
-    run_of (Stat c.in-Stat.aggregate c.in-Stat.all) file c.stat_on.result (g.O.Out.held c.args.out.now).bytes (g.O.Out.held c.stat_on.new.out).bytes
-    (g.E.Out.held c.args.err.now).bytes (g.E.Out.held c.stat_on.new.err).bytes
-    c.stat_on.ensures.desk.only is.is_read told))
+returns-in-Stat-clause-read g c =
+    let r = c.run_over-in-Stat.result in
+    let ran = c.run_over-in-Stat.ensures in
+    let new = c.new-reporter-in-Stat.ensures in
+    let s = c.new-reporter-in-Stat.result in
+    let same = ap first (lent_same r _ _ ran.keeps.writes) in
+    let same' = ap second (lent_same r _ _ ran.keeps.writes) in
+    let k : c.out-in-Stat-1.given.0 ≡ c.run_over-in-Stat.new.reporter.out.now = search (rules, same) in
+    let k' : c.err-1.given.0 ≡ c.run_over-in-Stat.new.reporter.err.now = search (rules, same') in
+    rw c.in-Stat.is (after_weaker _ _ ran.read (λ file is told.
+    run_of (Stat c.in-Stat.aggregate c.in-Stat.all) file r (g.O.Out.held c.args.out.now).bytes (g.O.Out.held c.out-in-Stat-1.given.0).bytes
+    (g.E.Out.held c.args.err.now).bytes (g.E.Out.held c.err-1.given.0).bytes ran.keeps.desk.only is.is_read (λ V v.
+    let for = for_file file c.args.desk.now.header c.geometry-page_size.result s is (c.geometry-page_size.ensures.shape ∙ is.shape)
+    (new.encoding ∙ c.encoding-encoding.ensures ∙ ap (λ (h : HeaderBytes). encoding_of h.bytes) c.header.ensures.value) new.page_size new.sums in
+    stat_reported g.O.Out.held g.E.Out.held file V v r s c.run_over-in-Stat.new.reporter c.args.out.now c.out-in-Stat-1.given.0 c.args.err.now c.err-1.given.0
+    (record { aggregate = c.in-Stat.aggregate; all = c.in-Stat.all }) new.out new.err new.form new.found for k k' is.is_read (told V v))))
 
 pub returns-in-Stat-clause-sound : goal.returns-in-Stat-clause-sound
 returns-in-Stat-clause-sound g c = after_weaker _ _ (returns-in-Stat-clause-read g c) (λ file is t. t.run.sound)
 
 pub returns-in-Stat-clause-told : goal.returns-in-Stat-clause-told
-returns-in-Stat-clause-told g c = of_told_after _ (IsSoundAnswer c.stat_on.result) (returns-in-Stat-clause-sound g c)
+returns-in-Stat-clause-told g c = of_told_after _ (IsSoundAnswer c.run_over-in-Stat.result) (returns-in-Stat-clause-sound g c)
 
 pub returns-in-Stat-clause-ok : goal.returns-in-Stat-clause-ok
 returns-in-Stat-clause-ok g c = after_weaker _ _ (returns-in-Stat-clause-read g c) (λ file is t. t.ok)
-
-pub returns-in-Stat-clause-failed : goal.returns-in-Stat-clause-failed
-returns-in-Stat-clause-failed g c = rw c.in-Stat.is (record { reads = c.stat_on.ensures.count; writes = c.stat_on.ensures.writes; first = λ i. absurd i })

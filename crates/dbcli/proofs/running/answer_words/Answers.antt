@@ -1,0 +1,20 @@
+use Rattle.std.proofs.Common.{inl, inr, refl}
+use Rattle.dbcli.proofs.running.answer_words.Goals as goal
+
+pub returns-in-Ok : goal.returns-in-Ok
+returns-in-Ok g c = inl (record {
+  taken = c.in-Ok.ensures.taken;
+  request = c.in-Ok.line.request;
+  file = c.in-Ok.line.file.now;
+  asked = c.in-Ok.ensures.asks;
+  limit = c.in-Ok.ensures.limit;
+  ran = c.run_line.ensures;
+})
+
+pub returns-in-Err : goal.returns-in-Err
+returns-in-Err g c = inr (
+  c.shown_error.result,
+  c.shown_error.ensures.kept _ c.in-Err.ensures.refused,
+  c.tell.ensures,
+  record { files = refl; first = refl; second = refl; notes_kept = refl },
+)
