@@ -1,5 +1,6 @@
 pub mod Beginnings
 pub mod Benches
+pub mod Changed
 pub mod Gathered
 pub mod Headers
 pub mod Lines

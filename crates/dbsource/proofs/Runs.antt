@@ -13,7 +13,7 @@ use Rattle.dbformat.specs.Header.{page_size, page_count, whole_pages, stated_pag
 use Rattle.dbformat.specs.Log.{header_range, range, page_range, IsPageLog, IsRunLog}
 use Rattle.dbformat.specs.declared.ByteRange.{ByteRange}
 use Rattle.dbformat.specs.declared.Refusal.TheVariants.{Short, Magic, PageSize, Usable, NoPage, TooManyPages, MapAtLock}
-use Rattle.dbsource.specs.Answers.{Answer, Fits, FitsAnswer, Front, IsRangeOf, Leads, Step, Trail, asked, failed, given, Lengths}
+use Rattle.dbsource.specs.Answers.{Answer, Fits, FitsAnswer, Front, IsRangeOf, Leads, Step, Trail, asked, failed, given, headed_by, Lengths}
 use Rattle.dbsource.specs.Errors.{is_open_failed}
 use Rattle.dbsource.specs.Failures.{failures_after, one_more}
 use Rattle.dbsource.specs.Headed.{over, over_answer, begun, headed, headed_trail, HeadedStep}
@@ -30,14 +30,11 @@ use Rattle.dbsource.proofs.Told.{if_told, if_told_both}
 pub same_trail : (n m : ℕ) (a b : List ℕ) (o p : Option (List ℕ)) (s t : Trail) → headed_trail n a o s ≡ headed_trail m b p t → (n ≡ m) × (a ≡ b) × (o ≡ p)
     × (s ≡ t)
 same_trail n m a b o p s t e =
-    let fronts : front n a o ∷ s.fronts ≡ front m b p ∷ t.fronts = ap (λ (x : Trail). x.fronts) e in
-    let first : front n a o ≡ front m b p = cc in
+    let fronts : headed_by n a o ∷ s.fronts ≡ headed_by m b p ∷ t.fronts = ap (λ (x : Trail). x.fronts) e in
+    let first : headed_by n a o ≡ headed_by m b p = cc in
     let rest : s.fronts ≡ t.fronts = cc in
-    (ap (λ (f : Front). f.name) first, ap (λ (f : Front). f.head) first, ap (λ (f : Front). f.told) first, same_parts rest (ap (λ (x : Trail). x.ranges) e))
+    (let k : n ≡ m = cc in k, let k : a ≡ b = cc in k, let k : o ≡ p = cc in k, same_parts rest (ap (λ (x : Trail). x.ranges) e))
   where
-    front : ℕ → List ℕ → Option (List ℕ) → Front
-    front name head told = record { name = name; head = head; told = told }
-
     same_parts : s.fronts ≡ t.fronts → s.ranges ≡ t.ranges → s ≡ t
     same_parts f r = ap₂ (λ (a : List Front) (b : List ByteRange). let x : Trail = record { fronts = a; ranges = b } in x) f r
 

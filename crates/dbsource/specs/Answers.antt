@@ -2,6 +2,7 @@
 use Rattle.std.specs.Prelude.{◌≡◌, ℕ, ◌+◌, ◌≤◌, List, [], ◌∷◌, length, take, drop, Option, Result, Ok, Err}
 use Rattle.dbformat.specs.Log.{range}
 use Rattle.dbformat.specs.declared.ByteRange.{ByteRange}
+use Rattle.dbsource.specs.Changes.{Change}
 
 -- the bytes of a range that lies in the file
 abbrev pub IsRangeOf : List ℕ → ℕ → List ℕ → Type 0
@@ -32,13 +33,13 @@ abbrev pub Fits : List ℕ → List Answer → Type 0
 Fits file [] = Unit {0}
 Fits file (a ∷ log) = FitsAnswer file a × Fits file log
 
--- a header that is put over what a source gives, the name of the reference to that source, and its told bytes
-pub record Front : Type 0 where
-  pub name : ℕ
-  pub head : List ℕ
-  pub told : Option (List ℕ)
+-- What is put over the bytes that a source gives: a header, with the name of the reference to that source; or changes. And the
+-- told bytes of the source.
+pub data Front : Type 0 where
+  headed_by : ℕ → List ℕ → Option (List ℕ) → Front
+  changed_by : List Change → Option (List ℕ) → Front
 
--- what a source keeps: the headers over it, which no read changes, and the requested ranges
+-- what a source keeps: what is put over it, which no read changes, and the requested ranges
 pub record Trail : Type 0 where
   pub fronts : List Front
   pub ranges : List ByteRange

@@ -1,7 +1,7 @@
 -- A source that gives the bytes of a header that was read for the first bytes of the file.
 use Rattle.std.specs.Prelude.{◌≡◌, ℕ, List, ◌∷◌, ◌++◌, length, take, drop, Option, Some, None, if◌then◌else◌, ◌==◌}
 use Rattle.std.specs.Str.{bytes_eq}
-use Rattle.dbsource.specs.Answers.{Answer, Lengths, Step, Trail, failed, given}
+use Rattle.dbsource.specs.Answers.{Answer, Lengths, Step, Trail, failed, given, headed_by}
 use Rattle.dbsource.specs.Sources.{SourceState}
 
 -- bytes that were read at an offset, with the header put over those of the file's beginning
@@ -20,7 +20,7 @@ begun head (Some file) = if bytes_eq (take 100 file) head then Some file else No
 
 -- its trail is that of the inner source, with the header before it
 abbrev pub headed_trail : ℕ → List ℕ → Option (List ℕ) → Trail → Trail
-headed_trail name head told trail = record { fronts = record { name = name; head = head; told = told } ∷ trail.fronts; ranges = trail.ranges }
+headed_trail name head told trail = record { fronts = headed_by name head told ∷ trail.fronts; ranges = trail.ranges }
 
 abbrev pub headed : ℕ → List ℕ → SourceState → SourceState
 headed name head s = record { bytes = begun head s.bytes; trail = headed_trail name head s.bytes s.trail; failures = s.failures }

@@ -1,5 +1,6 @@
 pub mod Answers
 pub mod Bench
+pub mod Changes
 pub mod Errors
 pub mod Failures
 pub mod Gathers
@@ -8,5 +9,6 @@ pub mod HeaderBytes
 pub mod Headers
 pub mod Lending
 pub mod Outs
+pub mod Patched
 pub mod Snapshots
 pub mod Sources

@@ -12,6 +12,8 @@
 
 mod bench;
 mod buffered_out;
+mod change;
+mod changes;
 mod claims;
 mod error;
 mod failures;
@@ -25,6 +27,7 @@ mod log_source;
 mod memory_out;
 mod memory_source;
 mod out;
+mod patched;
 mod read_ahead;
 mod read_along;
 mod source;
@@ -32,6 +35,8 @@ mod stream_out;
 
 pub use bench::Bench;
 pub use buffered_out::BufferedOut;
+pub use change::{Change, ChangeError};
+pub use changes::Changes;
 pub use claims::{Claim, told_files_are_read};
 pub use dbformat::{ByteRange, Encoding, Fixed, Geometry, Refusal};
 pub use error::{OpenError, RunError};
@@ -43,5 +48,6 @@ pub use log_source::{LogSource, log_source_keeps_its_log};
 pub use memory_out::MemOut;
 pub use memory_source::MemSource;
 pub use out::{Out, WriteFailed};
+pub use patched::Patched;
 pub use source::{ReadFailed, Source};
 pub use stream_out::StreamOut;
