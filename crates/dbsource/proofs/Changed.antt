@@ -125,6 +125,14 @@ changed_drop [] n place xs = refl
 changed_drop (c ∷ changes) n place xs =
     changed_drop changes n place (with_change place xs c) ∙ ap (changed_from changes (place + n)) (with_drop c n place xs)
 
+pub changed_append : (changes : List Change) (place : ℕ) (xs ys : List ℕ)
+    → changed_from changes place (xs ++ ys) ≡ changed_from changes place xs ++ changed_from changes (place + length xs) ys
+changed_append [] place xs ys = refl
+changed_append (c ∷ changes) place xs ys =
+    ap (changed_from changes place) (with_append c place xs ys) ∙ changed_append changes place (with_change place xs c) (with_change (place + length xs) ys c)
+    ∙ ap (λ n. changed_from changes place (with_change place xs c) ++ changed_from changes (place + n) (with_change (place + length xs) ys c))
+    (with_length c place xs)
+
 -- a range of the file, with the changes, is one of the changed file
 pub changed_range : (changes : List Change) (file : List ℕ) (offset : ℕ) (piece : List ℕ) → IsRangeOf file offset piece
     → IsRangeOf (patched changes file) offset (changed_from changes offset piece)

@@ -6,6 +6,7 @@ pub mod Headers
 pub mod Lines
 pub mod Logs
 pub mod Overs
+pub mod PatchedRuns
 pub mod Puts
 pub mod Runs
 pub mod Snapshots

@@ -44,7 +44,7 @@ over_same file buf e = by_length (cases_Bool (nat_lt (length buf) 100))
         take_all (length buf) (take 100 file) (simp length-take (omega arith)) ∙ sym (take-take 100 (length buf) file l) ∙ sym (ap (take 100) e) in
         ap (λ xs. xs ++ drop 100 buf) first ∙ take-append-drop 100 buf
 
-over_range : (head file : List ℕ) (offset : ℕ) (buf : List ℕ) → take 100 file ≡ head → IsRangeOf file offset buf → over head offset buf ≡ buf
+pub over_range : (head file : List ℕ) (offset : ℕ) (buf : List ℕ) → take 100 file ≡ head → IsRangeOf file offset buf → over head offset buf ≡ buf
 over_range head file offset buf e k = by_offset (offset == 0) refl
   where
     by_offset : (b : Bool) → b ≡ (offset == 0) → cond b (take (length buf) head ++ drop 100 buf) buf ≡ buf

@@ -63,14 +63,14 @@ behind step name head told old new (a ∷ log) (mid, s, k) =
       given_as = ap (λ x. x ∷ log) (s.given_as ∙ ap (λ d. over_answer d s.raw) (sym m.1)) ∙ ap (λ l. over_answer head s.raw ∷ l) rest.given_as;
     }
 
-over_length : (head bytes : List ℕ) (o : ℕ) → length head ≡ 100 → length (over head o bytes) ≡ length bytes
+pub over_length : (head bytes : List ℕ) (o : ℕ) → length head ≡ 100 → length (over head o bytes) ≡ length bytes
 over_length head bytes o h = by_offset (o == 0)
   where
     by_offset : (b : _) → length (cond b (take (length bytes) head ++ drop 100 bytes) bytes) ≡ length bytes
     by_offset false = refl
     by_offset true = simp (length-append, length-take, length-drop) (omega arith)
 
-over_asked : (head : List ℕ) (log : List Answer) → length head ≡ 100 → map asked (map (over_answer head) log) ≡ map asked log
+pub over_asked : (head : List ℕ) (log : List Answer) → length head ≡ 100 → map asked (map (over_answer head) log) ≡ map asked log
 over_asked head [] h = refl
 over_asked head (given o bytes ∷ log) h = ap (λ n. range o n ∷ map asked (map (over_answer head) log)) (over_length head bytes o h)
     ∙ ap (λ l. range o (length bytes) ∷ l) (over_asked head log h)
@@ -80,12 +80,12 @@ over_fits : (head file : List ℕ) (log : List Answer) → take 100 file ≡ hea
 over_fits head file [] e f = tt
 over_fits head file (a ∷ log) e f = (subst (λ d. FitsAnswer file (over_answer d a)) e f.0, over_fits head file log e f.1)
 
-fits_over : (head file : List ℕ) (log : List Answer) → take 100 file ≡ head → Fits file (map (over_answer head) log) → FitsAfterHeader file log
+pub fits_over : (head file : List ℕ) (log : List Answer) → take 100 file ≡ head → Fits file (map (over_answer head) log) → FitsAfterHeader file log
 fits_over head file [] e f = tt
 fits_over head file (a ∷ log) e f = (subst (λ d. FitsAnswer file (over_answer d a)) (sym e) f.0, fits_over head file log e f.1)
 
 -- an answer from the beginning of the file on begins with the header that was put over it
-over_begins : (head : List ℕ) (log : List Answer) (size : ℕ) (pages : List ℕ) → length head ≡ 100 → 100 ≤ size → map asked log ≡ map (page_range size) pages
+pub over_begins : (head : List ℕ) (log : List Answer) (size : ℕ) (pages : List ℕ) → length head ≡ 100 → 100 ≤ size → map asked log ≡ map (page_range size) pages
     → BeginsSo head (map (over_answer head) log)
 over_begins head [] size pages h big e = tt
 over_begins head (a ∷ log) size [] h big e = cc
@@ -119,7 +119,7 @@ begun_told : (head file : List ℕ) → take 100 file ≡ head → begun head (S
 begun_told head file e = ap (λ b. cond b (Some file) None) ((bytes_eq-Decides (take 100 file) head).1 e)
 
 -- the header's bytes at the beginning of a file
-begin_range : (head file : List ℕ) → length head ≡ 100 → head ≡ take 100 file → 100 ≤ length file → IsRangeOf file 0 head
+pub begin_range : (head file : List ℕ) → length head ≡ 100 → head ≡ take 100 file → 100 ≤ length file → IsRangeOf file 0 head
 begin_range head file size e l = (omega arith, e ∙ ap (λ n. take n file) (sym size))
 
 -- the header before a source, and the reference to it, stay

@@ -130,35 +130,62 @@ put_begins size p len head file bytes big one s h first old = elim (first_or_lat
       ∙ ap (take 100) (take-append-drop ((p - 1) * size) file) ∙ old)
 ]
 
--- there is one for each log of distinct whole pages in range
-pub snapshot : (size len : ℕ) (head : List ℕ) (log : List Answer) (pages : List ℕ) → 100 ≤ size → 100 ≤ len → length head ≡ 100
-    → map asked log ≡ map (page_range size) pages → ((p : ℕ) → IsIn p pages → (1 ≤ p) × (p * size ≤ len)) → EachPair (λ p q. p ≢ q) pages → BeginsSo head log
+-- each answer lies in a file of this length
+abbrev pub AreWithin : ℕ → List Answer → Type 0
+AreWithin len [] = Unit {0}
+AreWithin len (given o bytes ∷ log) = (o + length bytes ≤ len) × AreWithin len log
+AreWithin len (failed r ∷ log) = AreWithin len log
+
+-- there is one for each log of distinct whole pages whose answers lie in it
+pub snapshot_of : (size len : ℕ) (head : List ℕ) (log : List Answer) (pages : List ℕ) → 100 ≤ size → 100 ≤ len → length head ≡ 100
+    → map asked log ≡ map (page_range size) pages → ((p : ℕ) → IsIn p pages → 1 ≤ p) → AreWithin len log → EachPair (λ p q. p ≢ q) pages → BeginsSo head log
     → (file : List ℕ) × IsSnapshot head len log file
-snapshot size len head [] pages big long h e ok d b =
+snapshot_of size len head [] pages big long h e ok w d b =
     let f = beginning head len (omega arith) in
     (f.0, record { length = f.1; begins = ap (λ n. take n f.0) (sym h) ∙ sym f.2.1; fits = tt })
-snapshot size len head (a ∷ log) [] big long h e ok d b = cc
-snapshot size len head (failed r ∷ log) (p ∷ pages) big long h e ok d b =
+snapshot_of size len head (a ∷ log) [] big long h e ok w d b = cc
+snapshot_of size len head (failed r ∷ log) (p ∷ pages) big long h e ok w d b =
     let k = same_head _ _ (map asked log) (map (page_range size) pages) e in
-    let f = snapshot size len head log pages big long h k.1 (λ q i. ok q (inr i)) d.1 b in
+    let f = snapshot_of size len head log pages big long h k.1 (λ q i. ok q (inr i)) w d.1 b in
     (f.0, record { length = f.1.length; begins = f.1.begins; fits = (tt, f.1.fits) })
-snapshot size len head (given o bytes ∷ log) (p ∷ pages) big long h e ok d b =
+snapshot_of size len head (given o bytes ∷ log) (p ∷ pages) big long h e ok w d b =
     let k = same_head _ _ (map asked log) (map (page_range size) pages) e in
-    let f = snapshot size len head log pages big long h k.1 (λ q i. ok q (inr i)) d.1 b.1 in
+    let f = snapshot_of size len head log pages big long h k.1 (λ q i. ok q (inr i)) w.1 d.1 b.1 in
     let m = same_offset o (length bytes) ((p - 1) * size) size k.0 in
-    let c = ok p (inl refl) in
-    let room : (p - 1) * size + size ≤ length f.0 = omega (arith, f.1.length, c.0, c.1, page_end size p c.0) in
+    let one = ok p (inl refl) in
+    let room : (p - 1) * size + size ≤ length f.0 = omega (arith, f.1.length, m.0, m.1, w.0) in
     let room' : (p - 1) * size + length bytes ≤ length f.0 = omega (arith, m.1) in (
       put f.0 ((p - 1) * size) bytes,
       record {
         length = put_length f.0 bytes ((p - 1) * size) room' ∙ f.1.length;
-        begins = put_begins size p len head f.0 bytes big c.0 m.1 room (λ z. b.0 (m.0 ∙ z)) f.1.begins;
+        begins = put_begins size p len head f.0 bytes big one m.1 room (λ z. b.0 (m.0 ∙ z)) f.1.begins;
         fits = (
           subst (λ n. IsRangeOf (put f.0 ((p - 1) * size) bytes) n bytes) (sym m.0) (put_there f.0 bytes ((p - 1) * size) room'),
-          fits_put size p f.0 bytes log pages k.1 c.0 m.1 room (λ q i. ((ok q (inr i)).0, λ x. d.0 q i (sym x))) f.1.fits,
+          fits_put size p f.0 bytes log pages k.1 one m.1 room (λ q i. (ok q (inr i), λ x. d.0 q i (sym x))) f.1.fits,
         );
       },
     )
+
+-- the answers of whole pages lie in a file that has these pages
+pages_lie : (size len : ℕ) (log : List Answer) (pages : List ℕ) → map asked log ≡ map (page_range size) pages
+    → ((p : ℕ) → IsIn p pages → (1 ≤ p) × (p * size ≤ len)) → AreWithin len log
+pages_lie size len [] pages e ok = tt
+pages_lie size len (a ∷ log) [] e ok = cc
+pages_lie size len (failed r ∷ log) (p ∷ pages) e ok =
+    let k = same_head _ _ (map asked log) (map (page_range size) pages) e in
+    pages_lie size len log pages k.1 (λ q i. ok q (inr i))
+pages_lie size len (given o bytes ∷ log) (p ∷ pages) e ok =
+    let k = same_head _ _ (map asked log) (map (page_range size) pages) e in
+    let m = same_offset o (length bytes) ((p - 1) * size) size k.0 in
+    let c = ok p (inl refl) in
+    (omega (arith, m.0, m.1, c.1, page_end p c.0), pages_lie size len log pages k.1 (λ q i. ok q (inr i)))
   where
-    page_end : (size p : ℕ) → 1 ≤ p → (p - 1) * size + size ≡ p * size
-    page_end size p one = let e : p ≡ suc (p - 1) = omega arith in sym (ap (λ n. n * size) e ∙ suc-mul (p - 1) size)
+    page_end : (p : ℕ) → 1 ≤ p → (p - 1) * size + size ≡ p * size
+    page_end p one = let e : p ≡ suc (p - 1) = omega arith in sym (ap (λ n. n * size) e ∙ suc-mul (p - 1) size)
+
+-- and so for each log of distinct whole pages in range
+pub snapshot : (size len : ℕ) (head : List ℕ) (log : List Answer) (pages : List ℕ) → 100 ≤ size → 100 ≤ len → length head ≡ 100
+    → map asked log ≡ map (page_range size) pages → ((p : ℕ) → IsIn p pages → (1 ≤ p) × (p * size ≤ len)) → EachPair (λ p q. p ≢ q) pages → BeginsSo head log
+    → (file : List ℕ) × IsSnapshot head len log file
+snapshot size len head log pages big long h e ok d b =
+    snapshot_of size len head log pages big long h e (λ p i. (ok p i).0) (pages_lie size len log pages e ok) d b

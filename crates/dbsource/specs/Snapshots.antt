@@ -1,11 +1,14 @@
 -- What a run read of a file: a file that agrees with all of it, put together of the pages as they were when each was read.
 use Rattle.std.specs.Prelude.{◌≡◌, ◌<◌, ◌⊎◌, ℕ, List, [], ◌∷◌, length, map, take, Some, IfSome}
+use Rattle.dbformat.specs.Log.{IsSomeRunLog}
 use Rattle.dbformat.specs.declared.ByteRange.{ByteRange}
 use Rattle.dbsource.specs.Answers.{Answer, FitsAnswer, Leads, Lengths, Step, asked}
+use Rattle.dbsource.specs.Changes.{Change, patched}
 use Rattle.dbsource.specs.Failures.{one_more}
 use Rattle.dbsource.specs.Headed.{over_answer}
 use Rattle.dbsource.specs.HeaderBytes.{HeaderBytes}
 use Rattle.dbsource.specs.Headers.{IsHeaderOf}
+use Rattle.dbsource.specs.Patched.{ChangedLength, ChangedStep, changed}
 use Rattle.dbsource.specs.Sources.{SourceState}
 
 -- the file agrees with an answer from its byte 100 on: so it does where its own first bytes are put over the answer's
@@ -103,3 +106,10 @@ pub record HasReadAfterTold (step : Step) (P : List ByteRange → Type 0) (Q : L
 abbrev pub ToldFileIsReadAfter : Step → (List ByteRange → Type 0) → HeaderBytes → (List ℕ → Type 0) → SourceState → SourceState → Type 0
 ToldFileIsReadAfter step P h Q old new = HasReadAfterHeader step P h Q old new
     → IfSome old.bytes (λ file. IsHeaderOf h file → HasReadAfterTold step P Q old new file)
+
+-- What a run read of a source with changes it read of the source below: of each file that agrees with that, what is claimed of a file
+-- is so of the file with the changes.
+abbrev pub PatchedFileIsRead : Step → Lengths → (List ByteRange → Type 0) → (List ℕ → List ByteRange → Type 0) → SourceState → SourceState → Type 0
+PatchedFileIsRead step lengths P Q old new = (changes changes' : List Change) → ((ranges : List ByteRange) → P ranges → IsSomeRunLog ranges)
+    → HasRead (ChangedStep step) (ChangedLength lengths) P Q (changed changes old) (changed changes' new)
+    → HasRead step lengths P (λ file ranges. Q (patched changes file) ranges) old new

@@ -1,5 +1,5 @@
-// The law of told bytes.
-ghost use Rattle.dbsource.specs.Snapshots.{ToldFileIsRead};
+// What is claimed of files that were read.
+ghost use Rattle.dbsource.specs.Snapshots.{PatchedFileIsRead, ToldFileIsRead};
 ghost use Rattle.dbsource.specs.Sources.{SourceState};
 
 use crate::Source;
@@ -27,4 +27,10 @@ impl Claim for Brand {
 /// change, and if they are too few for a header, nothing was read. So a run over a file in memory is a run over its bytes.
 pub fn told_files_are_read<S: Source, C: Claim>()
     ensures { (old new : SourceState) → ToldFileIsRead S.step S.lengths C.asks C.holds old new }
+{}
+
+/// What a run over [`Patched`](crate::Patched) read, it read of the source below: of each file that agrees with what that answered,
+/// whatever is claimed of a file that was read is so of the file with the changes.
+pub fn patched_files_are_read<S: Source, C: Claim>()
+    ensures { (old new : SourceState) → PatchedFileIsRead S.step S.lengths C.asks C.holds old new }
 {}

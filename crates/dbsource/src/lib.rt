@@ -37,7 +37,7 @@ pub use bench::Bench;
 pub use buffered_out::BufferedOut;
 pub use change::{Change, ChangeError};
 pub use changes::Changes;
-pub use claims::{Claim, told_files_are_read};
+pub use claims::{Claim, patched_files_are_read, told_files_are_read};
 pub use dbformat::{ByteRange, Encoding, Fixed, Geometry, Refusal};
 pub use error::{OpenError, RunError};
 pub use failures::Failures;
