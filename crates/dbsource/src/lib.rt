@@ -32,6 +32,7 @@ mod read_ahead;
 mod read_along;
 mod source;
 mod stream_out;
+mod used_share;
 
 pub use bench::Bench;
 pub use buffered_out::BufferedOut;

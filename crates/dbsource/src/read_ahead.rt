@@ -1,4 +1,5 @@
 // Reading ahead: a file that is not in memory is read by windows.
+use crate::used_share::UsedShare;
 use std::alloc::{AllocError, Global};
 use std::fs::File;
 use std::io;
@@ -19,6 +20,14 @@ const TIMES: u64 = 16;
 
 const MOST_AT_ONCE: u64 = 256;
 
+// A window is read only if at least one of so many pages is used: otherwise its pages take less time one by one. On a turning disk,
+// where a read takes `SEEK_MICROS` or longer, two pages in a window are enough.
+const PAGES_A_USED_ONE: u64 = 16;
+
+const PAGES_A_USED_ONE_ON_A_DISK: u64 = 128;
+
+const SEEK_MICROS: u64 = 2000;
+
 // The longest page for which more than one window is read at once. A few longer ones fill a window.
 const LONGEST: usize = 16_384;
 
@@ -34,8 +43,8 @@ const TIMED: usize = 4096;
 pub(crate) const DEVICE_MICROS: u64 = 15;
 
 /// The windows of a file. The beginning of the first read in each is timed: if it came from a device, the whole window
-/// is read once, so that the system has it in memory when its other pages are read; and where reads jump, the windows beside it.
-/// These bytes are not used.
+/// is read once, so that the system has it in memory when its other pages are read; and where reads jump, the windows beside it, the
+/// fewer the smaller the used share of the file is. Of a file that is mostly free no window is read. These bytes are not used.
 #[derive(Drop)]
 pub(crate) struct ReadAhead<'r, C> {
     clock: &'r C,
@@ -43,6 +52,8 @@ pub(crate) struct ReadAhead<'r, C> {
     // One bit for each window: whether a read in it was timed, or it was read with another.
     seen: Vec<u64>,
     windows: u64,
+    len: u64,
+    share: UsedShare,
     buffer: Vec<u8>,
     // How many windows are read at once, the last window with a slow read, and how many of them came before the last.
     at_once: u64,
@@ -69,6 +80,8 @@ impl<'r, C: Clock> ReadAhead<'r, C> {
             bound,
             seen: vec![in alloc; 0; windows.div_ceil(64) as usize]?,
             windows,
+            len,
+            share: UsedShare::WHOLE,
             buffer: Vec::new(alloc),
             at_once: 1,
             last: 0,
@@ -101,9 +114,13 @@ impl<'r, C: Clock> ReadAhead<'r, C> {
         let (first, rest) = buf.split_at_mut(TIMED.min(buf.len()));
         let start = Instant::now(self.clock);
         file.read_exact_at(first, offset)?;
+        if offset == 0 {
+            self.share = UsedShare::stated(first, self.len);
+        }
         if let Ok(start) = start
             && let Ok(time) = start.elapsed(self.clock)
             && time >= self.bound
+            && self.pays(time)
         {
             if is_short {
                 self.grow(window);
@@ -114,6 +131,15 @@ impl<'r, C: Clock> ReadAhead<'r, C> {
         file.read_exact_at(rest, offset.wrapping_add(first.len() as u64))
     }
 
+    // Whether so many pages of a window will be read that it pays to read it as a whole, where a page takes this time.
+    fn pays(&self, time: Duration) -> bool {
+        self.share.is_one_in(if time >= Duration::from_micros(SEEK_MICROS) {
+            PAGES_A_USED_ONE_ON_A_DISK
+        } else {
+            PAGES_A_USED_ONE
+        })
+    }
+
     // Notes a slow read in a window, after which more windows may be read at once.
     fn grow(&mut self, window: u64) {
         if window < self.last {
@@ -122,7 +148,8 @@ impl<'r, C: Clock> ReadAhead<'r, C> {
         self.last = window;
         if self.jumps > JUMPS {
             self.jumps = 0;
-            self.at_once = MOST_AT_ONCE.min(self.at_once.saturating_mul(TIMES));
+            let most = self.share.of(MOST_AT_ONCE).max(1);
+            self.at_once = most.min(self.at_once.saturating_mul(TIMES));
         }
     }
 
