@@ -6,7 +6,8 @@
 # ratios of dbck to SQLite, to cat and to the adding program, and the peak memory of dbck in MiB, by GNU time.
 #
 # Two of them are not of one kind of page: mixed has three tables, two indexes and overflow chains; and shuffled, of some 400 MiB,
-# rows and entries of an index that came in no order.
+# rows and entries of an index that came in no order. Two more of some 400 MiB are mostly free: of hundred-leaves all but some 100 leaves
+# of a table whose rows came in no order, of dropped all but 4 per cent.
 #
 # As root it prints a second table: the times with nothing of the file in the page cache, in milliseconds, the least and the
 # greatest of a third as many rounds, for cat, quick_check and each command of dbck. A line before it says which disk that was.
@@ -96,6 +97,25 @@ CREATE INDEX k ON t(b);
 $(numbers 2380000) INSERT INTO t
     SELECT $mixed, printf('%08x-%08x', i * 2246822519 % 4294967296, i), printf('%0*d', 50 + i % 100, i) FROM n;
 SQL
+
+# mostly_free NAME ROWS FILLERS: a table whose rows came in no order, four to a leaf, each before so many pages of a table that is dropped.
+mostly_free() {
+    make "$1" <<SQL
+$settings
+PRAGMA cache_size = -600000;
+CREATE TABLE t(a INTEGER PRIMARY KEY, b);
+CREATE TABLE filler(a INTEGER PRIMARY KEY, b);
+CREATE TRIGGER fill AFTER INSERT ON t BEGIN
+    INSERT INTO filler(b) SELECT zeroblob(4000) FROM (WITH RECURSIVE m(j) AS (SELECT 1 UNION ALL SELECT j + 1 FROM m WHERE j < $3) SELECT j FROM m);
+END;
+$(numbers "$2") INSERT INTO t SELECT $mixed, printf('%0900d', i) FROM n;
+DROP TRIGGER fill;
+DROP TABLE filler;
+SQL
+}
+
+mostly_free hundred-leaves.db 300 340
+mostly_free dropped.db 12000 8
 
 # The adding program, made by cc: it reads each page of 4096 bytes once, and adds up its words of eight bytes.
 cat > "$folder/add.c" <<'END'
