@@ -13,8 +13,8 @@ returns-in-Ok g c = inl (record {
 
 pub returns-in-Err : goal.returns-in-Err
 returns-in-Err g c = inr (
-  c.shown_error.result,
-  c.shown_error.ensures.kept _ c.in-Err.ensures.refused,
+  c.in-Err.error,
+  c.in-Err.ensures.refused,
   c.tell.ensures,
   record { files = refl; first = refl; second = refl; notes_kept = refl },
 )
