@@ -4,6 +4,7 @@ mod buffered_outs;
 mod file_sources;
 mod headers;
 mod outs;
+mod patched_sources;
 mod read_ahead;
 mod roots;
 mod told_files;

@@ -15,7 +15,7 @@ use Rattle.dbsource.specs.Changes.{Change, changed_from, patched}
 use Rattle.dbsource.specs.Headed.{over, over_answer}
 use Rattle.dbsource.specs.Patched.{ChangedLength, ChangedStep, changed_answer, changed_trail}
 use Rattle.dbsource.specs.Snapshots.{FitsAfterHeader, FitsRun, PatchedFileIsRead}
-use Rattle.dbsource.specs.Sources.{SourceState}
+use Rattle.dbsource.specs.Sources.{HasRanges, SourceState}
 use Rattle.dbsource.proofs.Changed.{changed_append, changed_drop, changed_length, changed_range, changed_take}
 use Rattle.dbsource.proofs.Overs.{over_range}
 use Rattle.dbsource.proofs.Runs.{begin_range, fits_over, over_asked, over_begins, over_length}
@@ -24,7 +24,7 @@ use Rattle.dbsource.proofs.Told.{if_told_both}
 
 -- ---- the log of the source below
 
-same_changed : (a b : List Change) (o p : Option (List ℕ)) (s t : Trail) → changed_trail a o s ≡ changed_trail b p t → (a ≡ b) × (o ≡ p) × (s ≡ t)
+pub same_changed : (a b : List Change) (o p : Option (List ℕ)) (s t : Trail) → changed_trail a o s ≡ changed_trail b p t → (a ≡ b) × (o ≡ p) × (s ≡ t)
 same_changed a b o p s t e =
     let fronts : changed_by a o ∷ s.fronts ≡ changed_by b p ∷ t.fronts = ap (λ (x : Trail). x.fronts) e in
     let first : changed_by a o ≡ changed_by b p = cc in
@@ -75,6 +75,18 @@ none_below : (changes : List Change) (log : List Answer) → map (changed_answer
 none_below changes [] e = refl
 none_below changes (a ∷ log) e = cc
 
+-- the ranges that it was asked for
+pub ranges_below : {step : Step} {P : List ByteRange → Type 0} (changes changes' : List Change) (o o' : Option (List ℕ)) (old new : Trail)
+    → HasRanges (ChangedStep step) P (changed_trail changes o old) (changed_trail changes' o' new) → HasRanges step P old new
+ranges_below {step = step} {P = P} changes changes' o o' old new h =
+    let b = below step changes o old (changed_trail changes' o' new) h.log h.leads in
+    let m = same_changed changes' changes o' o new b.after b.is in
+    record {
+      log = b.raw;
+      leads = subst (λ t. Leads step old b.raw t) (sym m.2) b.leads;
+      holds = subst P (ap (map asked) b.given_as ∙ changed_asked changes b.raw) h.holds;
+    }
+
 -- ---- a file that agrees with what was read, with the changes
 
 -- the header's bytes over the beginning of an answer are 100, or all that there are
@@ -104,7 +116,8 @@ over_changed changes file o bytes h = by_offset (o == 0) refl h
     first = take (length bytes) (take 100 file)
 
     by_offset : (b : Bool) → b ≡ (o == 0) → IsRangeOf file o (cond b (first ++ drop 100 bytes) bytes)
-        → cond b (take (length (changed_from changes o bytes)) (take 100 (patched changes file)) ++ drop 100 (changed_from changes o bytes)) (changed_from changes o bytes)
+        → cond b (take (length (changed_from changes o bytes)) (take 100 (patched changes file)) ++ drop 100 (changed_from changes o bytes))
+            (changed_from changes o bytes)
         ≡ changed_from changes o (cond b (first ++ drop 100 bytes) bytes)
     by_offset false e h = refl
     by_offset true e h =

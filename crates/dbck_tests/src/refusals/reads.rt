@@ -7,7 +7,7 @@ use crate::support::samples::file_of;
 use crate::support::stated::StatedSource;
 use crate::support::stops::holds;
 use dbreport::{Verdict, run};
-use dbsource::{RunError, StreamOut};
+use dbsource::{Change, Changes, Patched, RunError, Source, StreamOut};
 use std::alloc::Global;
 use std::cell::Cell;
 use std::test::Fail;
@@ -75,14 +75,23 @@ fn wanted_of(
     }
 }
 
-// True if the run gives that answer and writes that many lines.
-fn is_written(alloc: Global, case: &[&str; 4], file: &[u8], fails_at: usize) -> bool {
-    let mut source = StatedSource::new(file, file.len() as u64, fails_at as u64);
+// True if the run over a source whose call of this number fails gives that answer and writes that many lines.
+fn is_written<S: Source>(
+    alloc: Global,
+    case: &[&str; 4],
+    source: &mut S,
+    fails_at: usize,
+) -> bool {
     let mut out = SmallOut::new(2048);
     let mut err = SmallOut::new(0);
-    let answer = run(alloc, command_of(case[0]), &mut source, &mut out, &mut err);
+    let answer = run(alloc, command_of(case[0]), source, &mut out, &mut err);
     let (wanted, count) = wanted_of(case, fails_at);
     answer == wanted && are_lines(case[2], count, out.bytes())
+}
+
+// A source of a file whose call of this number fails, from 0.
+fn failing(file: &[u8], fails_at: usize) -> StatedSource<'_> {
+    StatedSource::new(file, file.len() as u64, fails_at as u64)
 }
 
 // Call 0 is the length, call 1 the header, and the others a page each. No line of a fault is written to the second out.
@@ -92,8 +101,24 @@ fn each_read_fails_in_turn(rt: HostRuntime) -> Result<(), Fail> {
         let file = file_of(rt.alloc(), case[1])?;
         let calls = case[3].split(' ').count();
         for fails_at in 0..calls.wrapping_add(2) {
-            holds!(rt; is_written(rt.alloc(), case, file.as_slice(), fails_at), (case, fails_at));
+            let mut source = failing(file.as_slice(), fails_at);
+            holds!(rt; is_written(rt.alloc(), case, &mut source, fails_at), (case, fails_at));
         }
+    }
+    Ok(())
+}
+
+// Where the version is a change over the file, each call fails as where it is written in the file.
+#[test]
+fn each_read_under_a_change_fails_in_turn(rt: HostRuntime) -> Result<(), Fail> {
+    let file = file_of(rt.alloc(), "LongRow 3")?;
+    let mut changes = Changes::new();
+    let added = Change::new(18, &[3]).and_then(|change| changes.add(change));
+    holds!(rt; added.is_ok());
+    let case = ["check", "LongRow 3", OLD_VERSION, "0 0 1 1 1"];
+    for fails_at in 0..7usize {
+        let mut source = Patched::new(&changes, failing(file.as_slice(), fails_at));
+        holds!(rt; is_written(rt.alloc(), &case, &mut source, fails_at), fails_at);
     }
     Ok(())
 }
