@@ -108,7 +108,6 @@ is_explained limit file r old new only read told = record {
   sound = if_ok r (explain_sound limit file read) (told (survey file) (one_survey file).0).1;
   ok = ok_at r (told (survey file) (one_survey file).0).0;
 }
-
   where
     ok_at : (r : Result Verdict RunError) → WritesReport limit file (survey file) r old new → OnOk r (SaysOk file old.bytes new.bytes)
     ok_at (Ok v) w = explain_says_ok limit file (survey file) old.bytes new.bytes (one_survey file).0 w

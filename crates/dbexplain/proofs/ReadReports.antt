@@ -108,7 +108,7 @@ module _ (limit : ℕ) (file : List ℕ) (V : List Reference) where
   text_is_ok s = let by = sound_by_faults file V s in (
     (λ e. by.1 (by_text e)),
     (λ sound. let h = by.0 sound in
-    sym (out_is limit file V h.0) ∙ ok_text limit file V (none_of (told_faults file V) (all_told file V ∙ h.1))),
+        sym (out_is limit file V h.0) ∙ ok_text limit file V (none_of (told_faults file V) (all_told file V ∙ h.1))),
   )
 
   -- and so is what was written of it

@@ -117,7 +117,7 @@ over_changed changes file o bytes h = by_offset (o == 0) refl h
 
     by_offset : (b : Bool) → b ≡ (o == 0) → IsRangeOf file o (cond b (first ++ drop 100 bytes) bytes)
         → cond b (take (length (changed_from changes o bytes)) (take 100 (patched changes file)) ++ drop 100 (changed_from changes o bytes))
-            (changed_from changes o bytes)
+        (changed_from changes o bytes)
         ≡ changed_from changes o (cond b (first ++ drop 100 bytes) bytes)
     by_offset false e h = refl
     by_offset true e h =

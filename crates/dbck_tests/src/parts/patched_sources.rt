@@ -55,10 +55,7 @@ fn gives_the_changes_in_what_is_asked_for(rt: HostRuntime) {
         let mut source = Patched::new(&changes, LogSource::new(b"abcdefghij"));
         holds!(rt; gives(&mut source, offset, wanted), (text, offset));
         let len = wanted.len() as u64;
-        let asked = [
-            ByteRange { offset, len },
-            ByteRange { offset: 10, len: 1 },
-        ];
+        let asked = [ByteRange { offset, len }, ByteRange { offset: 10, len: 1 }];
         holds!(rt; source.into_inner().ranges() == asked.as_slice(), (text, offset));
         let mut source = Patched::new(&changes, MemSource::new(b"abcdefghij"));
         holds!(rt; gives(&mut source, offset, wanted), (text, offset));

@@ -76,12 +76,7 @@ fn wanted_of(
 }
 
 // True if the run over a source whose call of this number fails gives that answer and writes that many lines.
-fn is_written<S: Source>(
-    alloc: Global,
-    case: &[&str; 4],
-    source: &mut S,
-    fails_at: usize,
-) -> bool {
+fn is_written<S: Source>(alloc: Global, case: &[&str; 4], source: &mut S, fails_at: usize) -> bool {
     let mut out = SmallOut::new(2048);
     let mut err = SmallOut::new(0);
     let answer = run(alloc, command_of(case[0]), source, &mut out, &mut err);

@@ -49,8 +49,8 @@ returns-in-Check-clause-failed g c =
     let same = ap first (lent_same r _ _ c.run_over.ensures.keeps.writes) in
     let k : c.out-1.given.0 ≡ c.run_over.new.reporter.out.now = search (rules, same) in
     let out : (g.O.Out.held c.out-1.given.0).failures ≡ failures_after is_write_failed r (g.O.Out.held c.args.out.now).failures =
-        ap (λ o. (g.O.Out.held o).failures) k ∙ one_failed r _ _ _ _ c.run_over.ensures.keeps.writes
-        ∙ ap (λ o. failures_after is_write_failed r (g.O.Out.held o).failures) c.new-reporter.ensures.out in record {
+    ap (λ o. (g.O.Out.held o).failures) k ∙ one_failed r _ _ _ _ c.run_over.ensures.keeps.writes
+    ∙ ap (λ o. failures_after is_write_failed r (g.O.Out.held o).failures) c.new-reporter.ensures.out in record {
       reads = c.run_over.ensures.reads;
       writes = first_failures r (g.O.Out.held c.args.out.now).failures (g.O.Out.held c.out-1.given.0).failures (g.E.Out.held c.args.err.now).failures out;
       first = λ i. out;
