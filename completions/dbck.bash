@@ -9,13 +9,13 @@ _dbck() {
     done
     if [ "$COMP_CWORD" -eq 1 ]; then
         words='check explain map stat help --help --version'
-    elif [ -z "$after" ] && [ "$prev" = --limit ]; then
+    elif [ -z "$after" ] && [[ $prev == --limit || $prev == --with ]]; then
         return
     else
         case $command in
-            check | explain) words='--limit --no-progress --help' ;;
-            map) words='--no-progress --help' ;;
-            stat) words='--aggregate --all --no-progress --help' ;;
+            check | explain) words='--limit --with --no-progress --help' ;;
+            map) words='--with --no-progress --help' ;;
+            stat) words='--aggregate --all --with --no-progress --help' ;;
             help) words='check explain map stat' ;;
             *) return ;;
         esac

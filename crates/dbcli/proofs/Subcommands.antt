@@ -1,6 +1,6 @@
 -- The subcommand that a parse met.
 use Rattle.std.proofs.Common.{◌≡◌, ◌∙◌, ◌⊎◌, inl, inr, ℕ, List, [], Option, Some, None, Result, Ok, Err, refl, sym, ap, subst, true, codes, slice_index, arith}
-use Rattle.std.specs.Prelude.{IfErr, IfNone, IfOk, IfSome, ok_or, option_map}
+use Rattle.std.specs.Prelude.{IfErr, IfNone, option_map}
 use Rattle.std.specs.Result.{IsErrAnd}
 use Rattle.std.specs.Box.{box_value}
 use Rattle.clap.specs.Words.{HasKind, Row, Text, fault_of, first_of, found_of, is_simple, is_simple_and_free, rows_of}
@@ -11,11 +11,10 @@ use Rattle.clap.specs.declared.error.Error.{Error}
 use Rattle.clap.specs.declared.error.kind.ErrorKind.{ErrorKind}
 use Rattle.clap.specs.declared.error.kind.ErrorKind.TheVariants.{OutOfMemory}
 use Rattle.clap.specs.Values.{kind_of}
-use Rattle.dbcli.specs.declared.command_line.Line.{Line}
 use Rattle.dbcli.specs.declared.command_line.LineError.{LineError}
-use Rattle.dbcli.specs.declared.command_line.LineError.TheVariants.{Words, Limit}
+use Rattle.dbcli.specs.declared.command_line.LineError.TheVariants.{Words, Limit, With, NotText}
 use Rattle.clap.proofs.OnLiterals.{clap_on_literals}
-use Rattle.dbcli.specs.CommandLine.{AsksFor, HasLimit, IsErrorOf, IsInRow, IsKindOf, IsLimit, IsLimitOf, dbck_app, name_of}
+use Rattle.dbcli.specs.CommandLine.{AsksFor, AsksForNone, HasLimit, IsErrorIn, IsErrorOf, IsInRow, IsKindOf, IsLimit, IsLimitOf, SpellsNone, dbck_app, name_of}
 use Rattle.dbcli.specs.declared.request.Request.{Request}
 use Rattle.dbcli.specs.declared.request.Request.TheVariants.{Report, Explain, Map}
 use Rattle.dbformat.specs.declared.Command.TheVariants.{Check, Stat}
@@ -59,20 +58,18 @@ words_error error e kind words (inl h) same k =
     subst P (sym h) (subst Q (sym same) k)
 words_error error e kind words (inr h) same k = let P : LineError → Type 0 = λ l. IsErrorOf l words in subst P (sym h) (inl refl)
 
--- nothing in range that was asked for is an error of the limit
-pub limit_error : (asked : Option Line) (r : Result Line LineError) (words : List Text) (met : Option (Text × List Row)) → r ≡ ok_or asked Limit
-    → fault_of dbck_app words ≡ [] → met ≡ subcommand_of dbck_app words
-    → IfNone asked ((request : Request) (file : Text) → HasLimit request → AsksFor met request file → ⊥) → IfErr r (λ error. IsErrorOf error words)
-limit_error None r words met e taken same none = rw e (
-  taken,
-  subst (λ m. (request : Request) (file : Text) → HasLimit request → AsksFor m request file → ⊥) same none,
-)
-limit_error (Some line) r words met e taken same none = rw e tt
+-- an error of a subcommand that was met is one of the words
+pub error_in_words : (error : LineError) (words : List Text) (met : Option (Text × List Row)) → fault_of dbck_app words ≡ [] → met ≡ subcommand_of dbck_app words
+    → IsErrorIn error met → IsErrorOf error words
+error_in_words (Words e) words met taken same h = inl h
+error_in_words Limit words met taken same h = (taken, subst AsksForNone same h)
+error_in_words (With e) words met taken same h = (taken, subst SpellsNone same h)
+error_in_words NotText words met taken same h = h
 
--- and what is said of the line that was asked for is said of the answer
-pub line_handed : (asked : Option Line) (r : Result Line LineError) (P : Line → Type 0) → r ≡ ok_or asked Limit → IfSome asked P → IfOk r P
-line_handed None r P e known = rw e tt
-line_handed (Some line) r P e known = rw e known
+pub error_is_in_words : {A : Type 0} (r : Result A LineError) (words : List Text) (met : Option (Text × List Row)) → fault_of dbck_app words ≡ []
+    → met ≡ subcommand_of dbck_app words → IfErr r (λ error. IsErrorIn error met) → IfErr r (λ error. IsErrorOf error words)
+error_is_in_words (Ok a) words met taken same h = tt
+error_is_in_words (Err error) words met taken same h = error_in_words error words met taken same h
 
 -- what a subcommand with these rows asks for has its name, and is in these rows
 pub asked_of : (met : Option (Text × List Row)) (name : Text) (rows : List Row) (request : Request) (file : Text) → met ≡ Some (name, rows)

@@ -1,18 +1,20 @@
 -- The command line, as `clap` sees it, and what a line that it takes says.
 use Rattle.std.specs.Prelude.{◌≡◌, ◌≤◌, ◌⊎◌, ℕ, pos, Bool, true, false, not, List, [], ◌∷◌, Option, Some, None, codes, unwrap_or, ⊤}
 use Rattle.std.specs.Path.{path_file_name}
-use Rattle.std.specs.Str.Parse.{IsNumeral, digits_value, without_leading_plus}
-use Rattle.clap.specs.Words.{App, Row, Rule, Text, first_of, new_app, new_rule, one_of, with_rule, with_subcommand}
+use Rattle.std.specs.List.{AllZip}
+use Rattle.clap.specs.Words.{App, Row, Rule, Text, all_of, first_of, new_app, new_rule, one_of, with_rule, with_subcommand}
 use Rattle.clap.specs.Words.{IsAmong, fault_of, subcommand_of}
-use Rattle.clap.specs.declared.builder.action.ArgAction.TheVariants.{SetTrue}
+use Rattle.clap.specs.declared.builder.action.ArgAction.TheVariants.{Append, SetTrue}
 use Rattle.clap.specs.declared.error.kind.ErrorKind.{ErrorKind}
 use Rattle.clap.specs.declared.error.kind.ErrorKind.TheVariants.{OutOfMemory}
 use Rattle.clap.specs.declared.builder.value_parser.ValueParser.TheVariants as parser
+use Rattle.dbcli.specs.Spelled.{Spells, SpellsChange}
 use Rattle.dbcli.specs.declared.command_line.LineError.{LineError}
-use Rattle.dbcli.specs.declared.command_line.LineError.TheVariants.{Words, Limit, NotText}
+use Rattle.dbcli.specs.declared.command_line.LineError.TheVariants.{Words, Limit, With, NotText}
 use Rattle.dbcli.specs.declared.request.Request.{Request}
 use Rattle.dbcli.specs.declared.request.Request.TheVariants.{Report, Explain, Map}
 use Rattle.dbformat.specs.declared.Command.TheVariants.{Check, Stat}
+use Rattle.dbsource.specs.Changes.{AreChanges, Change}
 
 -- the file, which is required
 abbrev pub file_rule : Rule
@@ -34,9 +36,17 @@ flag_rule name = record (new_rule name) { long = Some name; action = Some SetTru
 abbrev pub no_progress_rule : Rule
 no_progress_rule = flag_rule (codes "no-progress")
 
--- a subcommand of this name with a limit, the flag that turns progress off and a file
+-- the changes of the file, each given by an option of its own
+abbrev pub changes_rule : Rule
+changes_rule = record (new_rule (codes "OFFSET=HEX")) { long = Some (codes "with"); action = Some Append }
+
+-- a subcommand with what each has: the changes, the flag that turns progress off, and the file
+abbrev pub with_file_rules : App → App
+with_file_rules app = with_rule (with_rule (with_rule app changes_rule) no_progress_rule) file_rule
+
+-- a subcommand of this name with a limit
 abbrev pub limited_app : Text → ℕ → App
-limited_app name most = with_rule (with_rule (with_rule (new_app name) (limit_rule most)) no_progress_rule) file_rule
+limited_app name most = with_file_rules (with_rule (new_app name) (limit_rule most))
 
 -- the subcommands check and explain, with their greatest limits
 abbrev pub check_app : App
@@ -45,17 +55,17 @@ check_app = limited_app (codes "check") 1000000
 abbrev pub explain_app : App
 explain_app = limited_app (codes "explain") 10000
 
--- the subcommand map, with the flag that turns progress off and its file
+-- the subcommand map
 abbrev pub map_app : App
-map_app = with_rule (with_rule (new_app (codes "map")) no_progress_rule) file_rule
+map_app = with_file_rules (new_app (codes "map"))
 
 -- the subcommand stat with its own flags
 abbrev pub stat_flags : App
 stat_flags = with_rule (with_rule (new_app (codes "stat")) (flag_rule (codes "aggregate"))) (flag_rule (codes "all"))
 
--- the subcommand stat, with its flags and its file
+-- the subcommand stat
 abbrev pub stat_app : App
-stat_app = with_rule (with_rule stat_flags no_progress_rule) file_rule
+stat_app = with_file_rules stat_flags
 
 abbrev pub top_app : App
 top_app = let a = new_app (codes "dbck") in record a { top = record a.top { has_version = true; subcommand_required = true } }
@@ -81,10 +91,6 @@ HasLimit (Report (Check limit)) = IsLimit 1000000 limit
 HasLimit (Report (Stat aggregate all)) = ⊤
 HasLimit (Explain limit) = IsLimit 10000 limit
 HasLimit (Map name) = ⊤
-
--- the text is this number in decimal digits, after a plus sign or without one
-abbrev pub Spells : Text → ℕ → Type 0
-Spells text n = IsNumeral 10 (without_leading_plus text) × (digits_value 10 (without_leading_plus text) ≡ n)
 
 -- a limit is the number that the text of its row spells
 abbrev pub IsInRow : ℕ → List Row → Type 0
@@ -121,6 +127,15 @@ abbrev pub IsProgressOf : Bool → Option (Text × List Row) → Type 0
 IsProgressOf shown None = ⊥
 IsProgressOf shown (Some (name, rows)) = IsFlag (not shown) (codes "no-progress") rows
 
+-- the words in which the changes are given
+abbrev pub change_texts : Option (Text × List Row) → List Text
+change_texts None = []
+change_texts (Some (name, rows)) = unwrap_or (all_of (codes "OFFSET=HEX") rows) []
+
+-- they spell these changes, in their order
+abbrev pub AreSpelled : List Change → Option (Text × List Row) → Type 0
+AreSpelled changes met = AllZip SpellsChange (change_texts met) changes
+
 -- The subcommand that the words name, with its rows, makes this request of this file.
 pub record AsksFor (met : Option (Text × List Row)) (request : Request) (file : Text) : Type 0 where
   pub rows : List Row
@@ -134,10 +149,25 @@ pub record AsksFor (met : Option (Text × List Row)) (request : Request) (file :
 abbrev pub IsKindOf : ErrorKind → List Text → Type 0
 IsKindOf kind words = (kind ≡ OutOfMemory) ⊎ IsAmong kind (fault_of dbck_app words)
 
+-- no request with a limit in range is made
+abbrev pub AsksForNone : Option (Text × List Row) → Type 0
+AsksForNone met = (request : Request) (file : Text) → HasLimit request → AsksFor met request file → ⊥
+
+-- no changes are spelled that are taken: at most 16, of 1 to 16 bytes each, of which no two overlap
+abbrev pub SpellsNone : Option (Text × List Row) → Type 0
+SpellsNone met = (changes : List Change) → AreChanges changes → AreSpelled changes met → ⊥
+
+-- why a subcommand that was met is not taken, or that there was no memory for the error
+abbrev pub IsErrorIn : LineError → Option (Text × List Row) → Type 0
+IsErrorIn (Words kind) met = kind ≡ OutOfMemory
+IsErrorIn Limit met = AsksForNone met
+IsErrorIn (With e) met = SpellsNone met
+IsErrorIn NotText met = ⊥
+
 -- Why the words are not taken: one of the kinds of fault that `clap` finds in them, or want of memory. Where it finds
--- none, only words that make no request with a limit in range are refused.
+-- none, only words are refused that make no request with a limit in range, or that spell no changes that are taken.
 abbrev pub IsErrorOf : LineError → List Text → Type 0
 IsErrorOf (Words kind) words = IsKindOf kind words
-IsErrorOf Limit words = (fault_of dbck_app words ≡ [])
-    × ((request : Request) (file : Text) → HasLimit request → AsksFor (subcommand_of dbck_app words) request file → ⊥)
+IsErrorOf Limit words = (fault_of dbck_app words ≡ []) × AsksForNone (subcommand_of dbck_app words)
+IsErrorOf (With e) words = (fault_of dbck_app words ≡ []) × SpellsNone (subcommand_of dbck_app words)
 IsErrorOf NotText words = ⊥

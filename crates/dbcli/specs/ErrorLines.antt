@@ -22,6 +22,10 @@ error_line ReadFailed = codes "dbck: E8 the file cannot be read\n"
 error_line OutOfMemory = codes "dbck: E9 out of memory\n"
 error_line WriteFailed = codes "dbck: E10 the output cannot be written\n"
 
+-- the line that says that a change is past the end of the file
+unfoldable pub past_end_line : List ℕ
+past_end_line = codes "dbck: E11 a byte of --with is past the end of the file\n"
+
 -- at 3 the line of the file's refusal
 abbrev pub refused_line : Option Refusal → List ℕ
 refused_line (Some refusal) = error_line (Refused refusal)

@@ -6,4 +6,5 @@ pub mod Handing
 pub mod NoteLines
 pub mod Requests
 pub mod Running
+pub mod Spelled
 pub mod Status

@@ -1,11 +1,12 @@
 -- From the words of a command line to an exit status: what was opened, what became of it, and how it was given back.
 use Rattle.std.specs.Prelude.{◌≡◌, ◌⊎◌, ℕ, List, [], Result, Ok, Err}
 use Rattle.clap.specs.Words.{Text, fault_of, subcommand_of}
+use Rattle.dbsource.specs.Changes.{AreChanges, Change}
 use Rattle.dbsource.specs.declared.out.Out.{Ghosts as OutWords}
 use Rattle.dbsource.specs.declared.source.ReadFailed.{ReadFailed as Unread}
 use Rattle.dbsource.specs.declared.source.Source.{Ghosts as SourceWords}
-use Rattle.dbcli.specs.CommandLine.{AsksFor, HasLimit, IsErrorOf, dbck_app}
-use Rattle.dbcli.specs.Finishing.{Finishes, IsUnopened}
+use Rattle.dbcli.specs.CommandLine.{AreSpelled, AsksFor, HasLimit, IsErrorOf, dbck_app}
+use Rattle.dbcli.specs.Finishing.{Finishes, IsUnopened, RunsInside}
 use Rattle.dbcli.specs.Status.{line_status}
 use Rattle.dbcli.specs.declared.command_line.LineError.{LineError}
 use Rattle.dbcli.specs.declared.request.Request.{Request}
@@ -16,20 +17,22 @@ IsErrorStatus status error = (status ≡ line_status error) ⊎ ((line_status er
 
 module _ {F S O E : Type 0} (opens : F → List ℕ → Result S Unread → F → Type 0) (closes : F → S → F → Type 0)
     (source : SourceWords S) (out : OutWords O) (err : OutWords E) where
-  -- What was opened was finished, and was given back as that left it: nothing else was asked of it. Or nothing was opened.
-  abbrev pub RunsOpened : Request → ℕ → Result S Unread → F × O × E → F × O × E → Type 0
-  RunsOpened asked status (Ok s) old new =
-      (left : S) × Finishes source out err asked status (s, old.1, old.2) (left, new.1, new.2) × closes old.0 left new.0
-  RunsOpened asked status (Err e) old new = IsUnopened source out err status (old.1, old.2) (new.1, new.2) × (new.0 ≡ old.0)
+  -- What was opened was finished with these changes, if they are inside it, and was given back as that left it: nothing else was
+  -- asked of it. Or nothing was opened.
+  abbrev pub RunsOpened : List Change → Request → ℕ → Result S Unread → F × O × E → F × O × E → Type 0
+  RunsOpened changes asked status (Ok s) old new = (left : S)
+      × RunsInside source out err changes (Finishes source out err changes asked status) status (s, old.1, old.2) (left, new.1, new.2)
+      × closes old.0 left new.0
+  RunsOpened changes asked status (Err e) old new = IsUnopened source out err status (old.1, old.2) (new.1, new.2) × (new.0 ≡ old.0)
 
-  -- What became of a line that asks this of the file at this path.
-  pub record RunsLine (asked : Request) (path : Text) (status : ℕ) (old new : F × O × E) : Type 0 where
+  -- What became of a line that asks this of the file at this path, with these changes.
+  pub record RunsLine (changes : List Change) (asked : Request) (path : Text) (status : ℕ) (old new : F × O × E) : Type 0 where
     -- that file was opened, or could not be, and no other
     pub answer : Result S Unread
     pub between : F
     pub opened : opens old.0 path answer between
     -- and what was opened was run
-    pub ran : RunsOpened asked status answer (between, old.1, old.2) new
+    pub ran : RunsOpened changes asked status answer (between, old.1, old.2) new
 
   -- What became of words that are taken, in which the parser finds no fault: what they ask for, of the file that they name, was run.
   pub record RunsWords (words : List Text) (status : ℕ) (old new : F × O × E) : Type 0 where
@@ -38,7 +41,10 @@ module _ {F S O E : Type 0} (opens : F → List ℕ → Result S Unread → F �
     pub file : Text
     pub asked : AsksFor (subcommand_of dbck_app words) request file
     pub limit : HasLimit request
-    pub ran : RunsLine request file status old new
+    pub changes : List Change
+    pub are_changes : AreChanges changes
+    pub spelled : AreSpelled changes (subcommand_of dbck_app words)
+    pub ran : RunsLine changes request file status old new
 
   module _ {N : Type 0} (notes : OutWords N) where
     -- What became of words that are not: no file was opened, and nothing was put to an Out or to the notes.

@@ -7,7 +7,7 @@ use Rattle.dbformat.specs.declared.Verdict.{Verdict}
 use Rattle.dbsource.specs.declared.error.RunError.{RunError}
 use Rattle.dbsource.specs.declared.error.RunError.TheVariants.{Refused, ReadFailed, OutOfMemory, WriteFailed}
 use Rattle.dbcli.specs.declared.command_line.LineError.{LineError}
-use Rattle.dbcli.specs.declared.command_line.LineError.TheVariants.{Words, Limit, NotText}
+use Rattle.dbcli.specs.declared.command_line.LineError.TheVariants.{Words, Limit, With, NotText}
 
 -- the status of a report, and those of the errors that are none
 abbrev pub exit_status : Result Verdict RunError → ℕ
@@ -27,4 +27,5 @@ kind_status _ = 2
 abbrev pub line_status : LineError → ℕ
 line_status (Words kind) = kind_status kind
 line_status Limit = 2
+line_status (With error) = 2
 line_status NotText = 2

@@ -1,11 +1,14 @@
 // The command line of the program.
-ghost use Rattle.std.specs.Prelude.{◌≡◌, ◌≤◌, ◌⊎◌, ℕ, List, [], IfOk, IfErr, IfSome, IfNone, codes, map, not, false};
+ghost use Rattle.std.specs.Prelude.{◌≡◌, ◌≤◌, ◌⊎◌, ℕ, List, [], Option, IfOk, IfErr, IfSome, IfNone, codes, map, not, false};
 ghost use Rattle.clap.specs.Words.{Row, Text, App, app_of, fault_of, found_of, new_app, rows_of, rule_of};
 ghost use Rattle.clap.specs.Words.{subcommand_of, subcommand_rows_of, with_rule, with_subcommand};
 ghost use Rattle.clap.specs.declared.error.kind.ErrorKind.TheVariants as error_kind;
 ghost use Rattle.clap.specs.declared.builder.command.Command.TheViews.{out-Command as fields_of};
 ghost use Rattle.dbcli.specs.CommandLine.{dbck_app, check_app, explain_app, limited_app, map_app, stat_app};
-ghost use Rattle.dbcli.specs.CommandLine.{file_rule, flag_rule, limit_rule, name_of, no_progress_rule};
+ghost use Rattle.dbcli.specs.CommandLine.{changes_rule, file_rule, flag_rule, limit_rule, name_of, with_file_rules};
+ghost use Rattle.dbcli.specs.CommandLine.{AreSpelled, AsksForNone, IsErrorIn, SpellsNone, change_texts};
+ghost use Rattle.dbcli.specs.Spelled.{texts_in};
+ghost use Rattle.dbsource.specs.Changes.{AreChanges};
 ghost use Rattle.dbcli.specs.CommandLine.{AsksFor, HasFlags, HasLimit, IsErrorOf, IsFlag, IsInRow, IsLimit, IsLimitOf, IsNameOf, IsProgressOf};
 ghost use Rattle.dbcli.specs.declared.request.Request.{Request as request_type};
 
@@ -14,24 +17,45 @@ use crate::help::{
     STAT_ABOUT, STAT_EXAMPLES, STATUSES,
 };
 use crate::request::Request;
-use crate::shown::shown_words;
+use crate::shown::{Shown, shown_words};
+use crate::spelled::{Misspelled, SpellingError, changes_in};
 use crate::words_error::WordsError;
 use clap::error::ErrorKind;
 use clap::{Arg, ArgAction, ArgMatches, Command as Words, value_parser};
 use dbreport::Command;
+use dbsource::Changes;
 use std::alloc::{AllocError, Global};
 use std::path::Path;
 use thiserror::Error;
 
 /// What the words of a command line ask for.
-#[derive(Clone, Copy)]
+#[derive(Drop)]
 pub struct Line<'a> {
     /// What is asked of the file.
     pub request: Request<'a>,
     /// The path of the file.
     pub file: &'a str,
+    /// The changes with which the file is reported.
+    pub changes: Changes,
     /// Whether progress is shown.
     pub progress: bool,
+}
+
+// The same, with the words in which the changes are given.
+#[derive(Clone, Copy)]
+struct Asked<'m, 'a> {
+    request: Request<'a>,
+    file: &'a str,
+    changes: Option<&'m [&'a str]>,
+    progress: bool,
+}
+
+/// A word of `--with` that is not taken, as it is shown on one line, and why.
+#[derive(Debug, Drop, Error)]
+#[error("dbck: invalid value '{word}' for '--with <OFFSET=HEX>': {error}\n\nFor more information, try '--help'.")]
+pub struct WithError {
+    word: Shown,
+    error: SpellingError,
 }
 
 /// Why a command line is not taken, or that it asks for help or the version.
@@ -43,6 +67,9 @@ pub enum LineError {
     /// The limit passed the parser, but is no number in its range.
     #[error("dbck: the limit is not a number in its range")]
     Limit,
+    /// The words spell no changes that are taken.
+    #[error(transparent)]
+    With(WithError),
     /// A word is not UTF-8.
     #[error("dbck: a word of the command line is not UTF-8")]
     NotText,
@@ -102,6 +129,18 @@ fn flag_arg<'a>(alloc: Global, name: &'a str, help: &'a str) -> Arg<'a>
         .help(help)
 }
 
+// The option `--with OFFSET=HEX`, which may be given more than once.
+fn changes_arg<'a>(alloc: Global) -> Arg<'a>
+    ensures rule { rule_of result ≡ changes_rule }
+    ensures local { result.global ≡ false }
+{
+    let help = "Report FILE with these bytes at this offset, from 0; up to 16 times";
+    Arg::new(alloc, "OFFSET=HEX")
+        .long("with")
+        .action(ArgAction::Append)
+        .help(help)
+}
+
 fn no_progress_arg<'a>(alloc: Global) -> Arg<'a>
     ensures rule { rule_of result ≡ flag_rule (codes "no-progress") }
     ensures local { result.global ≡ false }
@@ -118,12 +157,15 @@ fn described<'a>(alloc: Global, name: &'a str, about: &'a str, after: &'a str) -
     Words::new(alloc, name).about(about).after_help(after)
 }
 
-// The command with what each subcommand takes last: the flag that turns progress off, and the file.
+// The command with what each subcommand takes last: the changes, the flag that turns progress off, and the file.
 fn with_file<'a>(alloc: Global, command: Words<'a>) -> Result<Words<'a>, AllocError>
     ensures { (app : App) → app_of command.entry ≡ app → (fields_of command.entry).has_globals ≡ false
-        → IfOk result (λ c. (app_of c ≡ with_rule (with_rule app no_progress_rule) file_rule) × ((fields_of c).has_globals ≡ false)) }
+        → IfOk result (λ c. (app_of c ≡ with_file_rules app) × ((fields_of c).has_globals ≡ false)) }
 {
-    command.arg(no_progress_arg(alloc))?.arg(file_arg(alloc))
+    command
+        .arg(changes_arg(alloc))?
+        .arg(no_progress_arg(alloc))?
+        .arg(file_arg(alloc))
 }
 
 // A subcommand of this name with a limit of at most `most`.
@@ -307,17 +349,19 @@ fn request_of<'a>(name: &str, given: &ArgMatches<'_>, file: &'a str) -> Option<R
 }
 
 // What the subcommand that was parsed asks for, of its file.
-fn asked_of<'a>(matches: &ArgMatches<'a>) -> Option<Line<'a>>
-    ensures asks { IfSome result (λ line. AsksFor (subcommand_rows_of matches.now) line.request line.file.now) }
-    ensures limit { IfSome result (λ line. HasLimit line.request) }
-    ensures progress { IfSome result (λ line. IsProgressOf line.progress (subcommand_rows_of matches.now)) }
-    ensures none { IfNone result ((request : request_type) (file : Text) → HasLimit request → AsksFor (subcommand_rows_of matches.now) request file → ⊥) }
+fn asked_of<'m, 'a: 'm>(matches: &'m ArgMatches<'a>) -> Option<Asked<'m, 'a>>
+    ensures asks { IfSome result (λ asked. AsksFor (subcommand_rows_of matches.now) asked.request asked.file.now) }
+    ensures limit { IfSome result (λ asked. HasLimit asked.request) }
+    ensures progress { IfSome result (λ asked. IsProgressOf asked.progress (subcommand_rows_of matches.now)) }
+    ensures changes { IfSome result (λ asked. texts_in asked.changes ≡ change_texts (subcommand_rows_of matches.now)) }
+    ensures none { IfNone result (AsksForNone (subcommand_rows_of matches.now)) }
 {
     let (name, given) = matches.subcommand()?;
     let file = given.get_str("FILE")?;
-    Some(Line {
+    Some(Asked {
         request: request_of(name, given, file)?,
         file,
+        changes: given.get_strs("OFFSET=HEX"),
         progress: shows_progress(given),
     })
 }
@@ -332,24 +376,63 @@ fn error_of(alloc: Global, kind: ErrorKind, words: &[&str]) -> LineError
     }
 }
 
+// The error of a word that spells no change that is taken.
+fn with_error(alloc: Global, misspelled: Misspelled<'_>) -> LineError
+    ensures { (met : Option (Text × List Row)) → SpellsNone met → IsErrorIn result met }
+{
+    match Shown::of(alloc, misspelled.word) {
+        Ok(word) => LineError::With(WithError {
+            word,
+            error: misspelled.error,
+        }),
+        Err(error) => LineError::from(error),
+    }
+}
+
+// What the subcommand that was parsed asks for, of its file with its changes.
+fn line_in<'a>(alloc: Global, matches: &ArgMatches<'a>) -> Result<Line<'a>, LineError>
+    ensures asks { IfOk result (λ line. AsksFor (subcommand_rows_of matches.now) line.request line.file.now) }
+    ensures limit { IfOk result (λ line. HasLimit line.request) }
+    ensures progress { IfOk result (λ line. IsProgressOf line.progress (subcommand_rows_of matches.now)) }
+    ensures changes { IfOk result (λ line. AreSpelled line.changes (subcommand_rows_of matches.now)) }
+    ensures apart { IfOk result (λ line. AreChanges line.changes) }
+    ensures refused { IfErr result (λ error. IsErrorIn error (subcommand_rows_of matches.now)) }
+{
+    let Some(asked) = asked_of(matches) else {
+        return Err(LineError::Limit);
+    };
+    match changes_in(asked.changes) {
+        Ok(changes) => Ok(Line {
+            request: asked.request,
+            file: asked.file,
+            changes,
+            progress: asked.progress,
+        }),
+        Err(misspelled) => Err(with_error(alloc, misspelled)),
+    }
+}
+
 /// What the words ask for. The first of them is the program's name.
 ///
 /// # Errors
 ///
 /// [`LineError::Words`] where they ask for help or the version, where they are no command line of the program, or for
 /// want of memory; its kind says which. Its text has the words as they are shown on one line. [`LineError::Limit`] where
-/// the parser took a limit that is out of range.
+/// the parser took a limit that is out of range, and [`LineError::With`] where it took a word of `--with` that spells no
+/// change, or one that is not taken beside others.
 pub fn line_of<'a>(alloc: Global, words: &'a [&'a str]) -> Result<Line<'a>, LineError>
     ensures asks { IfOk result (λ line. AsksFor (subcommand_of dbck_app (map (λ word. word.now) words.entry.now)) line.request line.file.now) }
     ensures limit { IfOk result (λ line. HasLimit line.request) }
     ensures progress { IfOk result (λ line. IsProgressOf line.progress (subcommand_of dbck_app (map (λ word. word.now) words.entry.now))) }
+    ensures changes { IfOk result (λ line. AreSpelled line.changes (subcommand_of dbck_app (map (λ word. word.now) words.entry.now))) }
+    ensures apart { IfOk result (λ line. AreChanges line.changes) }
     // Exactly the words in which the parser finds no fault are taken, and its fault is why others are not.
     ensures taken { IfOk result (λ line. fault_of dbck_app (map (λ word. word.now) words.entry.now) ≡ []) }
     ensures refused { IfErr result (λ error. IsErrorOf error (map (λ word. word.now) words.entry.now)) }
 {
     let command = dbck_command(alloc)?;
     match command.try_get_matches_from(words) {
-        Ok(matches) => asked_of(&matches).ok_or(LineError::Limit),
+        Ok(matches) => line_in(alloc, &matches),
         Err(error) => Err(error_of(alloc, error.kind(), words)),
     }
 }

@@ -1,6 +1,6 @@
 // The lines of errors.
 ghost use Rattle.std.specs.Prelude.{◌≡◌};
-ghost use Rattle.dbcli.specs.ErrorLines.{error_line, refusal_line};
+ghost use Rattle.dbcli.specs.ErrorLines.{error_line, past_end_line, refusal_line};
 
 use dbsource::{Refusal, RunError};
 
@@ -17,6 +17,14 @@ fn refusal_line(refusal: Refusal) -> &'static str
         Refusal::TooManyPages => "dbck: E6 file has more than 67108864 pages\n",
         Refusal::MapAtLock => "dbck: E7 pointer map at the lock-byte page\n",
     }
+}
+
+/// The line that says that a change is past the end of the file, with its line feed.
+#[tactic(auto, unfolding(crate::specs::ErrorLines::past_end_line))]
+pub fn past_end_line() -> &'static str
+    ensures { result.now ≡ past_end_line }
+{
+    "dbck: E11 a byte of --with is past the end of the file\n"
 }
 
 /// The line of an error, with its line feed: the program's name and the text of the error.

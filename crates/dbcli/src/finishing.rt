@@ -1,23 +1,30 @@
 // From an opened file to an exit status.
-ghost use Rattle.std.specs.Prelude.{◌≡◌, IfErr, OnOk};
+ghost use Rattle.std.specs.Prelude.{◌≡◌, [], IfErr, OnOk};
 ghost use Rattle.dbreport.specs.Runs.{IsUnwritten};
-ghost use Rattle.dbcli.specs.ErrorLines.{error_line};
+ghost use Rattle.dbcli.specs.ErrorLines.{error_line, past_end_line};
 ghost use Rattle.dbcli.specs.Exit.{EndsWithLine, IsKnown};
-ghost use Rattle.dbcli.specs.Finishing.{FailsByStatus, IsFinished, LeavesFirst, LeavesSecond, ToldFilesAreFinished};
+ghost use Rattle.dbcli.specs.Finishing.{FailsByStatus, Finishes, IsFinished, LeavesFirst, LeavesSecond, RunsInside, ToldFilesAreFinished};
 ghost use Rattle.dbcli.specs.Handing.{IsHanded};
 ghost use Rattle.dbcli.specs.Status.{exit_status};
 
-use crate::error_lines::error_line;
+use crate::command_line::Line;
+use crate::error_lines::{error_line, past_end_line};
 use crate::request::{Request, run_request};
 use crate::status::status_of;
 use dbreport::Verdict;
-use dbsource::{Out, RunError, Source};
+use dbsource::{Changes, Out, RunError, Source};
 use std::alloc::Global;
 
 /// What is reported of a run beside its two Outs, which it does not touch.
 pub trait Notes {
+    /// The run begins, of the file with changes.
+    fn begin(&mut self, changes: &Changes);
+
     /// The run has this outcome. The line of an error is not yet put.
     fn tell(&mut self, outcome: &Result<Verdict, RunError>);
+
+    /// There is no run, since a change is past the end of the file. The line of that is not yet put.
+    fn tell_past_end(&mut self);
 }
 
 // Hands on what is pending, gives the notes the error, puts its line, and hands that on, as far as it can. If handing
@@ -28,6 +35,18 @@ fn put_error<E: Out, N: Notes>(err: &mut E, error: RunError, notes: &mut N)
     let is_flushed = err.flush().is_ok();
     notes.tell(&Err(error));
     let is_put = err.put(error_line(error).as_bytes()).is_ok();
+    if is_flushed || is_put {
+        let _ = err.flush();
+    }
+}
+
+// Ends a line whose changes are not all inside the file: as `put_error` puts an error, but with the line of that.
+fn put_past_end<E: Out, N: Notes>(err: &mut E, notes: &mut N)
+    ensures { EndsWithLine past_end_line 2 (E.held err.old) (E.held err.new) }
+{
+    let is_flushed = err.flush().is_ok();
+    notes.tell_past_end();
+    let is_put = err.put(past_end_line().as_bytes()).is_ok();
     if is_flushed || is_put {
         let _ = err.flush();
     }
@@ -86,7 +105,7 @@ pub fn finish<S: Source, O: Out, E: Out, N: Notes>(
     err: &mut E,
     notes: &mut N,
 ) -> u8
-    ensures read { IsFinished S.Source O.Out E.Out request.entry result (source.old, out.old, err.old) (source.new, out.new, err.new) }
+    ensures read { IsFinished S.Source O.Out E.Out [] request.entry result (source.old, out.old, err.old) (source.new, out.new, err.new) }
     ensures status { IsKnown result }
     ensures failed { FailsByStatus S.Source O.Out E.Out result (source.old, out.old, err.old) (source.new, out.new, err.new) }
     ensures first { LeavesFirst S.Source O.Out E.Out request.entry result out.old out.new }
@@ -95,6 +114,36 @@ pub fn finish<S: Source, O: Out, E: Out, N: Notes>(
     let outcome = run_request(alloc, request, source, out, err);
     let outcome = hand_on(out, err, outcome);
     end(err, outcome, notes)
+}
+
+/// Runs what a line asks for on the source, which gives the file with the changes of the line. Where it has some, the length is
+/// asked for first, and there is a run only if all are inside it.
+pub(crate) fn finish_line<S: Source, O: Out, E: Out, N: Notes>(
+    alloc: Global,
+    line: &Line<'_>,
+    source: &mut S,
+    out: &mut O,
+    err: &mut E,
+    notes: &mut N,
+) -> u8
+    ensures { RunsInside S.Source O.Out E.Out line.now.changes (Finishes S.Source O.Out E.Out [] line.now.request result) result
+        (source.old, out.old, err.old) (source.new, out.new, err.new) }
+{
+    let changes = &line.changes;
+    if changes.as_slice().is_empty() {
+        return finish(alloc, line.request, source, out, err, notes);
+    }
+    match source.len() {
+        Ok(len) if changes.are_inside(len) => {
+            notes.begin(changes);
+            finish(alloc, line.request, source, out, err, notes)
+        }
+        Ok(_) => {
+            put_past_end(err, notes);
+            3
+        }
+        Err(error) => end(err, Err(RunError::from(error)), notes),
+    }
 }
 
 /// What [`finish`] says of each file that agrees with what was read is so of the bytes that a source tells, as memory does:

@@ -9,6 +9,9 @@ pub(crate) const CHECK_EXAMPLES: &str = "Examples:
   dbck check notes.db            The first 100 faults of notes.db, or 'ok'
   dbck check --limit 1 notes.db  The first fault, and how many more there are
   dbck check -- -notes.db        A file whose name begins with '-'
+  dbck check --with 1526=00000007 notes.db
+                                 The faults that notes.db would have with the bytes 00 00 00 07
+                                 at offset 1526; nothing is written to it
 
 'dbck --help' lists the exit statuses.";
 
@@ -54,7 +57,7 @@ pub(crate) const STATUSES: &str = "Exit status:
   0  no fault was found, or help or the version was asked for
   1  the file has faults
   2  the command line is wrong
-  3  the file is not a database that dbck checks (E1 to E7)
+  3  the file is not a database that dbck checks (E1 to E7), or ends before a byte of --with (E11)
   4  the file cannot be read (E8)
   5  out of memory (E9)
   6  the output cannot be written (E10)";

@@ -9,7 +9,7 @@ use crate::rest::put_rest;
 use crate::shown::Shown;
 use crate::watched::Watch;
 use dbreport::Verdict;
-use dbsource::{Out, Refusal, RunError};
+use dbsource::{Changes, Out, Refusal, RunError};
 use std::fs::Metadata;
 use std::os::unix::fs::MetadataExt;
 
@@ -127,6 +127,26 @@ impl<'a, R: Lookup + AllocGlobal, N: Out> FileNotes<'a, R, N> {
 }
 
 impl<R: Lookup + AllocGlobal, N: Out> Notes for FileNotes<'_, R, N> {
+    fn begin(&mut self, changes: &Changes) {
+        let count = changed_bytes(changes);
+        let noun = if count == 1 { " other byte" } else { " other bytes" };
+        self.put_of_file(&[
+            Piece::Words(" with "),
+            Piece::Number(count),
+            Piece::Words(noun),
+        ]);
+    }
+
+    fn tell_past_end(&mut self) {
+        let noun = match self.watch.len() {
+            0 => return self.put_of_file(&[Piece::Words(" has no bytes")]),
+            1 => " byte",
+            _ => " bytes",
+        };
+        let len = Piece::Number(self.watch.len());
+        self.put_of_file(&[Piece::Words(" has "), len, Piece::Words(noun)]);
+    }
+
     fn tell(&mut self, outcome: &Result<Verdict, RunError>) {
         match outcome {
             Ok(verdict) => {
@@ -149,6 +169,15 @@ impl<R: Lookup + AllocGlobal, N: Out> Notes for FileNotes<'_, R, N> {
             )]);
         }
     }
+}
+
+// How many bytes of a file are others.
+fn changed_bytes(changes: &Changes) -> u64 {
+    let mut count = 0u64;
+    for change in changes.as_slice() {
+        count = count.saturating_add(change.count() as u64);
+    }
+    count
 }
 
 // What the first bytes of a file are.

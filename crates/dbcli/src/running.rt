@@ -4,7 +4,7 @@ ghost use Rattle.dbcli.specs.Running.{AnswersWords, IsErrorStatus, RunsLine};
 
 use crate::command_line::{Line, LineError, line_of};
 use crate::error_lines::error_line;
-use crate::finishing::{end, finish};
+use crate::finishing::{end, finish_line};
 use crate::lookup::Lookup;
 use crate::notes::FileNotes;
 use crate::opening::Opener;
@@ -13,7 +13,7 @@ use crate::status::line_status;
 use crate::watched::{Watch, Watched};
 use crate::words_error::WordsError;
 use clap::error::ErrorKind;
-use dbsource::{Out, RunError};
+use dbsource::{Out, Patched, RunError};
 use std::io;
 
 /// The system of a run: its memory, what it looks paths up by, and the opener of its file.
@@ -34,7 +34,7 @@ impl<'a, R, F> System<'a, R, F> {
     }
 }
 
-/// Runs what a line asks for, on its file alone, and answers the exit status. What is reported of the file beside the
+/// Runs what a line asks for, on its file alone with its changes, and answers the exit status. What is reported of the file beside the
 /// report is put to `notes`, and the progress is wiped at the end.
 pub fn run_line<R: Lookup + AllocGlobal, F: Opener, O: Out, E: Out, N: Out, W: Print>(
     system: &mut System<'_, R, F>,
@@ -44,7 +44,7 @@ pub fn run_line<R: Lookup + AllocGlobal, F: Opener, O: Out, E: Out, N: Out, W: P
     notes: &mut N,
     progress: &Progress<W>,
 ) -> u8
-    ensures { RunsLine F.opens F.closes F.File.Source O.Out E.Out line.entry.request line.entry.file.now result
+    ensures { RunsLine F.opens F.closes F.File.Source O.Out E.Out line.entry.changes line.entry.request line.entry.file.now result
         (system.old.files, out.old, err.old) (system.new.files, out.new, err.new) }
 {
     let rt = system.rt;
@@ -57,10 +57,10 @@ pub fn run_line<R: Lookup + AllocGlobal, F: Opener, O: Out, E: Out, N: Out, W: P
     match opened {
         Ok(source) => {
             notes.opened();
-            let mut watched = Watched::new(source, &watch, progress);
-            let source = &mut watched;
-            let status = finish(rt.alloc(), line.request, source, out, err, &mut notes);
-            system.files.close(watched.into_inner());
+            let patched = Patched::new(&line.changes, source);
+            let mut watched = Watched::new(patched, &watch, progress);
+            let status = finish_line(rt.alloc(), &line, &mut watched, out, err, &mut notes);
+            system.files.close(watched.into_inner().into_inner());
             progress.wipe();
             status
         }

@@ -8,6 +8,7 @@ use dbformat::Encoding;
 use dbsource::MemOut;
 use std::alloc::{AllocError, Global};
 use std::convert::AsStr;
+use std::fmt;
 use std::marker::Model;
 use std::str;
 
@@ -62,6 +63,12 @@ impl Shown {
         ensures { result.now ≡ self.now }
     {
         self.text.as_str()
+    }
+}
+
+impl fmt::Display for Shown {
+    fn fmt<W: fmt::Write>(&self, f: &mut fmt::Formatter<W>) -> fmt::Result {
+        f.write_str(self.as_str())
     }
 }
 

@@ -8,6 +8,9 @@ returns-in-Ok g c = inl (record {
   file = c.in-Ok.line.file.now;
   asked = c.in-Ok.ensures.asks;
   limit = c.in-Ok.ensures.limit;
+  changes = c.in-Ok.line.changes;
+  are_changes = c.in-Ok.ensures.apart;
+  spelled = c.in-Ok.ensures.changes;
   ran = c.run_line.ensures;
 })
 
