@@ -96,12 +96,14 @@ def usage():
         for helper in ("limited_command", "with_file"):
             if f"{helper}(" in body:
                 body += bodies[helper]
+        changes = ["with OFFSET=HEX"] if "changes_arg(" in body else []
         progress = ["no-progress"] if "no_progress_arg(" in body else []
-        program.append((name, limit + flags + progress))
+        program.append((name, limit + flags + changes + progress))
     synopsis = re.search(r"^\.Sh SYNOPSIS\n(.*?)^\.Sh", text_of("docs/dbck.1"), re.S | re.M)[1]
     manual = []
     for part in re.findall(r"^\.Nm\n\.Cm (\w+)\n(.*?)\.Ar FILE", synopsis, re.M | re.S):
-        manual.append((part[0], [it.replace(" Ar ", " ") for it in re.findall(r"^\.Op Fl Fl (\S.*)$", part[1], re.M)]))
+        options = re.findall(r"^\.Op Fl Fl (\S.*)$", part[1], re.M)
+        manual.append((part[0], [it.replace(" Ns = Ns Ar ", "=").replace(" Ar ", " ") for it in options]))
     compare("docs/dbck.1, the synopsis", program, manual)
     lines = re.findall(r"^    dbck (\w+) (.*?)FILE ", text_of("README.md").split("## Usage")[1], re.M)
     readme = [(name, re.findall(r"\[--([^]]*)\]", options)) for name, options in lines]

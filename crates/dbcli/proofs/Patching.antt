@@ -107,7 +107,8 @@ module _ {S O E : Type 0} (inner : SourceWords S) (out : OutWords O) (err : OutW
   finishes_from asked status s s' t o o' e e' same h = record {
     read = record {
       read = subst (λ x. HasRead inner.step inner.lengths IsSomeRunLog
-          (λ file ranges. IsRunLog (geometry file) ranges × IsFinishOf status asked file (out.held o) (out.held o') (err.held e) (err.held e')) x (inner.held t))
+          (λ file ranges. IsRunLog (geometry file) ranges × IsFinishOf status asked file (out.held o) (out.held o') (err.held e) (err.held e'))
+          x (inner.held t))
           same h.read.read;
       refused = λ k. let r = h.read.refused k in (
         r.0,

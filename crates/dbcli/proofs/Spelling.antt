@@ -1,5 +1,6 @@
 -- What texts spell, and that each spells at most one change.
-use Rattle.std.proofs.Common.{◌≡◌, ℕ, suc, zero, ◌+◌, ◌*◌, ◌<◌, ◌≤◌, ◌⊎◌, List, [], ◌∷◌, ◌++◌, length, take, drop, refl, sym, ap, ap₂, subst, ◌∙◌, arith, true, false}
+use Rattle.std.proofs.Common.{◌≡◌, ℕ, suc, zero, ◌+◌, ◌*◌, ◌<◌, ◌≤◌, ◌⊎◌, List, [], ◌∷◌, ◌++◌, length, take, drop}
+use Rattle.std.proofs.Common.{refl, sym, ap, ap₂, subst, ◌∙◌, arith, true, false}
 use Rattle.std.proofs.Common.{slice_index, slice_index_or, length-append, rules}
 use Rattle.std.specs.Prelude.{All, Err, Ok, nat_lt, ◌==◌, if◌then◌else◌}
 use Rattle.std.proofs.Common.{inl, inr, Bool}
@@ -74,7 +75,8 @@ same_bytes (x ∷ y ∷ digits) (a ∷ xs) (b ∷ ys) s t = ap₂ (λ h l. h ∷
 -- ---- changes
 
 pub same_change : (text : Text) (c d : Change) → SpellsChange text c → SpellsChange text d → c ≡ d
-same_change text c d s t = ap₂ (λ o b. let e : Change = record { offset = o; bytes = b } in e) (sym s.offset.1 ∙ t.offset.1) (same_bytes _ c.bytes d.bytes s.bytes t.bytes)
+same_change text c d s t = ap₂ (λ o b. let e : Change = record { offset = o; bytes = b } in e) (sym s.offset.1 ∙ t.offset.1)
+    (same_bytes _ c.bytes d.bytes s.bytes t.bytes)
 
 -- bytes that are a change's make one
 pub made : (offset : ℕ) (bytes : List ℕ) (error : ChangeError) → change_at offset bytes ≡ Err error → 1 ≤ length bytes → length bytes ≤ 16 → ⊥
@@ -108,10 +110,12 @@ none_spelled texts done n l before refused changes are spelled =
     let p = prefix_spelled texts done changes n l before spelled in
     let c = p.0 in
     let size : length changes ≡ length done + suc (length p.1) = ap (λ (l : List Change). length l) p.2 ∙ length-append done (c ∷ p.1) in
-    let here : (d : Change) → slice_index_or changes (length done) d ≡ c = λ d. ap (λ l. slice_index_or l (length done) d) p.2 ∙ get_or_at done c p.1 d (length done) refl in
+    let here : (d : Change) → slice_index_or changes (length done) d ≡ c =
+    λ d. ap (λ l. slice_index_or l (length done) d) p.2 ∙ get_or_at done c p.1 d (length done) refl in
     let apart : All (λ d. overlaps c d ≡ false) done = λ k d in_done. overlaps_either _ c (
     subst (λ e. overlaps (slice_index_or done k d) e ≡ false) (here d)
-    (subst (λ e. overlaps e (slice_index_or changes (length done) d) ≡ false) (ap (λ l. slice_index_or l k d) p.2 ∙ get_or_append_left done (c ∷ p.1) d k in_done)
+    (subst (λ e. overlaps e (slice_index_or changes (length done) d) ≡ false)
+    (ap (λ l. slice_index_or l k d) p.2 ∙ get_or_append_left done (c ∷ p.1) d k in_done)
     (are.apart k (length done) d in_done (omega arith)))) in
     elim (refused c (subst IsChange (here c) (are.each (length done) c (omega arith))) p.3) [
       | inl full ↦ let few = are.few in absurd (omega arith)
@@ -124,7 +128,8 @@ pub not_added : (changes : List Change) (c : Change) (error : ChangeError) → c
 not_added changes c error e = by_tests (length changes == 16) (list_any (overlaps c) changes) refl refl e
   where
     by_tests : (a b : Bool) → a ≡ (length changes == 16) → b ≡ list_any (overlaps c) changes
-        → (if a then Err TooMany else (if b then Err Overlaps else Ok (changes ++ c ∷ []))) ≡ Err error → (length changes ≡ 16) ⊎ (list_any (overlaps c) changes ≡ true)
+        → (if a then Err TooMany else (if b then Err Overlaps else Ok (changes ++ c ∷ []))) ≡ Err error
+        → (length changes ≡ 16) ⊎ (list_any (overlaps c) changes ≡ true)
     by_tests true b p q e = inl (grind (arith, nat_tests))
     by_tests false true p q e = inr (sym q)
     by_tests false false p q e = absurd cc
@@ -147,4 +152,5 @@ one_more_spelled words changes changes' n d l h (c, s, e) =
     let size : n < length texts = subst (λ k. n < k) (sym (length-map words (λ (w : Bor Text). w.now))) l in
     let next : suc n ≡ n + 1 = omega arith in
     let parts : take (n + 1) texts ≡ take n texts ++ slice_index_or texts n [] ∷ [] = ap (λ k. take k texts) (sym next) ∙ take-suc texts n [] size in
-    rw (parts, e) (all_push (take n texts) changes (slice_index_or texts n []) c h (subst (λ t. SpellsChange t c) (sym (get_or-map (λ (w : Bor Text). w.now) words n d [] l)) s))
+    rw (parts, e) (all_push (take n texts) changes (slice_index_or texts n []) c h
+    (subst (λ t. SpellsChange t c) (sym (get_or-map (λ (w : Bor Text). w.now) words n d [] l)) s))

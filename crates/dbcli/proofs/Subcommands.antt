@@ -59,7 +59,8 @@ words_error error e kind words (inl h) same k =
 words_error error e kind words (inr h) same k = let P : LineError → Type 0 = λ l. IsErrorOf l words in subst P (sym h) (inl refl)
 
 -- an error of a subcommand that was met is one of the words
-pub error_in_words : (error : LineError) (words : List Text) (met : Option (Text × List Row)) → fault_of dbck_app words ≡ [] → met ≡ subcommand_of dbck_app words
+pub error_in_words : (error : LineError) (words : List Text) (met : Option (Text × List Row)) → fault_of dbck_app words ≡ []
+    → met ≡ subcommand_of dbck_app words
     → IsErrorIn error met → IsErrorOf error words
 error_in_words (Words e) words met taken same h = inl h
 error_in_words Limit words met taken same h = (taken, subst AsksForNone same h)

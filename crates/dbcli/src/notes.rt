@@ -129,7 +129,11 @@ impl<'a, R: Lookup + AllocGlobal, N: Out> FileNotes<'a, R, N> {
 impl<R: Lookup + AllocGlobal, N: Out> Notes for FileNotes<'_, R, N> {
     fn begin(&mut self, changes: &Changes) {
         let count = changed_bytes(changes);
-        let noun = if count == 1 { " other byte" } else { " other bytes" };
+        let noun = if count == 1 {
+            " other byte"
+        } else {
+            " other bytes"
+        };
         self.put_of_file(&[
             Piece::Words(" with "),
             Piece::Number(count),

@@ -8,9 +8,8 @@ use dbformat::Encoding;
 use dbsource::MemOut;
 use std::alloc::{AllocError, Global};
 use std::convert::AsStr;
-use std::fmt;
 use std::marker::Model;
-use std::str;
+use std::{fmt, str};
 
 /// A text of the command line, of a file or of the system, as it is shown on a line that it must not turn around: control
 /// characters, line feeds among them, backslashes and characters that turn text around are shown by their codes. Only

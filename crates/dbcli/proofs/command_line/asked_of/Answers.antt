@@ -33,9 +33,11 @@ pub returns-clause-changes : goal.returns-clause-changes
 returns-clause-changes c =
     let rows = rows_of (found_of c.in_ok-name.given.now) in
     let met = named_by c.args.matches.now c.in_ok-name.name.now rows c.in_ok-name.ensures.name c.in_ok-name.ensures.rows in
-    in_texts c.get_strs.result ∙ ap (λ (o : Option (List Text)). unwrap_or o []) (c.get_strs.ensures ∙ raw_values-rows (found_of c.in_ok-name.given.now) (codes "OFFSET=HEX"))
+    in_texts c.get_strs.result ∙ ap (λ (o : Option (List Text)). unwrap_or o [])
+    (c.get_strs.ensures ∙ raw_values-rows (found_of c.in_ok-name.given.now) (codes "OFFSET=HEX"))
     ∙ ap change_texts (sym met)
   where
-    in_texts : (o : Option (Bor (List (Bor Text)))) → texts_in o ≡ unwrap_or (option_map (λ (s : Bor (List (Bor Text))). map (λ (w : Bor Text). w.now) s.now) o) []
+    in_texts : (o : Option (Bor (List (Bor Text))))
+        → texts_in o ≡ unwrap_or (option_map (λ (s : Bor (List (Bor Text))). map (λ (w : Bor Text). w.now) s.now) o) []
     in_texts None = refl
     in_texts (Some words) = refl

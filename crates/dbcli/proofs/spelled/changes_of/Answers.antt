@@ -8,7 +8,8 @@ pub returns-in-Err-clause-refused : goal.returns-in-Err-clause-refused
 returns-in-Err-clause-refused c = λ changes are spelled.
     none_spelled (map (λ word. word.now) c.args.words.now) c.loop-word.changes c.loop-word.word-index
     (subst (λ n. c.loop-word.word-index < n) (sym (length-map c.args.words.now (λ word. word.now))) c.loop-word-test.true) c.loop-word.invariant
-    (λ d is s. c.in-Err.ensures.refused d is (subst (λ t. SpellsChange t d) (get_or-map (λ word. word.now) c.args.words.now c.loop-word.word-index _ [] c.loop-word-test.true) s))
+    (λ d is s. c.in-Err.ensures.refused d is
+    (subst (λ t. SpellsChange t d) (get_or-map (λ word. word.now) c.args.words.now c.loop-word.word-index _ [] c.loop-word-test.true) s))
     changes are spelled
 
 pub loop-word-preserved : goal.loop-word-preserved
