@@ -1,0 +1,17 @@
+//! The logs of SQLite, and a database as SQLite would open it beside one.
+#![tactic(auto)]
+
+mod entry;
+mod error;
+mod gathered;
+mod index;
+mod reading;
+mod scan;
+mod sums;
+#[cfg(test)]
+mod tests;
+mod wal_header;
+
+pub use entry::Entry;
+pub use error::LogError;
+pub use index::{Counts, Index};
