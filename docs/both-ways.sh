@@ -125,6 +125,7 @@ INSERT INTO report.plain SELECT s.rowid, '~' || s.rowid, l.name, s.sql,
 DELETE FROM report.plain WHERE length(definition) + 2 * length(place) >
     (SELECT length(sql) + length(name) + length(tbl_name) FROM main.sqlite_schema AS s WHERE s.rowid = plain.id);
 DELETE FROM main.sqlite_schema AS s WHERE rootpage > 0 AND type IS NOT 'index' AND name IS NOT 'sqlite_sequence'
+    AND coalesce(sql, '') NOT LIKE 'CREATE INDEX %' AND coalesce(sql, '') NOT LIKE 'CREATE UNIQUE INDEX %'
     AND NOT EXISTS (SELECT 1 FROM pragma_table_list AS l WHERE $same);
 UPDATE main.sqlite_schema AS s SET name = p.place, tbl_name = p.place, sql = p.definition FROM report.plain AS p WHERE s.rowid = p.id;
 SQL
