@@ -47,6 +47,20 @@ damage_roots() {
     [ "$(wc -l < "$work/out")" = $((roots + 17999)) ]
 }
 
+# counted COUNT NAME: the last explanation ends with the summary of so many damaged roots, one in each table, whose names are made by this
+# format.
+counted() {
+    {
+        echo "$1 faults"
+        echo "    $1 P01 unknown page type"
+        seq "$1" | awk -v roots="$roots" -v name="$2" '{ printf "        1 in table " name " (root page %d), on 1 of its 1 page\n", $1, roots + $1 - 1 }'
+        echo "    pages $roots to $((roots + $1 - 1)) are zeros: bytes $((512 * (roots - 1))) to $((512 * (roots + $1 - 1) - 1))"
+        echo "    0 of $1 tables and 0 of 0 indexes without a fault"
+    } > "$work/wanted"
+    sed -n "/^$1 faults\$/,\$p" "$work/out" | diff - "$work/wanted" | head -n 5 > "$work/why"
+    [ ! -s "$work/why" ] || fail "$(cat "$work/why")"
+}
+
 @test '18000 faults in 18000 tables are counted for each' {
     made tables 18000 112 "$work/x.db"
     damage_roots 18000 "$work/x.db"
@@ -54,15 +68,7 @@ damage_roots() {
     seq "$roots" $((roots + 17999)) | sed 's/.*/P01 page & item 0 value 0: unknown page type/' > "$work/wanted"
     is_report 1 "$work/wanted"
     within 40 explain --limit 10000 "$work/x.db"
-    {
-        echo '18000 faults'
-        echo '    18000 P01 unknown page type'
-        seq 18000 | awk -v roots="$roots" '{ printf "        1 in table t%0111d (root page %d), on 1 of its 1 page\n", $1, roots + $1 - 1 }'
-        echo "    pages $roots to $((roots + 17999)) are zeros: bytes $((512 * (roots - 1))) to $((512 * (roots + 17999) - 1))"
-        echo '    0 of 18000 tables and 0 of 0 indexes without a fault'
-    } > "$work/wanted"
-    sed -n '/^18000 faults$/,$p' "$work/out" | diff - "$work/wanted" | head -n 5 > "$work/why"
-    [ ! -s "$work/why" ] || fail "$(cat "$work/why")"
+    counted 18000 't%0111d'
     [ "$(grep -c '^P01 page ' "$work/out")" = 10000 ]
     grep -qx "    page $((roots + 9999)) at byte $((512 * (roots + 9998))): root of table $(name 10000 112)" "$work/out"
     within 40 map "$work/x.db"
@@ -98,15 +104,7 @@ damage_roots() {
     made tables 65536 10 "$work/x.db"
     damage_roots 65536 "$work/x.db"
     within 40 explain --limit 1 "$work/x.db"
-    {
-        echo '65536 faults'
-        echo '    65536 P01 unknown page type'
-        seq 65536 | awk -v roots="$roots" '{ printf "        1 in table t%09d (root page %d), on 1 of its 1 page\n", $1, roots + $1 - 1 }'
-        echo "    pages $roots to $((roots + 65535)) are zeros: bytes $((512 * (roots - 1))) to $((512 * (roots + 65535) - 1))"
-        echo '    0 of 65536 tables and 0 of 0 indexes without a fault'
-    } > "$work/wanted"
-    sed -n '/^65536 faults$/,$p' "$work/out" | diff - "$work/wanted" | head -n 5 > "$work/why"
-    [ ! -s "$work/why" ] || fail "$(cat "$work/why")"
+    counted 65536 't%09d'
 }
 
 @test 'a picture of 12000 tables has a title of each' {
