@@ -10,10 +10,10 @@ if ! command -v bats > /dev/null; then
 fi
 said=$(mktemp -d)
 trap 'rm -rf "$said"' EXIT
-tests/alarms.py || exit
-tests/documents.py || exit
+tools/alarms.py || exit
+tools/documents.py || exit
 # A crate is proved by one process: each further one reads all libraries again.
-RT_JOBS=$(nproc) tests/gate_time.py "$said/time" rt ci | tee "$said/gate"
+RT_JOBS=$(nproc) tools/gate_time.py "$said/time" rt ci | tee "$said/gate"
 status=${PIPESTATUS[0]}
 [ "$status" = 0 ] || exit "$status"
 DBCK=crates/dbck/out/dbck bats --formatter tap tests/program | tee "$said/program"

@@ -1,5 +1,5 @@
 // The colours of the picture. They were searched for by computation, so that any two differ for normal sight and for that of
-// deuteranopes and protanopes: tests/colours.py says by how much.
+// deuteranopes and protanopes: tools/colours.py says by how much.
 ghost use Rattle.std.specs.Prelude.{◌≡◌};
 ghost use Rattle.dbpicture.specs.Marks.{shade_letter};
 

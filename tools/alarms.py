@@ -1,11 +1,11 @@
 #!/usr/bin/env python3
 """Holds the must-fail edits and their tables, crates/NAME/must-fail/GOALS.md, against each other.
 
-    tests/alarms.py                  each edit has a line and each line an edit; a line names a function that the edit changes;
+    tools/alarms.py                  each edit has a line and each line an edit; a line names a function that the edit changes;
                                      where a changed function has a hand-written answer or invariant, a right twin is named;
                                      an answer that is only a tactic which a check tries itself needs none; and each edit of
                                      NEEDED, and each test of TESTED, is there
-    tests/alarms.py --try NAME..     also tries the edits of these crates, with `rt must-fail`, and compares the goals
+    tools/alarms.py --try NAME..     also tries the edits of these crates, with `rt must-fail`, and compares the goals
 
 A line of a table is: edit, function, goals, right twin. The function is written with its module, as `header::Header::read`. A
 goal is named as a check prints it; of several the first is the one that says what is wrong. The prover decides, in the gate,

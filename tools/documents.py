@@ -3,7 +3,7 @@
 
 The codes of docs/FAULTS.md are those of `FaultCode`, in its order and with its words. Commands, options, limits and exit statuses of
 the manual, and those of README, are the program's. The columns of FAULTS are those of the help. README and PROOFS state one
-theorem, and PROOFS names calls and clauses that there are. The choice of a recipe stands in REPAIR, and where README or the manual
+theorem, and PROOFS and the README of each crate name calls and clauses that there are. The choice of a recipe stands in REPAIR, and where README or the manual
 repeat it, they do so word for word. Each section of a list is there, and each link leads somewhere. No document is longer than it may
 be, and no line of a proof is wider than 160 columns. What fails is printed, and then the status is 1.
 """
@@ -26,14 +26,14 @@ SECTIONS = {
     "docs/DECISIONS.md": ["What is reported", "The program", "Names and forms"],
     "docs/DESIGN.md": ["The house", "To add a fault", "To add a command", "To add a column to `stat`", "Decisions", "Limits of the tools", "The gate"],
     "docs/FAULTS.md": ["Fault lines", "Last lines of `check`", "Lines of `explain`", "The picture of `map`", "Rows of `stat`", "Shown names"],
-    "docs/PROOFS.md": ["The theorem for every source", "Premises", "Which call promises what", "Tested, read, assumed", "Crate by crate"],
+    "docs/PROOFS.md": ["The theorem for every source", "Premises", "Which call promises what", "Tested, read, assumed"],
     "docs/SQLITE.md": ["The runs", "What the words mean", "What came of them", "Refused by dbck", "Faults by dbck alone",
                        "Faults by SQLite alone", "What quick_check says", "What the gate compares"],
     "docs/dbck.1": ["NAME", "SYNOPSIS", "DESCRIPTION", "A database beside its log", "Fault codes", "What to do about a fault",
                     "Signs of what happened", "EXIT STATUS", "EXAMPLES", "DIAGNOSTICS", "SEE ALSO", "CAVEATS"],
 }
-# Words in PROOFS that look like names and are none of the sources.
-OTHER_NAMES = {"rt", "plant"}
+# Words in PROOFS and the crates' READMEs that look like names and are none of the sources.
+OTHER_NAMES = {"rt", "plant", "FILE", "main", "stdin", "stdout", "drawn_pages"}
 
 failed = []
 
@@ -131,8 +131,23 @@ def theorem():
         failed.append("README.md and docs/PROOFS.md state two theorems")
 
 
+def crate_pages():
+    """The README of each crate."""
+    return paths("crates/*/README.md")
+
+
+def crates():
+    """Each crate has a README, which says what the crate is for and which calls it has."""
+    for name in re.findall(r"^(\w+):", text_of("crates.txt"), re.M):
+        path = f"crates/{name}/README.md"
+        if path not in crate_pages():
+            failed.append(f"{path} is not there")
+        elif not text_of(path).startswith(f"# {name}\n\n"):
+            failed.append(f"{path} does not begin with its name")
+
+
 def clauses():
-    """The names in PROOFS: each is one of the sources, and a clause one of its call."""
+    """The names in PROOFS and in the README of each crate: each is one of the sources, and a clause one of its call."""
     sources = "".join(text_of(path) for pattern in ("crates/*/src/**/*.rt", "crates/*/specs/**/*.antt", "crates/*/proofs/**/*.antt")
                       for path in paths(pattern))
     names = set(re.findall(r"\w+", sources)) | set(re.findall(r"^\w+", text_of("crates.txt"), re.M)) | OTHER_NAMES
@@ -140,17 +155,20 @@ def clauses():
     for path in paths("crates/*/src/**/*.rt"):
         for name, head in re.findall(r"\bfn (\w+)\b(.*?)(?:^\s*\{$|\{\}$|;$|\{$)", text_of(path), re.M | re.S):
             heads.setdefault(name, set()).update(re.findall(r"^\s*(?:ensures|requires) (\w+) ", head, re.M))
-    for quoted in re.findall(r"`([^`\n]+)`", text_of("docs/PROOFS.md")):
-        for word in re.findall(r"[A-Za-z]\w+", quoted):
-            if word not in names and not re.fullmatch(r"[0-9a-f]{16}", word):
-                failed.append(f"docs/PROOFS.md: `{quoted}`: {word} is not in the sources")
-        clause = re.fullmatch(r"(?:\w+::)*(\w+): (\w+)", quoted)
-        if clause and clause[2] not in heads.get(clause[1], ()):
-            failed.append(f"docs/PROOFS.md: `{quoted}`: there is no such clause")
+    for path in ["docs/PROOFS.md", *crate_pages()]:
+        for quoted in re.findall(r"`([^`\n]+)`", text_of(path)):
+            if os.path.exists(os.path.join(TOP, quoted)) or os.path.exists(os.path.join(TOP, os.path.dirname(path), quoted)):
+                continue
+            for word in re.findall(r"[A-Za-z]\w+", quoted):
+                if word not in names and not re.fullmatch(r"[0-9a-f]{16}", word):
+                    failed.append(f"{path}: `{quoted}`: {word} is not in the sources")
+            clause = re.fullmatch(r"(?:\w+::)*(\w+): (\w+)", quoted)
+            if clause and clause[2] not in heads.get(clause[1], ()):
+                failed.append(f"{path}: `{quoted}`: there is no such clause")
 
 
 def links():
-    for path in ["README.md", "CONTRIBUTING.md", *paths("docs/*.md")]:
+    for path in ["README.md", "CONTRIBUTING.md", *paths("docs/*.md"), *paths("*/README.md"), *crate_pages()]:
         for link in re.findall(r"\]\(([^)#:]+)\)", text_of(path)):
             if not os.path.exists(os.path.join(TOP, os.path.dirname(path), link)):
                 failed.append(f"{path}: {link} is not there")
@@ -196,7 +214,7 @@ def sections():
 
 
 def lengths():
-    documents = ["README.md", "CONTRIBUTING.md", "CHANGELOG.md", "docs/dbck.1", *paths("docs/*.md")]
+    documents = ["README.md", "CONTRIBUTING.md", "CHANGELOG.md", "docs/dbck.1", *paths("docs/*.md"), *crate_pages()]
     count = {path: len(text_of(path).split()) for path in documents}
     for path, most in WORDS.items():
         if count[path] > most:
@@ -215,7 +233,7 @@ def widths():
 def main():
     if sys.argv[1:]:
         sys.exit(__doc__)
-    for check in (codes, statuses, usage, columns, theorem, clauses, choice, sections, links, lengths, widths):
+    for check in (codes, statuses, usage, columns, theorem, crates, clauses, choice, sections, links, lengths, widths):
         check()
     print("\n".join(failed) if failed else "the documents are as the sources")
     sys.exit(1 if failed else 0)
