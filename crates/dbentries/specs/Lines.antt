@@ -46,7 +46,8 @@ blank_text byte = indented (if byte == 0 then codes "all zeros" else codes "all 
 
 -- The overflow chain that is broken, by its cell, and how much of it was found; below it whether the page with the fault is all zeros.
 abbrev pub broken_chain_text : CellChain → List ℕ
-broken_chain_text c = indented (codes "chain of page " ++ decimal c.page ++ codes " item " ++ decimal c.item ++ option_map_or rowid_text c.rowid [] ++ codes ": "
+broken_chain_text c = indented (codes "chain of page " ++ decimal c.page ++ codes " item " ++ decimal c.item ++ option_map_or rowid_text c.rowid []
+    ++ codes ": "
     ++ decimal c.found ++ codes " of " ++ number_text c.pages (codes " page") (codes " pages"))
     ++ (if c.is_in_zeros then blank_text 0 else [])
 

@@ -1,5 +1,6 @@
 -- What `explain` lists (own): the faults that lead, each with the faults that belong to it.
-use Rattle.std.specs.Prelude.{ℕ, zero, suc, ◌+◌, ◌-◌, Bool, true, false, ◌&&◌, ◌||◌, List, [], ◌∷◌, ◌++◌, length, drop, map, fold, Option, Some, None, nat_le, ◌==◌, if◌then◌else◌}
+use Rattle.std.specs.Prelude.{ℕ, zero, suc, ◌+◌, ◌-◌, Bool, true, false, ◌&&◌, ◌||◌, List, [], ◌∷◌, ◌++◌, length, drop, map, fold, Option, Some}
+use Rattle.std.specs.Prelude.{None, nat_le, ◌==◌, if◌then◌else◌}
 use Rattle.std.specs.Option.{option_map_or}
 use Rattle.dbformat.specs.Codes.{code_index}
 use Rattle.dbformat.specs.declared.FaultCode.{FaultCode}

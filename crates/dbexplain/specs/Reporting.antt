@@ -49,7 +49,8 @@ module _ {A O : Type 0} where
     -- By the answer of a run over a file: the report was put, and this was found; after a failed read nothing was put yet, and the first
     -- faults are listed; and at another error a beginning of the report was put.
     abbrev pub IsReportLeft : ℕ → List ℕ → List Reference → Result Verdict RunError → ExplainReporter A O → ExplainReporter A O → Type 0
-    IsReportLeft limit file V (Ok v) s t = Appends (held s.out.now).bytes (held t.out.now).bytes (explain_text limit file V (listed_entries file V)) × (v ≡ verdict (faults file V))
+    IsReportLeft limit file V (Ok v) s t = Appends (held s.out.now).bytes (held t.out.now).bytes (explain_text limit file V (listed_entries file V))
+        × (v ≡ verdict (faults file V))
     IsReportLeft limit file V (Err ReadFailed) s t = (t.out.now ≡ s.out.now) × ListsFirst limit file V t.kept.now.listing
     IsReportLeft limit file V (Err e) s t = Begins (held s.out.now).bytes (held t.out.now).bytes (explain_text limit file V (listed_entries file V))
 

@@ -1,6 +1,7 @@
 -- The summary of `explain` (own): how many faults a file has, with each code and reported at each start, on how many of the pages that were
 -- reached from there, and how many of the tables and indexes have no fault.
-use Rattle.std.specs.Prelude.{◌≡◌, ℕ, ◌+◌, ◌-◌, ◌*◌, not, Bool, true, false, ◌&&◌, List, [], ◌∷◌, ◌++◌, length, replicate, flat_map, count_by, slice_get, sum_by, take, codes, decimal, ◌==◌, if◌then◌else◌}
+use Rattle.std.specs.Prelude.{◌≡◌, ℕ, ◌+◌, ◌-◌, ◌*◌, not, Bool, true, false, ◌&&◌, List, [], ◌∷◌, ◌++◌, length, replicate, flat_map, count_by}
+use Rattle.std.specs.Prelude.{slice_get, sum_by, take, codes, decimal, ◌==◌, if◌then◌else◌}
 use Rattle.std.specs.List.{list_any, range_with_len}
 use Rattle.std.specs.Option.{option_map_or}
 use Rattle.dbformat.specs.Address.{freelist_start}
@@ -138,7 +139,8 @@ share_text t one more = decimal t.whole ++ codes " of " ++ number_text t.all one
 -- how many of the tables, and of the indexes
 abbrev pub trees_text : TreeSum → TreeSum → List ℕ
 trees_text tables indexes =
-    indented (share_text tables (codes " table") (codes " tables") ++ codes " and " ++ share_text indexes (codes " index") (codes " indexes") ++ codes " without a fault")
+    indented (share_text tables (codes " table") (codes " tables") ++ codes " and " ++ share_text indexes (codes " index") (codes " indexes")
+    ++ codes " without a fault")
 
 -- the pages from one number to another, before what they are
 abbrev pub pages_text : ℕ → ℕ → List ℕ
@@ -166,7 +168,8 @@ zeros_text page_size pages = zero_runs_text page_size (take 10 (runs pages)) (co
 abbrev pub summary : List ℕ → List Reference → List Reported → List ℕ
 summary file V ts =
     count_text (length ts) ++ flat_map (code_line ts) all_codes ++ flat_map (λ l. start_sum_line file V ts l.step) (starts file V) ++ whole_line ts
-    ++ (zeros_text (geometry file).page_size (zero_pages file V) ++ trees_text (whole_trees false (listed_rows file V) ts) (whole_trees true (listed_rows file V) ts))
+    ++ (zeros_text (geometry file).page_size (zero_pages file V)
+    ++ trees_text (whole_trees false (listed_rows file V) ts) (whole_trees true (listed_rows file V) ts))
 
 -- Laws.
 

@@ -1,5 +1,6 @@
 -- The tally of the faults that were reported: how many there are by code and by start, which pages have one, and how many pages were reached.
-use Rattle.std.specs.Prelude.{◌≡◌, ℕ, ◌+◌, ◌-◌, ◌≤◌, Bool, ◌&&◌, List, [], length, min, count_by, Option, Some, None, ◌^◌, slice_get, slice_index, slice_set, slice_index_or, if◌then◌else◌}
+use Rattle.std.specs.Prelude.{◌≡◌, ℕ, ◌+◌, ◌-◌, ◌≤◌, Bool, ◌&&◌, List, [], length, min, count_by, Option, Some, None, ◌^◌, slice_get, slice_index}
+use Rattle.std.specs.Prelude.{slice_set, slice_index_or, if◌then◌else◌}
 use Rattle.std.specs.List.{range_with_len}
 use Rattle.dbformat.specs.Address.{freelist_start}
 use Rattle.dbformat.specs.Codes.{code_index}

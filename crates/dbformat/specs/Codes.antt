@@ -4,7 +4,8 @@ use Rattle.std.specs.List.{range_with_len}
 use Rattle.std.specs.Str.{bytes_eq}
 use Rattle.dbformat.specs.Lines.{code_text}
 use Rattle.dbformat.specs.declared.FaultCode.{FaultCode}
-use Rattle.dbformat.specs.declared.FaultCode.TheVariants.{H01, H02, H03, H04, H05, H06, H07, H08, H09, H10, P01, P02, P03, P04, P05, P06, P07, P08, P09, P10, R01, R02, R03, T04, T05, T06, O01, L01, S01, S02, S03, S04, N01, M01, M02}
+use Rattle.dbformat.specs.declared.FaultCode.TheVariants.{H01, H02, H03, H04, H05, H06, H07, H08, H09, H10, P01, P02, P03, P04, P05, P06, P07, P08}
+use Rattle.dbformat.specs.declared.FaultCode.TheVariants.{P09, P10, R01, R02, R03, T04, T05, T06, O01, L01, S01, S02, S03, S04, N01, M01, M02}
 
 -- all codes, in the order in which a summary shows them
 abbrev pub all_codes : List FaultCode

@@ -1,5 +1,6 @@
 -- The lines of a report, as bytes (own; the columns are those of The DBSTAT Virtual Table).
-use Rattle.std.specs.Prelude.{◌≡◌, ℕ, zero, suc, ◌-◌, ◌*◌, ◌^◌, List, [], ◌∷◌, ◌++◌, length, map, flat_map, fold, max, min, sum_by, Option, Some, None, codes, decimal, slice_get, if◌then◌else◌}
+use Rattle.std.specs.Prelude.{◌≡◌, ℕ, zero, suc, ◌-◌, ◌*◌, ◌^◌, List, [], ◌∷◌, ◌++◌, length, map, flat_map, fold, max, min, sum_by, Option, Some}
+use Rattle.std.specs.Prelude.{None, codes, decimal, slice_get, if◌then◌else◌}
 use Rattle.std.specs.List.{join_with_byte}
 use Rattle.std.specs.Option.{option_map_or}
 use Rattle.std.specs.Fmt.{signed_decimal}
@@ -11,11 +12,13 @@ use Rattle.dbformat.specs.SchemaRow.{SchemaRow}
 use Rattle.dbformat.specs.Text.{hex_text, shown_name}
 use Rattle.dbformat.specs.Reference.{Reference}
 use Rattle.dbformat.specs.Schema.{schema, rooted_rows}
-use Rattle.dbformat.specs.Rows.{StatRow, OtherPage, trunk_page, leaf_page, map_page, lock_page, unowned_page, FormRow, page_row, tree_row, other_row, StatForm, form_rows}
+use Rattle.dbformat.specs.Rows.{StatRow, OtherPage, trunk_page, leaf_page, map_page, lock_page, unowned_page, FormRow, page_row, tree_row}
+use Rattle.dbformat.specs.Rows.{other_row, StatForm, form_rows}
 use Rattle.dbformat.specs.declared.counts.Counts.{Counts}
 use Rattle.dbformat.specs.declared.Fault.{Fault}
 use Rattle.dbformat.specs.declared.FaultCode.{FaultCode}
-use Rattle.dbformat.specs.declared.FaultCode.TheVariants.{H01, H02, H03, H04, H05, H06, H07, H08, H09, H10, P01, P02, P03, P04, P05, P06, P07, P08, P09, P10, R01, R02, R03, T04, T05, T06, O01, L01, S01, S02, S03, S04, N01, M01, M02}
+use Rattle.dbformat.specs.declared.FaultCode.TheVariants.{H01, H02, H03, H04, H05, H06, H07, H08, H09, H10, P01, P02, P03, P04, P05, P06, P07, P08}
+use Rattle.dbformat.specs.declared.FaultCode.TheVariants.{P09, P10, R01, R02, R03, T04, T05, T06, O01, L01, S01, S02, S03, S04, N01, M01, M02}
 use Rattle.dbformat.specs.declared.PageType.{PageType}
 use Rattle.dbformat.specs.declared.PageType.TheVariants.{Tree, Damaged, Overflow}
 

@@ -47,5 +47,6 @@ module _ {S O : Type 0} (source : SourceWords S) (out : OutWords O) where
   -- Whatever the source answered: there is a file, of the length that it answered, that agrees with every byte that was used;
   -- and of each such file the answer and what was put are so, and what was asked for is what a run over that file asks for.
   abbrev pub HasMap : List ℕ → Result Verdict RunError → S × O → S × O → Type 0
-  HasMap name r old new = HasRead source.step source.lengths IsSomeRunLog (λ file ranges. IsRunLog (geometry file) ranges × IsMapOf name file r (out.held old.1).bytes (out.held new.1).bytes)
+  HasMap name r old new = HasRead source.step source.lengths IsSomeRunLog (λ file ranges. IsRunLog (geometry file) ranges
+      × IsMapOf name file r (out.held old.1).bytes (out.held new.1).bytes)
       (source.held old.0) (source.held new.0)

@@ -1,5 +1,6 @@
 -- What the marks say at the end of a run, of all pages.
-use Rattle.std.specs.Prelude.{◌≡◌, ℕ, Bool, true, false, not, ◌&&◌, List, [], ◌∷◌, length, filter, find, fold, max, count_by, Option, Some, None, pos, nat_lt, ◌==◌}
+use Rattle.std.specs.Prelude.{◌≡◌, ℕ, Bool, true, false, not, ◌&&◌, List, [], ◌∷◌, length, filter, find, fold, max, count_by, Option, Some, None}
+use Rattle.std.specs.Prelude.{pos, nat_lt, ◌==◌}
 use Rattle.std.specs.List.{range_with_len}
 use Rattle.std.specs.Option.{option_map_or}
 use Rattle.dbsurvey.specs.Address.{IsIn}

@@ -1,5 +1,6 @@
 -- Packed pages: those whose cells need only one reading.
-use Rattle.std.specs.Prelude.{◌≡◌, ℕ, ◌+◌, ◌*◌, ◌<◌, ◌≤◌, true, List, length, map, max, fold, filter_map, Option, Some, None, is_some, option_and_then, option_map, Ok, IsOk, ℤ, ◌<ℤ◌, sum_by, MatchBool}
+use Rattle.std.specs.Prelude.{◌≡◌, ℕ, ◌+◌, ◌*◌, ◌<◌, ◌≤◌, true, List, length, map, max, fold, filter_map, Option, Some, None, is_some}
+use Rattle.std.specs.Prelude.{option_and_then, option_map, Ok, IsOk, ℤ, ◌<ℤ◌, sum_by, MatchBool}
 use Rattle.std.specs.List.{range_with_len}
 use Rattle.std.specs.Result.{result_ok}
 use Rattle.dbformat.specs.Head.{View}

@@ -1,6 +1,7 @@
 -- The square of a run of pages, by its pages, how many of them each owner has, and its faults; and how it is divided in six bands where there
 -- are several owners.
-use Rattle.std.specs.Prelude.{ℕ, zero, suc, ◌+◌, ◌-◌, ◌*◌, Bool, true, false, not, nat_lt, List, slice_set, [], ◌∷◌, ◌++◌, get_or, replicate, slice_get, codes, decimal}
+use Rattle.std.specs.Prelude.{ℕ, zero, suc, ◌+◌, ◌-◌, ◌*◌, Bool, true, false, not, nat_lt, List, slice_set, [], ◌∷◌, ◌++◌, get_or, replicate}
+use Rattle.std.specs.Prelude.{slice_get, codes, decimal}
 use Rattle.std.specs.Prelude.{◌==◌, ◌&&◌, if◌then◌else◌}
 use Rattle.std.specs.Option.{option_map_or}
 use Rattle.std.specs.List.{concat, flat_map, list_any, range_with_len, sum_by}
@@ -78,7 +79,8 @@ title_text r names f =
 -- the square of pages that all have the owner with this number
 unfoldable pub plain_text : RunSquare → Width → List (List ℕ) → (Sign → Bool) → ℕ → List ℕ
 plain_text r width names f owner =
-    concat (codes "<rect class=\"" ∷ shade_letter (is_shaded (share_of r.shares owner)) ∷ decimal owner ∷ codes "\" x=\"" ∷ decimal r.x ∷ extent width (frame_of f)
+    concat (codes "<rect class=\"" ∷ shade_letter (is_shaded (share_of r.shares owner)) ∷ decimal owner ∷ codes "\" x=\"" ∷ decimal r.x
+    ∷ extent width (frame_of f)
     ∷ stroke width (frame_of f) ∷ codes "><title>page" ∷ [])
     ++ (title_text r names f ++ codes "</title></rect>\n")
 
@@ -99,7 +101,9 @@ bands_text r bands = flat_map (λ number. band_text r number (band_top bands num
 -- the frame of a square in bands that begins there, if it has one
 abbrev pub band_frame : Bool → ℕ → List ℕ
 band_frame is_framed x =
-    if is_framed then concat (codes "<rect width=\"6\" height=\"6\" stroke=\"#BE0700\" stroke-width=\"2\" x=\"" ∷ decimal x ∷ codes "\" fill=\"none\"/>" ∷ []) else []
+    if is_framed
+    then concat (codes "<rect width=\"6\" height=\"6\" stroke=\"#BE0700\" stroke-width=\"2\" x=\"" ∷ decimal x ∷ codes "\" fill=\"none\"/>" ∷ [])
+    else []
 
 -- the square of pages of several owners, divided in bands: a weak frame lies below these, and a strong one above them
 unfoldable pub mixed_text : RunSquare → List (List ℕ) → (Sign → Bool) → Bands → List ℕ

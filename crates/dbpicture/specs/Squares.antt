@@ -113,7 +113,8 @@ squares_text g row = squares_between g (places_of g.grid row g.grid.squares)
 -- a row: its squares, and the outlines of missing pages
 unfoldable pub row_text : Drawn → ℕ → List ℕ
 row_text g row =
-    concat (codes "<g transform=\"translate(" ∷ decimal 72 ∷ codes "," ∷ decimal (top_of g.grid row) ∷ codes ")\">\n" ∷ []) ++ (squares_text g row ++ (outlines_text g.grid row ++ codes "</g>\n"))
+    concat (codes "<g transform=\"translate(" ∷ decimal 72 ∷ codes "," ∷ decimal (top_of g.grid row) ∷ codes ")\">\n" ∷ [])
+    ++ (squares_text g row ++ (outlines_text g.grid row ++ codes "</g>\n"))
 
 unfoldable pub rows_text : Drawn → List ℕ
 rows_text g = flat_map (row_text g) (range_with_len 0 (rows g.grid))

@@ -26,7 +26,8 @@ module _ {S : Type 0} (source : SourceWords S) where
   -- and of each such file this is an answer. The source failed, once, exactly at a failed read; at a refusal the header alone was
   -- asked for; and no Out failed.
   pub record IsNotOpened (e : RunError) (old new : S) : Type 0 where
-    pub read : HasRead source.step source.lengths IsSomeRunLog (λ file ranges. IsRunLog (geometry file) ranges × IsAnswerOf {A = Verdict} (Err e) file) (source.held old) (source.held new)
+    pub read : HasRead source.step source.lengths IsSomeRunLog (λ file ranges. IsRunLog (geometry file) ranges
+        × IsAnswerOf {A = Verdict} (Err e) file) (source.held old) (source.held new)
     pub reads : (source.held new).failures ≡ failures_after {A = Verdict} is_read_failed (Err e) (source.held old).failures
     pub asked : AsksHeaderAlone {A = Verdict} source.step (Err e) (source.held old).trail (source.held new).trail
     pub no_failed_write : is_write_failed e ≡ false

@@ -75,12 +75,14 @@ pub record IsReportedBy (told : Report) (r : Result Verdict RunError) (out_old o
   pub verdict : IfOk r (λ v. told.answer ≡ Ok v)
 
 -- the same of the report of a command
-abbrev pub IsReported : Command → List ℕ → List Reference → Result Verdict RunError → Option (List ℕ) → Option (List ℕ) → Option (List ℕ) → Option (List ℕ) → Type 0
+abbrev pub IsReported : Command → List ℕ → List Reference → Result Verdict RunError → Option (List ℕ) → Option (List ℕ) → Option (List ℕ)
+    → Option (List ℕ) → Type 0
 IsReported command file V r out_old out_new err_old err_new = IsReportedBy (report command file V) r out_old out_new err_old err_new
 
 -- A run left this of a file, where `rep` is the report of a file by its survey: the file has a survey, and by any survey of it
 -- that is its report. The answer is `Clean` exactly for a sound file.
-pub record IsRunBy (rep : List ℕ → List Reference → Report) (file : List ℕ) (r : Result Verdict RunError) (out_old out_new err_old err_new : Option (List ℕ)) : Type 0 where
+pub record IsRunBy (rep : List ℕ → List Reference → Report) (file : List ℕ) (r : Result Verdict RunError)
+    (out_old out_new err_old err_new : Option (List ℕ)) : Type 0 where
   pub survey : Survey file (survey file)
   pub reported : (V : List Reference) → Survey file V → IsReportedBy (rep file V) r out_old out_new err_old err_new
   pub answer : IsAnswerOf r file
@@ -151,10 +153,13 @@ ToldRunsAreRead step lengths = (command : Command) (r : Result Verdict RunError)
 
 -- what `run_on` says
 abbrev pub ToldRunsOnAreRead : Step → Type 0
-ToldRunsOnAreRead step = (h : HeaderBytes) (command : Command) (r : Result Verdict RunError) (out_old out_new err_old err_new : Option (List ℕ)) (old new : SourceState)
+ToldRunsOnAreRead step = (h : HeaderBytes) (command : Command) (r : Result Verdict RunError) (out_old out_new err_old err_new : Option (List ℕ))
+    (old new : SourceState)
     → ToldFileIsReadAfter step (IsPageLog (geometry_of h.bytes h.file_len)) h (λ file. IsRunOf command file r out_old out_new err_old err_new) old new
 
 -- what a run says that writes another report, as `HasRunBy` does
 abbrev pub ToldReportsAreRead : Step → Lengths → Type 0
-ToldReportsAreRead step lengths = (rep : List ℕ → List Reference → Report) (r : Result Verdict RunError) (out_old out_new : Option (List ℕ)) (old new : SourceState)
-    → ToldFileIsRead step lengths IsSomeRunLog (λ file ranges. IsRunLog (geometry file) ranges × ((err : Option (List ℕ)) → IsRunBy rep file r out_old out_new err err)) old new
+ToldReportsAreRead step lengths = (rep : List ℕ → List Reference → Report)
+    (r : Result Verdict RunError) (out_old out_new : Option (List ℕ)) (old new : SourceState)
+    → ToldFileIsRead step lengths IsSomeRunLog (λ file ranges. IsRunLog (geometry file) ranges
+    × ((err : Option (List ℕ)) → IsRunBy rep file r out_old out_new err err)) old new

@@ -58,7 +58,8 @@ IsFlushedIf true old new = IsFlushed old new
 IsFlushedIf false old new = new ≡ old
 
 -- a row was taken: it was written, after the faults that came before it, or counted for its tree's
-pub record TakesStatRow {O E : Type 0} (held : O → OutState) (held' : E → OutState) (s : StatReporter O E) (at : At) (r : StatRow) (t : StatReporter O E) : Type 0 where
+pub record TakesStatRow {O E : Type 0} (held : O → OutState) (held' : E → OutState)
+    (s : StatReporter O E) (at : At) (r : StatRow) (t : StatReporter O E) : Type 0 where
   pub same : IsSameReporter s t
   pub err : IsFlushedIf (not s.form.aggregate) (held' s.err.now) (held' t.err.now)
   pub found : t.found ≡ s.found
@@ -66,7 +67,8 @@ pub record TakesStatRow {O E : Type 0} (held : O → OutState) (held' : E → Ou
   pub puts : PutsAll (held s.out.now) (held t.out.now) (reporter_rows_text s at (r ∷ []))
 
 -- it was not written whole, or the faults before it were not handed on
-pub record CutsRow {O E : Type 0} (held : O → OutState) (held' : E → OutState) (s : StatReporter O E) (at : At) (r : StatRow) (t : StatReporter O E) : Type 0 where
+pub record CutsRow {O E : Type 0} (held : O → OutState) (held' : E → OutState)
+    (s : StatReporter O E) (at : At) (r : StatRow) (t : StatReporter O E) : Type 0 where
   pub same : IsSameReporter s t
   pub err : Keeps (held' s.err.now).bytes (held' t.err.now).bytes
   pub out : Begins (held s.out.now).bytes (held t.out.now).bytes (reporter_rows_text s at (r ∷ []))
@@ -128,7 +130,8 @@ pub record CutsEnd {O E : Type 0} (held : O → OutState) (held' : E → OutStat
 
 -- All starts have been walked from: the rows of the other pages were written, where they are asked for, after the faults that came
 -- before them.
-pub record PutsOthers {O E : Type 0} (held : O → OutState) (held' : E → OutState) (s : StatReporter O E) (g : Geometry) (marks : List Mark) (t : StatReporter O E) : Type 0 where
+pub record PutsOthers {O E : Type 0} (held : O → OutState) (held' : E → OutState)
+    (s : StatReporter O E) (g : Geometry) (marks : List Mark) (t : StatReporter O E) : Type 0 where
   pub same : IsSameReporter s t
   pub found : t.found ≡ s.found
   pub sums : t.sums ≡ s.sums
@@ -136,7 +139,8 @@ pub record PutsOthers {O E : Type 0} (held : O → OutState) (held' : E → OutS
   pub writes : Appends (held s.out.now).bytes (held t.out.now).bytes (other_lines s.form.all g marks)
 
 -- they were not written whole, or the faults before them were not handed on
-pub record CutsOthers {O E : Type 0} (held : O → OutState) (held' : E → OutState) (s : StatReporter O E) (g : Geometry) (marks : List Mark) (t : StatReporter O E) : Type 0 where
+pub record CutsOthers {O E : Type 0} (held : O → OutState) (held' : E → OutState)
+    (s : StatReporter O E) (g : Geometry) (marks : List Mark) (t : StatReporter O E) : Type 0 where
   pub kept : Keeps (held' s.err.now).bytes (held' t.err.now).bytes
   pub writes : Begins (held s.out.now).bytes (held t.out.now).bytes (other_lines s.form.all g marks)
 

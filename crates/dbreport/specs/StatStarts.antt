@@ -26,7 +26,8 @@ rows_text aggregate all file V = starts_text aggregate file V [] (start_errands 
 
 -- What a run leaves of the reporter, where it heard nothing before and writes as the file asks for: on each Out its part of the
 -- report, at an error a beginning of it; and the verdict.
-abbrev pub LeavesStat : {O E : Type 0} → (O → OutState) → (E → OutState) → List ℕ → List Reference → Result Verdict RunError → StatReporter O E → StatReporter O E → Type 0
+abbrev pub LeavesStat : {O E : Type 0} → (O → OutState) → (E → OutState) → List ℕ → List Reference → Result Verdict RunError → StatReporter O E
+    → StatReporter O E → Type 0
 LeavesStat held held' file V r s t = IsForFile file s → s.found ≡ 0
     → Writes r (held s.out.now).bytes (held t.out.now).bytes (flat_map (form_line file V) (form_rows (form_of s.form) file V))
     × Writes r (held' s.err.now).bytes (held' t.err.now).bytes (flat_map fault_line (faults file V)) × IfOk r (λ v. v ≡ verdict (faults file V))

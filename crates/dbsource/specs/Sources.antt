@@ -1,5 +1,6 @@
 -- What a source gives, and what it keeps of what it was asked for.
-use Rattle.std.specs.Prelude.{◌≡◌, ℕ, ◌+◌, ◌<◌, ◌≤◌, ◌^◌, Bool, List, [], ◌∷◌, ◌++◌, length, map, slice_index, nat_lt, Option, Some, None, IfSome, Result, if◌then◌else◌}
+use Rattle.std.specs.Prelude.{◌≡◌, ℕ, ◌+◌, ◌<◌, ◌≤◌, ◌^◌, Bool, List, [], ◌∷◌, ◌++◌, length, map, slice_index, nat_lt, Option, Some, None, IfSome}
+use Rattle.std.specs.Prelude.{Result, if◌then◌else◌}
 use Rattle.dbformat.specs.declared.ByteRange.{ByteRange}
 use Rattle.dbsource.specs.Answers.{Answer, asked, Fits, Leads, Lengths, Step, Trail, no_trail}
 use Rattle.dbsource.specs.Failures.{failures_after}
@@ -60,4 +61,5 @@ kept_step old a new = new ≡ (if nat_lt (length old.ranges) 1024 then (record o
 
 -- Where there is room for them, the ranges that it kept in a call are the log of the call.
 abbrev pub KeepsItsLog : Type 0
-KeepsItsLog = (old : Trail) (log : List Answer) (new : Trail) → length old.ranges + length log ≤ 1024 → Leads kept_step old log new → new ≡ (record old { ranges = old.ranges ++ map asked log })
+KeepsItsLog = (old : Trail) (log : List Answer) (new : Trail) → length old.ranges + length log ≤ 1024 → Leads kept_step old log new
+    → new ≡ (record old { ranges = old.ranges ++ map asked log })

@@ -2,7 +2,8 @@
 use Rattle.std.specs.Prelude.{◌≡◌, ℕ, ◌≤◌, ◌↔◌, Bool, true, false, int_lt, Option, None, filter_map, List, [], ◌∷◌, ◌++◌}
 use Rattle.dbsurvey.specs.Address.{Address, IsIn, IsBefore, IsAscending}
 use Rattle.dbsurvey.specs.Greatest.{OrderedKey, IsLine, IsOut, greater, greatest_from, is_out}
-use Rattle.dbsurvey.specs.Story.{Told, PageStep, links_in, AreRising, Story, IsStoryOf, Errand, Go, Tell, errands_at, errands_of, goes, AreErrandsApart, told_own, told_refused, IsTold, IsTelling, tell_below, telling_of}
+use Rattle.dbsurvey.specs.Story.{Told, PageStep, links_in, AreRising, Story, IsStoryOf, Errand, Go, Tell, errands_at, errands_of, goes}
+use Rattle.dbsurvey.specs.Story.{AreErrandsApart, told_own, told_refused, IsTold, IsTelling, tell_below, telling_of}
 use Rattle.dbsurvey.specs.Survey.{Rules, AreRules, IsRising, IsSurvey, Triple, Link, IsPart, IsOwned, IsNamed, children, named_at}
 use Rattle.dbsurvey.specs.From.{IsSurveyFrom, under, first_part, survey_from}
 use Rattle.dbsurvey.specs.InOrder.{ShowsVisits, AreQuiet, IsPast, earlier, is_visited, telling_by, visits_in, read_back, read_below}
@@ -138,18 +139,24 @@ pub record TellingInOrder (R E : Type 0) : Type 0 where
 pub record ReadingBelow (R E X : Type 0) : Type 0 where
   pub none : (rules : Rules R) (story : Story R E) (pages : ℕ) (visit : E → Option (Triple R)) (each : List (Triple R) → E → List X) (W : List (Triple R))
       → AreRules rules pages → read_below rules story pages visit each W [] ≡ []
-  pub event : (rules : Rules R) (story : Story R E) (pages : ℕ) (visit : E → Option (Triple R)) (each : List (Triple R) → E → List X) (W : List (Triple R)) (e : Told E)
+  pub event : (rules : Rules R) (story : Story R E) (pages : ℕ) (visit : E → Option (Triple R))
+      (each : List (Triple R) → E → List X) (W : List (Triple R)) (e : Told E)
       → AreRules rules pages → visit e.event ≡ None
       → read_below rules story pages visit each W (Tell e ∷ []) ≡ each W e.event
-  pub refused : (rules : Rules R) (story : Story R E) (pages : ℕ) (visit : E → Option (Triple R)) (each : List (Triple R) → E → List X) (W : List (Triple R)) (c : Triple R)
+  pub refused : (rules : Rules R) (story : Story R E) (pages : ℕ) (visit : E → Option (Triple R))
+      (each : List (Triple R) → E → List X) (W : List (Triple R)) (c : Triple R)
       → AreRules rules pages → ShowsVisits story visit → is_followed rules W c ≡ false
       → read_below rules story pages visit each W (Go c ∷ []) ≡ each W (story.refused c)
-  pub visit : (rules : Rules R) (story : Story R E) (pages : ℕ) (visit : E → Option (Triple R)) (each : List (Triple R) → E → List X) (W : List (Triple R)) (c : Triple R)
+  pub visit : (rules : Rules R) (story : Story R E) (pages : ℕ) (visit : E → Option (Triple R))
+      (each : List (Triple R) → E → List X) (W : List (Triple R)) (c : Triple R)
       → AreRules rules pages → IsStoryOf rules story → ShowsVisits story visit → is_followed rules W c ≡ true
-      → read_below rules story pages visit each W (Go c ∷ []) ≡ each (W ++ (c ∷ [])) (story.own c) ++ read_below rules story pages visit each (W ++ (c ∷ [])) (errands_of story c)
-  pub join : (rules : Rules R) (story : Story R E) (pages : ℕ) (visit : E → Option (Triple R)) (each : List (Triple R) → E → List X) (W : List (Triple R)) (es fs : List (Errand R E))
+      → read_below rules story pages visit each W (Go c ∷ []) ≡ each (W ++ (c ∷ [])) (story.own c)
+      ++ read_below rules story pages visit each (W ++ (c ∷ [])) (errands_of story c)
+  pub join : (rules : Rules R) (story : Story R E) (pages : ℕ) (visit : E → Option (Triple R))
+      (each : List (Triple R) → E → List X) (W : List (Triple R)) (es fs : List (Errand R E))
       → AreRules rules pages → IsStoryOf rules story → ShowsVisits story visit → AreQuiet visit es
-      → read_below rules story pages visit each W (es ++ fs) ≡ read_below rules story pages visit each W es ++ read_below rules story pages visit each (W ++ part_of rules pages W (goes es)) fs
+      → read_below rules story pages visit each W (es ++ fs) ≡ read_below rules story pages visit each W es
+      ++ read_below rules story pages visit each (W ++ part_of rules pages W (goes es)) fs
   pub both : (visit : E → Option (Triple R)) (each : List (Triple R) → E → List X) (W : List (Triple R)) (L M : List (Told E))
       → read_back visit each W (L ++ M) ≡ read_back visit each W L ++ read_back visit each (W ++ visits_in visit L) M
 
@@ -193,7 +200,8 @@ pub record Runs (R E S X Y : Type 0) : Type 0 where
       → (run_below rules story pages machine now es).state ≡ (run_below rules story pages machine (record now { items = [] }) es).state
   pub reads : (f : X → Option Y) (each : List (Triple R) → E → List Y) (machine : Machine R E S X) (now : Run R S X) (L : List (Told E))
       → ((A B : List (Told E)) (t : Told E) → L ≡ A ++ (t ∷ B)
-      → filter_map f (machine.out (up_to machine (run machine now A) t.event) (run machine now A).state t.event) ≡ each (up_to machine (run machine now A) t.event) t.event)
+      → filter_map f (machine.out (up_to machine (run machine now A) t.event) (run machine now A).state t.event)
+      ≡ each (up_to machine (run machine now A) t.event) t.event)
       → filter_map f (run machine now L).items ≡ filter_map f now.items ++ read_back machine.visit each now.visits L
 
 -- The greatest key so far alone tells whether an entry is out of order, that is, whether it is so after an earlier one.

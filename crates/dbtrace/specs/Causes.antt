@@ -1,7 +1,8 @@
 -- What a fault goes back to (own), by the pages that are visited up to it: a key out of order to the first cell with the greatest
 -- key before it, a leaf at another depth to the first leaf, a fault along an overflow chain to the cell of the chain, a page
 -- of an unknown type to what it looks like, and any other fault within a page to the page.
-use Rattle.std.specs.Prelude.{ℕ, ◌+◌, ◌-◌, ◌/◌, not, option_and_then, Bool, false, ℤ, ◌&&◌, ◌||◌, List, [], ◌∷◌, find, filter, drop, length, take, Option, Some, None, is_some, option_map, count_by, int_lt, unwrap_or, if◌then◌else◌, ◌==◌}
+use Rattle.std.specs.Prelude.{ℕ, ◌+◌, ◌-◌, ◌/◌, not, option_and_then, Bool, false, ℤ, ◌&&◌, ◌||◌, List, [], ◌∷◌, find, filter, drop, length, take}
+use Rattle.std.specs.Prelude.{Option, Some, None, is_some, option_map, count_by, int_lt, unwrap_or, if◌then◌else◌, ◌==◌}
 use Rattle.std.specs.List.{list_any, range_with_len}
 use Rattle.std.specs.Option.{option_map_or, option_or}
 use Rattle.std.specs.Result.{result_ok}
@@ -107,7 +108,8 @@ chain_of file head number left found in_zeros = record {
 abbrev pub chain_cause : List ℕ → List Reference → Reference → Option ℕ → ℕ → Bool → Cause
 chain_cause file V r None more in_zeros = cause.Itself
 chain_cause file V r (Some left) more in_zeros =
-    option_map_or (λ head. cause.Chain (chain_of file head (chain_number r.address) left (chain_number r.address + more) in_zeros)) (chain_head V r) cause.Itself
+    option_map_or (λ head. cause.Chain (chain_of file head (chain_number r.address) left (chain_number r.address + more) in_zeros))
+    (chain_head V r) cause.Itself
 
 -- whether a reference is from an overflow page that is all zeros
 abbrev pub is_from_zeros : List ℕ → Reference → Bool
