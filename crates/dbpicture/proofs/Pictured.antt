@@ -10,22 +10,12 @@ use Rattle.dbsource.specs.HeaderBytes.{HeaderBytes}
 use Rattle.dbsource.specs.Headers.{IsHeaderOf}
 use Rattle.dbscan.specs.Texts.{tree_of_row, tree_text}
 use Rattle.dbscan.specs.Roots.{AreListed}
-use Rattle.dbtrace.specs.declared.Reported.{Reported}
-use Rattle.dbentries.specs.Kept.{kept_of, lone_entry}
-use Rattle.dbentries.specs.Listing as listing
-use Rattle.dbentries.proofs.Noting.{first_kept}
-use Rattle.dbpicture.specs.Faults.{first_faults, leading}
 
 -- the names of trees are those of the file
 pub known_trees : (file : List ℕ) (V : List Reference) (h : HeaderBytes) (rows : List SchemaRow) → IsHeaderOf h file → AreListed file V rows
     → tree_of_row (encoding h.bytes) rows ≡ tree_text file V
 known_trees file V h rows header listed =
     ap (λ e. tree_of_row e rows) (ap encoding header.begins ∙ encoding_within file) ∙ ap (tree_of_row (encoding file)) listed
-
--- the faults that lead the entries that are kept are those of the file's entries
-pub leading_kept : (es : List listing.Entry) → leading (map kept_of es) ≡ first_faults es
-leading_kept [] = refl
-leading_kept (e ∷ es) = ap₂ (λ (x : Reported) xs. x ∷ xs) (first_kept e.others (lone_entry e.first)) (leading_kept es)
 
 -- ---- how many pages have each frame
 

@@ -1,9 +1,9 @@
--- What is shown of faults: the codes of a square's pages, and the frames. The strong frame is of the pages of faults that lead, of those that
--- their values name, and of their causes.
-use Rattle.std.specs.Prelude.{ℕ, ◌*◌, ◌%◌, ◌^◌, ℤ, pos, Bool, List, [], ◌∷◌, map, flat_map, nat_lt, if◌then◌else◌, not, ◌&&◌, ◌++◌, codes, take, ◌==◌}
+-- What is shown of faults: the codes of a square's pages, and the frames. The strong frame is of the pages of the first entries, of those that
+-- the values of their first faults name, and of the causes of these.
+use Rattle.std.specs.Prelude.{ℕ, ◌+◌, ◌-◌, ◌*◌, ◌%◌, ◌^◌, ℤ, pos, Bool, List, [], ◌∷◌, map, min, flat_map, nat_lt, if◌then◌else◌, not, ◌&&◌, ◌++◌, codes, take, ◌==◌}
 use Rattle.std.specs.Int.{bit_at}
 use Rattle.std.specs.Int.RustNames.{bit_or}
-use Rattle.std.specs.List.{list_any}
+use Rattle.std.specs.List.{list_any, range_with_len}
 use Rattle.dbformat.specs.declared.Fault.{Fault}
 use Rattle.dbformat.specs.declared.FaultCode.{FaultCode}
 use Rattle.dbformat.specs.declared.FaultCode.TheVariants.{M02, O01, R02, R03, T04}
@@ -14,10 +14,12 @@ use Rattle.dbformat.specs.Report.{faults}
 use Rattle.dbtrace.specs.declared.Cause.{Cause}
 use Rattle.dbtrace.specs.declared.Cause.TheVariants as cause
 use Rattle.dbtrace.specs.declared.Reported.{Reported}
-use Rattle.dbentries.specs.Listing as listing
+use Rattle.dbentries.specs.Kept.{kept_of}
 use Rattle.dbentries.specs.Listed.{listed_entries}
 use Rattle.dbentries.specs.Zeros.{zero_pages}
 use Rattle.dbentries.specs.declared.entry.Entry.{Entry}
+use Rattle.dbentries.specs.declared.runs.Run.{Run}
+use Rattle.dbpicture.specs.Owners.{capped_pages}
 use Rattle.dbpicture.specs.declared.faults.Sign.{Sign}
 use Rattle.dbpicture.specs.declared.faults.Sign.TheVariants.{Code, Faulty, Framed, Zeros}
 use Rattle.dbpicture.specs.declared.faults.SquareFaults.{SquareFaults}
@@ -45,12 +47,12 @@ cause_page (cause.Leaf page) = page
 cause_page (cause.Chain c) = c.page
 cause_page _ = 0
 
--- the faults that lead some entries, and the same of what is kept of entries
-abbrev pub first_faults : List listing.Entry → List Reported
-first_faults es = map (λ (e : listing.Entry). e.first) es
+-- the pages of a run, and those of the faults that belong to an entry, as far as they are kept: its first ten runs
+abbrev pub run_pages : Run → List ℕ
+run_pages r = range_with_len r.first (capped_pages (r.last + 1) - r.first)
 
-abbrev pub leading : List Entry → List Reported
-leading es = map (λ (e : Entry). e.first) es
+abbrev pub other_pages : Entry → List ℕ
+other_pages e = flat_map run_pages (take (min e.others.runs.count 10) e.others.runs.kept)
 
 -- the bit of a sign: those below 61 are of codes
 abbrev pub sign_bit : Sign → ℕ
@@ -66,6 +68,13 @@ fault_signs f = (f.page, Code f.code) ∷ (f.page, Faulty) ∷ []
 -- and those of a fault that leads: its own page, the one that its value names, and that of its cause have the strong frame
 abbrev pub frame_signs : Reported → List (ℕ × Sign)
 frame_signs x = (x.fault.page, Framed) ∷ (value_page x.fault.code x.fault.value, Framed) ∷ (cause_page x.cause, Framed) ∷ []
+
+-- and those of an entry: the pages of the faults that belong to it have the strong frame too
+abbrev pub framed : List ℕ → List (ℕ × Sign)
+framed pages = map (λ p. (p, Framed)) pages
+
+abbrev pub entry_signs : Entry → List (ℕ × Sign)
+entry_signs e = frame_signs e.first ++ framed (other_pages e)
 
 -- and those of pages that are zeros
 abbrev pub zero_signs : List ℕ → List (ℕ × Sign)
@@ -96,9 +105,9 @@ frame_of has = if has Framed then frame.Strong else (if has Faulty then frame.We
 
 -- ---- the faults of a file with survey V
 
--- the signs of the pages: of all faults, of those that lead the first 100 entries, which `explain` lists where no other number is given, and of zeros
+-- the signs of the pages: of all faults, of the first 100 entries, which `explain` lists if no other number is given, and of zeros
 abbrev pub signs_of : List ℕ → List Reference → List (ℕ × Sign)
-signs_of file V = flat_map fault_signs (faults file V) ++ flat_map frame_signs (first_faults (take 100 (listed_entries file V)))
+signs_of file V = flat_map fault_signs (faults file V) ++ flat_map entry_signs (map kept_of (take 100 (listed_entries file V)))
     ++ zero_signs (zero_pages file V)
 
 -- whether page p has a sign

@@ -1,6 +1,6 @@
 -- The legend of a picture: which lines it has, how many pages each is of, and how they are drawn. There is a line for each of the largest
--- trees, and then one for all other trees, for the freelist, for pages of fixed use, for pages that are nobody's, for pages with each frame, and
--- for pages that the header states and the file does not have; each only where it has a page.
+-- trees, and then one for all other trees, for the freelist, for pages of fixed use, for pages that are nobody's, for pages that are zeros, for
+-- pages with each frame, and for pages that the header states and the file does not have; each only where it has a page.
 use Rattle.std.specs.Prelude.{ℕ, ◌+◌, ◌-◌, ◌*◌, Bool, true, false, List, [], ◌∷◌, ◌++◌, length, Option, Some, None, codes, decimal, ◌==◌, if◌then◌else◌}
 use Rattle.std.specs.Prelude.{◌/◌, get_or, max, nat_lt, slice_index_or}
 use Rattle.std.specs.Option.{option_map_or}
@@ -12,8 +12,9 @@ use Rattle.dbpicture.specs.Runs.{name_text}
 use Rattle.dbformat.specs.Lines.{counted}
 use Rattle.dbpicture.specs.declared.owner_shares.Share.{Share}
 use Rattle.dbpicture.specs.declared.legend.Label.{Label}
-use Rattle.dbpicture.specs.declared.legend.Label.TheVariants.{Fixed, Freelist, Missing, Nobody, Others, Strong, Tree, Weak}
+use Rattle.dbpicture.specs.declared.legend.Label.TheVariants.{Blank, Fixed, Freelist, Missing, Nobody, Others, Strong, Tree, Weak}
 use Rattle.dbpicture.specs.declared.legend.LegendLine.{LegendLine}
+use Rattle.dbpicture.specs.declared.legend.NotedPages.{NotedPages}
 use Rattle.dbformat.specs.Address.{freelist_start}
 use Rattle.dbformat.specs.SchemaRow.{SchemaRow}
 use Rattle.dbscan.specs.Roots.{root_page}
@@ -80,6 +81,7 @@ label_owner Freelist = Some 13
 label_owner Fixed = Some 14
 label_owner Nobody = Some 15
 label_owner Missing = Some 16
+label_owner Blank = Some 17
 label_owner _ = None
 
 -- the shade of an owner's overflow pages, if there are any
@@ -115,7 +117,8 @@ label_words (Others count) = if count == 1 then codes " other tree" else codes "
 label_words Freelist = codes "freelist"
 label_words Fixed = codes "pointer map and lock-byte page"
 label_words Nobody = codes "in no tree, overflow chain or freelist"
-label_words Strong = codes "of the first 100 injuries of explain, of their causes, or named by them"
+label_words Blank = codes "all zeros"
+label_words Strong = codes "injuries that explain shows, what they name or go back to"
 label_words Weak = codes "other pages with a fault"
 label_words Missing = codes "stated in the header, not in the file"
 
@@ -151,11 +154,11 @@ line_if label share = if share.pages == 0 then [] else record { label = label; s
 abbrev pub tree_line : List SchemaRow → List Share → List ℕ → ℕ → List LegendLine
 tree_line rows starts largest rank = line_if (Tree rank (root_page rows (get_or largest rank 0))) (share_at starts (get_or largest rank 0))
 
--- The legend's lines, by the rows of the schema, what each start has, the largest trees, and how many pages have the strong frame, how many the
--- weak one, and how many are missing.
-unfoldable pub legend_lines : List SchemaRow → PagesTallied → List ℕ → ℕ → ℕ → ℕ → List LegendLine
-legend_lines rows t largest strong weak missing =
+-- The legend's lines, by the rows of the schema, what each start has, the largest trees, and the numbers of noted pages.
+unfoldable pub legend_lines : List SchemaRow → PagesTallied → List ℕ → NotedPages → List LegendLine
+legend_lines rows t largest n =
     flat_map (tree_line rows t.starts largest) (range_with_len 0 (length largest))
     ++ line_if (Others (others t.starts largest (length rows + 1)).0) (others t.starts largest (length rows + 1)).1
     ++ line_if Freelist (share_at t.starts freelist_start) ++ line_if Fixed (no_overflow t.fixed) ++ line_if Nobody (no_overflow t.nobody)
-    ++ line_if Strong (no_overflow strong) ++ line_if Weak (no_overflow weak) ++ line_if Missing (no_overflow missing)
+    ++ line_if Blank (no_overflow n.zeros) ++ line_if Strong (no_overflow n.strong) ++ line_if Weak (no_overflow n.weak)
+    ++ line_if Missing (no_overflow n.missing)

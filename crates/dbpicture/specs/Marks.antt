@@ -8,15 +8,21 @@ use Rattle.dbpicture.specs.declared.grid.Width.TheVariants.{Medium, Narrow, Wide
 
 -- those of trees by their ranks, and of all others
 abbrev pub tree_colours : List ℕ
-tree_colours = codes ".t0{fill:#067CFF}.t1{fill:#E6B006}.t2{fill:#A001C6}.t3{fill:#728551}.t4{fill:#F18740}.t5{fill:#004C7B}.t6{fill:#D5FF00}.t7{fill:#4E251A}.t8{fill:#2D06FF}.t9{fill:#FFFF7E}.t10{fill:#050984}.t11{fill:#210136}.t12{fill:#5A5A5A}"
+tree_colours = codes ".t0{fill:#067CFF}.t1{fill:#E6B006}.t2{fill:#A001C6}.t3{fill:#728551}.t4{fill:#F18740}.t5{fill:#004C7B}.t6{fill:#D5FF00}"
+
+abbrev pub later_tree_colours : List ℕ
+later_tree_colours = codes ".t7{fill:#4E251A}.t8{fill:#2D06FF}.t9{fill:#FFFF7E}.t10{fill:#050984}.t11{fill:#210136}.t12{fill:#5A5A5A}"
 
 -- the same of their overflow pages
 abbrev pub overflow_colours : List ℕ
-overflow_colours = codes ".o0{fill:#C6E1FF}.o1{fill:#F2D67E}.o2{fill:#DB9EE9}.o3{fill:#BBC4AB}.o4{fill:#F7B78C}.o5{fill:#6E99B4}.o6{fill:#F2FFB3}.o7{fill:#957C76}.o8{fill:#A594FF}.o9{fill:#FFFFE3}.o10{fill:#6C6EB6}.o11{fill:#7A6786}.o12{fill:#A6A6A6}"
+overflow_colours = codes ".o0{fill:#C6E1FF}.o1{fill:#F2D67E}.o2{fill:#DB9EE9}.o3{fill:#BBC4AB}.o4{fill:#F7B78C}.o5{fill:#6E99B4}.o6{fill:#F2FFB3}"
 
--- those of the freelist, of pages of fixed use, of those that are nobody's, and of those that are not in the file
+abbrev pub later_overflow_colours : List ℕ
+later_overflow_colours = codes ".o7{fill:#957C76}.o8{fill:#A594FF}.o9{fill:#FFFFE3}.o10{fill:#6C6EB6}.o11{fill:#7A6786}.o12{fill:#A6A6A6}"
+
+-- those of the freelist, of pages of fixed use, of those that are nobody's, of those that are not in the file, and of those that are zeros
 abbrev pub other_colours : List ℕ
-other_colours = codes ".t13{fill:#DBDBDB}.t14{fill:#000000}.t15{fill:url(#unowned)}.t16{fill:#FFFFFF}"
+other_colours = codes ".t13{fill:#DBDBDB}.t14{fill:#000000}.t15{fill:url(#unowned)}.t16{fill:#FFFFFF}.t17{fill:url(#zeros)}"
 
 -- what the class of an owner begins with, in the shade of overflow pages or not; its number follows
 abbrev pub shade_letter : Bool → List ℕ

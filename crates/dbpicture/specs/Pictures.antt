@@ -3,12 +3,14 @@ use Rattle.std.specs.Prelude.{ℕ, ◌+◌, ◌/◌, ◌%◌, ◌||◌, nat_lt, 
 use Rattle.std.specs.List.{concat, flat_map, range_with_len}
 use Rattle.dbformat.specs.declared.Geometry.{Geometry}
 use Rattle.dbpicture.specs.Pieces.{shown_text, tenths_text}
-use Rattle.dbpicture.specs.Marks.{other_colours, overflow_colours, tree_colours}
+use Rattle.dbpicture.specs.Marks.{later_overflow_colours, later_tree_colours, other_colours, overflow_colours, tree_colours}
 use Rattle.dbpicture.specs.Grids.{grid_of, is_of_square, page_of_row, rows, side_of, top_of}
 use Rattle.dbpicture.specs.Legends.{height, legend_lines, legend_text, size_tenths, size_unit}
 use Rattle.dbpicture.specs.Squares.{Drawn, rows_text}
 use Rattle.dbpicture.specs.declared.grid.Grid.{Grid}
 use Rattle.dbpicture.specs.declared.legend.LegendLine.{LegendLine}
+use Rattle.dbpicture.specs.declared.legend.NotedPages.{NotedPages}
+use Rattle.dbentries.specs.Zeros.{zero_pages}
 use Rattle.dbpicture.specs.declared.picture.Heading.{Heading}
 use Rattle.dbformat.specs.File.{geometry}
 use Rattle.dbformat.specs.Header.{is_size_valid, stated_pages}
@@ -24,16 +26,26 @@ use Rattle.dbpicture.specs.Faults.{is_weak, page_shows, shows, signs_of}
 use Rattle.dbpicture.specs.declared.faults.Sign.TheVariants.{Faulty, Framed}
 use Rattle.dbpicture.specs.Tallies.{largest_of, tally_of}
 
--- what begins the picture: its size, its accessible name, the hatching, and a white background
+-- the patterns: the hatching of pages that are nobody's, and the thin cross of those that are zeros
+abbrev pub patterns_text : List ℕ
+patterns_text =
+    concat (codes "</style>\n<defs><pattern id=\"unowned\" width=\"4\" height=\"4\" patternUnits=\"userSpaceOnUse\" patternTransform=\"rotate(45)\">"
+    ∷ codes "<rect width=\"4\" height=\"4\" fill=\"#FFFFFF\"/><rect width=\"2\" height=\"4\" fill=\"#444444\"/></pattern>\n"
+    ∷ codes "<pattern id=\"zeros\" width=\"1\" height=\"1\" patternContentUnits=\"objectBoundingBox\">"
+    ∷ codes "<path d=\"M0 0h1v1h-1z\" fill=\"#FFFFFF\"/><path d=\"M0 0L1 1M1 0L0 1\" stroke=\"#888888\" stroke-width=\".06\"/></pattern></defs>\n"
+    ∷ [])
+
+-- what begins the picture: its size, its accessible name, the colours and patterns, and a white background
 unfoldable pub head_text : List ℕ → ℕ → List ℕ
 head_text file height =
     concat (codes "<svg xmlns=\"http://www.w3.org/2000/svg\" width=\"" ∷ decimal 988 ∷ codes "\" height=\"" ∷ decimal height
     ∷ codes "\" viewBox=\"0 0 " ∷ decimal 988 ∷ codes " " ∷ decimal height
     ∷ codes "\" font-family=\"sans-serif\" font-size=\"12\" role=\"img\" aria-label=\"Pages of " ∷ [])
     ++ (shown_text file 72 ++ (codes "\">\n<title>Pages of " ++ (shown_text file 72
-    ++ concat (codes "</title>\n<style>" ∷ tree_colours ∷ overflow_colours ∷ other_colours
-    ∷ codes "</style>\n<defs><pattern id=\"unowned\" width=\"4\" height=\"4\" patternUnits=\"userSpaceOnUse\" patternTransform=\"rotate(45)\"><rect width=\"4\" height=\"4\" fill=\"#FFFFFF\"/><rect width=\"2\" height=\"4\" fill=\"#444444\"/></pattern></defs>\n"
-    ∷ codes "<rect width=\"100%\" height=\"100%\" fill=\"#FFFFFF\"/>\n" ∷ []))))
+    ++ (concat (codes "</title>\n<style>" ∷ tree_colours ∷ later_tree_colours ∷ overflow_colours ∷ later_overflow_colours
+    ∷ other_colours
+    ∷ [])
+    ++ (patterns_text ++ codes "<rect width=\"100%\" height=\"100%\" fill=\"#FFFFFF\"/>\n")))))
 
 -- how many faults there are
 abbrev pub fault_count_text : ℕ → List ℕ
@@ -97,12 +109,18 @@ drawn_of file V = record {
   faults = λ index. shows (signs_of file V) (is_of_square (geometry file).pages index);
 }
 
+-- how many pages are zeros, have each frame, and are missing
+abbrev pub noted_of : List ℕ → List Reference → NotedPages
+noted_of file V = record {
+  zeros = length (zero_pages file V);
+  strong = count_by (page_shows file V Framed) (range_with_len 1 (geometry file).pages);
+  weak = count_by (is_weak (page_shows file V Faulty) (page_shows file V Framed)) (range_with_len 1 (geometry file).pages);
+  missing = stated_of (take 100 file) - (geometry file).pages;
+}
+
 -- the lines of the legend
 abbrev pub legend_of : List ℕ → List Reference → List LegendLine
-legend_of file V = legend_lines (listed_rows file V) (tally_of file V) (largest_of file V)
-    (count_by (page_shows file V Framed) (range_with_len 1 (geometry file).pages))
-    (count_by (is_weak (page_shows file V Faulty) (page_shows file V Framed)) (range_with_len 1 (geometry file).pages))
-    (stated_of (take 100 file) - (geometry file).pages)
+legend_of file V = legend_lines (listed_rows file V) (tally_of file V) (largest_of file V) (noted_of file V)
 
 -- The picture of a file with survey V, under a name. Above the squares are this name, the file's sizes, and how many faults it has.
 unfoldable pub map_picture : List ℕ → List Reference → List ℕ → List ℕ

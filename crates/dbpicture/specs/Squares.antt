@@ -1,5 +1,5 @@
 -- The squares of a picture, row by row, and the outlines of pages that the header states and the file does not have.
-use Rattle.std.specs.Prelude.{ℕ, ◌+◌, Bool, List, [], ◌∷◌, ◌++◌, codes, decimal, ◌-◌, max, nat_lt, ◌==◌, if◌then◌else◌, Option}
+use Rattle.std.specs.Prelude.{ℕ, ◌+◌, Bool, not, ◌&&◌, List, [], ◌∷◌, ◌++◌, codes, decimal, ◌-◌, max, nat_lt, ◌==◌, if◌then◌else◌, Option}
 use Rattle.std.specs.Option.{option_map_or}
 use Rattle.std.specs.List.{concat, flat_map, range_with_len}
 use Rattle.dbscan.specs.Texts.{place_from, place_front, place_tree, place_words}
@@ -23,10 +23,18 @@ use Rattle.dbpicture.specs.declared.run.RunSquare.{RunSquare}
 abbrev pub from_text : Place → List ℕ
 from_text place = option_map_or decimal (place_from place) []
 
+-- the number of its class, and the shade: those of its owner, but pages that are zeros have a class of their own
+abbrev pub page_class : Bool → ℕ → ℕ
+page_class zeros owner = if zeros then 17 else owner
+
+abbrev pub page_shade : Bool → Place → List ℕ
+page_shade zeros place = shade_letter (is_overflow place && not zeros)
+
 -- its title: the number of the page, what comes before its tree, the tree, what it is there, its faults, and whether it is zeros
 unfoldable pub page_text : PageSquare → Width → List ℕ → (Sign → Bool) → List ℕ
 page_text s width tree f =
-    concat (codes "<rect class=\"" ∷ shade_letter (is_overflow s.place) ∷ decimal s.owner ∷ codes "\" x=\"" ∷ decimal (s.x + inset width (frame_of f))
+    concat (codes "<rect class=\"" ∷ page_shade (f Zeros) s.place ∷ decimal (page_class (f Zeros) s.owner) ∷ codes "\" x=\""
+    ∷ decimal (s.x + inset width (frame_of f))
     ∷ extent width (frame_of f) ∷ stroke width (frame_of f) ∷ codes "><title>page " ∷ decimal s.page ∷ codes ": "
     ∷ place_front s.fixed s.place ∷ [])
     ++ (shown_text tree 72 ++ (concat (place_words s.place ∷ from_text s.place ∷ []) ++ (faults_text f

@@ -7,7 +7,7 @@ ghost use Rattle.dbpicture.specs.Pictures.{map_picture, stated_of};
 use crate::grid::Grid;
 use crate::kept::KeptFaults;
 use crate::labels::Labels;
-use crate::legend::Legend;
+use crate::legend::{Legend, NotedPages};
 use crate::listed::{note_listed, note_zeros};
 use crate::picture::{Heading, draw_picture};
 use crate::shown::shown_file;
@@ -46,7 +46,7 @@ pub fn put_map<A: Allocator, O: Out>(
     let marks = desk.marks();
     let roots = desk.roots();
     note_listed(&mut kept.notes, kept.listing.listed());
-    note_zeros(&mut kept.notes, &kept.listing, geometry.pages);
+    let zeros = note_zeros(&mut kept.notes, &kept.listing, geometry.pages);
     kept.tally.count(marks, &kept.trees);
     let largest = kept.tally.largest(roots.len() + 1);
     let names = TreeNames {
@@ -56,14 +56,13 @@ pub fn put_map<A: Allocator, O: Out>(
     let grid = Grid::new(geometry.pages, stated_pages(header));
     let labels = Labels::new(&names, largest.as_slice());
     let (strong, weak) = kept.notes.framed();
-    let legend = Legend::new(
-        &kept.tally,
-        largest.as_slice(),
-        roots,
+    let noted = NotedPages {
+        zeros,
         strong,
         weak,
-        grid.missing(),
-    );
+        missing: grid.missing(),
+    };
+    let legend = Legend::new(&kept.tally, largest.as_slice(), roots, noted);
     let heading = Heading {
         file: shown_file(name),
         geometry,

@@ -33,6 +33,8 @@ pub(crate) enum Label {
     Fixed,
     #[default]
     Nobody,
+    /// Pages that are zeros.
+    Blank,
     /// Pages that have the strong frame.
     Strong,
     /// Pages that have the weak one.
@@ -48,10 +50,19 @@ pub(crate) struct LegendLine {
     pub(crate) share: Share,
 }
 
+/// How many pages are zeros, and have each frame, and how many are missing.
+#[derive(Clone, Copy)]
+pub(crate) struct NotedPages {
+    pub(crate) zeros: u32,
+    pub(crate) strong: u32,
+    pub(crate) weak: u32,
+    pub(crate) missing: u32,
+}
+
 /// The lines of the legend.
 #[derive(Drop)]
 pub(crate) struct Legend {
-    lines: ArrayVec<LegendLine, 19>,
+    lines: ArrayVec<LegendLine, 20>,
 }
 
 /// `pages` pages, none of them an overflow page.
@@ -62,18 +73,15 @@ pub(crate) fn no_overflow(pages: u32) -> Share
 }
 
 impl Legend {
-    /// The legend of a file whose pages were counted, of its largest trees, and of the numbers of pages with each
-    /// frame and of missing ones.
+    /// The legend of a file whose pages were counted, of its largest trees, and of the pages that were noted.
     pub(crate) fn new<A: Allocator, B: Allocator>(
         tally: &PageTally<A>,
         largest: &[u32],
         roots: &RootList<B>,
-        strong: u32,
-        weak: u32,
-        missing: u32,
+        noted: NotedPages,
     ) -> Legend
         requires { length largest.now ≤ 12 }
-        ensures { result.lines.items ≡ legend_lines roots.now.rows tally.now largest.now strong weak missing }
+        ensures { result.lines.items ≡ legend_lines roots.now.rows tally.now largest.now noted }
     {
         let mut legend = Legend {
             lines: ArrayVec::new(),
@@ -90,15 +98,16 @@ impl Legend {
         legend.add(Label::Freelist, tally.share(FREELIST_START));
         legend.add(Label::Fixed, no_overflow(tally.fixed()));
         legend.add(Label::Nobody, no_overflow(tally.nobody()));
-        legend.add(Label::Strong, no_overflow(strong));
-        legend.add(Label::Weak, no_overflow(weak));
-        legend.add(Label::Missing, no_overflow(missing));
+        legend.add(Label::Blank, no_overflow(noted.zeros));
+        legend.add(Label::Strong, no_overflow(noted.strong));
+        legend.add(Label::Weak, no_overflow(noted.weak));
+        legend.add(Label::Missing, no_overflow(noted.missing));
         legend
     }
 
     // Adds a line, if there is a page of it.
     fn add(&mut self, label: Label, share: Share)
-        requires { length self.old.lines.items < 19 }
+        requires { length self.old.lines.items < 20 }
         ensures line { self.new.lines.items ≡ self.old.lines.items ++ line_if label share }
         ensures room { length self.new.lines.items ≤ length self.old.lines.items + 1 }
     {

@@ -4,7 +4,7 @@ ghost use Rattle.dbpicture.specs.Pieces.{piece_text};
 ghost use Rattle.dblines.specs.Writing.{Wrote};
 ghost use Rattle.dbpicture.specs.Legends as legends;
 
-use crate::colours::{MISSING, shade_letter};
+use crate::colours::{MISSING, ZEROS, shade_letter};
 use crate::labels::Labels;
 use crate::legend::{LINE, Label, LegendLine, NAME_WIDTH};
 use crate::owner_shares::{FIXED, FREELIST, NOBODY, OTHER_TREES, Share};
@@ -29,7 +29,7 @@ pub(crate) fn draw_lines<O: Out>(
     geometry: Geometry,
     lines: &[LegendLine],
 )
-    requires { length lines.now ≤ 19 }
+    requires { length lines.now ≤ 20 }
     ensures { Wrote O.held writer.old (legends.lines_text labels.now.names.items geometry lines.now) writer.new }
 {
     for (index, line) in lines.iter().enumerate() {
@@ -152,6 +152,7 @@ fn owner_of(label: Label) -> Option<usize>
         Label::Fixed => Some(FIXED),
         Label::Nobody => Some(NOBODY),
         Label::Missing => Some(MISSING),
+        Label::Blank => Some(ZEROS),
         Label::Strong | Label::Weak => None,
     }
 }
@@ -240,7 +241,8 @@ fn words(label: Label) -> &'static str
         Label::Freelist => "freelist",
         Label::Fixed => "pointer map and lock-byte page",
         Label::Nobody => "in no tree, overflow chain or freelist",
-        Label::Strong => "of the first 100 injuries of explain, of their causes, or named by them",
+        Label::Blank => "all zeros",
+        Label::Strong => "injuries that explain shows, what they name or go back to",
         Label::Weak => "other pages with a fault",
         Label::Missing => "stated in the header, not in the file",
     }

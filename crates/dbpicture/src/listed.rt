@@ -1,14 +1,14 @@
 // The pages of the entries that are listed, and of their causes, and the pages that are zeros.
-ghost use Rattle.std.specs.Prelude.{◌≡◌, ℕ, ◌++◌, List, filter, flat_map};
+ghost use Rattle.std.specs.Prelude.{◌≡◌, ℕ, ◌++◌, List, filter, flat_map, length};
 ghost use Rattle.std.specs.List.{range_with_len};
 ghost use Rattle.dbentries.specs.Bits.{has_bit};
 ghost use Rattle.dbpicture.specs.declared.faults.Sign.{Sign};
-ghost use Rattle.dbpicture.specs.Faults.{cause_page, frame_signs, leading, page_of_value, value_page, zero_signs};
+ghost use Rattle.dbpicture.specs.Faults.{cause_page, entry_signs, frame_signs, framed, page_of_value, run_pages, value_page, zero_signs};
 ghost use Rattle.dbpicture.specs.Keeping.{AreNoted};
 
 use crate::fault_notes::FaultNotes;
 use crate::faults::Sign;
-use dbentries::{Cause, Entry, Listing, Reported};
+use dbentries::{Cause, Entry, Listing, Reported, Run};
 use dbformat::{Fault, FaultCode};
 use std::alloc::Allocator;
 
@@ -57,24 +57,60 @@ fn note_pages<A: Allocator>(notes: &mut FaultNotes<A>, first: &Reported)
     notes.note(cause_page(first.cause), Sign::Framed);
 }
 
-/// Notes those of the first `pages` that are zeros.
-pub(crate) fn note_zeros<A: Allocator>(notes: &mut FaultNotes<A>, listing: &Listing<A>, pages: u32)
-    ensures { (count : ℕ) (signs : List (ℕ × Sign)) → AreNoted count signs notes.old
-        → AreNoted count (signs ++ zero_signs (filter (has_bit listing.now.zeros) (range_with_len 1 pages))) notes.new }
+// Notes the strong frame of the pages of a run.
+fn note_run<A: Allocator>(notes: &mut FaultNotes<A>, run: Run)
+    ensures { (count : ℕ) (signs : List (ℕ × Sign)) → AreNoted count signs notes.old → AreNoted count (signs ++ framed (run_pages run)) notes.new }
 {
-    for index in 0..pages {
-        if listing.is_zeros(index + 1) {
-            notes.note(index + 1, Sign::Zeros);
-        }
+    for page in run.first..run.last.saturating_add(1) {
+        notes.note(page, Sign::Framed);
     }
 }
 
-/// Notes the pages of the faults that lead some entries.
+// Notes the strong frame of the pages of some runs.
+fn note_runs<A: Allocator>(notes: &mut FaultNotes<A>, runs: &[Run])
+    ensures { (count : ℕ) (signs : List (ℕ × Sign)) → AreNoted count signs notes.old
+        → AreNoted count (signs ++ framed (flat_map run_pages runs.now)) notes.new }
+{
+    for run in runs {
+        note_run(notes, *run);
+    }
+}
+
+// Notes the strong frame of the pages of an entry.
+fn note_entry<A: Allocator>(notes: &mut FaultNotes<A>, entry: &Entry)
+    ensures { (count : ℕ) (signs : List (ℕ × Sign)) → AreNoted count signs notes.old → AreNoted count (signs ++ entry_signs entry.now) notes.new }
+{
+    note_pages(notes, &entry.first);
+    let runs = &entry.others.runs;
+    note_runs(notes, &runs.kept[..runs.count.min(10) as usize]);
+}
+
+/// Notes those of the first `pages` that are zeros, and counts them.
+pub(crate) fn note_zeros<A: Allocator>(
+    notes: &mut FaultNotes<A>,
+    listing: &Listing<A>,
+    pages: u32,
+) -> u32
+    ensures count { result ≡ length (filter (has_bit listing.now.zeros) (range_with_len 1 pages)) }
+    ensures noted { (count : ℕ) (signs : List (ℕ × Sign)) → AreNoted count signs notes.old
+        → AreNoted count (signs ++ zero_signs (filter (has_bit listing.now.zeros) (range_with_len 1 pages))) notes.new }
+{
+    let mut count = 0u32;
+    for index in 0..pages {
+        if listing.is_zeros(index + 1) {
+            notes.note(index + 1, Sign::Zeros);
+            count += 1;
+        }
+    }
+    count
+}
+
+/// Notes the pages of some entries.
 pub(crate) fn note_listed<A: Allocator>(notes: &mut FaultNotes<A>, listed: &[Entry])
     ensures { (count : ℕ) (signs : List (ℕ × Sign)) → AreNoted count signs notes.old
-        → AreNoted count (signs ++ flat_map frame_signs (leading listed.now)) notes.new }
+        → AreNoted count (signs ++ flat_map entry_signs listed.now) notes.new }
 {
     for entry in listed {
-        note_pages(notes, &entry.first);
+        note_entry(notes, entry);
     }
 }

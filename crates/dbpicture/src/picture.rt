@@ -5,7 +5,7 @@ ghost use Rattle.dbpicture.specs.Keeping.{AreOf, drawn_by};
 ghost use Rattle.dbpicture.specs.Pictures as pictures;
 ghost use Rattle.dbpicture.specs.Pictures.{picture_text};
 
-use crate::colours::{OTHERS, OVERFLOW, TREES};
+use crate::colours::{LATER_OVERFLOW, LATER_TREES, OTHERS, OVERFLOW, TREES};
 use crate::grid::Grid;
 use crate::legend::Legend;
 use crate::pieces::{Piece, WritePieces};
@@ -30,7 +30,27 @@ pub(crate) struct Heading {
     pub(crate) faults: u64,
 }
 
-// Draws what begins the picture: its size, its accessible name, the hatching, and a white background.
+// Draws the patterns: the hatching of pages that are nobody's, and the thin cross of those that are zeros.
+fn draw_patterns<O: Out>(writer: &mut Writer<'_, O>)
+    ensures { Wrote O.held writer.old pictures.patterns_text writer.new }
+{
+    writer.write_all(&[
+        Piece::Markup(
+            "</style>\n<defs><pattern id=\"unowned\" width=\"4\" height=\"4\" patternUnits=\"userSpaceOnUse\" patternTransform=\"rotate(45)\">",
+        ),
+        Piece::Markup(
+            "<rect width=\"4\" height=\"4\" fill=\"#FFFFFF\"/><rect width=\"2\" height=\"4\" fill=\"#444444\"/></pattern>\n",
+        ),
+        Piece::Markup(
+            "<pattern id=\"zeros\" width=\"1\" height=\"1\" patternContentUnits=\"objectBoundingBox\">",
+        ),
+        Piece::Markup(
+            "<path d=\"M0 0h1v1h-1z\" fill=\"#FFFFFF\"/><path d=\"M0 0L1 1M1 0L0 1\" stroke=\"#888888\" stroke-width=\".06\"/></pattern></defs>\n",
+        ),
+    ]);
+}
+
+// Draws what begins the picture: its size, its accessible name, the colours and patterns, and a white background.
 fn draw_head<O: Out>(writer: &mut Writer<'_, O>, file: &Shown, height: u64)
     ensures { Wrote O.held writer.old (pictures.head_text file.now height) writer.new }
 {
@@ -53,13 +73,13 @@ fn draw_head<O: Out>(writer: &mut Writer<'_, O>, file: &Shown, height: u64)
     writer.write_all(&[
         Piece::Markup("</title>\n<style>"),
         Piece::Markup(TREES),
+        Piece::Markup(LATER_TREES),
         Piece::Markup(OVERFLOW),
+        Piece::Markup(LATER_OVERFLOW),
         Piece::Markup(OTHERS),
-        Piece::Markup(
-            "</style>\n<defs><pattern id=\"unowned\" width=\"4\" height=\"4\" patternUnits=\"userSpaceOnUse\" patternTransform=\"rotate(45)\"><rect width=\"4\" height=\"4\" fill=\"#FFFFFF\"/><rect width=\"2\" height=\"4\" fill=\"#444444\"/></pattern></defs>\n",
-        ),
-        Piece::Markup("<rect width=\"100%\" height=\"100%\" fill=\"#FFFFFF\"/>\n"),
     ]);
+    draw_patterns(writer);
+    writer.write_all(&[Piece::Markup("<rect width=\"100%\" height=\"100%\" fill=\"#FFFFFF\"/>\n")]);
 }
 
 // Draws how many faults there are.

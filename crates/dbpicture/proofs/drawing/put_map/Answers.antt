@@ -8,25 +8,27 @@ use Rattle.dbformat.specs.Report.{faults}
 use Rattle.dbformat.specs.SchemaRow.{SchemaRow}
 use Rattle.dbformat.specs.Starts.{start_at}
 use Rattle.dbformat.specs.declared.Geometry.{Geometry}
-use Rattle.dbtrace.specs.declared.Reported.{Reported}
 use Rattle.dbentries.specs.Bits.{has_bit}
+use Rattle.dbentries.specs.Kept.{kept_of}
 use Rattle.dbentries.specs.Listed.{listed_entries}
+use Rattle.dbentries.specs.declared.entry.Entry.{Entry}
 use Rattle.dbscan.proofs.PageMarks.{place_is}
 use Rattle.dbscan.specs.Roots.{Listed, listed_rows}
 use Rattle.dbsource.specs.HeaderBytes.{HeaderBytes}
 use Rattle.dbscan.specs.Texts.{tree_of_row}
 use Rattle.dbpicture.specs.Names.{short_text}
 use Rattle.dbpicture.specs.Keeping.{AreNoted, marked_place, shown_tree}
-use Rattle.dbpicture.specs.Faults.{fault_signs, first_faults, frame_signs, is_weak, leading, page_shows, signs_of, zero_signs}
+use Rattle.dbpicture.specs.Faults.{entry_signs, fault_signs, is_weak, page_shows, signs_of, zero_signs}
 use Rattle.dbpicture.specs.declared.faults.Sign.{Sign}
 use Rattle.dbpicture.specs.declared.faults.Sign.TheVariants.{Faulty, Framed}
 use Rattle.dbpicture.specs.Grids.{grid_of}
 use Rattle.dbpicture.specs.Legends.{legend_lines}
-use Rattle.dbpicture.specs.Pictures.{map_picture, picture_text, stated_of}
+use Rattle.dbpicture.specs.Pictures.{map_picture, noted_of, picture_text, stated_of}
 use Rattle.dbpicture.specs.Tallies.{largest_of, largest_trees, pages_at, PagesTallied, tally_of}
 use Rattle.dbpicture.specs.declared.grid.Grid.{Grid}
+use Rattle.dbpicture.specs.declared.legend.NotedPages.{NotedPages}
 use Rattle.dblines.proofs.Writing.{put_written}
-use Rattle.dbpicture.proofs.Pictured.{known_trees, leading_kept, same_count}
+use Rattle.dbpicture.proofs.Pictured.{known_trees, same_count}
 use Rattle.dbpicture.proofs.drawing.put_map.Goals as goal
 
 pub returns : goal.returns
@@ -40,17 +42,17 @@ returns g c =
       is = λ file V known.
           let desk = known.desk in
           let has = known.kept in
-          let leads = ap leading (c.listed.ensures ∙ has.listing.listed) ∙ leading_kept (take 100 (listed_entries file V)) in
-          let notes = c.note_zeros.new.notes in
-          let strong_noted = subst (λ (xs : List Reported). AreNoted (geometry file).pages (flat_map fault_signs (faults file V) ++ flat_map frame_signs xs)
-          c.note_listed.new.notes) leads (c.note_listed.ensures (geometry file).pages _ has.notes) in
+          let notes = c.note_zeros-zeros.new.notes in
+          let strong_noted = subst (λ (es : List Entry). AreNoted (geometry file).pages (flat_map fault_signs (faults file V) ++ flat_map entry_signs es)
+          c.note_listed.new.notes) (c.listed.ensures ∙ has.listing.listed) (c.note_listed.ensures (geometry file).pages _ has.notes) in
           let shape = c.geometry-geometry.ensures.shape ∙ desk.header.shape in
           let here : c.geometry-geometry.result.pages ≡ (geometry file).pages = ap (λ (s : Geometry). s.pages) shape in
           let zeros = ap (λ n. filter (has_bit c.args.kept.now.listing.zeros) (range_with_len 1 n)) here ∙ has.zeros in
           let noted : AreNoted (geometry file).pages (signs_of file V) notes =
           subst (λ (l : List (ℕ × Sign)). AreNoted (geometry file).pages l notes)
-          (ap (λ ps. (flat_map fault_signs (faults file V) ++ flat_map frame_signs (first_faults (take 100 (listed_entries file V)))) ++ zero_signs ps) zeros)
-          (c.note_zeros.ensures (geometry file).pages _ strong_noted) in
+          (ap (λ ps. (flat_map fault_signs (faults file V) ++ flat_map entry_signs (map kept_of (take 100 (listed_entries file V)))) ++ zero_signs ps) zeros)
+          (c.note_zeros-zeros.ensures.noted (geometry file).pages _ strong_noted) in
+          let blank = c.note_zeros-zeros.ensures.count ∙ ap (λ (ps : List ℕ). length ps) zeros in
           let marks = c.marks-marks.ensures ∙ desk.marks in
           let tally = c.count.ensures file V (record { survey = desk.survey; marks = marks; trees = has.trees }) in
           let kept : List SchemaRow = c.roots-roots.result.now.rows in
@@ -71,14 +73,17 @@ returns g c =
           ∙ ap (λ n. count_by (is_weak (has_bit notes.faulty) (has_bit notes.framed)) (range_with_len 1 n)) noted.pages
           ∙ same_count (is_weak (has_bit notes.faulty) (has_bit notes.framed)) (is_weak (page_shows file V Faulty) (page_shows file V Framed))
           (geometry file).pages (λ p l m. ap₂ (λ a b. a && not b) (noted.faulty.are p l m) (noted.framed.are p l m)) in
+          let missing = c.missing.ensures ∙ ap (λ (g : Grid). g.stated - g.pages) grid in
+          let noted_pages : NotedPages = record {
+            zeros = c.note_zeros-zeros.result;
+            strong = c.framed-strong.result.0;
+            weak = c.framed-strong.result.1;
+            missing = c.missing.result;
+          } in
+          let pages : noted_pages ≡ noted_of file V = λ i. record { zeros = blank i; strong = strong i; weak = weak i; missing = missing i } in
           let lines = c.new-legend.ensures
-          ∙ ap₂ (λ (t : PagesTallied) ks. legend_lines kept t ks c.framed-strong.result.0 c.framed-strong.result.1 c.missing.result) tally
-          (c.as_slice-2.ensures.value ∙ largest)
-          ∙ ap (λ rows. legend_lines rows (tally_of file V) (largest_of file V) c.framed-strong.result.0 c.framed-strong.result.1 c.missing.result)
-          rows ∙ ap (legend_lines (listed_rows file V) (tally_of file V) (largest_of file V) c.framed-strong.result.0 c.framed-strong.result.1)
-          (c.missing.ensures ∙ ap (λ (g : Grid). g.stated - g.pages) grid)
-          ∙ ap₂ (λ s w. legend_lines (listed_rows file V) (tally_of file V) (largest_of file V) s w (stated_of (take 100 file) - (geometry file).pages))
-          strong weak in
+          ∙ ap₂ (λ (t : PagesTallied) ks. legend_lines kept t ks noted_pages) tally (c.as_slice-2.ensures.value ∙ largest)
+          ∙ ap₂ (λ rows n. legend_lines rows (tally_of file V) (largest_of file V) n) rows pages in
           c.draw_picture.ensures.is file V (record { survey = desk.survey; marks = marks; trees = has.trees })
           ∙ (λ i. picture_text (record { file = c.shown_file.ensures i; geometry = shape i; faults = known.count i })
           (record {

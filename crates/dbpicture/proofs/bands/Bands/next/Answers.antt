@@ -1,4 +1,4 @@
-use Rattle.std.proofs.Common.{◌≡◌, arith}
+use Rattle.std.proofs.Common.{arith}
 use Rattle.dbpicture.specs.Runs.{claims}
 use Rattle.dbpicture.proofs.FirstMost.{first_before, first_here, none_first}
 use Rattle.dbpicture.proofs.bands.Bands.next.Goals as goal

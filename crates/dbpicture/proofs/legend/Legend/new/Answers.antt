@@ -2,7 +2,7 @@ use Rattle.std.proofs.Common.{◌≡◌, ℕ, ◌+◌, ◌++◌, length, refl, a
 use Rattle.std.specs.List.{flat_map, range_with_len}
 use Rattle.dbpicture.specs.Legends.{legend_lines, line_if, no_overflow, tree_line}
 use Rattle.dbpicture.specs.Tallies.{others}
-use Rattle.dbpicture.specs.declared.legend.Label.TheVariants.{Fixed, Freelist, Missing, Nobody, Others, Strong, Tree, Weak}
+use Rattle.dbpicture.specs.declared.legend.Label.TheVariants.{Blank, Fixed, Freelist, Missing, Nobody, Others, Strong, Tree, Weak}
 use Rattle.dbpicture.specs.declared.owner_shares.Share.{Share}
 use Rattle.dbpicture.proofs.Steps.{flat_more}
 use Rattle.dbpicture.proofs.legend.Legend.new.Goals as goal
@@ -32,9 +32,10 @@ returns g c =
     let starts = c.args.tally.now.starts in
     let largest = c.args.largest.now in
     let end : c.loop-rank.rank ≡ length largest = omega arith in
-    c.add-8.ensures.line ∙ ap₂ (λ l s. l ++ line_if Missing s) (
-    c.add-7.ensures.line ∙ ap₂ (λ l s. l ++ line_if Weak s) (
-    c.add-6.ensures.line ∙ ap₂ (λ l s. l ++ line_if Strong s) (
+    c.add-9.ensures.line ∙ ap₂ (λ l s. l ++ line_if Missing s) (
+    c.add-8.ensures.line ∙ ap₂ (λ l s. l ++ line_if Weak s) (
+    c.add-7.ensures.line ∙ ap₂ (λ l s. l ++ line_if Strong s) (
+    c.add-6.ensures.line ∙ ap₂ (λ l s. l ++ line_if Blank s) (
     c.add-5.ensures.line ∙ ap₂ (λ l s. l ++ line_if Nobody s) (
     c.add-4.ensures.line ∙ ap₂ (λ l s. l ++ line_if Fixed s) (
     c.add-3.ensures.line ∙ ap₂ (λ l s. l ++ line_if Freelist s) (
@@ -42,4 +43,5 @@ returns g c =
     (c.loop-rank.invariant.lines ∙ ap (λ n. flat_map (tree_line c.args.roots.now.rows starts largest) (range_with_len 0 n)) end)
     (c.others-count.ensures ∙ ap (λ n. others starts largest (n + 1)) c.len.ensures.count))
     c.share-2.ensures) (c.no_overflow.ensures ∙ ap no_overflow c.fixed.ensures))
-    (c.no_overflow-2.ensures ∙ ap no_overflow c.nobody.ensures)) c.no_overflow-3.ensures) c.no_overflow-4.ensures) c.no_overflow-5.ensures
+    (c.no_overflow-2.ensures ∙ ap no_overflow c.nobody.ensures)) c.no_overflow-3.ensures) c.no_overflow-4.ensures) c.no_overflow-5.ensures)
+    c.no_overflow-6.ensures
