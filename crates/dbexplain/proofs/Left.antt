@@ -14,7 +14,7 @@ use Rattle.dbsource.specs.Outs.{Begins, OutState, Writes}
 use Rattle.dbsource.specs.declared.error.RunError.{RunError}
 use Rattle.dbsource.specs.declared.error.RunError.TheVariants.{Refused, ReadFailed, OutOfMemory, WriteFailed}
 use Rattle.dbsource.proofs.Beginnings.{begins_nothing}
-use Rattle.dbwalk.specs.Telling.{StopsBy}
+use Rattle.dbscan.specs.Hearing.{StopsBy}
 use Rattle.dbscan.specs.Trees.{AreTrees}
 use Rattle.dbscan.proofs.Trees.{all_noted}
 use Rattle.dbscan.specs.Desks.{DeskView}

@@ -11,7 +11,7 @@ use Rattle.dbsource.specs.Outs.{Begins, OutState, Puts}
 use Rattle.dbsource.specs.declared.error.RunError.{RunError}
 use Rattle.dbsource.specs.declared.error.RunError.TheVariants.{ReadFailed}
 use Rattle.dbsource.specs.declared.out.WriteFailed.{WriteFailed}
-use Rattle.dbwalk.specs.Telling.{SinkState, one_out}
+use Rattle.dbscan.specs.Hearing.{ReporterState, one_out}
 use Rattle.dbscan.specs.Notices.{Notice}
 use Rattle.dbentries.specs.Listed.{listed_entries}
 use Rattle.dbentries.specs.Lists.{ListsFirst, heard}
@@ -43,7 +43,7 @@ module _ {A O : Type 0} where
 
   module _ (held : O → OutState) where
     -- it borrows its Out, whose failures are counted
-    abbrev pub explain_held : ExplainReporter A O → SinkState
+    abbrev pub explain_held : ExplainReporter A O → ReporterState
     explain_held s = one_out s.out.ghost_name (held s.out.now).failures
 
     -- By the answer of a run over a file: the report was put, and this was found; after a failed read nothing was put yet, and the first

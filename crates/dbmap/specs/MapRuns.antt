@@ -6,7 +6,7 @@ use Rattle.dbformat.specs.Report.{faults, verdict}
 use Rattle.dbformat.specs.declared.Verdict.{Verdict}
 use Rattle.dbsource.specs.Outs.{OutState}
 use Rattle.dbsource.specs.declared.error.RunError.{RunError}
-use Rattle.dbwalk.specs.Telling.{one_out, SinkState}
+use Rattle.dbscan.specs.Hearing.{one_out, ReporterState}
 use Rattle.dbscan.specs.Notices.{Notice}
 use Rattle.dbentries.specs.Reported.{HearsReported}
 use Rattle.dbpicture.specs.Keeping.{Adds, HearsNone, Notes}
@@ -27,7 +27,7 @@ module _ {A O : Type 0} where
   Hears = HearsReported (λ x. Changes (Adds x)) (λ r. Changes (Notes r))
 
 -- it borrows its Out, whose failures are counted
-abbrev pub map_held : {A O : Type 0} → (O → OutState) → MapReporter A O → SinkState
+abbrev pub map_held : {A O : Type 0} → (O → OutState) → MapReporter A O → ReporterState
 map_held held s = one_out s.out.ghost_name (held s.out.now).failures
 
 -- What a run leaves that had heard nothing before: the verdict, and a picture.

@@ -11,7 +11,7 @@ use Rattle.dbformat.specs.declared.Verdict.{Verdict}
 use Rattle.dbsource.specs.Outs.{OutState, Puts, Writes}
 use Rattle.dbsource.specs.declared.error.RunError.{RunError}
 use Rattle.dbsource.specs.declared.error.RunError.TheVariants.{WriteFailed}
-use Rattle.dbwalk.specs.Telling.{StopsBy}
+use Rattle.dbscan.specs.Hearing.{StopsBy}
 use Rattle.dbscan.specs.Finishes.{Leaves}
 use Rattle.dbscan.specs.Notices.{CutsFaults, HearsFaults, run_notices}
 use Rattle.dbscan.proofs.FaultsHeard.{faults_heard_by}

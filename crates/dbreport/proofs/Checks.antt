@@ -16,7 +16,7 @@ use Rattle.dbsource.specs.Outs.{Begins, OutState, Puts}
 use Rattle.dbsource.specs.declared.error.RunError.{RunError}
 use Rattle.dbsource.specs.declared.error.RunError.TheVariants.{ReadFailed, WriteFailed, OutOfMemory, Refused}
 use Rattle.dbsource.proofs.Puts.{appends_nothing, puts_then}
-use Rattle.dbwalk.specs.Telling.{StopsBy}
+use Rattle.dbscan.specs.Hearing.{StopsBy}
 use Rattle.dbreport.specs.CheckReporter.{CutsFault, PutsAll, ShowsFault, end_text, found_verdict}
 use Rattle.dbreport.specs.declared.checking.CheckReporter.{CheckReporter}
 use Rattle.dbsource.proofs.Beginnings.{begins_nothing, begins_more, begins_after}

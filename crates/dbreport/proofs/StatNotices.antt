@@ -11,7 +11,7 @@ use Rattle.dbsource.specs.declared.error.RunError.{RunError}
 use Rattle.dbsource.specs.declared.error.RunError.TheVariants.{ReadFailed, WriteFailed, OutOfMemory, Refused}
 use Rattle.dbsource.proofs.Beginnings.{begins_more}
 use Rattle.dbsource.proofs.Puts.{appends_nothing, kept_appends}
-use Rattle.dbwalk.specs.Telling.{Tells}
+use Rattle.dbscan.specs.Hearing.{Tells}
 use Rattle.dbscan.specs.Notices.{Notice, heard_fault, heard_row, ended, walked, faults_heard}
 use Rattle.dbscan.specs.Starts.{At}
 use Rattle.dbreport.specs.StatReporter.{tree_end_text, other_lines, pages_text, CutsStatFault, CutsStat, HasBegun, HasWritten, HearsStat, IsFlushedIf}

@@ -7,7 +7,7 @@ use Rattle.dbformat.specs.declared.Fault.{Fault}
 use Rattle.dbformat.specs.declared.Verdict.{Verdict}
 use Rattle.dbsource.specs.Outs.{OutState, Puts, Writes}
 use Rattle.dbsource.specs.declared.error.RunError.{RunError}
-use Rattle.dbwalk.specs.Telling.{SinkState, one_out}
+use Rattle.dbscan.specs.Hearing.{ReporterState, one_out}
 use Rattle.dbreport.specs.declared.checking.CheckReporter.{CheckReporter}
 
 -- these bytes were put whole
@@ -42,7 +42,7 @@ abbrev pub found_verdict : ℕ → ℕ → Verdict
 found_verdict shown more = verdict_of (counted (shown + more))
 
 -- it borrows its Out, whose failures are counted
-abbrev pub check_held : {O : Type 0} → (O → OutState) → CheckReporter O → SinkState
+abbrev pub check_held : {O : Type 0} → (O → OutState) → CheckReporter O → ReporterState
 check_held held s = one_out s.out.ghost_name (held s.out.now).failures
 
 -- What a check leaves of its reporter, where it heard nothing before: its text, or after an error a beginning of it; and the verdict.

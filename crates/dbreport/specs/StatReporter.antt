@@ -9,7 +9,7 @@ use Rattle.dbsource.specs.Outs.{Begins, Flushes, OutState}
 use Rattle.dbmarks.specs.declared.marks.Mark.{Mark}
 use Rattle.dbscan.specs.Notices.{Notice, heard_fault, heard_row, ended, walked}
 use Rattle.dbscan.specs.Starts.{At}
-use Rattle.dbwalk.specs.Telling.{SinkState}
+use Rattle.dbscan.specs.Hearing.{ReporterState}
 use Rattle.dbreport.specs.CheckReporter.{PutsAll}
 use Rattle.dbreport.specs.TreeNames.{name_at}
 use Rattle.dbreport.specs.OtherMarks.{marked_lines}
@@ -92,7 +92,7 @@ abbrev pub failures_of_each : OutState → OutState → List ℕ
 failures_of_each out err = out.failures ∷ err.failures ∷ []
 
 -- it borrows both Outs, whose failures are counted
-abbrev pub stat_held : {O E : Type 0} → (O → OutState) → (E → OutState) → StatReporter O E → SinkState
+abbrev pub stat_held : {O E : Type 0} → (O → OutState) → (E → OutState) → StatReporter O E → ReporterState
 stat_held held held' s = record { lent = s.out.ghost_name ∷ s.err.ghost_name ∷ []; failures = failures_of_each (held s.out.now) (held' s.err.now) }
 
 -- From one reporter to the other these bytes were written to the first Out, and the lines of these faults to the second.

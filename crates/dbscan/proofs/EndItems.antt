@@ -29,11 +29,11 @@ use Rattle.dbmarks.specs.EndMarks.{is_free_mark, greatest_root_marked, least_oth
 use Rattle.dbtrace.specs.declared.Part.TheVariants as part
 use Rattle.dbscan.specs.Notices.{Notice, whole, walked, end_notices}
 use Rattle.dbmarks.specs.Marking.{is_none, mark_of, marks_of, role_mark, visit_mark, AreMarksOf}
-use Rattle.dbwalk.specs.Telling.{Tells}
+use Rattle.dbscan.specs.Hearing.{Tells}
 use Rattle.dbmarks.specs.declared.marks.Mark.{Mark}
 use Rattle.dbmarks.specs.declared.marks.Mark.TheVariants.{Unmarked, Fixed, Root, Trunk, FreeLeaf, FirstOverflow, LaterOverflow, Child}
 use Rattle.dbmarks.proofs.LateRoots.{marks_tell_the_end}
-use Rattle.dbwalk.proofs.Telling.Belows.{stops_by_after}
+use Rattle.dbscan.proofs.Hearings.{stops_by_after}
 use Rattle.dbscan.specs.EndPass.{counted_faults, is_fixed_mark, page_notices, pages_items}
 use Rattle.dbscan.specs.Telling.{items_of}
 use Rattle.dbscan.proofs.CountedMarks.{numbers_more}

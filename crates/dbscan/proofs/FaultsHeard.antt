@@ -8,7 +8,7 @@ use Rattle.dbformat.specs.Survey.{Survey}
 use Rattle.dbformat.specs.declared.Fault.{Fault}
 use Rattle.dbsource.specs.declared.error.RunError.{RunError}
 use Rattle.dbsource.specs.declared.error.RunError.TheVariants.{ReadFailed, WriteFailed, OutOfMemory, Refused}
-use Rattle.dbwalk.specs.Telling.{Tells}
+use Rattle.dbscan.specs.Hearing.{Tells}
 use Rattle.dbscan.specs.Notices.{CutsFaults, HearsFaults, Notice, heard_fault, heard_row, ended, walked, faults_heard, run_notices}
 use Rattle.dbscan.proofs.HeardFaults.{faults_are_heard}
 

@@ -10,8 +10,8 @@ use Rattle.dbsource.specs.Headers.{IsHeaderOf}
 use Rattle.dbsource.specs.declared.error.RunError.{RunError}
 use Rattle.dbmarks.specs.Marking.{AreMarksOf}
 use Rattle.dbscan.specs.Roots.{AreListed}
-use Rattle.dbwalk.specs.Telling.{StopsBy, Tells}
-use Rattle.dbwalk.proofs.Telling.Belows.{stops_by_first, stops_by_after}
+use Rattle.dbscan.specs.Hearing.{StopsBy, Tells}
+use Rattle.dbscan.proofs.Hearings.{stops_by_first, stops_by_after}
 use Rattle.dbscan.specs.Desks.{DeskView}
 use Rattle.dbtrace.specs.declared.Part.TheVariants as part
 use Rattle.dbscan.specs.Notices.{Notice, whole, start_notices, end_notices, run_notices}

@@ -3,7 +3,7 @@ use Rattle.std.proofs.Common.{◌≡◌, ◌↔◌, ℕ, suc, ◌+◌, ◌-◌, 
 use Rattle.std.proofs.Common.{ap, subst, ◌∙◌, arith, append_assoc, append-nil}
 use Rattle.std.specs.Prelude.{OnOk, slice_get, ◌==◌}
 use Rattle.std.specs.List.{enumerate_from}
-use Rattle.dbsurvey.specs.Moves.{Moves}
+use Rattle.dbsurvey.specs.Moves.{Moves, MovesBySome}
 use Rattle.dbsurvey.specs.Story.{Errand, Go, Follow, errands_at}
 use Rattle.dbsurvey.proofs.Moving.{Moves-append}
 use Rattle.dbformat.specs.Address.{freelist_start, schema_start, start_of}
@@ -13,6 +13,7 @@ use Rattle.dbformat.specs.Schema.{start as start_at}
 use Rattle.dbformat.specs.SchemaRow.{SchemaRow}
 use Rattle.dbformat.specs.Story.{Event, start_errands}
 use Rattle.dbformat.specs.Survey.{Survey}
+use Rattle.dbsource.specs.Errors.{is_write_failed}
 use Rattle.dbsource.specs.declared.error.RunError.{RunError}
 use Rattle.dbsource.specs.declared.error.RunError.TheVariants.{WriteFailed}
 use Rattle.dbtrace.specs.Finding.{Finding, told_below, visited_below}
@@ -20,7 +21,7 @@ use Rattle.dbwalk.specs.Done.{IsDone, IsTreeDone}
 use Rattle.dbwalk.specs.Entered.{IsNext}
 use Rattle.dbmarks.specs.Marking.{AreMarksOf}
 use Rattle.dbwalk.specs.Taking.{StartsEmpty, gives, readable_rows}
-use Rattle.dbwalk.specs.Telling.{StopsBy}
+use Rattle.dbscan.specs.Hearing.{StopsBy}
 use Rattle.dbwalk.specs.Roots.{IsRootAfter}
 use Rattle.dbwalk.specs.Trunks.{IsFirstTrunk, freelist_reference}
 use Rattle.dbmarks.specs.declared.marks.Mark.{Mark}
@@ -28,7 +29,8 @@ use Rattle.dbwalk.specs.declared.root.Root.{Root}
 use Rattle.dbwalk.specs.declared.root.RootKind.TheVariants.{Schema}
 use Rattle.dbwalk.specs.declared.taker.Taken.{Taken}
 use Rattle.dbwalk.proofs.RootTakings.{tree_given, tree_told}
-use Rattle.dbwalk.proofs.Telling.Belows.{told_none, stops_by_first, stops_by_after}
+use Rattle.dbwalk.proofs.Telling.Belows.{told_none}
+use Rattle.dbscan.proofs.Hearings.{stops_by_first, stops_by_after}
 use Rattle.dbwalk.proofs.Telling.Lefts.{left_call, left_none}
 use Rattle.dbwalk.proofs.Trees.Bounds.{root_address}
 use Rattle.dbscan.specs.Notices.{Notice, found, ended, errands_left, root_reference, tree_notices, later_notices, start_notices}
@@ -38,7 +40,7 @@ use Rattle.dbscan.specs.Walks.{Any, IsAtStarts, IsTreeWalked, IsWalkedOver, IsSc
 use Rattle.dbscan.specs.declared.teller.Teller.{Teller}
 use Rattle.dbscan.proofs.RunItems.{all_visited, starts_left, survey_below_starts}
 use Rattle.dbscan.proofs.Starts.{drop_more, quiet_go, root_next, row_there}
-use Rattle.dbscan.proofs.Tellers.{teller_moves, teller_stops}
+use Rattle.dbscan.proofs.Tellers.{IsShutBy, teller_moves, teller_stops}
 
 any_moves : (items : List Finding) → Moves Any tt items tt
 any_moves [] = refl
@@ -48,7 +50,7 @@ any_moves (i ∷ items) = (tt, tt, any_moves items)
 at_next : (file : List ℕ) (V U : List Reference) (c : Reference) (es : List (Errand Way Event)) (marks marks' : List Mark)
     → IsAtStarts file V U (Go c ∷ es) marks
     → AreMarksOf file (U ++ visited_below file U (Go c ∷ [])) marks' → IsAtStarts file V (U ++ visited_below file U (Go c ∷ [])) es marks'
-at_next file V U c es marks marks' h m = left_call Any file [] (start_errands file V) tt U marks tt {A = Unit {0}} Any tt marks' tt (Go c ∷ []) es h
+at_next file V U c es marks marks' h m = left_call Any file [] (start_errands file V) tt U marks tt {A = Unit {0}} tt marks' tt (Go c ∷ []) es h
     (quiet_go c)
     (record { marked = m; told = any_moves (told_below file U (Go c ∷ [])) })
 
@@ -56,57 +58,58 @@ at_next file V U c es marks marks' h m = left_call Any file [] (start_errands fi
 at_end : (file : List ℕ) (V : List Reference) (survey : Survey file V) (U : List Reference) (marks : List Mark) → IsAtStarts file V U [] marks
     → AreMarksOf file V marks
 at_end file V survey U marks h =
-    subst (λ W. AreMarksOf file W marks) (all_visited file V survey) (left_none Any file [] (start_errands file V) tt U marks tt {A = Unit {0}} Any tt h).marked
+    subst (λ W. AreMarksOf file W marks) (all_visited file V survey) (left_none Any file [] (start_errands file V) tt U marks tt {A = Unit {0}} tt h).marked
 
 module _ {S : Type 0} (hears cuts : S → Notice → S → Type 0) where
   -- ---- what is reported to a teller, as what its reporter hears
 
-  module _ (items : List Finding) (w t : Teller S) where
-    moved : Moves (HandsOn hears) w items t → Moves hears w.reporter.now (map (found w.start.now) items) t.reporter.now
-    moved h = (teller_moves hears cuts items w t h).0
+  module _ (items : List Finding) (w t : Teller S) (open_first : w.is_shut ≡ false) where
+    moved : t.is_shut ≡ false → Moves (HandsOn hears cuts) w items t → Moves hears w.reporter.now (map (found w.start.now) items) t.reporter.now
+    moved o h = (teller_moves hears cuts items w t open_first o h).0
 
-    stopped : (e : RunError) → StopsBy (HandsOn hears) (HandsOn cuts) e w items t
+    stopped : (e : RunError) → t.is_shut ≡ is_write_failed e → MovesBySome (HandsOn hears cuts) w items t
         → StopsBy hears cuts e w.reporter.now (map (found w.start.now) items) t.reporter.now
-    stopped e h = teller_stops hears cuts e items w t h
+    stopped e o h = teller_stops hears cuts e items w t open_first o h
 
   -- ---- one tree
 
   module _ {T : Type 0} (keeps : T → SchemaRow → Taken → T → Type 0) (refuses : T → SchemaRow → T → Type 0) (file : List ℕ) (W : List Reference) (c : Reference)
-      (marks : List Mark) (w m : Teller S) (first u : T) where
+      (marks : List Mark) (w m : Teller S) (first u : T) (open_first : w.is_shut ≡ false) where
     abbrev items : List Finding
     items = told_below file W (Go c ∷ [])
 
     -- what is below its root is marked and was reported, and the taker was given the rows of the schema
     abbrev IsDoneBy : Result (Unit {0}) RunError → Type 0
-    IsDoneBy r = IsDone (HandsOn hears) (HandsOn cuts) file W (Go c ∷ []) r marks w m
+    IsDoneBy r = IsDone (HandsOn hears cuts) file W (Go c ∷ []) r marks w m
         × (start_of c.address ≡ schema_start → OnOk r (Moves (gives keeps) first (readable_rows file (W ++ visited_below file W (Go c ∷ []))) u))
 
     -- with a taker that starts empty, if the tree is the schema's
     pub root_done : (r : Result (Unit {0}) RunError) (root : Root) (old : List Mark) → IsRootAfter file root W c old
         → ((root.kind ≡ Schema) ↔ (root.start ≡ schema_start)) → (held : T → ℕ) → (root.kind ≡ Schema → StartsEmpty keeps held first)
-        → IsTreeDone (HandsOn hears) (HandsOn cuts) keeps refuses file W c r marks (w, first) (m, u) → IsDoneBy r
+        → IsTreeDone (HandsOn hears cuts) keeps refuses file W c r marks (w, first) (m, u) → IsDoneBy r
     root_done r root old after schema held empty done =
         let at = root_address c.address root.start after.candidate.depth after.candidate.start in
         let first_empty : start_of c.address ≡ schema_start → StartsEmpty keeps held first = λ z. empty (schema.1 (sym after.candidate.start ∙ z)) in (
-          tree_told (HandsOn hears) (HandsOn cuts) keeps refuses file root.start W c at after.early r marks (w, first) (m, u) done held first_empty,
-          tree_given (HandsOn hears) (HandsOn cuts) keeps refuses file root.start W c at after.early r marks (w, first) (m, u) done held first_empty,
+          tree_told (HandsOn hears cuts) keeps refuses file root.start W c at after.early r marks (w, first) (m, u) done held first_empty,
+          tree_given (HandsOn hears cuts) keeps refuses file root.start W c at after.early r marks (w, first) (m, u) done held first_empty,
         )
 
     -- an error stopped the walk
-    pub tree_stopped : (e : RunError) → IsDoneBy (Err e) → IsWalkedOver {A = Unit {0}} hears cuts keeps file W c (Err e) marks w m first u
-    tree_stopped e d = record {
+    pub tree_stopped : (e : RunError) → m.is_shut ≡ is_write_failed e → IsDoneBy (Err e)
+        → IsWalkedOver {A = Unit {0}} hears cuts keeps file W c (Err e) marks w m first u
+    tree_stopped e o d = record {
       tree = record {
         marked = tt;
         told = stops_by_first hears cuts e w.reporter.now m.reporter.now (map (found w.start.now) items) (ended w.start.now ∷ [])
-            (stopped items w m e d.0.told);
+            (stopped items w m open_first e o d.0.told);
       };
       has_rows = tt;
       given = λ k. tt;
     }
 
-    module _ (t : Teller S) (d : IsDoneBy (Ok tt)) where
+    module _ (t : Teller S) (o : m.is_shut ≡ false) (d : IsDoneBy (Ok tt)) where
       start_kept : m.start.now ≡ w.start.now
-      start_kept = (teller_moves hears cuts items w m d.0.told).1
+      start_kept = (teller_moves hears cuts items w m open_first o d.0.told).1
 
       -- all was reported, and then the tree ended
       pub tree_ended : hears m.reporter.now (ended m.start.now) t.reporter.now → t.has_rows ≡ m.has_rows
@@ -115,10 +118,10 @@ module _ {S : Type 0} (hears cuts : S → Notice → S → Type 0) where
         tree = record {
           marked = d.0.marked;
           told = Moves-append hears w.reporter.now m.reporter.now t.reporter.now (map (found w.start.now) items) (ended w.start.now ∷ [])
-              (moved items w m d.0.told)
+              (moved items w m open_first o d.0.told)
               (t.reporter.now, subst (λ at. hears m.reporter.now (ended at) t.reporter.now) start_kept e, refl);
         };
-        has_rows = rows ∙ (teller_moves hears cuts items w m d.0.told).2;
+        has_rows = rows ∙ (teller_moves hears cuts items w m open_first o d.0.told).2;
         given = d.1;
       }
 
@@ -128,7 +131,7 @@ module _ {S : Type 0} (hears cuts : S → Notice → S → Type 0) where
         tree = record {
           marked = tt;
           told = stops_by_after hears cuts WriteFailed w.reporter.now m.reporter.now t.reporter.now (map (found w.start.now) items) (ended w.start.now ∷ [])
-              (moved items w m d.0.told)
+              (moved items w m open_first o d.0.told)
               (inl (subst (λ at. cuts m.reporter.now (ended at) t.reporter.now) start_kept e));
         };
         has_rows = tt;
@@ -196,14 +199,14 @@ module _ {S : Type 0} (hears cuts : S → Notice → S → Type 0) where
 
     -- ---- the freelist, which is the last
 
-    pub freelist_told : (marks marks' : List Mark) (w t : Teller S) (first : ℕ) (r : Result (Unit {0}) RunError) → w.start.now ≡ at_freelist → (first == 0)
-        ≡ false → first ≡ first_trunk file
+    pub freelist_told : (marks marks' : List Mark) (w t : Teller S) (first : ℕ) (r : Result (Unit {0}) RunError) → w.is_shut ≡ false → IsShutBy r t.is_shut
+        → w.start.now ≡ at_freelist → (first == 0) ≡ false → first ≡ first_trunk file
         → IsBetweenStarts hears cuts file V before [] marks w.reporter.now
         → ((U : List Reference) (d : Reference) → IsFirstTrunk first d → IsNext U d → AreMarksOf file U marks
-        → IsDone (HandsOn hears) (HandsOn cuts) file U (Go d ∷ []) r marks' w t)
+        → IsDone (HandsOn hears cuts) file U (Go d ∷ []) r marks' w t)
         → AreTold hears cuts file V r marks' before t.reporter.now
-    freelist_told marks marks' w t first r start some e h walked =
-        by_result r (walked h.visits d (record { page = refl; role = refl; from = refl; item = refl }) at.past at.marked)
+    freelist_told marks marks' w t first r open_first shut start some e h walked =
+        by_result r shut (walked h.visits d (record { page = refl; role = refl; from = refl; item = refl }) at.past at.marked)
       where
         d : Reference
         d = freelist_reference first
@@ -222,17 +225,18 @@ module _ {S : Type 0} (hears cuts : S → Notice → S → Type 0) where
         all = ap (λ at. h.notices ++ map (found at) items) start ∙ ap (λ es. h.notices ++ map (found at_freelist) (told_below file h.visits es)) (sym one)
             ∙ h.rest
 
-        by_result : (r : Result (Unit {0}) RunError) → IsDone (HandsOn hears) (HandsOn cuts) file h.visits (Go d ∷ []) r marks' w t
+        by_result : (r : Result (Unit {0}) RunError) → IsShutBy r t.is_shut → IsDone (HandsOn hears cuts) file h.visits (Go d ∷ []) r marks' w t
             → AreTold hears cuts file V r marks' before t.reporter.now
-        by_result (Ok u) k = record {
+        by_result (Ok u) o k = record {
           marked = at_end file V survey _ marks' (at_next file V h.visits d [] marks marks' at k.marked);
           told = subst (λ L. Moves hears before L t.reporter.now) all
-              (Moves-append hears before w.reporter.now t.reporter.now h.notices (map (found w.start.now) items) h.told (moved items w t k.told));
+              (Moves-append hears before w.reporter.now t.reporter.now h.notices (map (found w.start.now) items) h.told (moved items w t open_first o k.told));
         }
-        by_result (Err x) k = record {
+        by_result (Err x) o k = record {
           marked = tt;
           told = subst (λ L. StopsBy hears cuts x before L t.reporter.now) all
-              (stops_by_after hears cuts x before w.reporter.now t.reporter.now h.notices (map (found w.start.now) items) h.told (stopped items w t x k.told));
+              (stops_by_after hears cuts x before w.reporter.now t.reporter.now h.notices (map (found w.start.now) items) h.told
+              (stopped items w t open_first x o k.told));
         }
 
     -- there is none

@@ -4,6 +4,7 @@ pub mod EndPass
 pub mod Findings
 pub mod Finishes
 pub mod HeardRows
+pub mod Hearing
 pub mod Kept
 pub mod Looks
 pub mod MapReads

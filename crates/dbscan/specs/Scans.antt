@@ -6,7 +6,7 @@ use Rattle.dbsource.specs.declared.error.RunError.{RunError}
 use Rattle.dbmarks.specs.Marking.{AreMarksOf}
 use Rattle.dbmarks.specs.declared.marks.Mark.{Mark}
 use Rattle.dbscan.specs.Roots.{AreListed}
-use Rattle.dbwalk.specs.Telling.{Tells}
+use Rattle.dbscan.specs.Hearing.{Tells}
 use Rattle.dbscan.specs.Notices.{Notice, run_notices}
 
 -- All that a run reports was heard, or after an error a beginning of it. At Ok the survey is marked, and a list has the rows of the

@@ -15,7 +15,7 @@ use Rattle.dbmarks.specs.Marking.{AreMarksOf}
 use Rattle.dbmarks.specs.declared.marks.Mark.{Mark}
 use Rattle.dbwalk.specs.Done.{IsLeft}
 use Rattle.dbwalk.specs.Taking.{gives, readable_rows}
-use Rattle.dbwalk.specs.Telling.{Tells}
+use Rattle.dbscan.specs.Hearing.{Tells}
 use Rattle.dbwalk.specs.declared.taker.Taken.{Taken}
 use Rattle.dbscan.specs.Roots.{AreListed}
 use Rattle.dbscan.specs.Findings.{is_schema_row}

@@ -10,7 +10,8 @@ ghost use Rattle.dbsource.specs.Headers.{IsHeaderOf};
 ghost use Rattle.dbsource.specs.Sources.{Asks};
 ghost use Rattle.dbmarks.specs.EndMarks.{entry_value};
 ghost use Rattle.dbmarks.specs.Marking.{AreMarksOf, is_none, page_mark};
-ghost use Rattle.dbwalk.specs.Telling.{Tells, IsReadOrWrite, SinkAfter};
+ghost use Rattle.dbwalk.specs.Telling.{IsReadOrWrite};
+ghost use Rattle.dbscan.specs.Hearing.{Tells, ReporterAfter};
 ghost use Rattle.dbmarks.specs.declared.marks.Mark as marking;
 ghost use Rattle.dbscan.specs.Desks.{shape_of};
 ghost use Rattle.dbscan.specs.EndPass.{is_fixed_mark, page_notices, pages_items};
@@ -80,7 +81,7 @@ fn end_page<S: Source, K: Reporter, A: Allocator, B: Allocator>(
         → Tells K.hears K.cuts result reporter.old (page_notices file least_other page mark) reporter.new
         × OnOk result (HasMapFor file (geometry file) (page + 1) bench.new.chain))
         is_read_failed result (S.held source.old) (S.held source.new) }
-    ensures writes { SinkAfter is_write_failed result (K.held reporter.old) (K.held reporter.new) }
+    ensures writes { ReporterAfter is_write_failed result (K.held reporter.old) (K.held reporter.new) }
     ensures only { IfErr result IsReadOrWrite }
     ensures bench { bench.new ≡ record bench.old { chain = bench.new.chain } }
 {
@@ -116,7 +117,7 @@ fn end_pages<S: Source, K: Reporter, A: Allocator, B: Allocator>(
         → (V : List Reference) → AreMarksOf file V marks.now
         → Tells K.hears K.cuts result reporter.old (pages_items file V least_other (geometry file).pages) reporter.new)
         is_read_failed result (S.held source.old) (S.held source.new) }
-    ensures writes { SinkAfter is_write_failed result (K.held reporter.old) (K.held reporter.new) }
+    ensures writes { ReporterAfter is_write_failed result (K.held reporter.old) (K.held reporter.new) }
     ensures only { IfErr result IsReadOrWrite }
     ensures bench { bench.new ≡ record bench.old { chain = bench.new.chain } }
 {
@@ -145,7 +146,7 @@ pub fn tell_end<S: Source, K: Reporter, A: Allocator>(
         → (V : List Reference) → Survey file V → AreMarksOf file V desk.old.marks → any_rows ≡ has_rows file V
         → Tells K.hears K.cuts result reporter.old (end_notices file V) reporter.new)
         is_read_failed result (S.held source.old) (S.held source.new) }
-    ensures writes { SinkAfter is_write_failed result (K.held reporter.old) (K.held reporter.new) }
+    ensures writes { ReporterAfter is_write_failed result (K.held reporter.old) (K.held reporter.new) }
     ensures only { IfErr result IsReadOrWrite }
 {
     reporter.walked(desk.header.geometry(), &desk.marks)?;

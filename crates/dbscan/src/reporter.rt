@@ -2,7 +2,7 @@
 ghost use Rattle.std.specs.Prelude.{MatchResult};
 ghost use Rattle.dbformat.specs.FixedPages.{IsInRange};
 ghost use Rattle.dbsource.specs.Failures.{is_any};
-ghost use Rattle.dbwalk.specs.Telling.{SinkAfter};
+ghost use Rattle.dbscan.specs.Hearing.{ReporterAfter};
 ghost use Rattle.dbscan.specs.Notices.{notice_of, walked};
 
 use crate::notice::Notice;
@@ -43,14 +43,14 @@ use std::alloc::Allocator;
 /// ```
 pub trait Reporter {
     ghost use Rattle.dbscan.specs.Notices.{Notice as Heard};
-    ghost use Rattle.dbwalk.specs.Telling.{SinkState};
+    ghost use Rattle.dbscan.specs.Hearing.{ReporterState};
 
     // What a notice that is taken makes of it.
     ghost hears: { Self → Heard → Self → Type 0 };
     // What one that is not taken, or not whole, makes of it.
     ghost cuts: { Self → Heard → Self → Type 0 };
     // What it borrows, and how many calls of each Out failed.
-    ghost held: { Self → SinkState };
+    ghost held: { Self → ReporterState };
 
     /// Takes a notice.
     ///
@@ -59,7 +59,7 @@ pub trait Reporter {
     /// [`WriteFailed`] where it was not taken whole; one failure is counted then.
     fn hear(&mut self, notice: &Notice<'_>) -> Result<(), WriteFailed>
         ensures notice { MatchResult result (λ _. hears self.old (notice_of notice.now) self.new) (λ _. cuts self.old (notice_of notice.now) self.new) }
-        ensures count { SinkAfter is_any result (held self.old) (held self.new) };
+        ensures count { ReporterAfter is_any result (held self.old) (held self.new) };
 
     /// All starts have been walked from, and the marks say as what each page is used. Only the faults at the end are left to hear.
     ///
@@ -74,5 +74,5 @@ pub trait Reporter {
         requires { IsInRange geometry }
         ensures notice { MatchResult result (λ _. hears self.old (walked geometry marks.now) self.new)
             (λ _. cuts self.old (walked geometry marks.now) self.new) }
-        ensures count { SinkAfter is_any result (held self.old) (held self.new) };
+        ensures count { ReporterAfter is_any result (held self.old) (held self.new) };
 }

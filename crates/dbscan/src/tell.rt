@@ -4,7 +4,7 @@ ghost use Rattle.dbformat.specs.HeaderFaults.{header_faults};
 ghost use Rattle.dbsource.specs.Errors.{is_write_failed};
 ghost use Rattle.dbsource.specs.declared.error.RunError.TheVariants.{WriteFailed};
 ghost use Rattle.dbtrace.specs.declared.Part.TheVariants as part;
-ghost use Rattle.dbwalk.specs.Telling.{Tells, SinkAfter};
+ghost use Rattle.dbscan.specs.Hearing.{Tells, ReporterAfter};
 ghost use Rattle.dbscan.specs.Notices.{whole};
 ghost use Rattle.dbscan.specs.Telling.{items_of};
 
@@ -22,7 +22,7 @@ pub(crate) fn tell_all<K: Reporter>(
     reporter: &mut K,
 ) -> Result<(), RunError>
     ensures told { Tells K.hears K.cuts result reporter.old (items_of part faults.now) reporter.new }
-    ensures writes { SinkAfter is_write_failed result (K.held reporter.old) (K.held reporter.new) }
+    ensures writes { ReporterAfter is_write_failed result (K.held reporter.old) (K.held reporter.new) }
     ensures only { IfErr result (λ e. e ≡ WriteFailed) }
 {
     for fault in faults {
@@ -44,7 +44,7 @@ pub(crate) fn tell_all<K: Reporter>(
 /// [`RunError::WriteFailed`] exactly where the reporter failed.
 pub fn tell_header<K: Reporter>(header: &Header, reporter: &mut K) -> Result<(), RunError>
     ensures told { Tells K.hears K.cuts result reporter.old (map (whole part.Header) (header_faults header.now.bytes header.now.file_len)) reporter.new }
-    ensures writes { SinkAfter is_write_failed result (K.held reporter.old) (K.held reporter.new) }
+    ensures writes { ReporterAfter is_write_failed result (K.held reporter.old) (K.held reporter.new) }
     ensures only { IfErr result (λ e. e ≡ WriteFailed) }
 {
     let faults = faults_of(header);

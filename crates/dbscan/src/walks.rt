@@ -1,5 +1,5 @@
 // The walks of a run, start after start.
-ghost use Rattle.std.specs.Prelude.{◌≡◌, ◌↔◌, ℕ, ◌≤◌, ◌+◌, ◌-◌, List, [], length, slice_get, Some, IfErr};
+ghost use Rattle.std.specs.Prelude.{◌≡◌, ◌↔◌, ℕ, ◌≤◌, ◌+◌, ◌-◌, List, [], length, slice_get, Some, IfErr, false};
 ghost use Rattle.std.specs.List.{enumerate_from};
 ghost use Rattle.dbformat.specs.Address.{schema_start};
 ghost use Rattle.dbformat.specs.File.{geometry};
@@ -11,7 +11,8 @@ ghost use Rattle.dbsource.specs.Errors.{is_out_of_memory, is_read_failed, is_wri
 ghost use Rattle.dbsource.specs.Failures.{failures_after};
 ghost use Rattle.dbsource.specs.Sources.{Asks};
 ghost use Rattle.dbmarks.specs.Reads.{Reads};
-ghost use Rattle.dbwalk.specs.Telling.{IsReadOrWrite, IsReadWriteOrMemory, SinkAfter};
+ghost use Rattle.dbwalk.specs.Telling.{IsReadOrWrite, IsReadWriteOrMemory};
+ghost use Rattle.dbscan.specs.Hearing.{ReporterAfter};
 ghost use Rattle.dbwalk.specs.Roots.{IsRootAfter};
 ghost use Rattle.dbwalk.specs.Rows.{schema_row_of};
 ghost use Rattle.dbwalk.specs.Taking.{StartsEmpty};
@@ -80,6 +81,7 @@ fn walk_over<A: Allocator, S: Source, T: Taker, K: Reporter>(
     teller: &mut Teller<'_, K>,
 ) -> Result<(), RunError>
     requires schema { (root.kind ≡ root_kind.Schema) ↔ (root.start ≡ schema_start) }
+    requires open { teller.old.is_shut ≡ false }
     ensures same_reporter { teller.new.reporter.ghost_name ≡ teller.old.reporter.ghost_name }
     ensures shape { bench.new.geometry ≡ bench.old.geometry }
     ensures asks { Asks S.step (Reads bench.old.geometry.page_size marks.old marks.new) (λ file. bench.old.geometry ≡ geometry file
@@ -87,7 +89,7 @@ fn walk_over<A: Allocator, S: Source, T: Taker, K: Reporter>(
         → (held : T → ℕ) → (root.kind ≡ root_kind.Schema → StartsEmpty T.takes held taker.old)
         → IsWalkedOver K.hears K.cuts T.takes file W c result marks.new teller.old teller.new taker.old taker.new)
         is_read_failed result (S.held source.old) (S.held source.new) }
-    ensures writes { SinkAfter is_write_failed result (K.held teller.old.reporter.now) (K.held teller.new.reporter.now) }
+    ensures writes { ReporterAfter is_write_failed result (K.held teller.old.reporter.now) (K.held teller.new.reporter.now) }
     ensures refusals { T.refusals taker.new ≡ failures_after is_out_of_memory result (T.refusals taker.old) }
     ensures only { IfErr result IsReadWriteOrMemory }
     ensures later { 1 ≤ root.start → IfErr result IsReadOrWrite }
@@ -140,7 +142,7 @@ fn walk_row<A: Allocator, S: Source, K: Reporter>(
         → (W : List Reference) (c : Reference) → IsRootAfter file (root_of encoding number row) W c marks.old
         → IsTreeWalked K.hears K.cuts (at_row number row) file W c result marks.new reporter.old reporter.new)
         is_read_failed result (S.held source.old) (S.held source.new) }
-    ensures writes { SinkAfter is_write_failed result (K.held reporter.old) (K.held reporter.new) }
+    ensures writes { ReporterAfter is_write_failed result (K.held reporter.old) (K.held reporter.new) }
     ensures only { IfErr result IsReadOrWrite }
 {
     let Some(row) = roots.get(number) else {
@@ -186,6 +188,7 @@ fn walk_trunks<A: Allocator, S: Source, K: Reporter>(
     teller: &mut Teller<'_, K>,
 ) -> Result<(), RunError>
     requires start { teller.old.start.now ≡ at_freelist }
+    requires open { teller.old.is_shut ≡ false }
     ensures same_reporter { teller.new.reporter.ghost_name ≡ teller.old.reporter.ghost_name }
     ensures asks { AsksOver S.step desk.old desk.new (λ file. (V : List Reference) → Survey file V → (before : K)
         → IsBetweenStarts K.hears K.cuts file V before [] desk.old.marks teller.old.reporter.now

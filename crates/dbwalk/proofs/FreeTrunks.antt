@@ -15,10 +15,10 @@ use Rattle.dbformat.proofs.Looping.{none_at_free_leaf, by_leaf, all_quiet}
 use Rattle.dbmarks.specs.declared.marks.Mark.{Mark}
 use Rattle.dbwalk.specs.Entered.{IsNext, Enters}
 use Rattle.dbtrace.specs.Causes.{cause_of}
-use Rattle.dbtrace.specs.Finding.{Finding, told_row, told_alone, told_by, told_at, told_below}
+use Rattle.dbtrace.specs.Finding.{Finding, told_row, told_alone, told_by, told_at}
 use Rattle.dbwalk.specs.Trunks.{leaves_from, IsFirstTrunk, IsOnTrunks, TrunkTurns, trunk_step, next_step}
 use Rattle.dbwalk.specs.Done.{IsLeft, IsDone}
-use Rattle.dbwalk.proofs.Telling.Lefts.{left_refused, left_visit, left_start, left_none, left_stop}
+use Rattle.dbwalk.proofs.Telling.Lefts.{left_refused, left_visit, left_start, left_none, left_untold}
 use Rattle.std.specs.List.{range_with_len}
 use Rattle.std.proofs.lemmas.Bool.Decides.{nat_tests}
 use Rattle.std.proofs.lemmas.List.{append-nil}
@@ -34,8 +34,6 @@ use Rattle.dbformat.specs.declared.FaultCode.TheVariants.{L01}
 use Rattle.dbsource.specs.declared.error.RunError.{RunError}
 use Rattle.dbwalk.specs.declared.entering.Step.{Step}
 use Rattle.dbmarks.specs.Marking.{role_mark, AreMarksOf}
-use Rattle.dbwalk.specs.Telling.{StopsBy}
-use Rattle.dbwalk.proofs.Telling.Belows.{told_visit}
 
 -- leaf j of a trunk
 abbrev pub leaf_of : Reference → List ℕ → ℕ → Reference
@@ -50,7 +48,7 @@ told_free : (file : List ℕ) (V : List Reference) (c : Reference) → role_of c
 unfolding page_faults
 told_free file V c r = ap (λ role. map told_row (option_to_list (row_in role file c)) ++ told_by (cause_of file V (at_page c)) (role_faults role file V c)) r
 
-module _ {S : Type 0} (takes drops : S → Finding → S → Type 0) (file : List ℕ) (W : List Reference) (errands : List (Errand Way Event)) (before : S)
+module _ {S : Type 0} (takes : S → Finding → S → Type 0) (file : List ℕ) (W : List Reference) (errands : List (Errand Way Event)) (before : S)
     (U : List Reference) (c : Reference) (es : List (Errand Way Event)) (marks marks' : List Mark) (s t : S)
     (left : IsLeft takes file W errands before U (Go c ∷ es) (marks, s)) where
   pub next_of_left : IsNext U c
@@ -58,7 +56,7 @@ module _ {S : Type 0} (takes drops : S → Finding → S → Type 0) (file : Lis
   next_of_left u f i (inr n) = absurd n
 
   -- a leaf is entered: nothing is reported of it, or why it is refused
-  pub leaf_entered : (b : Bool) → role_of c ≡ free_leaf → Enters takes drops file U c (Ok b) marks' s t → (T : List Reference)
+  pub leaf_entered : (b : Bool) → role_of c ≡ free_leaf → Enters takes file U c (Ok b) marks' s t → (T : List Reference)
       × IsLeft takes file W errands before T es (marks', t)
   leaf_entered false r e = (U, left_refused takes file W errands before U marks s t marks' c es left e.0 e.1 e.2)
   leaf_entered true r e =
@@ -137,7 +135,7 @@ trunk_shallow c h = by_role (role_of c) h
         ≡ false
     by_role role e = rw e refl
 
-module _ {S : Type 0} (takes drops : S → Finding → S → Type 0) (file : List ℕ) (W : List Reference) (c : Reference) (before : S) (U : List Reference)
+module _ {S : Type 0} (takes : S → Finding → S → Type 0) (file : List ℕ) (W : List Reference) (c : Reference) (before : S) (U : List Reference)
     (d : Reference) (old marks : List Mark) (s : S) (role : role_of d ≡ trunk) (followed : is_followed (rules_of file) U d ≡ true)
     (marked : AreMarksOf file (U ++ d ∷ []) marks) (left : IsLeft takes file W (Go c ∷ []) before U (Go d ∷ []) (old, s)) where
   -- a trunk whose leaves fit: they are left, and the next trunk
@@ -159,42 +157,31 @@ module _ {S : Type 0} (takes drops : S → Finding → S → Type 0) (file : Lis
       (left_visit takes file W (Go c ∷ []) before U old s t marks d [] left followed (quiet_trunk file d role) marked
       (subst (λ L. Moves takes s L t) (sym (told_too_many file (U ++ d ∷ []) d role l)) m))
 
-  -- and if it could not be reported
-  pub opened_untold : (t : S) (x : RunError) → most_leaves (usable_size file) < leaf_count (page_bytes file d.page)
-      → StopsBy takes drops x s (told_alone (fault L01 d.page 0 (pos (leaf_count (page_bytes file d.page)))) ∷ []) t
-      → IsDone {A = Unit {0}} takes drops file W (Go c ∷ []) (Err x) marks before t
-  opened_untold t x l k = left_stop takes file W (Go c ∷ []) before U old s drops t marks x (Go d ∷ [])
-      (told_at file (U ++ d ∷ []) (at_page d)) (told_below file (U ++ d ∷ []) (errands_of (story_of file) d ++ [])) left
-      (sym (told_visit file U d [] followed (quiet_trunk file d role)))
-      (subst (λ L. StopsBy takes drops x s L t) (sym (told_too_many file (U ++ d ∷ []) d role l)) k)
-
-module _ {S : Type 0} (takes drops : S → Finding → S → Type 0) (file : List ℕ) (W : List Reference) (c : Reference) (before : S) (step : Step)
+module _ {S : Type 0} (takes : S → Finding → S → Type 0) (file : List ℕ) (W : List Reference) (c : Reference) (before : S) (step : Step)
     (marks : List Mark) (s : S) (on : IsOnTrunks takes file W c before step marks s) where
   -- the next trunk is refused
-  pub trunk_refused : (marks' : List Mark) (t : S) → Enters takes drops file on.visited on.d (Ok false) marks' s t
-      → IsDone {A = Unit {0}} takes drops file W (Go c ∷ []) (Ok tt) marks' before t
-  trunk_refused marks' t e = left_none takes file W (Go c ∷ []) before on.visited marks' t drops tt
+  pub trunk_refused : (marks' : List Mark) (t : S) → Enters takes file on.visited on.d (Ok false) marks' s t
+      → IsDone {A = Unit {0}} takes file W (Go c ∷ []) (Ok tt) marks' before t
+  trunk_refused marks' t e = left_none takes file W (Go c ∷ []) before on.visited marks' t tt
       (left_refused takes file W (Go c ∷ []) before on.visited marks s t marks' on.d [] on.rest e.0 e.1 e.2)
 
   -- it is followed, but its page could not be read
-  pub trunk_unread : (x : RunError) (marks' : List Mark) (m : S) → Enters takes drops file on.visited on.d (Ok true) marks' s m → StopsBy takes drops x m [] m
-      → IsDone {A = Unit {0}} takes drops file W (Go c ∷ []) (Err x) marks' before m
-  trunk_unread x marks' m e h = left_stop takes file W (Go c ∷ []) before on.visited marks s drops m marks' x (Go on.d ∷ []) []
-      (told_below file on.visited (Go on.d ∷ [])) on.rest refl
-      (subst (λ y. StopsBy takes drops x y [] m) (sym e.2) h)
+  pub trunk_unread : (x : RunError) (marks' : List Mark) (m : S) → Enters takes file on.visited on.d (Ok true) marks' s m
+      → IsDone {A = Unit {0}} takes file W (Go c ∷ []) (Err x) marks' before m
+  trunk_unread x marks' m e = left_untold takes file W (Go c ∷ []) before on.visited marks s m marks' x (Go on.d ∷ []) on.rest e.2
 
 -- the next trunk, or none
-pub next_turned : {S : Type 0} (takes drops : S → Finding → S → Type 0) (file : List ℕ) (W : List Reference) (c : Reference) (before : S) (d : Reference)
+pub next_turned : {S : Type 0} (takes : S → Finding → S → Type 0) (file : List ℕ) (W : List Reference) (c : Reference) (before : S) (d : Reference)
     (page item : ℕ) (U : List Reference) (marks : List Mark) (s : S) → d.page ≡ page
     → IsLeft takes file W (Go c ∷ []) before U (map (go d) (next_trunk d.page (page_bytes file d.page) item)) (marks, s)
-    → TrunkTurns takes drops file W c before (Ok (next_step (u32_at 0 (page_bytes file page)) page item)) marks s
-next_turned {S} takes drops file W c before d page item U marks s e h =
-    subst (λ p. TrunkTurns takes drops file W c before (Ok (next_step (u32_at 0 (page_bytes file p)) p item)) marks s) e
+    → TrunkTurns takes file W c before (Ok (next_step (u32_at 0 (page_bytes file page)) page item)) marks s
+next_turned {S} takes file W c before d page item U marks s e h =
+    subst (λ p. TrunkTurns takes file W c before (Ok (next_step (u32_at 0 (page_bytes file p)) p item)) marks s) e
     (by_next (u32_at 0 (page_bytes file d.page)) (u32_at 0 (page_bytes file d.page) == 0) h)
   where
     by_next : (n : ℕ) (b : Bool) → IsLeft takes file W (Go c ∷ []) before U (map (go d) (cond b [] (link d.page item item trunk n ∷ []))) (marks, s)
-        → TrunkTurns takes drops file W c before (Ok (cond b None (Some (trunk_step n d.page item)))) marks s
-    by_next n true h = left_none takes file W (Go c ∷ []) before U marks s drops tt h
+        → TrunkTurns takes file W c before (Ok (cond b None (Some (trunk_step n d.page item)))) marks s
+    by_next n true h = left_none takes file W (Go c ∷ []) before U marks s tt h
     by_next n false h = record {
       visited = U;
       d = record { address = then_step d.address item; page = n; role = record { role = trunk; from = d.page; item = item } };

@@ -10,7 +10,7 @@ use Rattle.std.proofs.lemmas.List.{append-nil, length-append, length-map, length
 use Rattle.std.proofs.lemmas.List.Elements.{filter_map-append}
 use Rattle.dbsurvey.specs.Moves.{Moves, Stops, MovesBySome}
 use Rattle.dbsurvey.specs.Story.{Go}
-use Rattle.dbsurvey.proofs.Moving.{Moves-append, some_none, some_after, stops_first, stops_after}
+use Rattle.dbsurvey.proofs.Moving.{Moves-append, some_none, some_after}
 use Rattle.dbformat.specs.Address.{last_root_start, schema_start, start_of}
 use Rattle.dbformat.specs.Faults.{fault}
 use Rattle.dbformat.specs.KeyFaults.{row_faults_if}
@@ -187,7 +187,7 @@ module _ {S T : Type 0} (keeps : T → SchemaRow → Taken → T → Type 0) (he
 
 -- and so what is reported of items
 
-module _ {S T : Type 0} (takes drops : S → Finding → S → Type 0) (keeps : T → SchemaRow → Taken → T → Type 0) (refuses : T → SchemaRow → T → Type 0)
+module _ {S T : Type 0} (takes : S → Finding → S → Type 0) (keeps : T → SchemaRow → Taken → T → Type 0) (refuses : T → SchemaRow → T → Type 0)
     (held : T → ℕ) (room : HasRootRoom keeps held) where
   abbrev faults_of : ℕ → SchemaCell → List Finding
   faults_of roots c = map told_alone (row_faults_if (nat_le last_root_start roots) c)
@@ -221,20 +221,8 @@ module _ {S T : Type 0} (takes drops : S → Finding → S → Type 0) (keeps : 
       let o = row_counted keeps held room (Moves takes) roots c w h.0 holds h.1 in
       some_after takes w.0 h.0.0 x.0 (faults_of roots c) (counted_findings (more roots c) items) o.0 (counted_some (more roots c) items h.0 x o.2 h.2)
 
-  counted_stops : (roots : ℕ) (items : List Item) (w x : S × T) → held w.1 ≡ held_of roots
-      → Stops (watches takes keeps) (fails takes drops keeps refuses WriteFailed) w items x → Stops takes drops w.0 (counted_findings roots items) x.0
-  counted_stops roots [] w x holds h = absurd h
-  counted_stops roots (found f ∷ items) w x holds (inl h) = inl h.0
-  counted_stops roots (found f ∷ items) w x holds (inr h) = inr (h.0.0, h.1.0, counted_stops roots items h.0 x (ap held (sym h.1.1) ∙ holds) h.2)
-  counted_stops roots (given c ∷ items) w x holds (inl h) =
-      stops_first takes drops w.0 x.0 (faults_of roots c) (counted_findings (more roots c) items)
-      (row_counted keeps held room (Stops takes drops) roots c w x holds h).0
-  counted_stops roots (given c ∷ items) w x holds (inr h) =
-      let o = row_counted keeps held room (Moves takes) roots c w h.0 holds h.1 in
-      stops_after takes drops w.0 h.0.0 x.0 (faults_of roots c) (counted_findings (more roots c) items) o.0 (counted_stops (more roots c) items h.0 x o.2 h.2)
-
   counted_refused : (roots : ℕ) (items : List Item) (w x : S × T) → held w.1 ≡ held_of roots
-      → Stops (watches takes keeps) (fails takes drops keeps refuses OutOfMemory) w items x → MovesBySome takes w.0 (counted_findings roots items) x.0
+      → Stops (watches takes keeps) (fails refuses) w items x → MovesBySome takes w.0 (counted_findings roots items) x.0
   counted_refused roots [] w x holds h = absurd h
   counted_refused roots (found f ∷ items) w x holds (inl h) = absurd h
   counted_refused roots (found f ∷ items) w x holds (inr h) = inr (h.0.0, h.1.0, counted_refused roots items h.0 x (ap held (sym h.1.1) ∙ holds) h.2)
@@ -242,7 +230,7 @@ module _ {S T : Type 0} (takes drops : S → Finding → S → Type 0) (keeps : 
       subst (λ s. MovesBySome takes w.0 (counted_findings roots (given c ∷ items)) s) (same c.row h)
       (some_none takes w.0 (counted_findings roots (given c ∷ items)))
     where
-      same : (row : Result SchemaRow RowFault) → FailsRow takes drops keeps refuses OutOfMemory ((row_at c).0, row) w x → w.0 ≡ x.0
+      same : (row : Result SchemaRow RowFault) → FailsRow refuses OutOfMemory ((row_at c).0, row) w x → w.0 ≡ x.0
       same (Ok row) h = h.1
       same (Err f) h = absurd h
   counted_refused roots (given c ∷ items) w x holds (inr h) =
@@ -251,27 +239,27 @@ module _ {S T : Type 0} (takes drops : S → Finding → S → Type 0) (keeps : 
 
   -- from a taker that holds none
   pub counted_told : {A : Type 0} (r : Result A RunError) (items : List Item) (w x : S × T) → held w.1 ≡ 0
-      → Handed (watches takes keeps) (fails takes drops keeps refuses) r w items x → Tells takes drops r w.0 (counted_findings 0 items) x.0
+      → Handed (watches takes keeps) (fails refuses) r w items x → Tells takes r w.0 (counted_findings 0 items) x.0
   counted_told (Ok a) items w x none h = (counted_moves 0 items w x none h).0
   counted_told (Err (Refused e)) items w x none h = counted_some 0 items w x none h
   counted_told (Err ReadFailed) items w x none h = counted_some 0 items w x none h
-  counted_told (Err WriteFailed) items w x none h = counted_stops 0 items w x none h
+  counted_told (Err WriteFailed) items w x none h = counted_some 0 items w x none h
   counted_told (Err OutOfMemory) items w x none h = counted_refused 0 items w x none h
 
 -- The walk over a tree with such a taker reports what the definitions report; and if the tree is the schema's, the taker was
 -- given the rows that can be read.
-module _ {S T : Type 0} (takes drops : S → Finding → S → Type 0) (keeps : T → SchemaRow → Taken → T → Type 0) (refuses : T → SchemaRow → T → Type 0)
+module _ {S T : Type 0} (takes : S → Finding → S → Type 0) (keeps : T → SchemaRow → Taken → T → Type 0) (refuses : T → SchemaRow → T → Type 0)
     (file : List ℕ) (k : ℕ) (W : List Reference) (c : Reference)
     (at : c.address ≡ k ∷ []) (early : AreOfEarlierStarts k W) (r : Result (Unit {0}) RunError) (marks : List Mark) (before after : S × T)
-    (done : IsTreeDone takes drops keeps refuses file W c r marks before after)
+    (done : IsTreeDone takes keeps refuses file W c r marks before after)
     (held : T → ℕ) (empty : start_of c.address ≡ schema_start → StartsEmpty keeps held before.1) where
-  pub tree_told : IsDone takes drops file W (Go c ∷ []) r marks before.0 after.0
+  pub tree_told : IsDone takes file W (Go c ∷ []) r marks before.0 after.0
   tree_told = record {
     marked = done.marked;
     told = elim (cases_Bool (start_of c.address == schema_start)) [
-      | inl e ↦ (let first = empty (eqb-true (start_of c.address) schema_start e) in subst (λ L. Tells takes drops r before.0 L after.0)
+      | inl e ↦ (let first = empty (eqb-true (start_of c.address) schema_start e) in subst (λ L. Tells takes r before.0 L after.0)
           ((is_fold file).findings_are k W c at early)
-          (counted_told takes drops keeps refuses held first.room r (tree_walk file W c).items before after first.none done.handed))
+          (counted_told takes keeps refuses held first.room r (tree_walk file W c).items before after first.none done.handed))
       | inr e ↦ done.others (later (start_of c.address) e)
     ];
   }
@@ -283,10 +271,10 @@ module _ {S T : Type 0} (takes drops : S → Finding → S → Type 0) (keeps : 
       → OnOk r (Moves (gives keeps) before.1 (readable_rows file (W ++ visited_below file W (Go c ∷ []))) after.1)
   tree_given e = by_result r done.handed
     where
-      by_result : (r : Result (Unit {0}) RunError) → Handed (watches takes keeps) (fails takes drops keeps refuses) r before (tree_walk file W c).items after
+      by_result : (r : Result (Unit {0}) RunError) → Handed (watches takes keeps) (fails refuses) r before (tree_walk file W c).items after
           → OnOk r (Moves (gives keeps) before.1 (readable_rows file (W ++ visited_below file W (Go c ∷ []))) after.1)
       by_result (Ok u) h = subst (λ cells. Moves (gives keeps) before.1 (readable cells) after.1)
           ((is_fold file).rows_are k W c at early ∙ ap (λ b. cond b (schema file (W ++ visited_below file W (Go c ∷ []))) [])
           (eq-eqb k schema_start (sym (ap start_of at) ∙ e)))
-          (counted_moves takes drops keeps refuses held (empty e).room 0 (tree_walk file W c).items before after (empty e).none h).1
+          (counted_moves takes keeps refuses held (empty e).room 0 (tree_walk file W c).items before after (empty e).none h).1
       by_result (Err x) h = tt

@@ -1,3 +1,4 @@
 -- What is reported below some errands.
 pub mod Belows
 pub mod Lefts
+pub mod Sinks

@@ -12,7 +12,6 @@ use Rattle.dbsource.specs.declared.error.RunError.{RunError}
 use Rattle.dbwalk.specs.declared.entering.Step.{Step}
 use Rattle.dbmarks.specs.Marking.{visit_mark, AreMarksOf}
 use Rattle.dbtrace.specs.Finding.{Finding, told_at}
-use Rattle.dbwalk.specs.Telling.{StopsBy}
 
 -- all visits of W are before a candidate
 abbrev pub IsNext : List Reference → Reference → Type 0
@@ -26,8 +25,8 @@ pub record IsStepOf (step : Step) (c : Reference) : Type 0 where
   pub item : item_of c ≡ step.item
   pub deep : is_too_deep c ≡ step.is_too_deep
 
--- it was followed, and marked; or refused, which was reported, or not completely
-abbrev pub Enters : {S : Type 0} → (S → Finding → S → Type 0) → (S → Finding → S → Type 0) → List ℕ → List Reference → Reference → Result Bool RunError → List Mark → S → S → Type 0
-Enters takes drops file W c (Ok true) marks s t = (is_followed (rules_of file) W c ≡ true) × AreMarksOf file (W ++ (c ∷ [])) marks × (s ≡ t)
-Enters takes drops file W c (Ok false) marks s t = (is_followed (rules_of file) W c ≡ false) × AreMarksOf file W marks × Moves takes s (told_at file W (at_refused c)) t
-Enters takes drops file W c (Err e) marks s t = (is_followed (rules_of file) W c ≡ false) × AreMarksOf file W marks × StopsBy takes drops e s (told_at file W (at_refused c)) t
+-- it was followed, and marked; or refused, which was reported; or the sink was found shut
+abbrev pub Enters : {S : Type 0} → (S → Finding → S → Type 0) → List ℕ → List Reference → Reference → Result Bool RunError → List Mark → S → S → Type 0
+Enters takes file W c (Ok true) marks s t = (is_followed (rules_of file) W c ≡ true) × AreMarksOf file (W ++ (c ∷ [])) marks × (s ≡ t)
+Enters takes file W c (Ok false) marks s t = (is_followed (rules_of file) W c ≡ false) × AreMarksOf file W marks × Moves takes s (told_at file W (at_refused c)) t
+Enters takes file W c (Err e) marks s t = AreMarksOf file W marks × (s ≡ t)

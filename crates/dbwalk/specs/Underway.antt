@@ -30,7 +30,7 @@ done_below file from errands = run_below file (bare from) errands
 
 -- What a call has done, where `done` is the call's own part of the walk. At Ok marks and state are those after it, and all its
 -- items were handed out; after an error, a beginning of them.
-pub record HasDone {P A : Type 0} (moves : P → Item → P → Type 0) (stops : RunError → P → Item → P → Type 0) (file : List ℕ) (done : Walk) (r : Result A RunError) (now : List Mark × Tree) (before after : P) : Type 0 where
+pub record HasDone {P A : Type 0} (moves : P → Item → P → Type 0) (stops : P → Item → P → Type 0) (file : List ℕ) (done : Walk) (r : Result A RunError) (now : List Mark × Tree) (before after : P) : Type 0 where
   pub at : OnOk r (IsAt file done now.0 now.1)
   pub handed : Handed moves stops r before done.items after
 
@@ -75,5 +75,5 @@ pub record IsWalkingOn {P : Type 0} (moves : P → Item → P → Type 0) (file 
   pub read : AreRead file stack.1 0 stack.0
 
 -- What a turn of the loop leaves: the walk is still under way, or an error stopped it.
-abbrev pub HasTurned : {P : Type 0} → (P → Item → P → Type 0) → (RunError → P → Item → P → Type 0) → List ℕ → (List Reference × Reference × P) → Result (Unit {0}) RunError → (List StackFrame × List (List ℕ)) → (List Mark × Tree) → P → Type 0
+abbrev pub HasTurned : {P : Type 0} → (P → Item → P → Type 0) → (P → Item → P → Type 0) → List ℕ → (List Reference × Reference × P) → Result (Unit {0}) RunError → (List StackFrame × List (List ℕ)) → (List Mark × Tree) → P → Type 0
 HasTurned moves stops file of r stack state w = OnOk r (IsWalkingOn moves file of.0 of.1 of.2 stack state w) × IfErr r (λ e. StopsAt moves stops e of.2 (tree_walk file of.0 of.1).items w)

@@ -5,14 +5,14 @@ use Rattle.dbformat.specs.File.{geometry}
 use Rattle.dbformat.specs.Header.{encoding}
 use Rattle.dbformat.specs.declared.Geometry.{Geometry}
 use Rattle.dbsource.specs.Answers.{Step}
-use Rattle.dbsource.specs.Errors.{is_out_of_memory, is_read_failed, is_write_failed}
+use Rattle.dbsource.specs.Errors.{is_out_of_memory, is_read_failed}
 use Rattle.dbsource.specs.Failures.{failures_after}
 use Rattle.dbsource.specs.Sources.{HasLog, SourceState}
 use Rattle.dbsource.specs.declared.error.RunError.{RunError}
 use Rattle.dbsource.specs.declared.error.RunError.TheVariants.{OutOfMemory}
 use Rattle.dbtrace.specs.Item.{Item}
 use Rattle.dbtrace.specs.Walk.{Walk}
-use Rattle.dbwalk.specs.Telling.{IsReadOrWrite, SinkAfter, SinkState}
+use Rattle.dbwalk.specs.Telling.{IsReadOrWrite, SinkWalks, SinkState}
 use Rattle.dbmarks.specs.Reads.{Reads}
 use Rattle.dbwalk.specs.Underway.{HasDone}
 use Rattle.dbwalk.specs.declared.tree_walk.TreeWalk.{TreeWalk}
@@ -21,8 +21,8 @@ use Rattle.dbwalk.specs.declared.tree_walk.TreeWalk.{TreeWalk}
 abbrev pub IsTreeError : ℕ → RunError → Type 0
 IsTreeError start e = IsReadOrWrite e ⊎ ((e ≡ OutOfMemory) × (start ≡ schema_start))
 
--- It borrows the same source, marks, taker and sink, of the same tree and file. Each failed call of a source, a sink or a taker
--- is counted, and is the answer's error. Only the tree of the schema calls the taker.
+-- It borrows the same source, marks, taker and sink, of the same tree and file. Each failed call of a source or a taker is counted,
+-- and is the answer's error; a sink that failed is shut. Only the tree of the schema calls the taker.
 pub record Walked {A S K T R : Type 0} (told : S → SourceState) (held : K → SinkState) (refusals : T → ℕ) (r : Result R RunError) (g g' : Geometry) (old new : TreeWalk A S K T) : Type 0 where
   pub source : new.source.ghost_name ≡ old.source.ghost_name
   pub marks : new.marks.ghost_name ≡ old.marks.ghost_name
@@ -33,7 +33,7 @@ pub record Walked {A S K T R : Type 0} (told : S → SourceState) (held : K → 
   pub start : new.tree.start ≡ old.tree.start
   pub kind : new.tree.kind ≡ old.tree.kind
   pub reads : (told new.source.now).failures ≡ failures_after is_read_failed r (told old.source.now).failures
-  pub writes : SinkAfter is_write_failed r (held old.sink.now) (held new.sink.now)
+  pub writes : SinkWalks r (held old.sink.now) (held new.sink.now)
   pub refused : refusals new.taker.now ≡ failures_after is_out_of_memory r (refusals old.taker.now)
   pub only : IfErr r (IsTreeError old.tree.start)
   pub others : 1 ≤ old.tree.start → new.taker.now ≡ old.taker.now
@@ -43,5 +43,5 @@ abbrev pub SaysOfFiles : {A S K T : Type 0} → Step → (S → SourceState) →
 SaysOfFiles step told g old new says = HasLog step (Reads g.page_size old.marks.now new.marks.now) (λ file. g ≡ geometry file → old.encoding ≡ encoding file → says file) (told old.source.now) (told new.source.now)
 
 -- it has done a part of the walk
-abbrev pub Does : {A S K T R : Type 0} → ((K × T) → Item → (K × T) → Type 0) → (RunError → (K × T) → Item → (K × T) → Type 0) → List ℕ → Walk → Result R RunError → TreeWalk A S K T → TreeWalk A S K T → Type 0
+abbrev pub Does : {A S K T R : Type 0} → ((K × T) → Item → (K × T) → Type 0) → ((K × T) → Item → (K × T) → Type 0) → List ℕ → Walk → Result R RunError → TreeWalk A S K T → TreeWalk A S K T → Type 0
 Does moves stops file done r old new = HasDone moves stops file done r (new.marks.now, new.tree) (old.sink.now, old.taker.now) (new.sink.now, new.taker.now)

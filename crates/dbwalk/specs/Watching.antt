@@ -4,7 +4,7 @@ use Rattle.dbformat.specs.Schema.{SchemaCell}
 use Rattle.dbformat.specs.SchemaRow.{SchemaRow}
 use Rattle.dbformat.specs.declared.RowFault.{RowFault}
 use Rattle.dbsource.specs.declared.error.RunError.{RunError}
-use Rattle.dbsource.specs.declared.error.RunError.TheVariants.{WriteFailed, OutOfMemory}
+use Rattle.dbsource.specs.declared.error.RunError.TheVariants.{OutOfMemory}
 use Rattle.dbsurvey.specs.Moves.{Moves, Stops, MovesBySome}
 use Rattle.dbtrace.specs.Finding.{Finding}
 use Rattle.dbtrace.specs.Item.{Item, found, given}
@@ -21,19 +21,17 @@ abbrev pub watches : {S T : Type 0} → (S → Finding → S → Type 0) → (T 
 watches takes keeps w (found f) x = takes w.0 f x.0 × (w.1 ≡ x.1)
 watches takes keeps w (given c) x = HandsRow (Moves takes) keeps (row_at c) w x
 
--- a finding that the sink dropped, or a row that was not handed on whole
-abbrev pub fails : {S T : Type 0} → (S → Finding → S → Type 0) → (S → Finding → S → Type 0) → (T → SchemaRow → Taken → T → Type 0) → (T → SchemaRow → T → Type 0) → RunError → (S × T) → Item → (S × T) → Type 0
-fails takes drops keeps refuses e w (given c) x = FailsRow takes drops keeps refuses e (row_at c) w x
-fails takes drops keeps refuses WriteFailed w (found f) x = drops w.0 f x.0 × (w.1 ≡ x.1)
-fails takes drops keeps refuses _ w (found f) x = ⊥
+-- a row for which the taker was refused memory, and of which nothing was reported
+abbrev pub fails : {S T : Type 0} → (T → SchemaRow → T → Type 0) → (S × T) → Item → (S × T) → Type 0
+fails refuses w (given c) x = FailsRow refuses OutOfMemory (row_at c) w x
+fails refuses w (found f) x = ⊥
 
--- The items changed the state up to one that failed, at an error of writing or of memory; at another error, up to some point.
-abbrev pub StopsAt : {P : Type 0} → (P → Item → P → Type 0) → (RunError → P → Item → P → Type 0) → RunError → P → List Item → P → Type 0
-StopsAt moves stops WriteFailed w items x = Stops moves (stops WriteFailed) w items x
-StopsAt moves stops OutOfMemory w items x = Stops moves (stops OutOfMemory) w items x
+-- The items changed the state up to one that failed, if memory was refused; at another error, up to some point.
+abbrev pub StopsAt : {P : Type 0} → (P → Item → P → Type 0) → (P → Item → P → Type 0) → RunError → P → List Item → P → Type 0
+StopsAt moves stops OutOfMemory w items x = Stops moves stops w items x
 StopsAt moves stops _ w items x = MovesBySome moves w items x
 
 -- at Ok all items, after an error a beginning of them
-abbrev pub Handed : {P A : Type 0} → (P → Item → P → Type 0) → (RunError → P → Item → P → Type 0) → Result A RunError → P → List Item → P → Type 0
+abbrev pub Handed : {P A : Type 0} → (P → Item → P → Type 0) → (P → Item → P → Type 0) → Result A RunError → P → List Item → P → Type 0
 Handed moves stops (Ok a) w items x = Moves moves w items x
 Handed moves stops (Err e) w items x = StopsAt moves stops e w items x

@@ -1,5 +1,5 @@
 // The walk along an overflow chain (Database File Format, 1.7).
-ghost use Rattle.std.specs.Prelude.{◌≡◌, ◌+◌, ◌≤◌, ◌<◌, ◌∷◌, List, [], Option, Some, IfSome, IfOk, IfErr, OnOk, is_some};
+ghost use Rattle.std.specs.Prelude.{◌≡◌, ◌+◌, ◌≤◌, ◌<◌, ◌∷◌, List, [], Option, Some, false, IfSome, IfOk, IfErr, OnOk, is_some};
 ghost use Rattle.dbformat.specs.FixedPages.{IsPageNumber};
 ghost use Rattle.dbsurvey.specs.Story.{Go};
 ghost use Rattle.dbformat.specs.File.{geometry};
@@ -12,9 +12,9 @@ ghost use Rattle.dbwalk.specs.Chains.{walked_chain, IsChainOf, IsOnWay, IsOverfl
 ghost use Rattle.dbwalk.specs.Done.{IsDone};
 ghost use Rattle.dbwalk.specs.Entered.{IsNext};
 ghost use Rattle.dbmarks.specs.Marking.{AreMarksOf};
-ghost use Rattle.dbwalk.specs.Telling.{IsReadOrWrite, SinkAfter};
+ghost use Rattle.dbwalk.specs.Telling.{IsReadOrWrite, SinkWalks};
 ghost use Rattle.dbmarks.specs.Reads.{Reads};
-ghost use Rattle.dbsource.specs.Errors.{is_read_failed, is_write_failed};
+ghost use Rattle.dbsource.specs.Errors.{is_read_failed};
 ghost use Rattle.dbsource.specs.Failures.{failures_after};
 ghost use Rattle.dbsource.specs.Sources.{HasLog};
 
@@ -71,12 +71,13 @@ fn visit_overflow<S: Source, K: Sink, A: Allocator>(
     sieve: &mut Option<RowSieve>,
     sink: &mut K,
 ) -> Result<NextPage, RunError>
-    requires { (1 ≤ page) × (number + left ≤ most_payload) }
+    requires within { (1 ≤ page) × (number + left ≤ most_payload) }
+    requires open { (K.held sink.old).is_shut ≡ false }
     ensures log { HasLog S.step (λ log. log ≡ page_range bench.old.geometry.page_size page ∷ []) (λ file. bench.old.geometry ≡ geometry file
-        → IsOverflowVisited K.takes K.drops file chain.now number page left result sieve.old sieve.new sink.old sink.new)
+        → IsOverflowVisited K.takes file chain.now number page left result sieve.old sieve.new sink.old sink.new)
         (S.held source.old) (S.held source.new) }
     ensures reads { (S.held source.new).failures ≡ failures_after is_read_failed result (S.held source.old).failures }
-    ensures writes { SinkAfter is_write_failed result (K.held sink.old) (K.held sink.new) }
+    ensures writes { SinkWalks result (K.held sink.old) (K.held sink.new) }
     ensures only { IfErr result IsReadOrWrite }
     ensures bench { bench.new ≡ record bench.old { chain = bench.new.chain } }
     ensures kept { is_some sieve.new ≡ is_some sieve.old }
@@ -87,7 +88,7 @@ fn visit_overflow<S: Source, K: Sink, A: Allocator>(
     feed_page(bench.page(CHAIN), usable, left, sieve);
     let row = overflow_row(chain, number, page, usable, left);
     let fault = last_fault(usable, left, page, next.page);
-    tell(&row, fault, chain, number, usable, left, sink)?;
+    tell(&row, fault, chain, number, usable, left, sink);
     Ok(next)
 }
 
@@ -105,9 +106,9 @@ fn enter_overflow<S: Source, K: Sink, A: Allocator>(
     ensures log { HasLog S.step (Reads bench.old.geometry.page_size marks.old marks.new) (λ file. bench.old.geometry ≡ geometry file
         → (W : List Reference) (c : Reference) (before : K) (first : Option RowSieve)
         → IsOnWay K.takes file W c before chain.now place marks.old sink.old first sieve.old
-        → Turns K.takes K.drops file W c before chain.now result marks.new sink.new first sieve.new) (S.held source.old) (S.held source.new) }
+        → Turns K.takes file W c before chain.now result marks.new sink.new first sieve.new) (S.held source.old) (S.held source.new) }
     ensures reads { (S.held source.new).failures ≡ failures_after is_read_failed result (S.held source.old).failures }
-    ensures writes { SinkAfter is_write_failed result (K.held sink.old) (K.held sink.new) }
+    ensures writes { SinkWalks result (K.held sink.old) (K.held sink.new) }
     ensures only { IfErr result IsReadOrWrite }
     ensures bench { bench.new ≡ record bench.old { chain = bench.new.chain } }
     ensures kept { is_some sieve.new ≡ is_some sieve.old }
@@ -165,7 +166,7 @@ fn enter_overflow<S: Source, K: Sink, A: Allocator>(
 ///
 /// # Errors
 ///
-/// [`RunError::ReadFailed`] exactly where the source failed, [`RunError::WriteFailed`] exactly where the sink failed. The sink
+/// [`RunError::ReadFailed`] exactly where the source failed, [`RunError::WriteFailed`] where the sink was found shut. The sink
 /// was then given a beginning of what is reported otherwise.
 pub(crate) fn walk_chain<S: Source, K: Sink, A: Allocator>(
     source: &mut S,
@@ -178,10 +179,10 @@ pub(crate) fn walk_chain<S: Source, K: Sink, A: Allocator>(
     requires { IsPageNumber chain.now.page × (chain.now.left ≤ most_payload) }
     ensures log { HasLog S.step (Reads bench.old.geometry.page_size marks.old marks.new) (λ file. bench.old.geometry ≡ geometry file
         → (W : List Reference) (c : Reference) → IsChainOf file chain.now c → IsNext W c → AreMarksOf file W marks.old
-        → IsDone K.takes K.drops file W (Go c ∷ []) result marks.new sink.old sink.new × OnOk result (FeedsChain file W c sieve.old sieve.new))
+        → IsDone K.takes file W (Go c ∷ []) result marks.new sink.old sink.new × OnOk result (FeedsChain file W c sieve.old sieve.new))
         (S.held source.old) (S.held source.new) }
     ensures reads { (S.held source.new).failures ≡ failures_after is_read_failed result (S.held source.old).failures }
-    ensures writes { SinkAfter is_write_failed result (K.held sink.old) (K.held sink.new) }
+    ensures writes { SinkWalks result (K.held sink.old) (K.held sink.new) }
     ensures only { IfErr result IsReadOrWrite }
     ensures bench { bench.new ≡ record bench.old { chain = bench.new.chain } }
     ensures kept { is_some sieve.new ≡ is_some sieve.old }
@@ -222,10 +223,10 @@ pub(crate) fn walk_unfed<S: Source, K: Sink, A: Allocator>(
     requires { IsPageNumber chain.now.page × (chain.now.left ≤ most_payload) }
     ensures log { HasLog S.step (Reads bench.old.geometry.page_size marks.old marks.new) (λ file. bench.old.geometry ≡ geometry file
         → (W : List Reference) (c : Reference) → IsChainOf file chain.now c → IsNext W c → AreMarksOf file W marks.old
-        → IsDone K.takes K.drops file W (Go c ∷ []) result marks.new sink.old sink.new)
+        → IsDone K.takes file W (Go c ∷ []) result marks.new sink.old sink.new)
         (S.held source.old) (S.held source.new) }
     ensures reads { (S.held source.new).failures ≡ failures_after is_read_failed result (S.held source.old).failures }
-    ensures writes { SinkAfter is_write_failed result (K.held sink.old) (K.held sink.new) }
+    ensures writes { SinkWalks result (K.held sink.old) (K.held sink.new) }
     ensures only { IfErr result IsReadOrWrite }
     ensures bench { bench.new ≡ record bench.old { chain = bench.new.chain } }
 {

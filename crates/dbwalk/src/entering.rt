@@ -1,5 +1,5 @@
 // Entering a page: it is marked, if its reference may be followed.
-ghost use Rattle.std.specs.Prelude.{◌≡◌, ◌-◌, ◌≤◌, ℕ, List, IfOk, IfErr, IsTrue, false, true, Some, slice_set};
+ghost use Rattle.std.specs.Prelude.{◌≡◌, ◌-◌, ◌≤◌, ℕ, List, IfOk, IfErr, IsTrue, false, true, Some, slice_set, if◌then◌else◌, Ok, Err};
 ghost use Rattle.dbformat.specs.FixedPages.{most_pages, IsPageNumber};
 ghost use Rattle.dbformat.specs.Reference.{Reference};
 ghost use Rattle.dbsource.specs.declared.error.RunError.TheVariants as run_error;
@@ -8,8 +8,7 @@ ghost use Rattle.dbmarks.specs.Marking.{AreMarksOf, page_mark, named_page};
 ghost use Rattle.dbwalk.specs.Entered.{IsNext, IsStepOf, Enters};
 ghost use Rattle.dbtrace.specs.Causes.{refusal_cause};
 ghost use Rattle.dbtrace.specs.declared.Cause.TheVariants as cause;
-ghost use Rattle.dbsource.specs.Errors.{is_write_failed};
-ghost use Rattle.dbwalk.specs.Telling.{SinkAfter};
+ghost use Rattle.dbwalk.specs.Telling.{SinkWalks};
 
 use crate::{Cause, Fault, Mark, Marks, Sink};
 use dbformat::FaultCode;
@@ -38,12 +37,28 @@ pub(crate) fn itself() -> Cause
     Cause::Itself
 }
 
-/// Marks the page of a reference that may be followed, or reports why it may not, with the cause, which is made only then. True if
-/// the page was marked.
+/// Whether a walk may go on: the sink is open.
 ///
 /// # Errors
 ///
-/// [`RunError::WriteFailed`] where the sink failed.
+/// [`RunError::WriteFailed`] exactly where the sink is shut.
+#[inline(always)]
+pub(crate) fn ask<K: Sink>(sink: &K) -> Result<(), RunError>
+    ensures { result ≡ (if (K.held sink.now).is_shut then Err run_error.WriteFailed else Ok tt) }
+{
+    if sink.is_shut() {
+        Err(RunError::WriteFailed)
+    } else {
+        Ok(())
+    }
+}
+
+/// Asks whether the sink is shut. If it is open, marks the page of a reference that may be followed, or reports why it may not, with
+/// the cause, which is made only then. True if the page was marked.
+///
+/// # Errors
+///
+/// [`RunError::WriteFailed`] exactly where the sink was shut: nothing was marked or reported then.
 pub(crate) fn enter<K: Sink, A: Allocator, F: FnOnce() -> Cause>(
     marks: &mut Marks<A>,
     step: Step,
@@ -58,15 +73,17 @@ pub(crate) fn enter<K: Sink, A: Allocator, F: FnOnce() -> Cause>(
     ensures shallow { IfOk result (λ yes. IsTrue yes → step.is_too_deep ≡ false) }
     ensures unmarked { IfOk result (λ yes. yes ≡ false → marks.new ≡ marks.old) }
     ensures after_error { IfErr result (λ e. (e ≡ run_error.WriteFailed) × (marks.new ≡ marks.old)) }
-    ensures writes { SinkAfter is_write_failed result (K.held sink.old) (K.held sink.new) }
+    ensures writes { SinkWalks result (K.held sink.old) (K.held sink.new) }
+    ensures open { IfOk result (λ yes. IsTrue yes → (K.held sink.new).is_shut ≡ false) }
     ensures entered { (file : List ℕ) (W : List Reference) (c : Reference) → IsStepOf step c → IsNext W c → AreMarksOf file W marks.old
-        → ((why : _) → F.post cause why → refusal_cause file W c ≡ why) → Enters K.takes K.drops file W c result marks.new sink.old sink.new }
+        → ((why : _) → F.post cause why → refusal_cause file W c ≡ why) → Enters K.takes file W c result marks.new sink.old sink.new }
 {
+    ask(sink)?;
     match marks.follow(step.page, step.mark, step.is_too_deep) {
         None => Ok(true),
         Some(code) => {
             let fault = Fault::new(code, step.from, step.item, step.page);
-            sink.fault(&fault, &cause())?;
+            sink.fault(&fault, &cause());
             Ok(false)
         }
     }

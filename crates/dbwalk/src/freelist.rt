@@ -1,5 +1,5 @@
 // The walk along the freelist (Database File Format, 1.5).
-ghost use Rattle.std.specs.Prelude.{◌≡◌, ℕ, ◌+◌, ◌*◌, ◌≤◌, ◌<◌, List, [], ◌∷◌, ◌++◌, length, IfSome, IfOk, IfErr, true};
+ghost use Rattle.std.specs.Prelude.{◌≡◌, ℕ, ◌+◌, ◌*◌, ◌≤◌, ◌<◌, List, [], ◌∷◌, ◌++◌, length, IfSome, IfOk, IfErr, false, true};
 ghost use Rattle.dbsurvey.specs.Story.{Errand, Go};
 ghost use Rattle.dbsurvey.specs.Traverse.{is_followed};
 ghost use Rattle.dbformat.specs.Errands.{leaf_errands};
@@ -14,7 +14,7 @@ ghost use Rattle.dbwalk.specs.Done.{IsDone, IsLeft};
 ghost use Rattle.dbwalk.specs.Entered.{IsNext};
 ghost use Rattle.dbwalk.specs.Trunks.{LeavesErrands, IsFirstTrunk, IsOnTrunks, OpensTrunk, TrunkTurns, next_step};
 ghost use Rattle.dbmarks.specs.Marking.{AreMarksOf, KeepsMarks, unmarked_pages};
-ghost use Rattle.dbwalk.specs.Telling.{IsReadOrWrite, SinkAfter};
+ghost use Rattle.dbwalk.specs.Telling.{IsReadOrWrite, SinkAfter, SinkWalks};
 ghost use Rattle.dbmarks.specs.Reads.{Reads};
 ghost use Rattle.dbmarks.specs.declared.marks.Mark.{Mark};
 ghost use Rattle.dbmarks.specs.declared.marks.Mark.TheVariants as use_mark;
@@ -23,7 +23,7 @@ ghost use Rattle.dbsource.specs.Failures.{failures_after};
 ghost use Rattle.dbsource.specs.Sources.{Asks, HasLog};
 
 use crate::chain::CHAIN;
-use crate::entering::{Step, enter, itself};
+use crate::entering::{Step, ask, enter, itself};
 use crate::{Cause, Fault, Mark, Marks, Sink};
 use dbformat::{FREELIST_START, FaultCode, u32_at};
 use dbsource::{Bench, RunError, Source};
@@ -34,7 +34,7 @@ use std::alloc::Allocator;
 ///
 /// # Errors
 ///
-/// [`RunError::WriteFailed`] exactly where the sink failed.
+/// [`RunError::WriteFailed`] where the sink was found shut.
 pub(crate) fn walk_leaves<K: Sink, A: Allocator>(
     bytes: &[u8],
     marks: &mut Marks<A>,
@@ -46,12 +46,12 @@ pub(crate) fn walk_leaves<K: Sink, A: Allocator>(
     requires few { count ≤ 16384 }
     ensures keeps { KeepsMarks marks.old marks.new }
     ensures fewer { unmarked_pages marks.new ≤ unmarked_pages marks.old }
-    ensures writes { SinkAfter is_write_failed result (K.held sink.old) (K.held sink.new) }
+    ensures writes { SinkWalks result (K.held sink.old) (K.held sink.new) }
     ensures only { IfErr result (λ e. e ≡ run_error.WriteFailed) }
     ensures done { (file : List ℕ) (W : List Reference) (errands : List (Errand Way Event)) (before : K) (U : List Reference) (d : Reference)
         (tail : List (Errand Way Event))
         → d.page ≡ page → IsLeft K.takes file W errands before U (leaf_errands d bytes.now count ++ tail) (marks.old, sink.old)
-        → LeavesErrands K.takes K.drops file W errands before tail result marks.new sink.new }
+        → LeavesErrands K.takes file W errands before tail result marks.new sink.new }
 {
     for index in 0..count {
         let step = Step {
@@ -77,12 +77,12 @@ fn open_trunk<K: Sink, A: Allocator>(
     requires usable { (480 ≤ usable) × (usable ≤ 65536) × (usable ≤ length bytes.now) }
     ensures keeps { KeepsMarks marks.old marks.new }
     ensures fewer { unmarked_pages marks.new ≤ unmarked_pages marks.old }
-    ensures writes { SinkAfter is_write_failed result (K.held sink.old) (K.held sink.new) }
+    ensures writes { SinkWalks result (K.held sink.old) (K.held sink.new) }
     ensures only { IfErr result (λ e. e ≡ run_error.WriteFailed) }
     ensures opened { (file : List ℕ) (W : List Reference) (c : Reference) (before : K) (U : List Reference) (d : Reference) (old : List Mark)
         → d.page ≡ page → role_of d ≡ trunk → bytes.now ≡ page_bytes file page → usable ≡ usable_size file → is_followed (rules_of file) U d ≡ true
         → AreMarksOf file (U ++ d ∷ []) marks.old → IsLeft K.takes file W (Go c ∷ []) before U (Go d ∷ []) (old, sink.old)
-        → OpensTrunk K.takes K.drops file W c before d result marks.new sink.new }
+        → OpensTrunk K.takes file W c before d result marks.new sink.new }
 {
     let count = u32_at(bytes, 4);
     if count <= usable / 4 - 2 {
@@ -90,7 +90,7 @@ fn open_trunk<K: Sink, A: Allocator>(
         Ok(count)
     } else {
         let fault = Fault::new(FaultCode::L01, page, 0, count);
-        sink.fault(&fault, &Cause::Itself)?;
+        sink.fault(&fault, &Cause::Itself);
         Ok(0)
     }
 }
@@ -125,10 +125,10 @@ fn enter_trunk<S: Source, K: Sink, A: Allocator>(
     ensures log { HasLog S.step (Reads bench.old.geometry.page_size marks.old marks.new)
         (λ file. bench.old.geometry ≡ geometry file → (W : List Reference) (c : Reference) (before : K)
         → IsOnTrunks K.takes file W c before step marks.old sink.old
-        → TrunkTurns K.takes K.drops file W c before result marks.new sink.new)
+        → TrunkTurns K.takes file W c before result marks.new sink.new)
         (S.held source.old) (S.held source.new) }
     ensures reads { (S.held source.new).failures ≡ failures_after is_read_failed result (S.held source.old).failures }
-    ensures writes { SinkAfter is_write_failed result (K.held sink.old) (K.held sink.new) }
+    ensures writes { SinkWalks result (K.held sink.old) (K.held sink.new) }
     ensures only { IfErr result IsReadOrWrite }
     ensures bench { bench.new ≡ record bench.old { chain = bench.new.chain } }
     ensures trunk { IfOk result (λ o. IfSome o (λ next. next.mark ≡ use_mark.Trunk)) }
@@ -149,8 +149,8 @@ fn enter_trunk<S: Source, K: Sink, A: Allocator>(
 ///
 /// # Errors
 ///
-/// [`RunError::ReadFailed`] exactly where the source failed, [`RunError::WriteFailed`] exactly where the sink failed. The sink
-/// was then given a beginning of what is reported otherwise.
+/// [`RunError::ReadFailed`] exactly where the source failed, [`RunError::WriteFailed`] exactly where the sink failed: it is shut
+/// then, and no page was read after that. It was given a beginning of what is reported otherwise.
 pub fn walk_freelist<S: Source, K: Sink, A: Allocator>(
     source: &mut S,
     bench: &mut Bench<A>,
@@ -158,11 +158,13 @@ pub fn walk_freelist<S: Source, K: Sink, A: Allocator>(
     first: u32,
     sink: &mut K,
 ) -> Result<(), RunError>
+    requires open { (K.held sink.old).is_shut ≡ false }
     ensures asks { Asks S.step (Reads bench.old.geometry.page_size marks.old marks.new) (λ file. bench.old.geometry ≡ geometry file
         → (W : List Reference) (c : Reference) → IsFirstTrunk first c → IsNext W c → AreMarksOf file W marks.old
-        → IsDone K.takes K.drops file W (Go c ∷ []) result marks.new sink.old sink.new)
+        → IsDone K.takes file W (Go c ∷ []) result marks.new sink.old sink.new)
         is_read_failed result (S.held source.old) (S.held source.new) }
     ensures writes { SinkAfter is_write_failed result (K.held sink.old) (K.held sink.new) }
+    ensures shut { IfErr result (λ e. (K.held sink.new).is_shut ≡ is_write_failed e) }
     ensures only { IfErr result IsReadOrWrite }
     ensures bench { bench.new ≡ record bench.old { chain = bench.new.chain } }
 {
@@ -176,5 +178,5 @@ pub fn walk_freelist<S: Source, K: Sink, A: Allocator>(
     while let Some(next) = enter_trunk(source, bench, marks, step, sink)? {
         step = next;
     }
-    Ok(())
+    ask(sink)
 }

@@ -13,10 +13,10 @@ ghost use Rattle.dbformat.specs.File.{geometry as shape_of};
 ghost use Rattle.dbsource.specs.Sources.{HasLog};
 ghost use Rattle.dbwalk.specs.LeafCells.{overflow_errands, late_told, top_after};
 ghost use Rattle.dbwalk.specs.Taking.{FeedsPayload};
-ghost use Rattle.dbwalk.specs.Telling.{IsReportedTo, IsReadOrWrite, SinkAfter};
+ghost use Rattle.dbwalk.specs.Telling.{IsReportedTo, IsReadOrWrite, SinkWalks};
 ghost use Rattle.dbwalk.specs.Done.{IsDone};
 ghost use Rattle.dbmarks.specs.Reads.{Reads};
-ghost use Rattle.dbsource.specs.Errors.{is_read_failed, is_write_failed};
+ghost use Rattle.dbsource.specs.Errors.{is_read_failed};
 ghost use Rattle.dbsource.specs.Failures.{failures_after};
 
 use crate::cells::{LeafCell, leaf_cell, leaf_cells, pass_cells};
@@ -26,7 +26,7 @@ use crate::state::Tree;
 use crate::tree_walk::TreeWalk;
 use crate::{Marks, Sink, Taker};
 use dbbytes::RowSieve;
-use dbsource::{Bench, RunError, Source, WriteFailed};
+use dbsource::{Bench, RunError, Source};
 use std::alloc::Allocator;
 
 impl<A: Allocator, S: Source, K: Sink, T: Taker> TreeWalk<'_, '_, '_, '_, A, S, K, T> {
@@ -35,7 +35,7 @@ impl<A: Allocator, S: Source, K: Sink, T: Taker> TreeWalk<'_, '_, '_, '_, A, S, 
     ///
     /// # Errors
     ///
-    /// [`RunError::ReadFailed`] exactly where the source failed, [`RunError::WriteFailed`] exactly where the sink failed,
+    /// [`RunError::ReadFailed`] exactly where the source failed, [`RunError::WriteFailed`] where the sink was found shut,
     /// [`RunError::OutOfMemory`] exactly where the taker was refused memory.
     pub(crate) fn walk_leaf(&mut self, bench: &mut Bench<A>, page: u32) -> Result<(), RunError>
         requires { (length self.old.tree.path.items < 20) × IsPageNumber page }
@@ -43,7 +43,7 @@ impl<A: Allocator, S: Source, K: Sink, T: Taker> TreeWalk<'_, '_, '_, '_, A, S, 
         ensures levels { bench.new.levels ≡ bench.old.levels }
         ensures tree { IsSameButGreatest self.old.tree self.new.tree }
         ensures log { SaysOfFiles S.step S.held bench.old.geometry self.old self.new (λ file. AtLeaf file bench.old.levels page self.old (λ from c.
-            Does (watches K.takes T.takes) (fails K.takes K.drops T.takes T.refuses) file
+            Does (watches K.takes T.takes) (fails T.refuses) file
             (done_below file from (errands_of (story_of file) c)) result self.old self.new)) }
     {
         let level = self.tree.path.len();
@@ -62,7 +62,7 @@ impl<A: Allocator, S: Source, K: Sink, T: Taker> TreeWalk<'_, '_, '_, '_, A, S, 
     ///
     /// # Errors
     ///
-    /// [`RunError::ReadFailed`] exactly where the source failed, [`RunError::WriteFailed`] exactly where the sink failed,
+    /// [`RunError::ReadFailed`] exactly where the source failed, [`RunError::WriteFailed`] where the sink was found shut,
     /// [`RunError::OutOfMemory`] exactly where the taker was refused memory.
     pub(crate) fn walk_leaf_cell(
         &mut self,
@@ -77,7 +77,7 @@ impl<A: Allocator, S: Source, K: Sink, T: Taker> TreeWalk<'_, '_, '_, '_, A, S, 
         ensures tree { IsSameButGreatest self.old.tree self.new.tree }
         ensures empty { OnOk result (1 ≤ self.old.tree.start → sieve.new ≡ None) }
         ensures log { SaysOfFiles S.step S.held bench.old.geometry self.old self.new (λ file.
-            AtCell file bench.old.levels page i self.old (λ from c v. Does (watches K.takes T.takes) (fails K.takes K.drops T.takes T.refuses) file
+            AtCell file bench.old.levels page i self.old (λ from c v. Does (watches K.takes T.takes) (fails T.refuses) file
             (done_below file from (cell_errands c self.old.tree.kind v i)) result self.old self.new)) }
     {
         let cell = leaf_cell(bench, self.tree.kind, self.tree.path.len(), page, i);
@@ -95,7 +95,7 @@ impl<A: Allocator, S: Source, K: Sink, T: Taker> TreeWalk<'_, '_, '_, '_, A, S, 
         )?;
         let place = RowPlace::new(page, i, cell.key);
         tell_row(sieve, place, self.taker, self.sink)?;
-        tell_rowid(&mut self.tree, page, i, cell.key, self.sink)?;
+        tell_rowid(&mut self.tree, page, i, cell.key, self.sink);
         Ok(())
     }
 }
@@ -105,7 +105,7 @@ impl<A: Allocator, S: Source, K: Sink, T: Taker> TreeWalk<'_, '_, '_, '_, A, S, 
 ///
 /// # Errors
 ///
-/// [`RunError::ReadFailed`] exactly where the source failed, [`RunError::WriteFailed`] exactly where the sink failed.
+/// [`RunError::ReadFailed`] exactly where the source failed, [`RunError::WriteFailed`] where the sink was found shut.
 pub(crate) fn walk_overflow<A: Allocator, S: Source, K: Sink>(
     source: &mut S,
     bench: &mut Bench<A>,
@@ -120,10 +120,10 @@ pub(crate) fn walk_overflow<A: Allocator, S: Source, K: Sink>(
     requires { IsPageNumber page × IfSome cell.overflow (λ o. o.1 ≤ most_payload) }
     ensures kept { (bench.new.geometry ≡ bench.old.geometry) × (bench.new.levels ≡ bench.old.levels) × (is_some sieve.new ≡ is_some sieve.old) }
     ensures reads { (S.held source.new).failures ≡ failures_after is_read_failed result (S.held source.old).failures }
-    ensures writes { SinkAfter is_write_failed result (K.held sink.old) (K.held sink.new) }
+    ensures writes { SinkWalks result (K.held sink.old) (K.held sink.new) }
     ensures log { HasLog S.step (Reads bench.old.geometry.page_size marks.old marks.new) (λ file. bench.old.geometry ≡ shape_of file
         → AtOverflow file tree.now bench.old.levels page i cell marks.old (λ U c.
-        IsDone K.takes K.drops file U (overflow_errands c i cell.overflow) result marks.new sink.old sink.new
+        IsDone K.takes file U (overflow_errands c i cell.overflow) result marks.new sink.old sink.new
         × OnOk result (FeedsPayload file U c i cell.overflow sieve.old sieve.new))) (S.held source.old) (S.held source.new) }
     ensures only { IfErr result IsReadOrWrite }
 {
@@ -151,13 +151,12 @@ pub(crate) fn tell_rowid<K: Sink>(
     i: u32,
     key: Option<i64>,
     sink: &mut K,
-) -> Result<(), WriteFailed>
-    ensures told { IsReportedTo K.takes K.drops K.held result sink.old (late_told tree.old.greatest page i key) sink.new }
+)
+    ensures told { IsReportedTo K.takes K.held sink.old (late_told tree.old.greatest page i key) sink.new }
     ensures greatest { tree.new.greatest ≡ top_after tree.old.greatest page i key }
     ensures others { IsSameButGreatest tree.old tree.new }
 {
-    match key {
-        None => Ok(()),
-        Some(key) => tree.tell_key(page, i, key, true, sink),
+    if let Some(key) = key {
+        tree.tell_key(page, i, key, true, sink);
     }
 }

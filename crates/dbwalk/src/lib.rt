@@ -17,8 +17,13 @@
 //! an overflow chain and for the freelist, which do not change the progress, `IsDone` states the same by the visits.
 //!
 //! **What a call keeps** (specs/Walked). A walk over a tree is one struct, `TreeWalk`, of all that it borrows but the page
-//! buffers. One clause of each of its methods, `Walked`, says that it still borrows the same, that each failure of a source, a
-//! sink or a taker is counted and answered, and that no tree but the schema's calls the taker. `SaysOfFiles` has the reads.
+//! buffers. One clause of each of its methods, `Walked`, says that it still borrows the same, that each failure of a source or a
+//! taker is counted and answered, and that no tree but the schema's calls the taker. `SaysOfFiles` has the reads.
+//!
+//! **A failed write** (specs/Telling). A sink that fails is shut, and takes nothing after that; calls that report answer nothing.
+//! `ask` is called before a page is marked and read (`enter`), before a row of the schema goes to the taker (`take_row`), and at
+//! the end of a walk: it answers `WriteFailed` where the sink is shut. So after an error the sink is shut exactly if this is
+//! `WriteFailed` (`SinkWalks`), and no page is read after the one at which a write failed.
 //!
 //! **How far a walk is** (specs/Walking and Underway; Points has it for clauses). The loop over interior pages keeps one
 //! equation: the walk so far, continued by what its frames still have to do, is the whole walk (`IsUnderway`). Pages on the

@@ -1,5 +1,5 @@
 // An overflow page: what it holds, and what is reported of it (Database File Format, 1.7).
-ghost use Rattle.std.specs.Prelude.{◌≡◌, ◌+◌, ◌-◌, ◌≤◌, ◌<◌, ◌&&◌, ◌==◌, ◌∷◌, length, map, false, not, nat_le, option_to_list, pos, Some, IfErr, is_some};
+ghost use Rattle.std.specs.Prelude.{◌≡◌, ◌+◌, ◌-◌, ◌≤◌, ◌<◌, ◌&&◌, ◌==◌, ◌∷◌, length, map, false, not, nat_le, option_to_list, pos, Some, is_some};
 ghost use Rattle.dbformat.specs.Counts.{overflow_counts};
 ghost use Rattle.dbformat.specs.Faults.{fault};
 ghost use Rattle.dbformat.specs.Looks.{is_zeros};
@@ -8,19 +8,16 @@ ghost use Rattle.dbformat.specs.Payload.{most_payload, overflow_bytes, overflow_
 ghost use Rattle.dbformat.specs.Tests.{told_if};
 ghost use Rattle.dbformat.specs.declared.FaultCode.TheVariants as fault_code;
 ghost use Rattle.dbformat.specs.declared.PageType.TheVariants as page_type;
-ghost use Rattle.dbsource.specs.declared.error.RunError.TheVariants as run_error;
 ghost use Rattle.dbwalk.specs.Chains.{Feeds, walked_chain};
 ghost use Rattle.dbtrace.specs.Finding.{told_row, told_fault};
-ghost use Rattle.dbwalk.specs.Telling.{Tells, SinkAfter};
+ghost use Rattle.dbwalk.specs.Telling.{IsReportedTo};
 ghost use Rattle.dbwalk.specs.Rows.{row_of};
-ghost use Rattle.dbsource.specs.Errors.{is_write_failed};
 
 use crate::chain::Chain;
 use crate::{Cause, CellChain, Fault, PageType, Row, Sink};
 use dbbytes::RowSieve;
 use dbformat::{Counts, FaultCode, u32_at};
 use dbpage::is_zeros;
-use dbsource::RunError;
 
 /// The next page that an overflow page names, and, where the chain goes on, whether this is in a page of zeros.
 #[derive(Clone, Copy)]
@@ -119,20 +116,17 @@ pub(crate) fn tell<K: Sink>(
     usable: u32,
     left: u32,
     sink: &mut K,
-) -> Result<(), RunError>
+)
     requires usable { (480 ≤ usable) × (usable ≤ 65536) }
     requires counted { number + left ≤ most_payload }
-    ensures only { IfErr result (λ e. e ≡ run_error.WriteFailed) }
-    ensures writes { SinkAfter is_write_failed result (K.held sink.old) (K.held sink.new) }
-    ensures told { Tells K.takes K.drops result sink.old (told_row (row_of row.now)
+    ensures { IsReportedTo K.takes K.held sink.old (told_row (row_of row.now)
         ∷ map (λ f. told_fault f (cause.Chain (walked_chain chain.now number usable left (number + 1) false))) (option_to_list fault)) sink.new }
 {
-    sink.row(row)?;
+    sink.row(row);
     if let Some(fault) = fault {
         let cause = chain_cause(chain, number, usable, left, number + 1, false);
-        sink.fault(&fault, &cause)?;
+        sink.fault(&fault, &cause);
     }
-    Ok(())
 }
 
 // Hands the payload bytes on an overflow page to a sieve, if there is one.

@@ -19,7 +19,6 @@ use dbformat::{
     ByteRun, CellFault, Coverage, Fault, FaultCode, HeadFault, Look, PageKind, TreeKind,
 };
 use dbpage::{PageView, content_start, look_of, type_byte, uncounted_coverage, usable_run};
-use dbsource::WriteFailed;
 
 /// A page of a tree: the number of the tree's start, the children on the way to the page, its number, and its rowids.
 #[derive(Clone, Copy, Drop)]
@@ -155,10 +154,6 @@ fn is_of_tree(page: PageKind, tree: TreeKind) -> bool
 }
 
 /// Reports the faults within an undamaged page. `uses` is room to work in, a byte for each usable byte of the page.
-///
-/// # Errors
-///
-/// [`WriteFailed`] where the sink failed: it was given the faults up to the one that it did not take.
 // Most pages are packed and do not reach this call.
 #[inline(never)]
 pub(crate) fn tell_inner<K: Sink>(
@@ -167,41 +162,37 @@ pub(crate) fn tell_inner<K: Sink>(
     is_child: bool,
     uses: &mut [u8],
     sink: &mut K,
-) -> Result<(), WriteFailed>
+)
     requires number { place.now.page ≡ view.now.number }
     requires most { view.now.usable ≤ 65536 }
     requires room { view.now.usable ≤ length uses.old }
-    ensures { IsReportedTo K.takes K.drops K.held result sink.old (told_by (view_cause place.now.rowids view.now) (inner_faults view.now is_child)) sink.new }
+    ensures { IsReportedTo K.takes K.held sink.old (told_by (view_cause place.now.rowids view.now) (inner_faults view.now is_child)) sink.new }
 {
     let number = place.page;
     let cause = cause_within(view, place);
-    tell_found(fragment_fault(view, number), &cause, sink)?;
-    let are_cells_good = tell_cells(view, number, &cause, sink)?;
+    tell_found(fragment_fault(view, number), &cause, sink);
+    let are_cells_good = tell_cells(view, number, &cause, sink);
     let freeblock = freeblock_fault(view, number);
     let is_good = are_cells_good & freeblock.is_none();
     let coverage = coverage_fault(view, number, is_good, uses);
     let empty = empty_fault(view, number, is_child);
-    tell_each(&[freeblock, coverage, empty], &cause, sink)
+    tell_each(&[freeblock, coverage, empty], &cause, sink);
 }
 
 /// Reports the faults within an undamaged page whose cells are all readable and of which no byte is held twice. `unheld` is the
 /// number of bytes that no item holds.
-///
-/// # Errors
-///
-/// [`WriteFailed`] where the sink failed: it was given the faults up to the one that it did not take.
 pub(crate) fn tell_readable<K: Sink>(
     view: &PageView<'_>,
     place: &PagePlace<'_>,
     is_child: bool,
     unheld: u32,
     sink: &mut K,
-) -> Result<(), WriteFailed>
+)
     requires number { place.now.page ≡ view.now.number }
     requires cells { (i : ℕ) → i < count view.now → IsOk (cell view.now i) }
     requires unheld { coverage view.now ≡ Coverage.Unheld unheld }
     requires most { view.now.usable ≤ 65536 }
-    ensures { IsReportedTo K.takes K.drops K.held result sink.old (told_by (view_cause place.now.rowids view.now) (inner_faults view.now is_child)) sink.new }
+    ensures { IsReportedTo K.takes K.held sink.old (told_by (view_cause place.now.rowids view.now) (inner_faults view.now is_child)) sink.new }
 {
     let number = place.page;
     let fragments = fragment_fault(view, number);
@@ -209,10 +200,9 @@ pub(crate) fn tell_readable<K: Sink>(
     let coverage = unheld_fault(view, number, freeblock.is_none(), unheld);
     let empty = empty_fault(view, number, is_child);
     let found = [fragments, freeblock, coverage, empty];
-    if are_none(&found) {
-        return Ok(());
+    if !are_none(&found) {
+        tell_each(&found, &cause_within(view, place), sink);
     }
-    tell_each(&found, &cause_within(view, place), sink)
 }
 
 // Whether none of these faults is there, as on most pages.
@@ -227,25 +217,20 @@ fn are_none(faults: &[Option<Fault>; 4]) -> bool
 }
 
 // Reports those of these faults that are there.
-fn tell_each<K: Sink>(
-    faults: &[Option<Fault>],
-    cause: &Cause,
-    sink: &mut K,
-) -> Result<(), WriteFailed>
-    ensures { IsReportedTo K.takes K.drops K.held result sink.old (told_by (inner_cause cause.now) (flat_map option_to_list faults.now)) sink.new }
+fn tell_each<K: Sink>(faults: &[Option<Fault>], cause: &Cause, sink: &mut K)
+    ensures { IsReportedTo K.takes K.held sink.old (told_by (inner_cause cause.now) (flat_map option_to_list faults.now)) sink.new }
 {
     for found in faults {
-        tell_found(*found, cause, sink)?;
+        tell_found(*found, cause, sink);
     }
-    Ok(())
 }
 
 // Reports a fault within a page, if there is one. That there are no cells goes back to nothing else.
-fn tell_found<K: Sink>(found: Option<Fault>, cause: &Cause, sink: &mut K) -> Result<(), WriteFailed>
-    ensures { IsReportedTo K.takes K.drops K.held result sink.old (told_by (inner_cause cause.now) (option_to_list found)) sink.new }
+fn tell_found<K: Sink>(found: Option<Fault>, cause: &Cause, sink: &mut K)
+    ensures { IsReportedTo K.takes K.held sink.old (told_by (inner_cause cause.now) (option_to_list found)) sink.new }
 {
     let Some(fault) = found else {
-        return Ok(());
+        return;
     };
     match fault.code {
         FaultCode::P10 => sink.fault(&fault, &Cause::Itself),
@@ -266,44 +251,33 @@ fn fragment_fault(view: &PageView<'_>, number: u32) -> Option<Fault>
 }
 
 // Reports each cell that is not readable; true if all are.
-fn tell_cells<K: Sink>(
-    view: &PageView<'_>,
-    number: u32,
-    cause: &Cause,
-    sink: &mut K,
-) -> Result<bool, WriteFailed>
+fn tell_cells<K: Sink>(view: &PageView<'_>, number: u32, cause: &Cause, sink: &mut K) -> bool
     requires { number ≡ view.now.number }
-    ensures told { IsReportedTo K.takes K.drops K.held result sink.old (told_by (inner_cause cause.now) (cell_faults view.now)) sink.new }
-    ensures good { IfOk result (λ good. good ≡ (length (cell_faults view.now) == 0)) }
+    ensures told { IsReportedTo K.takes K.held sink.old (told_by (inner_cause cause.now) (cell_faults view.now)) sink.new }
+    ensures good { result ≡ (length (cell_faults view.now) == 0) }
 {
     let mut good = true;
     for i in 0..view.cells() {
-        good &= tell_cell(view, number, i, cause, sink)?;
+        good &= tell_cell(view, number, i, cause, sink);
     }
-    Ok(good)
+    good
 }
 
 // Reports cell `i` if it is not readable; true if it is.
-fn tell_cell<K: Sink>(
-    view: &PageView<'_>,
-    number: u32,
-    i: u32,
-    cause: &Cause,
-    sink: &mut K,
-) -> Result<bool, WriteFailed>
+fn tell_cell<K: Sink>(view: &PageView<'_>, number: u32, i: u32, cause: &Cause, sink: &mut K) -> bool
     requires number { number ≡ view.now.number }
     requires cell { i < count view.now }
-    ensures told { IsReportedTo K.takes K.drops K.held result sink.old (told_by (inner_cause cause.now) (cell_fault view.now i)) sink.new }
-    ensures good { IfOk result (λ good. good ≡ (length (cell_fault view.now i) == 0)) }
+    ensures told { IsReportedTo K.takes K.held sink.old (told_by (inner_cause cause.now) (cell_fault view.now i)) sink.new }
+    ensures good { result ≡ (length (cell_fault view.now i) == 0) }
 {
     let code = match view.cell(i) {
-        Ok(_) => return Ok(true),
+        Ok(_) => return true,
         Err(CellFault::Offset) => FaultCode::P05,
         Err(CellFault::Unreadable) => FaultCode::P06,
     };
     let fault = Fault::new(code, number, i, view.pointer(i));
-    tell_found(Some(fault), cause, sink)?;
-    Ok(false)
+    tell_found(Some(fault), cause, sink);
+    false
 }
 
 // The fault of the first freeblock that is not good.

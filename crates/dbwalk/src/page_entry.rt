@@ -48,7 +48,7 @@ impl<A: Allocator, S: Source, K: Sink, T: Taker> TreeWalk<'_, '_, '_, '_, A, S, 
     ///
     /// # Errors
     ///
-    /// [`RunError::ReadFailed`] exactly where the source failed, [`RunError::WriteFailed`] exactly where the sink failed,
+    /// [`RunError::ReadFailed`] exactly where the source failed, [`RunError::WriteFailed`] where the sink was found shut,
     /// [`RunError::OutOfMemory`] exactly where the taker was refused memory.
     pub(crate) fn visit_page(
         &mut self,
@@ -61,12 +61,12 @@ impl<A: Allocator, S: Source, K: Sink, T: Taker> TreeWalk<'_, '_, '_, '_, A, S, 
         ensures levels { bench.new.levels ≡ bench.old.levels }
         ensures path { self.new.tree.path ≡ self.old.tree.path }
         ensures log { SaysOfFiles S.step S.held bench.old.geometry self.old self.new (λ file. AtPage file bench.old.levels page up_to self.old (λ from c.
-            Does (watches K.takes T.takes) (fails K.takes K.drops T.takes T.refuses) file (entered file from c result) result self.old self.new
+            Does (watches K.takes T.takes) (fails T.refuses) file (entered file from c result) result self.old self.new
             × IsEntered file from c result bench.new.levels)) }
         ensures open { IfOk result (λ yes. IsTrue yes
             → IsOpen bench.new.geometry.usable self.new.tree.kind bench.new.levels (length self.old.tree.path.items) page 0) }
     {
-        match tell_page(bench, &mut self.tree, page, up_to, self.sink)? {
+        match tell_page(bench, &mut self.tree, page, up_to, self.sink) {
             PageFound::Interior => Ok(true),
             PageFound::Damaged => Ok(false),
             PageFound::Leaf(keys) => {
@@ -85,7 +85,7 @@ impl<A: Allocator, S: Source, K: Sink, T: Taker> TreeWalk<'_, '_, '_, '_, A, S, 
     ///
     /// # Errors
     ///
-    /// [`RunError::ReadFailed`] exactly where the source failed, [`RunError::WriteFailed`] exactly where the sink failed,
+    /// [`RunError::ReadFailed`] exactly where the source failed, [`RunError::WriteFailed`] where the sink was found shut,
     /// [`RunError::OutOfMemory`] exactly where the taker was refused memory.
     pub(crate) fn enter_page(
         &mut self,
@@ -100,7 +100,7 @@ impl<A: Allocator, S: Source, K: Sink, T: Taker> TreeWalk<'_, '_, '_, '_, A, S, 
         ensures levels { (level : ℕ) → level < length self.old.tree.path.items → slice_get bench.new.levels level ≡ slice_get bench.old.levels level }
         ensures path { self.new.tree.path ≡ self.old.tree.path }
         ensures log { SaysOfFiles S.step S.held bench.old.geometry self.old self.new (λ file. AtReference file page from item up_to self.old (λ at c.
-            Does (watches K.takes T.takes) (fails K.takes K.drops T.takes T.refuses) file (entered file at c result) result self.old self.new
+            Does (watches K.takes T.takes) (fails T.refuses) file (entered file at c result) result self.old self.new
             × IsEntered file at c result bench.new.levels)) }
         ensures open { IfOk result (λ yes. IsTrue yes → (length self.old.tree.path.items < 20)
             × IsOpen bench.new.geometry.usable self.new.tree.kind bench.new.levels (length self.old.tree.path.items) page 0) }

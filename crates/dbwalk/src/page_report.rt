@@ -1,17 +1,16 @@
 // What is reported of a page of a tree that was read.
-ghost use Rattle.std.specs.Prelude.{◌≡◌, ◌<◌, length, IfOk, OnOk};
+ghost use Rattle.std.specs.Prelude.{◌≡◌, ◌<◌, length};
 ghost use Rattle.dbformat.specs.FixedPages.{IsPageNumber};
 ghost use Rattle.dbwalk.specs.Found.{IsFound, page_findings};
-ghost use Rattle.dbwalk.specs.Telling.{IsReportedTo, SinkAfter};
+ghost use Rattle.dbwalk.specs.Telling.{IsReportedTo, SinkMoves};
 ghost use Rattle.dbtrace.specs.Progress.{key_value, leaf_after};
-ghost use Rattle.dbsource.specs.Failures.{is_any};
 ghost use Rattle.dbwalk.specs.Points.{AtRead, IsSameButLeaf};
 
 use crate::page::{PagePlace, undamaged};
 use crate::page_row::{tell_damaged, tell_undamaged};
 use crate::state::{KeySpan, Tree, key_value};
 use crate::{RowidBounds, Sink};
-use dbsource::{Bench, WriteFailed};
+use dbsource::Bench;
 use std::alloc::Allocator;
 
 /// What a page of a tree is: damaged, an interior page, or a leaf.
@@ -25,28 +24,24 @@ pub(crate) enum PageFound {
 
 /// Reports the row of a page that was read at the level of the tree's path, and its faults; `up_to` is the key of the innermost
 /// cell whose left child leads to it. Of a leaf it also reports that its depth differs from that of the first leaf.
-///
-/// # Errors
-///
-/// [`WriteFailed`] where the sink failed.
 pub(crate) fn tell_page<A: Allocator, K: Sink>(
     bench: &mut Bench<A>,
     tree: &mut Tree,
     page: u32,
     up_to: Option<i64>,
     sink: &mut K,
-) -> Result<PageFound, WriteFailed>
+) -> PageFound
     requires level { length tree.old.path.items < 20 }
     requires page { IsPageNumber page }
     ensures bench { (bench.new.geometry ≡ bench.old.geometry) × (bench.new.levels ≡ bench.old.levels) }
     ensures tree { IsSameButLeaf tree.old tree.new }
-    ensures open { IfOk result (λ found. IsFound bench.new.geometry.usable tree.new.kind bench.new.levels (length tree.old.path.items) page found) }
-    ensures writes { SinkAfter is_any result (K.held sink.old) (K.held sink.new) }
+    ensures open { IsFound bench.new.geometry.usable tree.new.kind bench.new.levels (length tree.old.path.items) page result }
+    ensures writes { SinkMoves (K.held sink.old) (K.held sink.new) }
     // For each file in which the bytes at the level are those of the page.
     ensures told { AtRead bench.old.geometry tree.old bench.old.levels page (λ file c.
-        IsReportedTo K.takes K.drops K.held result sink.old
+        IsReportedTo K.takes K.held sink.old
         (page_findings file (record { above = key_value tree.old.greatest; up_to = up_to }) tree.old.leaf c) sink.new
-        × OnOk result (tree.new.leaf ≡ leaf_after file tree.old.leaf c)) }
+        × (tree.new.leaf ≡ leaf_after file tree.old.leaf c)) }
 {
     let level = tree.path.len();
     let usable = bench.geometry().usable;
@@ -63,17 +58,17 @@ pub(crate) fn tell_page<A: Allocator, K: Sink>(
     let (bytes, uses) = bench.uses(level);
     let keys = match undamaged(bytes, page, usable, tree.kind) {
         Ok(view) => {
-            let keys = tell_undamaged(&view, &place, depth > 1, uses, sink)?;
+            let keys = tell_undamaged(&view, &place, depth > 1, uses, sink);
             if view.kind().is_interior() {
-                return Ok(PageFound::Interior);
+                return PageFound::Interior;
             }
             keys
         }
         Err(damage) => {
-            tell_damaged(&place, bytes, usable, damage, sink)?;
-            return Ok(PageFound::Damaged);
+            tell_damaged(&place, bytes, usable, damage, sink);
+            return PageFound::Damaged;
         }
     };
-    tree.tell_depth(page, depth, sink)?;
-    Ok(PageFound::Leaf(keys))
+    tree.tell_depth(page, depth, sink);
+    PageFound::Leaf(keys)
 }

@@ -11,27 +11,22 @@ use crate::state::KeySpan;
 use crate::{Row, Sink};
 use dbformat::{Counts, PageType};
 use dbpage::PageView;
-use dbsource::WriteFailed;
 
 /// Reports the row of an undamaged page, and then the faults within it. Answers with the span of its keys, if these rise and no
 /// cell has an overflow page. `uses` is room to work in, a byte for each usable byte of the page.
-///
-/// # Errors
-///
-/// [`WriteFailed`] where the sink failed: it was given only a beginning of this.
 pub(crate) fn tell_undamaged<K: Sink>(
     view: &PageView<'_>,
     place: &PagePlace<'_>,
     is_child: bool,
     uses: &mut [u8],
     sink: &mut K,
-) -> Result<Option<KeySpan>, WriteFailed>
+) -> Option<KeySpan>
     requires number { place.now.page ≡ view.now.number }
     requires most { view.now.usable ≤ 65536 }
     requires room { view.now.usable ≤ length uses.old }
-    ensures told { IsReportedTo K.takes K.drops K.held result sink.old (undamaged_findings place.now.start place.now.path.now place.now.rowids
+    ensures told { IsReportedTo K.takes K.held sink.old (undamaged_findings place.now.start place.now.path.now place.now.rowids
         view.now is_child) sink.new }
-    ensures keys { IfOk result (λ keys. IfSome keys (HasSpan view.now)) }
+    ensures keys { IfSome result (HasSpan view.now) }
 {
     let packed = view.packed(uses);
     let sums = match packed {
@@ -53,38 +48,34 @@ pub(crate) fn tell_undamaged<K: Sink>(
             unused: u64::from(view.unused()),
             mx_payload: sums.greatest,
         },
-    })?;
+    });
     let Some(page) = packed else {
-        tell_inner(view, place, is_child, uses, sink)?;
-        return Ok(None);
+        tell_inner(view, place, is_child, uses, sink);
+        return None;
     };
-    tell_readable(view, place, is_child, page.unheld, sink)?;
+    tell_readable(view, place, is_child, page.unheld, sink);
     if page.sums.has_overflow {
-        return Ok(None);
+        return None;
     }
-    Ok(Some(KeySpan {
+    Some(KeySpan {
         cells: view.cells(),
         first: page.sums.first,
         last: page.sums.last,
-    }))
+    })
 }
 
 /// Reports the row of a damaged page of these bytes, and then its one fault.
-///
-/// # Errors
-///
-/// [`WriteFailed`] where the sink failed: it was given only a beginning of this.
 pub(crate) fn tell_damaged<K: Sink>(
     place: &PagePlace<'_>,
     bytes: &[u8],
     usable: u32,
     damage: Damage,
     sink: &mut K,
-) -> Result<(), WriteFailed>
+)
     requires whole { usable ≤ length bytes.now }
     requires least { 480 ≤ usable }
     requires most { usable ≤ 65536 }
-    ensures { IsReportedTo K.takes K.drops K.held result sink.old (damaged_findings place.now.start place.now.path.now place.now.rowids
+    ensures { IsReportedTo K.takes K.held sink.old (damaged_findings place.now.start place.now.path.now place.now.rowids
         place.now.page usable bytes.now (damage_fault place.now.page bytes.now damage)) sink.new }
 {
     sink.row(&Row {
@@ -94,10 +85,10 @@ pub(crate) fn tell_damaged<K: Sink>(
         page: place.page,
         pagetype: PageType::Damaged,
         counts: Counts::NONE,
-    })?;
+    });
     let fault = damage_fault(bytes, place.page, damage);
     let cause = damage_cause(bytes, place, usable, damage);
-    sink.fault(&fault, &cause)
+    sink.fault(&fault, &cause);
 }
 
 /// The payload of the readable cells of a page, in bytes: the sum of what is in the cells, and the greatest of one cell.

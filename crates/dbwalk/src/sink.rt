@@ -1,13 +1,11 @@
 // The sink of rows and faults.
-ghost use Rattle.std.specs.Prelude.{MatchResult};
+ghost use Rattle.std.specs.Prelude.{◌≡◌};
 ghost use Rattle.dbtrace.specs.Finding.{Finding, told_row, told_fault};
 ghost use Rattle.dbwalk.specs.Rows.{row_of};
-ghost use Rattle.dbwalk.specs.Telling.{SinkAfter};
-ghost use Rattle.dbsource.specs.Failures.{is_any};
+ghost use Rattle.dbwalk.specs.Telling.{SinkMoves};
 
 use crate::{Cause, Fault, PageType};
 use dbformat::Counts;
-use dbsource::WriteFailed;
 
 /// A row of the statistics: a page of a tree or of an overflow chain.
 #[derive(Clone, Copy, Drop)]
@@ -26,11 +24,12 @@ pub struct Row<'a> {
     pub counts: Counts,
 }
 
-/// Takes the rows and faults that a walk reports, one after another.
+/// Takes the rows and faults that a walk reports, one after another. Once an item was not taken whole it is shut, for good: it
+/// takes nothing after that. A walk asks for this before it goes on to a further page.
 ///
 /// # A quiet sink
 ///
-/// A sink of which nothing is claimed, and which takes every item. It proves with any bodies that answer `Ok`:
+/// A sink of which nothing is claimed, and which takes every item. It proves with any bodies of `fault` and `row`:
 ///
 /// ```
 /// #[derive(Drop)]
@@ -40,56 +39,51 @@ pub struct Row<'a> {
 /// }
 ///
 /// impl Sink for Quiet {
-///     ghost use Rattle.std.specs.Prelude.{[], ⊤};
+///     ghost use Rattle.std.specs.Prelude.{[], false, ⊤};
 ///
 ///     ghost takes = { λ _ _ _. ⊤ };
 ///
-///     ghost drops = { λ _ _ _. ⊤ };
+///     ghost held = { λ _. record { lent = []; failures = []; is_shut = false } };
 ///
-///     ghost held = { λ _. record { lent = []; failures = [] } };
-///
-///     fn fault(&mut self, _fault: &Fault, _cause: &Cause) -> Result<(), WriteFailed> {
+///     fn fault(&mut self, _fault: &Fault, _cause: &Cause) {
 ///         self.faults = self.faults.saturating_add(1);
-///         Ok(())
 ///     }
 ///
-///     fn row(&mut self, _row: &Row<'_>) -> Result<(), WriteFailed> {
+///     fn row(&mut self, _row: &Row<'_>) {
 ///         self.rows = self.rows.saturating_add(1);
-///         Ok(())
+///     }
+///
+///     fn is_shut(&self) -> bool {
+///         false
 ///     }
 /// }
 /// ```
 ///
-/// One that can fail has a field `failures: Failures` (of `dbsource`), calls `self.failures.add()` before each `Err`, and
-/// writes `held = { λ s. record { lent = []; failures = s.failures ∷ [] } }`, where `◌∷◌` is brought in beside `[]`.
+/// One that can fail has fields `failures: Failures` (of `dbsource`) and `is_shut: bool`. Where an item is not taken whole it calls
+/// `self.failures.add()` and sets `is_shut`; where `is_shut` is set it does nothing. It writes
+/// `held = { λ s. record { lent = []; failures = s.failures ∷ []; is_shut = s.is_shut } }`, where `◌∷◌` is brought in beside `[]`.
 pub trait Sink {
     ghost use Rattle.dbtrace.specs.Finding.{Finding};
     ghost use Rattle.dbwalk.specs.Telling.{SinkState};
 
-    // The state after an item that was taken.
+    // The state after an item: it was taken, or not whole, or it came to a sink that was shut.
     ghost takes: { Self → Finding → Self → Type 0 };
-    // The state after an item that was not taken, or only in part.
-    ghost drops: { Self → Finding → Self → Type 0 };
-    // What it borrows, and how many calls of each Out failed, in 64 bits.
+    // What it borrows, how many calls of each Out failed, in 64 bits, and whether it is shut.
     ghost held: { Self → SinkState };
 
-    /// Takes a fault, with its cause.
-    ///
-    /// # Errors
-    ///
-    /// [`WriteFailed`] where the fault was not taken whole; this counts as one failure.
-    fn fault(&mut self, fault: &Fault, cause: &Cause) -> Result<(), WriteFailed>
-        ensures item { MatchResult result (λ _. takes self.old (told_fault fault.now cause.now) self.new)
-            (λ _. drops self.old (told_fault fault.now cause.now) self.new) }
-        ensures count { SinkAfter is_any result (held self.old) (held self.new) };
+    /// Takes a fault, with its cause. A sink that is shut takes nothing. Where the fault is not taken whole, this counts as one
+    /// failure, and the sink is shut.
+    fn fault(&mut self, fault: &Fault, cause: &Cause)
+        ensures item { takes self.old (told_fault fault.now cause.now) self.new }
+        ensures count { SinkMoves (held self.old) (held self.new) };
 
-    /// Takes a row of the statistics.
-    ///
-    /// # Errors
-    ///
-    /// [`WriteFailed`] where the row was not taken whole; this counts as one failure.
-    fn row(&mut self, row: &Row<'_>) -> Result<(), WriteFailed>
-        ensures item { MatchResult result (λ _. takes self.old (told_row (row_of row.now)) self.new)
-            (λ _. drops self.old (told_row (row_of row.now)) self.new) }
-        ensures count { SinkAfter is_any result (held self.old) (held self.new) };
+    /// Takes a row of the statistics. A sink that is shut takes nothing. Where the row is not taken whole, this counts as one
+    /// failure, and the sink is shut.
+    fn row(&mut self, row: &Row<'_>)
+        ensures item { takes self.old (told_row (row_of row.now)) self.new }
+        ensures count { SinkMoves (held self.old) (held self.new) };
+
+    /// Whether an item was not taken whole. It stays so.
+    fn is_shut(&self) -> bool
+        ensures { result ≡ (held self.now).is_shut };
 }

@@ -13,7 +13,6 @@ use crate::{Cause, CellKey, Sink, TreeLeaf};
 use arrayvec::ArrayVec;
 use dbformat::{Fault, FaultCode, SCHEMA_START, TreeKind};
 use dbpage::is_rising;
-use dbsource::WriteFailed;
 
 /// The keys of a leaf whose cells are all readable, have no overflow pages and are in the order of their keys: the number of
 /// cells, and the first and the last key, where there are cells and they have keys.
@@ -48,14 +47,8 @@ pub(crate) fn key_value(key: Option<CellKey>) -> Option<i64>
 
 // Reports that a key is out of order, after the greatest key before it. Most keys are in order and do not reach this call.
 #[inline(never)]
-fn tell_late<K: Sink>(
-    top: CellKey,
-    page: u32,
-    item: u32,
-    key: i64,
-    sink: &mut K,
-) -> Result<(), WriteFailed>
-    ensures { IsReportedTo K.takes K.drops K.held result sink.old (told_fault (fault fault_code.T06 page item key) (cause.Key top) ∷ []) sink.new }
+fn tell_late<K: Sink>(top: CellKey, page: u32, item: u32, key: i64, sink: &mut K)
+    ensures { IsReportedTo K.takes K.held sink.old (told_fault (fault fault_code.T06 page item key) (cause.Key top) ∷ []) sink.new }
 {
     let fault = Fault {
         code: FaultCode::T06,
@@ -63,7 +56,7 @@ fn tell_late<K: Sink>(
         item,
         value: key,
     };
-    sink.fault(&fault, &Cause::Key(top))
+    sink.fault(&fault, &Cause::Key(top));
 }
 
 impl Tree {
@@ -89,8 +82,8 @@ impl Tree {
         key: i64,
         is_rowid: bool,
         sink: &mut K,
-    ) -> Result<(), WriteFailed>
-        ensures told { IsReportedTo K.takes K.drops K.held result sink.old (order_told is_rowid self.old.greatest page item key) sink.new }
+    )
+        ensures told { IsReportedTo K.takes K.held sink.old (order_told is_rowid self.old.greatest page item key) sink.new }
         ensures greatest { self.new.greatest ≡ greater_key self.old.greatest (record { page = page; item = item; value = key }) }
         ensures others { IsSameButGreatest self.old self.new }
     {
@@ -101,7 +94,8 @@ impl Tree {
                 key < top.value
             };
             if is_late {
-                return tell_late(top, page, item, key, sink);
+                tell_late(top, page, item, key, sink);
+                return;
             }
         }
         let is_greater = match self.greatest {
@@ -115,7 +109,6 @@ impl Tree {
                 value: key,
             });
         }
-        Ok(())
     }
 
     /// Passes over a leaf whose cells have nothing but their keys to look at: it has such keys, they come after the greatest so
@@ -143,22 +136,17 @@ impl Tree {
     }
 
     /// Reports a leaf whose depth differs from that of the first leaf of the tree.
-    pub(crate) fn tell_depth<K: Sink>(
-        &mut self,
-        page: u32,
-        depth: u32,
-        sink: &mut K,
-    ) -> Result<(), WriteFailed>
-        ensures told { IsReportedTo K.takes K.drops K.held result sink.old (depth_told self.old.leaf page depth) sink.new }
+    pub(crate) fn tell_depth<K: Sink>(&mut self, page: u32, depth: u32, sink: &mut K)
+        ensures told { IsReportedTo K.takes K.held sink.old (depth_told self.old.leaf page depth) sink.new }
         ensures leaf { self.new.leaf ≡ Some (first_of self.old.leaf page depth) }
         ensures others { IsSameButLeaf self.old self.new }
     {
         let Some(first) = self.leaf else {
             self.leaf = Some(TreeLeaf { page, depth });
-            return Ok(());
+            return;
         };
         if depth == first.depth {
-            return Ok(());
+            return;
         }
         let fault = Fault {
             code: FaultCode::T05,
@@ -166,6 +154,6 @@ impl Tree {
             item: 0,
             value: i64::from(depth),
         };
-        sink.fault(&fault, &Cause::Leaf(first.page))
+        sink.fault(&fault, &Cause::Leaf(first.page));
     }
 }

@@ -1,5 +1,5 @@
 // The walk over one tree (Database File Format, 1.6).
-ghost use Rattle.std.specs.Prelude.{◌≡◌, ℕ, ◌≤◌, [], ◌↔◌, List, None, IfErr};
+ghost use Rattle.std.specs.Prelude.{◌≡◌, ℕ, ◌≤◌, [], ◌↔◌, List, None, IfErr, OnOk, false};
 ghost use Rattle.dbformat.specs.FixedPages.{IsPageNumber};
 ghost use Rattle.dbformat.specs.Address.{schema_start};
 ghost use Rattle.dbformat.specs.File.{geometry as shape_of};
@@ -18,7 +18,7 @@ ghost use Rattle.dbwalk.specs.Watching.{fails, watches};
 ghost use Rattle.dbwalk.specs.Done.{IsTreeDone};
 ghost use Rattle.dbwalk.specs.declared.root.RootKind.TheVariants as root_kind;
 
-use crate::entering::{enter, itself};
+use crate::entering::{ask, enter, itself};
 use crate::page_entry::tree_step;
 use crate::root::{Root, root_kind};
 use crate::state::Tree;
@@ -30,15 +30,17 @@ use dbsource::{Bench, RunError, Source};
 use std::alloc::Allocator;
 
 impl<A: Allocator, S: Source, K: Sink, T: Taker> TreeWalk<'_, '_, '_, '_, A, S, K, T> {
-    // Walks over the pages of a tree whose root was marked, and read at level 0. No page of the tree was visited before.
+    // Walks over the pages of a tree whose root was marked, and read at level 0. No page of the tree was visited before. At Ok the
+    // sink is open.
     fn walk_pages(&mut self, bench: &mut Bench<A>, page: u32) -> Result<(), RunError>
         requires { IsPageNumber page × (self.old.tree.greatest ≡ None) × (self.old.tree.leaf ≡ None) × (self.old.tree.path.items ≡ []) }
         ensures walked { Walked S.held K.held T.refusals result bench.old.geometry bench.new.geometry self.old self.new }
+        ensures open { OnOk result ((K.held self.new.sink.now).is_shut ≡ false) }
         ensures log { SaysOfFiles S.step S.held bench.old.geometry self.old self.new (λ file. AtRoot file bench.old.levels page self.old (λ W c.
-            Does (watches K.takes T.takes) (fails K.takes K.drops T.takes T.refuses) file (tree_walk file W c) result self.old self.new)) }
+            Does (watches K.takes T.takes) (fails T.refuses) file (tree_walk file W c) result self.old self.new)) }
     {
         if !self.visit_page(bench, page, None)? {
-            return Ok(());
+            return ask(self.sink);
         }
         let mut frames: ArrayVec<StackFrame, 20> = ArrayVec::new();
         frames.push(StackFrame {
@@ -50,7 +52,7 @@ impl<A: Allocator, S: Source, K: Sink, T: Taker> TreeWalk<'_, '_, '_, '_, A, S, 
             let (frame, next) = step_of(bench, self.tree.kind, frames.len(), frame);
             self.take_step(bench, &mut frames, frame, next)?;
         }
-        Ok(())
+        ask(self.sink)
     }
 }
 
@@ -64,8 +66,9 @@ impl<A: Allocator, S: Source, K: Sink, T: Taker> TreeWalk<'_, '_, '_, '_, A, S, 
 /// # Errors
 ///
 /// [`RunError::ReadFailed`] exactly where the source failed, [`RunError::WriteFailed`] exactly where the sink failed,
-/// [`RunError::OutOfMemory`] exactly where the taker was refused memory. The sink and the taker were given a beginning then: the
-/// sink dropped the last finding of it where it failed, and nothing was reported of a row that the taker was refused memory for.
+/// [`RunError::OutOfMemory`] exactly where the taker was refused memory. The sink and the taker were given a beginning then:
+/// nothing was reported of a row that the taker was refused memory for. At [`RunError::WriteFailed`] alone the sink is shut, and no
+/// page was read and the taker was not called after that.
 /// Which pages are marked is not specified.
 pub fn walk_tree<A: Allocator, S: Source, K: Sink, T: Taker>(
     source: &mut S,
@@ -76,19 +79,21 @@ pub fn walk_tree<A: Allocator, S: Source, K: Sink, T: Taker>(
     sink: &mut K,
 ) -> Result<(), RunError>
     requires schema { (root.kind ≡ root_kind.Schema) ↔ (root.start ≡ schema_start) }
+    requires open { (K.held sink.old).is_shut ≡ false }
     ensures shape { bench.new.geometry ≡ bench.old.geometry }
     ensures asks { Asks S.step (Reads bench.old.geometry.page_size marks.old marks.new) (λ file. bench.old.geometry ≡ shape_of file
         → root.encoding ≡ encoding_of file → (W : List Reference) (c : Reference) → IsRootAfter file root W c marks.old
-        → IsTreeDone K.takes K.drops T.takes T.refuses file W c result marks.new (sink.old, taker.old) (sink.new, taker.new))
+        → IsTreeDone K.takes T.takes T.refuses file W c result marks.new (sink.old, taker.old) (sink.new, taker.new))
         is_read_failed result (S.held source.old) (S.held source.new) }
     ensures writes { SinkAfter is_write_failed result (K.held sink.old) (K.held sink.new) }
+    ensures shut { IfErr result (λ e. (K.held sink.new).is_shut ≡ is_write_failed e) }
     ensures refusals { T.refusals taker.new ≡ failures_after is_out_of_memory result (T.refusals taker.old) }
     ensures only { IfErr result IsReadWriteOrMemory }
     ensures others { 1 ≤ root.start → (taker.new ≡ taker.old) × IfErr result IsReadOrWrite }
 {
     let step = tree_step(0, root.page, 0, root.start);
     if !enter(marks, step, itself, sink)? {
-        return Ok(());
+        return ask(sink);
     }
     bench.load(0, source, root.page)?;
     let tree = Tree::new(root.start, root_kind(bench, root));

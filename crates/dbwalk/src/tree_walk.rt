@@ -49,7 +49,7 @@ impl<A: Allocator, S: Source, K: Sink, T: Taker> TreeWalk<'_, '_, '_, '_, A, S, 
         ensures ends { OnOk result (cost self.new.marks.now frames.new.items < cost self.old.marks.now (frames.old.items ++ (frame ∷ []))) }
         ensures log { SaysOfFiles S.step S.held bench.old.geometry self.old self.new (λ file.
             AtStep (watches K.takes T.takes) file bench.old.levels (frames.old.items ++ (frame ∷ [])) self.old (λ W c before.
-            HasTurned (watches K.takes T.takes) (fails K.takes K.drops T.takes T.refuses) file (W, c, before) result (frames.new.items, bench.new.levels)
+            HasTurned (watches K.takes T.takes) (fails T.refuses) file (W, c, before) result (frames.new.items, bench.new.levels)
             (self.new.marks.now, self.new.tree) (self.new.sink.now, self.new.taker.now))) }
     {
         let cell = frame.next / 3;
@@ -72,7 +72,7 @@ impl<A: Allocator, S: Source, K: Sink, T: Taker> TreeWalk<'_, '_, '_, '_, A, S, 
     ///
     /// # Errors
     ///
-    /// [`RunError::ReadFailed`] exactly where the source failed, [`RunError::WriteFailed`] exactly where the sink failed,
+    /// [`RunError::ReadFailed`] exactly where the source failed, [`RunError::WriteFailed`] where the sink was found shut,
     /// [`RunError::OutOfMemory`] exactly where the taker was refused memory.
     pub(crate) fn take_step(
         &mut self,
@@ -89,7 +89,7 @@ impl<A: Allocator, S: Source, K: Sink, T: Taker> TreeWalk<'_, '_, '_, '_, A, S, 
         ensures ends { OnOk result (cost self.new.marks.now frames.new.items < cost self.old.marks.now (frames.old.items ++ (frame ∷ []))) }
         ensures log { SaysOfFiles S.step S.held bench.old.geometry self.old self.new (λ file.
             AtStep (watches K.takes T.takes) file bench.old.levels (frames.old.items ++ (frame ∷ [])) self.old (λ W c before.
-            HasTurned (watches K.takes T.takes) (fails K.takes K.drops T.takes T.refuses) file (W, c, before) result (frames.new.items, bench.new.levels)
+            HasTurned (watches K.takes T.takes) (fails T.refuses) file (W, c, before) result (frames.new.items, bench.new.levels)
             (self.new.marks.now, self.new.tree) (self.new.sink.now, self.new.taker.now))) }
     {
         match next {
@@ -105,7 +105,7 @@ impl<A: Allocator, S: Source, K: Sink, T: Taker> TreeWalk<'_, '_, '_, '_, A, S, 
             Next::Key(key) => {
                 frames.push(frame.stepped());
                 self.tree
-                    .tell_key(frame.page, frame.next / 3, key, false, self.sink)?;
+                    .tell_key(frame.page, frame.next / 3, key, false, self.sink);
                 Ok(())
             }
             Next::Chain { first, left, rowid } => {

@@ -3,7 +3,7 @@ use Rattle.std.proofs.Common.{◌≡◌, ℕ, ◌+◌, ◌-◌, ◌≤◌, ◌<�
 use Rattle.std.proofs.Common.{append_assoc}
 use Rattle.std.specs.Prelude.{IfSome}
 use Rattle.std.proofs.lemmas.List.{append-nil}
-use Rattle.dbsurvey.specs.Moves.{Moves}
+use Rattle.dbsurvey.specs.Moves.{Moves, MovesBySome}
 use Rattle.dbsurvey.specs.Story.{Go, errands_of}
 use Rattle.dbsurvey.specs.InOrder.{AreQuiet}
 use Rattle.dbformat.specs.File.{page_bytes}
@@ -27,7 +27,6 @@ use Rattle.dbwalk.specs.Done.{IsDone, IsLeft}
 use Rattle.dbwalk.specs.Entered.{IsNext, Enters}
 use Rattle.dbtrace.specs.Finding.{Finding, told_at, told_below}
 use Rattle.dbmarks.specs.Marking.{role_mark, AreMarksOf}
-use Rattle.dbwalk.specs.Telling.{StopsBy}
 use Rattle.dbwalk.proofs.Telling.Belows.{told_visit}
 use Rattle.dbwalk.proofs.Chaining.Feedings.{feeds_none, feeds_page, fed_whole, fed_refused}
 use Rattle.dbwalk.proofs.Telling.Lefts.{left_start, left_refused, left_visit, left_none, left_stop}
@@ -42,27 +41,27 @@ quiet_chain : (file : List ℕ) (d : Reference) (left : ℕ) → bytes_left (rol
 quiet_chain file d left h = subst (λ es. AreQuiet own_visit es) (sym (by_chain file d left h))
     (all_quiet.2 d (overflow_links d.page (usable_size file) left (page_bytes file d.page)))
 
-module _ {S : Type 0} (takes drops : S → Finding → S → Type 0) (file : List ℕ) (W : List Reference) (c : Reference) (before : S) (chain : Chain)
+module _ {S : Type 0} (takes : S → Finding → S → Type 0) (file : List ℕ) (W : List Reference) (c : Reference) (before : S) (chain : Chain)
     (place : ChainPlace) (marks : List Mark) (s : S) {first old : Option RowSieve} (on : IsOnWay takes file W c before chain place marks s first old) where
   -- the next reference is refused
-  pub turn_refused : (marks' : List Mark) (t : S) → Enters takes drops file on.visited on.d (Ok false) marks' s t
-      → IsDone {A = Unit {0}} takes drops file W (Go c ∷ []) (Ok tt) marks' before t × FeedsChain file W c first old
+  pub turn_refused : (marks' : List Mark) (t : S) → Enters takes file on.visited on.d (Ok false) marks' s t
+      → IsDone {A = Unit {0}} takes file W (Go c ∷ []) (Ok tt) marks' before t × FeedsChain file W c first old
   turn_refused marks' t e = (
-    left_none takes file W (Go c ∷ []) before on.visited marks' t drops tt
+    left_none takes file W (Go c ∷ []) before on.visited marks' t tt
         (left_refused takes file W (Go c ∷ []) before on.visited marks s t marks' on.d [] on.rest e.0 e.1 e.2),
     fed_refused file W c on.d first old on.pages on.visited on.fed on.since e.0 on.rest.visits,
   )
 
-  -- it is followed, but its page could not be read or reported
-  pub turn_stopped : (x : RunError) (marks' : List Mark) (m t : S) → Enters takes drops file on.visited on.d (Ok true) marks' s m
-      → StopsBy takes drops x m (told_at file (on.visited ++ (on.d ∷ [])) (at_page on.d)) t
-      → IsDone {A = Unit {0}} takes drops file W (Go c ∷ []) (Err x) marks' before t
-  turn_stopped x marks' m t e h = left_stop takes file W (Go c ∷ []) before on.visited marks s drops t marks' x (Go on.d ∷ [])
+  -- it is followed, but its page could not be read
+  pub turn_stopped : (x : RunError) (marks' : List Mark) (m t : S) → Enters takes file on.visited on.d (Ok true) marks' s m
+      → MovesBySome takes m (told_at file (on.visited ++ (on.d ∷ [])) (at_page on.d)) t
+      → IsDone {A = Unit {0}} takes file W (Go c ∷ []) (Err x) marks' before t
+  turn_stopped x marks' m t e h = left_stop takes file W (Go c ∷ []) before on.visited marks s t marks' x (Go on.d ∷ [])
       (told_at file (on.visited ++ (on.d ∷ [])) (at_page on.d)) (told_below file (on.visited ++ (on.d ∷ [])) (errands_of (story_of file) on.d ++ [])) on.rest
       (sym (told_visit file on.visited on.d [] e.0 (quiet_chain file on.d place.left on.left)))
-      (subst (λ y. StopsBy takes drops x y (told_at file (on.visited ++ (on.d ∷ [])) (at_page on.d)) t) (sym e.2) h)
+      (subst (λ y. MovesBySome takes y (told_at file (on.visited ++ (on.d ∷ [])) (at_page on.d)) t) (sym e.2) h)
 
-  turn_visited : (marks' : List Mark) (m t : S) → Enters takes drops file on.visited on.d (Ok true) marks' s m
+  turn_visited : (marks' : List Mark) (m t : S) → Enters takes file on.visited on.d (Ok true) marks' s m
       → Moves takes m (told_at file (on.visited ++ (on.d ∷ [])) (at_page on.d)) t
       → IsLeft takes file W (Go c ∷ []) before (on.visited ++ (on.d ∷ [])) (errands_of (story_of file) on.d ++ []) (marks', t)
   turn_visited marks' m t e h = left_visit takes file W (Go c ∷ []) before on.visited marks s t marks' on.d [] on.rest e.0
@@ -73,20 +72,20 @@ module _ {S : Type 0} (takes drops : S → Finding → S → Type 0) (file : Lis
   since_more = ap (λ V. V ++ on.d ∷ []) on.since ∙ append_assoc W on.pages (on.d ∷ [])
 
   -- it was the last page
-  pub turn_last : (marks' : List Mark) (m t : S) → Enters takes drops file on.visited on.d (Ok true) marks' s m
+  pub turn_last : (marks' : List Mark) (m t : S) → Enters takes file on.visited on.d (Ok true) marks' s m
       → Moves takes m (told_at file (on.visited ++ (on.d ∷ [])) (at_page on.d)) t → place.left ≤ usable_size file - 4
       → (new : Option RowSieve) → Feeds old (held_bytes file on.d) new
-      → IsDone {A = Unit {0}} takes drops file W (Go c ∷ []) (Ok tt) marks' before t × FeedsChain file W c first new
+      → IsDone {A = Unit {0}} takes file W (Go c ∷ []) (Ok tt) marks' before t × FeedsChain file W c first new
   turn_last marks' m t e h l new f =
       let n = subst (λ es. IsLeft takes file W (Go c ∷ []) before (on.visited ++ (on.d ∷ [])) es (marks', t))
       (ap (λ es. es ++ []) (last_errands file on.d place.left on.left l)) (turn_visited marks' m t e h) in (
-        left_none takes file W (Go c ∷ []) before (on.visited ++ (on.d ∷ [])) marks' t drops tt n,
+        left_none takes file W (Go c ∷ []) before (on.visited ++ (on.d ∷ [])) marks' t tt n,
         fed_whole file W c first new (on.pages ++ on.d ∷ []) (on.visited ++ on.d ∷ []) (feeds_page file first old new on.pages on.d on.fed f) since_more
             n.visits,
       )
 
   -- the next one is after it
-  pub turn_more : (marks' : List Mark) (m t : S) (next : NextPage) → Enters takes drops file on.visited on.d (Ok true) marks' s m
+  pub turn_more : (marks' : List Mark) (m t : S) (next : NextPage) → Enters takes file on.visited on.d (Ok true) marks' s m
       → Moves takes m (told_at file (on.visited ++ (on.d ∷ [])) (at_page on.d)) t → usable_size file - 4 < place.left
       → IsNextPage file place.step.page place.left next
       → (new : Option RowSieve) → Feeds old (held_bytes file on.d) new
@@ -119,7 +118,7 @@ module _ {S : Type 0} (takes drops : S → Finding → S → Type 0) (file : Lis
   }
 
   pub turn_more_by : (marks' : List Mark) (m t : S) (next : NextPage) (room : ℕ) → room ≡ usable_size file - 4
-      → Enters takes drops file on.visited on.d (Ok true) marks' s m
+      → Enters takes file on.visited on.d (Ok true) marks' s m
       → Moves takes m (told_at file (on.visited ++ (on.d ∷ [])) (at_page on.d)) t → usable_size file - 4 < place.left
       → IsNextPage file place.step.page place.left next
       → (new : Option RowSieve) → Feeds old (held_bytes file on.d) new

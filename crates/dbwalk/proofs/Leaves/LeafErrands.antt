@@ -168,11 +168,11 @@ quiet_overflow c i None e h = absurd h
 quiet_overflow c i (Some o) e (inl h) = cc
 quiet_overflow c i (Some o) e (inr h) = absurd h
 
-pub none_done : {S : Type 0} (takes drops : S → Finding → S → Type 0) (file : List ℕ) (U : List Reference) (c : Reference) (i : ℕ) (overflow : Option (ℕ × ℕ))
+pub none_done : {S : Type 0} (takes : S → Finding → S → Type 0) (file : List ℕ) (U : List Reference) (c : Reference) (i : ℕ) (overflow : Option (ℕ × ℕ))
     (marks : List Mark) (s : S) → overflow ≡ None → AreMarksOf file U marks
-    → IsDone {A = Unit {0}} takes drops file U (overflow_errands c i overflow) (Ok tt) marks s s
-none_done takes drops file U c i overflow marks s e m =
-    subst (λ o. IsDone {A = Unit {0}} takes drops file U (overflow_errands c i o) (Ok tt) marks s s) (sym e) (record {
+    → IsDone {A = Unit {0}} takes file U (overflow_errands c i overflow) (Ok tt) marks s s
+none_done takes file U c i overflow marks s e m =
+    subst (λ o. IsDone {A = Unit {0}} takes file U (overflow_errands c i o) (Ok tt) marks s s) (sym e) (record {
       marked = subst (λ V. AreMarksOf file V marks) (sym (ap (λ V. U ++ V) (visited_none file U) ∙ append-nil U)) m;
       told = subst (λ L. Moves takes s L s) (sym (told_none file U)) refl;
     })

@@ -1,6 +1,6 @@
 -- What is reported of a page, as the program reports it.
-use Rattle.std.proofs.Common.{◌≡◌, ℕ, Bool, true, false, List, [], ◌∷◌, ◌++◌, map, Option, Some, None, refl, ap, ◌∙◌, zero, suc, ◌+◌, ◌-◌, ◌<◌, ◌&&◌, length}
-use Rattle.std.proofs.Common.{Result, Ok, Err, sym, subst, arith, append_assoc, inl, inr, max, fold, sum_by, cond, append-nil, Less, Equal, Greater, ◌≤◌}
+use Rattle.std.proofs.Common.{◌≡◌, ℕ, Bool, true, false, List, [], ◌∷◌, ◌++◌, map, Option, Some, None, refl, ap, ◌∙◌, zero, suc, ◌+◌, ◌<◌, ◌&&◌, length}
+use Rattle.std.proofs.Common.{Result, Ok, Err, sym, subst, arith, inl, inr, max, fold, sum_by, cond, append-nil, Less, Equal, Greater, ◌≤◌}
 use Rattle.std.specs.Prelude.{option_to_list, option_and_then, flat_map, ◌==◌, filter_map, option_map, IsSomeAnd, IfSome, IsOk}
 use Rattle.dbformat.specs.Header.{usable_size}
 use Rattle.dbformat.specs.File.{page_bytes}
@@ -25,12 +25,13 @@ use Rattle.dbformat.specs.Story.{at_page}
 use Rattle.dbtrace.proofs.Causing.{inner_codes, inner_same, told_by-append, tree_same, page_same}
 use Rattle.dbtrace.proofs.Depths.{no_depth, told_same as told_alike}
 use Rattle.dbwalk.specs.Found.{view_row, damaged_row, inner_cause, view_cause, with_leaf, page_findings}
-use Rattle.dbwalk.specs.Telling.{IsReportedTo, HasFailed, SinkState}
+use Rattle.dbwalk.specs.Telling.{IsReportedTo, SinkState}
+use Rattle.dbwalk.proofs.Telling.Sinks.{moves_then}
 use Rattle.std.specs.List.{range_with_len, cons_option}
 use Rattle.std.specs.Option.{is_none}
 use Rattle.std.proofs.lemmas.Grind.{common_steps, flat_map-append}
 use Rattle.std.proofs.lemmas.Bool.Decides.{nat_tests}
-use Rattle.dbsurvey.proofs.Moving.{Moves-append, stops_first, stops_after}
+use Rattle.dbsurvey.proofs.Moving.{Moves-append}
 use Rattle.dbformat.proofs.Looping.{range-one-more}
 use Rattle.std.specs.Result.{result_ok}
 use Rattle.std.proofs.lemmas.Bool.{cases_order}
@@ -142,71 +143,25 @@ row_of_damage c page start path a b n p = rw (← a, ← b, n, ← p) refl
 -- What was reported to a sink, call after call.
 
 -- some items, and then others
-pub told_then : {S I A B E : Type 0} {takes drops : S → I → S → Type 0} {held : S → SinkState} {a : A} (r0 : Result A E) (r : Result B E) {s m t : S}
-    (L M : List I) → r0 ≡ Ok a → IsReportedTo takes drops held r0 s L m → IsReportedTo takes drops held r m M t → IsReportedTo takes drops held r s (L ++ M) t
-told_then (Ok b) (Ok c) {s} {m} {t} L M e h k = record { items = Moves-append _ s m t L M h.items k.items; count = k.count ∙ h.count }
-told_then {held = held} (Ok b) (Err c) {s} {m} {t} L M e h k =
-    record { items = stops_after _ _ s m t L M h.items k.items; count = subst (λ n. HasFailed n (held t)) h.count k.count }
-told_then (Err b) r L M e h k = cc
+pub told_then : {S I : Type 0} {takes : S → I → S → Type 0} {held : S → SinkState} {s m t : S} (L M : List I) → IsReportedTo takes held s L m
+    → IsReportedTo takes held m M t → IsReportedTo takes held s (L ++ M) t
+told_then {s = s} {m} {t} L M h k = record { items = Moves-append _ s m t L M h.items k.items; count = moves_then h.count k.count }
 
--- an error in the first of two lists
-pub told_stop : {S I A B E F : Type 0} {takes drops : S → I → S → Type 0} {held : S → SinkState} {e : E} {f : F} (r0 : Result A E) (r : Result B F) {s t : S}
-    (L M : List I) → r0 ≡ Err e → r ≡ Err f → IsReportedTo takes drops held r0 s L t → IsReportedTo takes drops held r s (L ++ M) t
-told_stop (Ok b) r L M e f h = cc
-told_stop (Err b) (Ok c) L M e f h = cc
-told_stop (Err b) (Err c) {s} {t} L M e f h = record { items = stops_first _ _ s t L M h.items; count = h.count }
-
--- the same error, of a call that answers something else
-pub told_same : {S I A B E F : Type 0} {takes drops : S → I → S → Type 0} {held : S → SinkState} {e : E} {f : F} (r0 : Result A E) (r : Result B F) {s t : S}
-    {L : List I} → r0 ≡ Err e → r ≡ Err f → IsReportedTo takes drops held r0 s L t → IsReportedTo takes drops held r s L t
-told_same (Ok b) r e f h = cc
-told_same (Err b) (Ok c) e f h = cc
-told_same (Err b) (Err c) e f h = record { items = h.items; count = h.count }
-
--- the answer does not matter beyond Ok
-pub told_ok : {S I A B E : Type 0} {takes drops : S → I → S → Type 0} {held : S → SinkState} {a : A} (b : B) (r0 : Result A E) {s t : S} {L : List I} → r0
-    ≡ Ok a → IsReportedTo takes drops held r0 s L t → IsReportedTo {E = E} takes drops held (Ok b) s L t
-told_ok b (Ok a) e h = record { items = h.items; count = h.count }
-told_ok b (Err a) e h = cc
+-- none
+pub told_nothing : {S I : Type 0} {takes : S → I → S → Type 0} {held : S → SinkState} {s : S} → IsReportedTo takes held s [] s
+told_nothing = record { items = refl; count = inl refl }
 
 -- the same of faults
-pub faults_then : (why : FaultCode → Cause) {S A B E : Type 0} {takes drops : S → Finding → S → Type 0} {held : S → SinkState} {a : A} (r0 : Result A E)
-    (r : Result B E) {s m t : S} (L M : List Fault) → r0 ≡ Ok a → IsReportedTo takes drops held r0 s (told_by why L) m
-    → IsReportedTo takes drops held r m (told_by why M) t → IsReportedTo takes drops held r s (told_by why (L ++ M)) t
-faults_then why {takes = takes} {drops = drops} {held = held} r0 r {s} {m} {t} L M e h k =
-    subst (λ l. IsReportedTo takes drops held r s l t) (sym (told_by-append why L M)) (told_then r0 r (told_by why L) (told_by why M) e h k)
-
-pub faults_stop : (why : FaultCode → Cause) {S A B E F : Type 0} {takes drops : S → Finding → S → Type 0} {held : S → SinkState} {e : E} {f : F}
-    (r0 : Result A E) (r : Result B F) {s t : S} (L rest fs : List Fault) → L ++ rest ≡ fs → r0 ≡ Err e → r ≡ Err f
-    → IsReportedTo takes drops held r0 s (told_by why L) t → IsReportedTo takes drops held r s (told_by why fs) t
-faults_stop why {takes = takes} {drops = drops} {held = held} r0 r {s} {t} L rest fs whole e f h =
-    subst (λ l. IsReportedTo takes drops held r s l t) (sym (told_by-append why L rest) ∙ ap (told_by why) whole)
-    (told_stop r0 r (told_by why L) (told_by why rest) e f h)
+pub faults_then : (why : FaultCode → Cause) {S : Type 0} {takes : S → Finding → S → Type 0} {held : S → SinkState} {s m t : S} (L M : List Fault)
+    → IsReportedTo takes held s (told_by why L) m → IsReportedTo takes held m (told_by why M) t → IsReportedTo takes held s (told_by why (L ++ M)) t
+faults_then why {takes = takes} {held = held} {s} {m} {t} L M h k =
+    subst (λ l. IsReportedTo takes held s l t) (sym (told_by-append why L M)) (told_then (told_by why L) (told_by why M) h k)
 
 -- one element more of a range
 
 pub faults_more : (f : ℕ → List Fault) (n : ℕ) → flat_map f (range_with_len 0 (n + 1)) ≡ flat_map f (range_with_len 0 n) ++ f n
 faults_more f n = ap (flat_map f) (range-one-more n) ∙ flat_map-append f (range_with_len 0 n) (n ∷ [])
     ∙ ap (λ l. flat_map f (range_with_len 0 n) ++ l) (append-nil (f n))
-
--- a beginning of a range
-pub faults_rest : (f : ℕ → List Fault) (n i : ℕ) → i < n → (rest : List Fault)
-    × ((flat_map f (range_with_len 0 i) ++ f i) ++ rest ≡ flat_map f (range_with_len 0 n))
-faults_rest f n i l = by_gap f i (n - (i + 1)) n (omega arith)
-  where
-    by_gap : (f : ℕ → List Fault) (i d n : ℕ) → n ≡ (i + 1) + d → (rest : List Fault)
-        × ((flat_map f (range_with_len 0 i) ++ f i) ++ rest ≡ flat_map f (range_with_len 0 n))
-    by_gap f i zero n e = (
-      [],
-      append-nil (flat_map f (range_with_len 0 i) ++ f i) ∙ sym (faults_more f i)
-          ∙ ap (λ m. flat_map f (range_with_len 0 m)) (let g : i + 1 ≡ n = omega arith in g),
-    )
-    by_gap f i (suc d) n e =
-        let m = by_gap f i d (n - 1) (omega arith) in (
-          m.0 ++ f (n - 1),
-          sym (append_assoc (flat_map f (range_with_len 0 i) ++ f i) m.0 (f (n - 1))) ∙ ap (λ l. l ++ f (n - 1)) m.1
-              ∙ sym (faults_more f (n - 1)) ∙ ap (λ m. flat_map f (range_with_len 0 m)) (let g : (n - 1) + 1 ≡ n = omega arith in g),
-        )
 
 pub none_more : (fs gs : List Fault) → (length (fs ++ gs) == 0) ≡ ((length fs == 0) && (length gs == 0))
 none_more [] gs = refl

@@ -1,7 +1,7 @@
 -- What is reported of a page, by what a program finds of it.
 use Rattle.std.proofs.Common.{◌≡◌, ℕ, ◌+◌, true, false, not, ◌&&◌, cond, List, [], ◌∷◌, ◌++◌, length, map, Option, Some, None, refl, sym, ap, ap₂, arith, ◌∙◌}
-use Rattle.std.proofs.Common.{Bool, Result, Ok, Err, subst, ◌-◌}
-use Rattle.std.specs.Prelude.{nat_lt, pos, ◌==◌, OnOk, slice_get}
+use Rattle.std.proofs.Common.{Bool, subst, ◌-◌}
+use Rattle.std.specs.Prelude.{nat_lt, pos, ◌==◌, slice_get}
 use Rattle.std.specs.Option.{option_map_or}
 use Rattle.std.proofs.lemmas.List.{append-nil}
 use Rattle.std.proofs.lemmas.Bool.Decides.{nat_tests}
@@ -29,7 +29,7 @@ use Rattle.dbwalk.specs.Found.{undamaged_findings, damaged_row, view_cause, with
 use Rattle.dbwalk.specs.Telling.{IsReportedTo, SinkState}
 use Rattle.dbwalk.specs.Walking.{IsCandidate, role_at, IsOpen, IsLeafAt}
 use Rattle.dbtrace.proofs.Causing.{inner_codes, inner_same}
-use Rattle.dbwalk.proofs.Pages.PageTellings.{is_child, page_told, view_is, row_of_view, row_of_damage, told_then, told_stop, told_same, told_ok}
+use Rattle.dbwalk.proofs.Pages.PageTellings.{is_child, page_told, view_is, row_of_view, row_of_damage, told_then}
 use Rattle.dbsurvey.specs.Traverse.{is_followed}
 use Rattle.dbformat.specs.Survey.{rules_of}
 use Rattle.dbtrace.specs.Walk.{Walk}
@@ -170,17 +170,13 @@ module _ (file : List ℕ) (kind : TreeKind) (k : ℕ) (path : List ℕ) (p from
 
 -- How the report of a page ends.
 
-pub on_err : {A E : Type 0} (P : Type 0) {e : E} (r : Result A E) → r ≡ Err e → OnOk r P
-on_err P (Ok a) e = cc
-on_err P (Err x) e = tt
-
-module _ {S : Type 0} (A E : Type 0) (takes drops : S → Finding → S → Type 0) (held : S → SinkState) (file : List ℕ) (kind : TreeKind) (k : ℕ) (path : List ℕ)
+module _ {S : Type 0} (takes : S → Finding → S → Type 0) (held : S → SinkState) (file : List ℕ) (kind : TreeKind) (k : ℕ) (path : List ℕ)
     (p from item : ℕ) (c : Reference) (candidate : IsCandidate kind k path p from item c)
     (usable : ℕ) (usable_is : usable ≡ usable_size file) (bytes : List ℕ) (bytes_are : bytes ≡ page_bytes file p)
     (rowids : RowidBounds) (leaf : Option TreeLeaf) (path' : List ℕ) (path_is : path' ≡ path) (rowids' : RowidBounds) (rowids_are : rowids' ≡ rowids)
     (depth : ℕ) (depth_is : depth ≡ length path + 1) (s : S) where
-  abbrev Exit : Result A E → S → Option TreeLeaf → Type 0
-  Exit r t new = IsReportedTo takes drops held r s (page_findings file rowids leaf c) t × OnOk r (new ≡ leaf_after file leaf c)
+  abbrev Exit : S → Option TreeLeaf → Type 0
+  Exit t new = IsReportedTo takes held s (page_findings file rowids leaf c) t × (new ≡ leaf_after file leaf c)
 
   seen_as : (o : Option View) → undamaged kind p usable bytes ≡ o → undamaged kind p (usable_size file) (page_bytes file p) ≡ o
   seen_as o e = ap (λ u. undamaged kind p u (page_bytes file p)) (sym usable_is) ∙ ap (λ b. undamaged kind p usable b) (sym bytes_are) ∙ e
@@ -190,9 +186,8 @@ module _ {S : Type 0} (A E : Type 0) (takes drops : S → Finding → S → Type
   read_faults b fs e = ap (λ u. tree_page_faults kind b p u (page_bytes file p)) (sym usable_is) ∙ ap (λ y. tree_page_faults kind b p usable y) (sym bytes_are)
       ∙ e
 
-  module _ (f : Fault) (none : undamaged kind p usable bytes ≡ None) (one : (b : Bool) → tree_page_faults kind b p usable bytes ≡ f ∷ []) {B : Type 0}
-      (r0 : Result B E) (t : S)
-      (told : IsReportedTo takes drops held r0 s (damaged_findings k path' rowids' p usable bytes f) t) where
+  module _ (f : Fault) (none : undamaged kind p usable bytes ≡ None) (one : (b : Bool) → tree_page_faults kind b p usable bytes ≡ f ∷ []) (t : S)
+      (told : IsReportedTo takes held s (damaged_findings k path' rowids' p usable bytes f) t) where
     all_told : page_findings file rowids leaf c ≡ damaged_findings k path' rowids' p usable bytes f
     all_told = told_damaged file kind k path p from item c candidate rowids leaf f (seen_as None none)
         (read_faults (nat_lt 1 (length path + 1)) (f ∷ []) (one (nat_lt 1 (length path + 1))))
@@ -200,25 +195,22 @@ module _ {S : Type 0} (A E : Type 0) (takes drops : S → Finding → S → Type
         ∙ ap (λ u. damaged_findings k path' rowids p u (page_bytes file p) f) (sym usable_is)
         ∙ ap₂ (λ w b. damaged_findings k path' w p usable b f) (sym rowids_are) (sym bytes_are)
 
-    pub exit_damaged : (a : A) {b : B} → r0 ≡ Ok b → Exit (Ok a) t leaf
-    exit_damaged a e = (
-      subst (λ L. IsReportedTo {E = E} takes drops held (Ok a) s L t) (sym all_told) (told_ok a r0 e told),
+    pub exit_damaged : Exit t leaf
+    exit_damaged = (
+      subst (λ L. IsReportedTo takes held s L t) (sym all_told) told,
       sym (leaf_after_damaged file kind k path p from item c candidate rowids leaf (seen_as None none)),
     )
 
-    pub exit_damaged_stop : (new : Option TreeLeaf) (r : Result A E) {e x : E} → r0 ≡ Err e → r ≡ Err x → Exit r t new
-    exit_damaged_stop new r e f = (subst (λ L. IsReportedTo takes drops held r s L t) (sym all_told) (told_same r0 r e f told), on_err _ r f)
-
   module _ (v : View) (viewed : undamaged kind p usable bytes ≡ Some v) (number : v.number ≡ p)
-      (within : (b : Bool) → tree_page_faults kind b p usable bytes ≡ inner_faults v b) {B : Type 0} (r0 : Result B E) (t : S)
-      (told : IsReportedTo takes drops held r0 s (undamaged_findings k path' rowids' v (nat_lt 1 depth)) t) where
+      (within : (b : Bool) → tree_page_faults kind b p usable bytes ≡ inner_faults v b) (t : S)
+      (told : IsReportedTo takes held s (undamaged_findings k path' rowids' v (nat_lt 1 depth)) t) where
     abbrev first_told : List Finding
     first_told = undamaged_findings k path rowids v (nat_lt 1 (length path + 1))
 
-    told_first : IsReportedTo takes drops held r0 s first_told t
-    told_first = subst (λ n. IsReportedTo takes drops held r0 s (undamaged_findings k path rowids v (nat_lt 1 n)) t) depth_is
-        (subst (λ q. IsReportedTo takes drops held r0 s (undamaged_findings k q rowids v (nat_lt 1 depth)) t) path_is
-        (subst (λ w. IsReportedTo takes drops held r0 s (undamaged_findings k path' w v (nat_lt 1 depth)) t) rowids_are told))
+    told_first : IsReportedTo takes held s first_told t
+    told_first = subst (λ n. IsReportedTo takes held s (undamaged_findings k path rowids v (nat_lt 1 n)) t) depth_is
+        (subst (λ q. IsReportedTo takes held s (undamaged_findings k q rowids v (nat_lt 1 depth)) t) path_is
+        (subst (λ w. IsReportedTo takes held s (undamaged_findings k path' w v (nat_lt 1 depth)) t) rowids_are told))
 
     abbrev there : undamaged kind p (usable_size file) (page_bytes file p) ≡ Some v
     there = seen_as (Some v) viewed
@@ -226,42 +218,28 @@ module _ {S : Type 0} (A E : Type 0) (takes drops : S → Finding → S → Type
     abbrev inner : tree_page_faults kind (nat_lt 1 (length path + 1)) p (usable_size file) (page_bytes file p) ≡ inner_faults v (nat_lt 1 (length path + 1))
     inner = read_faults (nat_lt 1 (length path + 1)) (inner_faults v (nat_lt 1 (length path + 1))) (within (nat_lt 1 (length path + 1)))
 
-    pub exit_stop : (new : Option TreeLeaf) (r : Result A E) {e x : E} → r0 ≡ Err e → r ≡ Err x → Exit r t new
-    exit_stop new r e f = (
-      subst (λ L. IsReportedTo takes drops held r s L t) (sym (row_and_faults file kind k path p from item c candidate rowids leaf v there number inner))
-          (told_stop r0 r first_told (told_by (with_leaf (visit_cause rowids file c) leaf) (depth_faults file leaf c)) e f told_first),
-      on_err _ r f,
-    )
-
-    pub exit_interior : (a : A) {b : B} → r0 ≡ Ok b → is_interior v.kind ≡ true → Exit (Ok a) t leaf
-    exit_interior a e i = (
-      subst (λ L. IsReportedTo {E = E} takes drops held (Ok a) s L t)
-          (sym (told_interior file kind k path p from item c candidate rowids leaf v there number inner i)) (told_ok a r0 e told_first),
+    pub exit_interior : is_interior v.kind ≡ true → Exit t leaf
+    exit_interior i = (
+      subst (λ L. IsReportedTo takes held s L t)
+          (sym (told_interior file kind k path p from item c candidate rowids leaf v there number inner i)) told_first,
       sym (leaf_after_interior file kind k path p from item c candidate rowids leaf v there number inner i),
     )
 
-    module _ {b : B} (ok : r0 ≡ Ok b) (is_leaf : is_interior v.kind ≡ false) {C : Type 0} (r1 : Result C E) (t1 : S)
-        (last : IsReportedTo takes drops held r1 t (depth_told leaf p depth) t1) where
+    module _ (is_leaf : is_interior v.kind ≡ false) (t1 : S) (last : IsReportedTo takes held t (depth_told leaf p depth) t1) where
       abbrev last_told : List Finding
       last_told = depth_told leaf p (length path + 1)
 
-      told_last : IsReportedTo takes drops held r1 t last_told t1
-      told_last = subst (λ n. IsReportedTo takes drops held r1 t (depth_told leaf p n) t1) depth_is last
+      told_last : IsReportedTo takes held t last_told t1
+      told_last = subst (λ n. IsReportedTo takes held t (depth_told leaf p n) t1) depth_is last
 
-      both_told : IsReportedTo takes drops held r1 s (page_findings file rowids leaf c) t1
-      both_told = subst (λ L. IsReportedTo takes drops held r1 s L t1)
-          (sym (told_leaf file kind k path p from item c candidate rowids leaf v there number inner is_leaf))
-          (told_then r0 r1 first_told last_told ok told_first told_last)
-
-      pub exit_leaf : (a : A) {z : C} (new : Option TreeLeaf) → r1 ≡ Ok z → new ≡ Some (first_of leaf p depth) → Exit (Ok a) t1 new
-      exit_leaf a new e n = (
-        told_ok a r1 e both_told,
+      pub exit_leaf : (new : Option TreeLeaf) → new ≡ Some (first_of leaf p depth) → Exit t1 new
+      exit_leaf new n = (
+        subst (λ L. IsReportedTo takes held s L t1)
+            (sym (told_leaf file kind k path p from item c candidate rowids leaf v there number inner is_leaf))
+            (told_then first_told last_told told_first told_last),
         n ∙ ap (λ n. Some (first_of leaf p n)) depth_is ∙ sym (leaf_after_leaf file kind k path p from item c candidate rowids leaf v there number inner
             is_leaf),
       )
-
-      pub exit_leaf_stop : (new : Option TreeLeaf) (r : Result A E) {e x : E} → r1 ≡ Err e → r ≡ Err x → Exit r t1 new
-      exit_leaf_stop new r e f = (told_same r1 r e f both_told, on_err _ r f)
 
 -- A page of a tree that was read, by what it is.
 

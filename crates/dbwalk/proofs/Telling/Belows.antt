@@ -17,11 +17,6 @@ use Rattle.dbformat.specs.Survey.{rules_of}
 use Rattle.dbformat.specs.Story.{Event, at_page, at_refused, own_visit, story_of}
 use Rattle.dbformat.proofs.Theory.{are_rules, is_story, shows_visits}
 use Rattle.dbtrace.specs.Finding.{told_at, told_below, visited_below}
-use Rattle.dbsurvey.specs.Moves.{Moves}
-use Rattle.dbsurvey.proofs.Moving.{some_first, some_after, stops_first, stops_after}
-use Rattle.dbsource.specs.declared.error.RunError.{RunError}
-use Rattle.dbsource.specs.declared.error.RunError.TheVariants.{Refused, ReadFailed, OutOfMemory, WriteFailed}
-use Rattle.dbwalk.specs.Telling.{StopsBy}
 
 module _ (file : List ℕ) where
   abbrev pages : ℕ
@@ -112,18 +107,3 @@ below_begins file U d u i =
       | inl e ↦ (m.2.0, m.2.1 ∙ ap (λ r. r.address ++ m.2.0) e)
       | inr n ↦ absurd n
     ]
-
-module _ {S I : Type 0} (takes drops : S → I → S → Type 0) where
-  -- an error in the first of two lists of items
-  pub stops_by_first : (e : RunError) (s t : S) (L M : List I) → StopsBy takes drops e s L t → StopsBy takes drops e s (L ++ M) t
-  stops_by_first (Refused r) s t L M h = some_first takes s t L M h
-  stops_by_first ReadFailed s t L M h = some_first takes s t L M h
-  stops_by_first OutOfMemory s t L M h = some_first takes s t L M h
-  stops_by_first WriteFailed s t L M h = stops_first takes drops s t L M h
-
-  -- some items, and then an error
-  pub stops_by_after : (e : RunError) (s m t : S) (L M : List I) → Moves takes s L m → StopsBy takes drops e m M t → StopsBy takes drops e s (L ++ M) t
-  stops_by_after (Refused r) s m t L M h k = some_after takes s m t L M h k
-  stops_by_after ReadFailed s m t L M h k = some_after takes s m t L M h k
-  stops_by_after OutOfMemory s m t L M h k = some_after takes s m t L M h k
-  stops_by_after WriteFailed s m t L M h k = stops_after takes drops s m t L M h k

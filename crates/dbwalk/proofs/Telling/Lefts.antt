@@ -4,11 +4,11 @@ use Rattle.std.proofs.Common.{Some, None}
 use Rattle.std.proofs.lemmas.List.{append-nil}
 use Rattle.dbsurvey.specs.Address.{IsIn, IsBefore, IsLeftOf}
 use Rattle.dbsurvey.specs.Traverse.{is_followed}
-use Rattle.dbsurvey.specs.Moves.{Moves}
+use Rattle.dbsurvey.specs.Moves.{Moves, MovesBySome}
 use Rattle.dbsurvey.specs.Story.{step_of, Errand, Go, errand_key, errands_of, AreErrandsApart}
 use Rattle.dbsurvey.specs.InOrder.{AreQuiet, IsPast}
 use Rattle.dbsurvey.proofs.Order.{IsIn-cases, IsIn-right, EachPair-append, EachPair-left, EachPair-right, IsLeftOf-before, IsLeftOf-longer}
-use Rattle.dbsurvey.proofs.Moving.{Moves-append}
+use Rattle.dbsurvey.proofs.Moving.{Moves-append, some_after, some_first}
 use Rattle.dbsurvey.proofs.Past.{past_visit, past_join, errands_apart}
 use Rattle.dbsurvey.proofs.Tellings.{errands_at-step}
 use Rattle.dbformat.specs.File.{geometry}
@@ -25,10 +25,9 @@ use Rattle.dbwalk.specs.Walking.{IsCandidate, role_at}
 use Rattle.dbformat.specs.declared.TreeKind.{TreeKind}
 use Rattle.dbtrace.specs.declared.Cause.{Cause}
 use Rattle.dbtrace.specs.Finding.{Finding, told_at, told_below, visited_below, told_fault}
-use Rattle.dbwalk.specs.Telling.{StopsBy}
 use Rattle.dbwalk.specs.Done.{IsDone, IsLeft}
-use Rattle.dbwalk.specs.Entered.{Enters, IsNext, IsStepOf}
-use Rattle.dbwalk.proofs.Telling.Belows.{stops_by_first, stops_by_after, visited_none, visited_refused, visited_visit, visited_join, told_none, told_join}
+use Rattle.dbwalk.specs.Entered.{IsNext, IsStepOf}
+use Rattle.dbwalk.proofs.Telling.Belows.{visited_none, visited_refused, visited_visit, visited_join, told_none, told_join}
 use Rattle.dbwalk.proofs.Telling.Belows.{told_refused, told_visit}
 use Rattle.std.specs.Prelude.{pos}
 use Rattle.dbformat.specs.ReferenceFaults.{refusal_fault}
@@ -106,11 +105,11 @@ module _ {S : Type 0} (takes : S → Finding → S → Type 0) (file : List ℕ)
     }
 
     -- a call does the first errands
-    pub left_call : {A : Type 0} (drops : S → Finding → S → Type 0) (t : S) (marks' : List Mark) (a : A) (es fs : List (Errand Way Event))
+    pub left_call : {A : Type 0} (t : S) (marks' : List Mark) (a : A) (es fs : List (Errand Way Event))
         → IsLeft takes file W errands before U (es ++ fs) (marks, s)
-        → AreQuiet own_visit es → IsDone takes drops file U es (Ok a) marks' s t
+        → AreQuiet own_visit es → IsDone takes file U es (Ok a) marks' s t
         → IsLeft takes file W errands before (U ++ visited_below file U es) fs (marks', t)
-    left_call drops t marks' a es fs h quiet done = record {
+    left_call t marks' a es fs h quiet done = record {
       marked = done.marked;
       past = past_join (rules_of file) (geometry file).pages (are_rules file) U es fs h.apart
           (EachPair-left (λ e f. IsLeftOf (errand_key e) (errand_key f)) es fs h.apart) (λ u f i j. h.past u f i (IsIn-right f es fs j));
@@ -123,29 +122,28 @@ module _ {S : Type 0} (takes : S → Finding → S → Type 0) (file : List ℕ)
     }
 
     -- nothing is left
-    pub left_none : {A : Type 0} (drops : S → Finding → S → Type 0) (a : A) → IsLeft takes file W errands before U [] (marks, s)
-        → IsDone takes drops file W errands (Ok a) marks before s
-    left_none drops a h = record {
+    pub left_none : {A : Type 0} (a : A) → IsLeft takes file W errands before U [] (marks, s)
+        → IsDone takes file W errands (Ok a) marks before s
+    left_none a h = record {
       marked = subst (λ V. AreMarksOf file V marks) (sym (append-nil U) ∙ ap (λ V. U ++ V) (sym (visited_none file U)) ∙ h.visits) h.marked;
       told = subst (λ L. Moves takes before L s) (sym (append-nil h.items) ∙ ap (λ L. h.items ++ L) (sym (told_none file U)) ∙ h.rest) h.told;
     }
 
     -- an error, while the first items of what is left are reported
-    pub left_stop : {A : Type 0} (drops : S → Finding → S → Type 0) (t : S) (marks' : List Mark) (e : RunError) (left : List (Errand Way Event))
+    pub left_stop : {A : Type 0} (t : S) (marks' : List Mark) (e : RunError) (left : List (Errand Way Event))
         (part rest : List Finding)
         → IsLeft takes file W errands before U left (marks, s) → part ++ rest ≡ told_below file U left
-        → StopsBy takes drops e s part t → IsDone {A = A} takes drops file W errands (Err e) marks' before t
-    left_stop drops t marks' e left part rest h whole k = record {
+        → MovesBySome takes s part t → IsDone {A = A} takes file W errands (Err e) marks' before t
+    left_stop t marks' e left part rest h whole k = record {
       marked = tt;
-      told = subst (λ L. StopsBy takes drops e before L t) (ap (λ L. h.items ++ L) whole ∙ h.rest)
-          (stops_by_after takes drops e before s t h.items (part ++ rest) h.told (stops_by_first takes drops e s t part rest k));
+      told = subst (λ L. MovesBySome takes before L t) (ap (λ L. h.items ++ L) whole ∙ h.rest)
+          (some_after takes before s t h.items (part ++ rest) h.told (some_first takes s t part rest k));
     }
 
-    -- an error, while the refusal of a reference is reported
-    pub left_untold : (drops : S → Finding → S → Type 0) (t : S) (marks' : List Mark) (e : RunError) (c : Reference) (es : List (Errand Way Event))
-        → IsLeft takes file W errands before U (Go c ∷ es) (marks, s) → Enters takes drops file U c (Err e) marks' s t
-        → IsDone {A = Unit {0}} takes drops file W errands (Err e) marks' before t
-    left_untold drops t marks' e c es h n = left_stop drops t marks' e (Go c ∷ es) _ (told_below file U es) h (sym (told_refused file U c es n.0)) n.2
+    -- an error before anything of what is left is reported
+    pub left_untold : {A : Type 0} (t : S) (marks' : List Mark) (e : RunError) (left : List (Errand Way Event))
+        → IsLeft takes file W errands before U left (marks, s) → s ≡ t → IsDone {A = A} takes file W errands (Err e) marks' before t
+    left_untold t marks' e left h same = left_stop t marks' e left [] (told_below file U left) h refl same
 
 -- How a candidate is entered.
 

@@ -44,7 +44,6 @@ use Rattle.dbtrace.proofs.Stepping.{has_steps}
 use Rattle.dbwalk.proofs.Pages.PageVisits.{told_once}
 use Rattle.dbwalk.proofs.Trees.Stacking.{cells_in}
 use Rattle.std.proofs.lemmas.Bool.Decides.{nat_tests}
-use Rattle.dbsource.specs.declared.error.RunError.{RunError}
 use Rattle.dbwalk.specs.Underway.{IsAt, HasDone, done_below}
 use Rattle.dbmarks.specs.declared.marks.Mark.{Mark}
 use Rattle.dbwalk.specs.declared.state.Tree.{Tree}
@@ -172,7 +171,7 @@ other_start a k e l = apart (start_of a) (omega arith)
     apart : (n : ℕ) → 1 ≤ n → (n == 0) ≡ false
     apart n l = grind (arith, nat_tests)
 
-module _ {P : Type 0} (moves : P → Item → P → Type 0) (stops : RunError → P → Item → P → Type 0) (file : List ℕ) (now : Walk) (c : Reference) (kind : TreeKind)
+module _ {P : Type 0} (moves : P → Item → P → Type 0) (stops : P → Item → P → Type 0) (file : List ℕ) (now : Walk) (c : Reference) (kind : TreeKind)
     (v : View) where
   -- its cells hand out nothing, and the last key is the greatest
   pub leaf_passed : (start_of c.address == schema_start) ≡ false → tree_kind (role_of c) ≡ Some kind → tree_view file c ≡ Some v → is_interior v.kind ≡ false

@@ -1,5 +1,5 @@
 -- Items that are handed to a sink and a taker, one list after another.
-use Rattle.std.proofs.Common.{◌≡◌, inl, inr, List, [], ◌∷◌, ◌++◌, map, Result, Ok, Err, refl, sym, ap, subst, ℕ, ◌∙◌}
+use Rattle.std.proofs.Common.{◌≡◌, Bool, inl, inr, List, [], ◌∷◌, ◌++◌, map, Result, Ok, Err, refl, sym, ap, subst, ℕ, ◌∙◌}
 use Rattle.std.specs.Prelude.{IfErr, OnOk}
 use Rattle.dbsurvey.specs.Moves.{Moves, Stops, MovesBySome}
 use Rattle.dbsurvey.proofs.Moving.{Moves-append, some_first, some_after, stops_first, stops_after}
@@ -24,6 +24,7 @@ use Rattle.dbtrace.specs.Walk.{Walk, machine, bare, run_below}
 use Rattle.dbtrace.proofs.Stepping.{has_steps}
 use Rattle.dbmarks.specs.Marking.{AreMarksOf}
 use Rattle.dbwalk.specs.Underway.{IsAt, HasDone, done_below}
+use Rattle.dbwalk.proofs.Telling.Sinks.{asked, asked_both, moves_some}
 use Rattle.dbmarks.specs.declared.marks.Mark.{Mark}
 use Rattle.dbwalk.specs.declared.state.Tree.{Tree}
 
@@ -34,16 +35,23 @@ only_found (found f ∷ items) e = ap (λ l. found f ∷ l) (only_found items e)
 only_found (given c ∷ items) e = cc
 
 -- what a call that answers nothing has done
-abbrev pub HasEnded : {P : Type 0} → (P → Item → P → Type 0) → (RunError → P → Item → P → Type 0) → List ℕ → Walk → Result (Unit {0}) RunError → List Mark
+abbrev pub HasEnded : {P : Type 0} → (P → Item → P → Type 0) → (P → Item → P → Type 0) → List ℕ → Walk → Result (Unit {0}) RunError → List Mark
     × Tree → P → P → Type 0
 HasEnded moves stops file done r now w x = HasDone moves stops file done r now w x
 
 -- what a call that failed has done, by what was handed out
-pub stopped_as : {P A : Type 0} {moves : P → Item → P → Type 0} {stops : RunError → P → Item → P → Type 0} {file : List ℕ} {done : Walk}
+pub stopped_as : {P A : Type 0} {moves : P → Item → P → Type 0} {stops : P → Item → P → Type 0} {file : List ℕ} {done : Walk}
     {now : List Mark × Tree} {w x : P} {r : Result A RunError} {e : RunError}
     → r ≡ Err e → StopsAt moves stops e w done.items x → HasDone moves stops file done r now w x
 stopped_as {moves = moves} {stops = stops} {file = file} {done = done} {now = now} {w = w} {x = x} q h =
     subst (λ r. HasDone moves stops file done r now w x) (sym q) (record { at = tt; handed = h })
+
+-- all was done, and the sink is asked at the end
+pub asked_done : {P : Type 0} {moves : P → Item → P → Type 0} {stops : P → Item → P → Type 0} {file : List ℕ} {done : Walk}
+    {now : List Mark × Tree} {w x : P} {r : Result (Unit {0}) RunError} (shut : Bool)
+    → r ≡ asked shut → HasDone {A = Unit {0}} moves stops file done (Ok tt) now w x → HasDone moves stops file done r now w x
+asked_done {moves = moves} {stops = stops} {file = file} {done = done} {now = now} {w = w} {x = x} shut e h =
+    asked_both (λ r. HasDone moves stops file done r now w x) shut e h (record { at = tt; handed = moves_some moves w x done.items h.handed })
 
 -- no memory is asked for where only reading and writing can fail
 pub no_memory : {A : Type 0} (r : Result A RunError) → IfErr r IsReadOrWrite → r ≡ Err OutOfMemory → ⊥
@@ -51,20 +59,20 @@ no_memory (Ok a) h e = cc
 no_memory (Err x) (inl h) e = cc
 no_memory (Err x) (inr h) e = cc
 
-module _ {P : Type 0} (moves : P → Item → P → Type 0) (stops : RunError → P → Item → P → Type 0) where
+module _ {P : Type 0} (moves : P → Item → P → Type 0) (stops : P → Item → P → Type 0) where
   -- an error in the first of two lists
   pub stop_first : (e : RunError) (w x : P) (L M : List Item) → StopsAt moves stops e w L x → StopsAt moves stops e w (L ++ M) x
   stop_first (Refused r) w x L M h = some_first moves w x L M h
   stop_first ReadFailed w x L M h = some_first moves w x L M h
-  stop_first OutOfMemory w x L M h = stops_first moves (stops OutOfMemory) w x L M h
-  stop_first WriteFailed w x L M h = stops_first moves (stops WriteFailed) w x L M h
+  stop_first WriteFailed w x L M h = some_first moves w x L M h
+  stop_first OutOfMemory w x L M h = stops_first moves stops w x L M h
 
   -- some items, and then an error
   pub stop_after : (e : RunError) (w m x : P) (L M : List Item) → Moves moves w L m → StopsAt moves stops e m M x → StopsAt moves stops e w (L ++ M) x
   stop_after (Refused r) w m x L M h k = some_after moves w m x L M h k
   stop_after ReadFailed w m x L M h k = some_after moves w m x L M h k
-  stop_after OutOfMemory w m x L M h k = stops_after moves (stops OutOfMemory) w m x L M h k
-  stop_after WriteFailed w m x L M h k = stops_after moves (stops WriteFailed) w m x L M h k
+  stop_after WriteFailed w m x L M h k = some_after moves w m x L M h k
+  stop_after OutOfMemory w m x L M h k = stops_after moves stops w m x L M h k
 
   -- some items, and then those of a call
   pub handed_after : {A : Type 0} (r : Result A RunError) (w m x : P) (L M : List Item) → Moves moves w L m → Handed moves stops r m M x
@@ -72,7 +80,7 @@ module _ {P : Type 0} (moves : P → Item → P → Type 0) (stops : RunError �
   handed_after (Ok a) w m x L M h k = Moves-append moves w m x L M h k
   handed_after (Err e) w m x L M h k = stop_after e w m x L M h k
 
-module _ {S T : Type 0} (takes drops : S → Finding → S → Type 0) (keeps : T → SchemaRow → Taken → T → Type 0) (refuses : T → SchemaRow → T → Type 0) where
+module _ {S T : Type 0} (takes : S → Finding → S → Type 0) (keeps : T → SchemaRow → Taken → T → Type 0) (refuses : T → SchemaRow → T → Type 0) where
   -- findings alone, to the sink
   pub found_moves : (fs : List Finding) (s s' : S) (t : T) → Moves takes s fs s' → Moves (watches takes keeps) (s, t) (map found fs) (s', t)
   found_moves [] s s' t e = ap (λ m. (m, t)) e
@@ -83,20 +91,14 @@ module _ {S T : Type 0} (takes drops : S → Finding → S → Type 0) (keeps : 
   found_some (f ∷ fs) s s' t (inl e) = inl (ap (λ m. (m, t)) e)
   found_some (f ∷ fs) s s' t (inr h) = inr ((h.0, t), (h.1, refl), found_some fs h.0 s' t h.2)
 
-  pub found_stops : (fs : List Finding) (s s' : S) (t : T) → Stops takes drops s fs s'
-      → Stops (watches takes keeps) (fails takes drops keeps refuses WriteFailed) (s, t) (map found fs) (s', t)
-  found_stops [] s s' t h = absurd h
-  found_stops (f ∷ fs) s s' t (inl h) = inl (h, refl)
-  found_stops (f ∷ fs) s s' t (inr h) = inr ((h.0, t), (h.1, refl), found_stops fs h.0 s' t h.2)
-
   -- at Ok and after an error of reading or writing
-  pub found_handed : {A : Type 0} (r : Result A RunError) (fs : List Finding) (s s' : S) (t : T) → (r ≡ Err OutOfMemory → ⊥) → Tells takes drops r s fs s'
-      → Handed (watches takes keeps) (fails takes drops keeps refuses) r (s, t) (map found fs) (s', t)
+  pub found_handed : {A : Type 0} (r : Result A RunError) (fs : List Finding) (s s' : S) (t : T) → (r ≡ Err OutOfMemory → ⊥) → Tells takes r s fs s'
+      → Handed (watches takes keeps) (fails refuses) r (s, t) (map found fs) (s', t)
   found_handed (Ok a) fs s s' t quiet h = found_moves fs s s' t h
   found_handed (Err (Refused e)) fs s s' t quiet h = found_some fs s s' t h
   found_handed (Err ReadFailed) fs s s' t quiet h = found_some fs s s' t h
   found_handed (Err OutOfMemory) fs s s' t quiet h = absurd (quiet refl)
-  found_handed (Err WriteFailed) fs s s' t quiet h = found_stops fs s s' t h
+  found_handed (Err WriteFailed) fs s s' t quiet h = found_some fs s s' t h
 
   -- and what findings alone left of the sink
   moves_found : (fs : List Finding) (w x : S × T) → Moves (watches takes keeps) w (map found fs) x → Moves takes w.0 fs x.0
@@ -108,29 +110,23 @@ module _ {S T : Type 0} (takes drops : S → Finding → S → Type 0) (keeps : 
   some_found (f ∷ fs) w x (inl e) = inl (ap (λ p. p.0) e)
   some_found (f ∷ fs) w x (inr h) = inr (h.0.0, h.1.0, some_found fs h.0 x h.2)
 
-  stops_found : (fs : List Finding) (w x : S × T) → Stops (watches takes keeps) (fails takes drops keeps refuses WriteFailed) w (map found fs) x
-      → Stops takes drops w.0 fs x.0
-  stops_found [] w x h = absurd h
-  stops_found (f ∷ fs) w x (inl h) = inl h.0
-  stops_found (f ∷ fs) w x (inr h) = inr (h.0.0, h.1.0, stops_found fs h.0 x h.2)
-
   -- no memory was asked for
-  never_refused : (fs : List Finding) (w x : S × T) → Stops (watches takes keeps) (fails takes drops keeps refuses OutOfMemory) w (map found fs) x → ⊥
+  never_refused : (fs : List Finding) (w x : S × T) → Stops (watches takes keeps) (fails refuses) w (map found fs) x → ⊥
   never_refused [] w x h = h
   never_refused (f ∷ fs) w x (inl h) = h
   never_refused (f ∷ fs) w x (inr h) = never_refused fs h.0 x h.2
 
   pub handed_found : {A : Type 0} (r : Result A RunError) (fs : List Finding) (w x : S × T)
-      → Handed (watches takes keeps) (fails takes drops keeps refuses) r w (map found fs) x → Tells takes drops r w.0 fs x.0
+      → Handed (watches takes keeps) (fails refuses) r w (map found fs) x → Tells takes r w.0 fs x.0
   handed_found (Ok a) fs w x h = moves_found fs w x h
   handed_found (Err (Refused e)) fs w x h = some_found fs w x h
   handed_found (Err ReadFailed) fs w x h = some_found fs w x h
-  handed_found (Err WriteFailed) fs w x h = stops_found fs w x h
+  handed_found (Err WriteFailed) fs w x h = some_found fs w x h
   handed_found (Err OutOfMemory) fs w x h = absurd (never_refused fs w x h)
 
   -- a row of the schema alone, and none
-  pub row_handed : (r : Result (Unit {0}) RunError) (c : SchemaCell) (w x : S × T) → TellsRow takes drops keeps refuses (row_at c) r w x
-      → Handed (watches takes keeps) (fails takes drops keeps refuses) r w (given c ∷ []) x
+  pub row_handed : (r : Result (Unit {0}) RunError) (c : SchemaCell) (w x : S × T) → TellsRow takes keeps refuses (row_at c) r w x
+      → Handed (watches takes keeps) (fails refuses) r w (given c ∷ []) x
   row_handed (Ok a) c w x h = (x, h, refl)
   row_handed (Err (Refused e)) c w x h = absurd h
   row_handed (Err ReadFailed) c w x h = absurd h
@@ -145,7 +141,7 @@ bare_visits file m es =
     let L = telling_of (rules_of file) (story_of file) (geometry file).pages m.visits es in
     run_visits (machine file) m L ∙ sym (run_visits (machine file) (bare m) L)
 
-module _ {P : Type 0} (moves : P → Item → P → Type 0) (stops : RunError → P → Item → P → Type 0) (file : List ℕ) (m : Walk) (es : List (Errand Way Event)) where
+module _ {P : Type 0} (moves : P → Item → P → Type 0) (stops : P → Item → P → Type 0) (file : List ℕ) (m : Walk) (es : List (Errand Way Event)) where
   -- what a walk has handed out already, and then some errands
   pub done_on : {A : Type 0} (r : Result A RunError) (now : List Mark × Tree) (w x y : P) → Moves moves w m.items x
       → HasDone moves stops file (done_below file m es) r now x y → HasDone moves stops file (run_below file m es) r now w y
@@ -169,7 +165,7 @@ module _ {P : Type 0} (moves : P → Item → P → Type 0) (stops : RunError �
         (stop_first moves stops e w x m.items (done_below file m es).items h);
   }
 
-module _ {P : Type 0} (moves : P → Item → P → Type 0) (stops : RunError → P → Item → P → Type 0) (file : List ℕ) (from : Walk) where
+module _ {P : Type 0} (moves : P → Item → P → Type 0) (stops : P → Item → P → Type 0) (file : List ℕ) (from : Walk) where
   -- nothing
   pub done_none : {A : Type 0} (a : A) (now : List Mark × Tree) (w : P) → IsAt file from now.0 now.1
       → HasDone moves stops file (done_below file from []) (Ok a) now w w

@@ -129,19 +129,19 @@ module _ (file : List ℕ) (from : Walk) (c : Reference) (kind : TreeKind) (v : 
   cell_visits = ap (λ es. (done_below file from es).visits) split
       ∙ ap (λ w. w.visits) ((has_steps file).join (bare from) chain own (quiet_overflow c i overflow)) ∙ bare_visits file m own ∙ behind.visits ∙ visited
 
-  module _ {S T : Type 0} (takes drops : S → Finding → S → Type 0) (keeps : T → SchemaRow → Taken → T → Type 0) (refuses : T → SchemaRow → T → Type 0) where
+  module _ {S T : Type 0} (takes : S → Finding → S → Type 0) (keeps : T → SchemaRow → Taken → T → Type 0) (refuses : T → SchemaRow → T → Type 0) where
     abbrev pub Whole : Result (Unit {0}) RunError → List Mark × Tree → (S × T) → (S × T) → Type 0
-    Whole r now w x = HasEnded (watches takes keeps) (fails takes drops keeps refuses) file (done_below file from (cell_errands c kind v i)) r now w x
+    Whole r now w x = HasEnded (watches takes keeps) (fails refuses) file (done_below file from (cell_errands c kind v i)) r now w x
 
     -- what the chain's call has done
     chain_done : (r : Result (Unit {0}) RunError) (marks : List Mark) (tree : Tree) (s s' : S) (t : T) → IfErr r IsReadOrWrite → tree.greatest
         ≡ from.state.greatest → tree.leaf ≡ from.state.leaf
-        → IsDone takes drops file from.visits chain r marks s s'
-        → HasEnded (watches takes keeps) (fails takes drops keeps refuses) file m r (marks, tree) (s, t) (s', t)
+        → IsDone takes file from.visits chain r marks s s'
+        → HasEnded (watches takes keeps) (fails refuses) file m r (marks, tree) (s, t) (s', t)
     chain_done r marks tree s s' t only top depth done = record {
       at = by_ok r done.marked;
-      handed = subst (λ l. Handed (watches takes keeps) (fails takes drops keeps refuses) r (s, t) l (s', t)) (sym chained.1)
-          (found_handed takes drops keeps refuses r (told_below file from.visits chain) s s' t (no_memory r only) done.told);
+      handed = subst (λ l. Handed (watches takes keeps) (fails refuses) r (s, t) l (s', t)) (sym chained.1)
+          (found_handed takes keeps refuses r (told_below file from.visits chain) s s' t (no_memory r only) done.told);
     }
       where
         by_ok : (r : Result (Unit {0}) RunError) → OnOk r (AreMarksOf file (from.visits ++ visited_below file from.visits chain) marks)
@@ -157,23 +157,23 @@ module _ (file : List ℕ) (from : Walk) (c : Reference) (kind : TreeKind) (v : 
     -- it could not be walked to its end
     pub chain_stops : (e : RunError) (marks : List Mark) (now : List Mark × Tree) (s s' : S) (t : T) → IsReadOrWrite e → (tree : Tree) → tree.greatest
         ≡ from.state.greatest → tree.leaf ≡ from.state.leaf
-        → IsDone {A = Unit {0}} takes drops file from.visits chain (Err e) marks s s' → Whole (Err e) now (s, t) (s', t)
+        → IsDone {A = Unit {0}} takes file from.visits chain (Err e) marks s s' → Whole (Err e) now (s, t) (s', t)
     chain_stops e marks now s s' t only tree top depth done =
-        subst (λ es. HasEnded (watches takes keeps) (fails takes drops keeps refuses) file (done_below file from es) (Err e) now (s, t) (s', t)) (sym split)
-        (done_stops (watches takes keeps) (fails takes drops keeps refuses) file from e chain own (marks, tree) now (s, t) (s', t) (quiet_overflow c i overflow)
+        subst (λ es. HasEnded (watches takes keeps) (fails refuses) file (done_below file from es) (Err e) now (s, t) (s', t)) (sym split)
+        (done_stops (watches takes keeps) (fails refuses) file from e chain own (marks, tree) now (s, t) (s', t) (quiet_overflow c i overflow)
         (chain_done (Err e) marks tree s s' t only top depth done))
 
     -- it was, and then row and key were handed out, or not
     pub own_done : (r : Result (Unit {0}) RunError) (marks : List Mark) (old new : Tree) (s s' : S) (t : T) (x : S × T) → old.greatest ≡ from.state.greatest
-        → old.leaf ≡ from.state.leaf → IsDone {A = Unit {0}} takes drops file from.visits chain (Ok tt) marks s s'
-        → Handed (watches takes keeps) (fails takes drops keeps refuses) r (s', t) (map given rows ++ key_items) x
+        → old.leaf ≡ from.state.leaf → IsDone {A = Unit {0}} takes file from.visits chain (Ok tt) marks s s'
+        → Handed (watches takes keeps) (fails refuses) r (s', t) (map given rows ++ key_items) x
         → OnOk r ((new.greatest ≡ top_after old.greatest c.page i key) × (new.leaf ≡ old.leaf)) → Whole r (marks, new) (s, t) x
     own_done r marks old new s s' t x top depth done handed tree_is =
-        subst (λ es. HasEnded (watches takes keeps) (fails takes drops keeps refuses) file (done_below file from es) r (marks, new) (s, t) x) (sym split)
-        (done_then (watches takes keeps) (fails takes drops keeps refuses) file from tt r chain own (marks, old) (marks, new) (s, t) (s', t) x
+        subst (λ es. HasEnded (watches takes keeps) (fails refuses) file (done_below file from es) r (marks, new) (s, t) x) (sym split)
+        (done_then (watches takes keeps) (fails refuses) file from tt r chain own (marks, old) (marks, new) (s, t) (s', t) x
         (quiet_overflow c i overflow) (chain_done (Ok tt) marks old s s' t tt top depth done) (record {
           at = by_ok r tree_is;
-          handed = subst (λ l. Handed (watches takes keeps) (fails takes drops keeps refuses) r (s', t) l x) (sym behind.items) handed;
+          handed = subst (λ l. Handed (watches takes keeps) (fails refuses) r (s', t) l x) (sym behind.items) handed;
         }))
       where
         by_ok : (r : Result (Unit {0}) RunError) → OnOk r ((new.greatest ≡ top_after old.greatest c.page i key) × (new.leaf ≡ old.leaf))
@@ -191,10 +191,10 @@ module _ (file : List ℕ) (from : Walk) (c : Reference) (kind : TreeKind) (v : 
         (r : Result (Unit {0}) RunError) (s s' : S) (new : Option RowSieve)
         (quiet : new ≡ None → (r ≡ Ok tt) × (s' ≡ s) × (t' ≡ t)) where
       abbrev Rows : List SchemaCell → Type 0
-      Rows cells = Handed (watches takes keeps) (fails takes drops keeps refuses) r (s, t) (map given cells) (s', t')
+      Rows cells = Handed (watches takes keeps) (fails refuses) r (s, t) (map given cells) (s', t')
 
       none_handed : new ≡ None → Rows []
-      none_handed none = let q = quiet none in subst (λ r. Handed (watches takes keeps) (fails takes drops keeps refuses) r (s, t) [] (s', t')) (sym q.0)
+      none_handed none = let q = quiet none in subst (λ r. Handed (watches takes keeps) (fails refuses) r (s, t) [] (s', t')) (sym q.0)
           (subst (λ s'. ◌≡◌ {A = S × T} (s, t) (s', t')) (sym q.1) (subst (λ t'. ◌≡◌ {A = S × T} (s, t) (s, t')) (sym q.2) refl))
 
       -- in other trees there is none
@@ -208,7 +208,7 @@ module _ (file : List ℕ) (from : Walk) (c : Reference) (kind : TreeKind) (v : 
       cell_row_handed : (start_of c.address == schema_start) ≡ true → (old : Option RowSieve) → HoldsCell old e (result_ok (cell v i))
           → AreBefore from.visits (then_step c.address (overflow_step i)) → FeedsPayload file from.visits c i overflow old new
           → is_some new ≡ is_some old → ((size : ℕ) (e : Encoding) (bytes : List ℕ) → HasFed new size e bytes
-          → TellsRow takes drops keeps refuses (place, schema_row bytes size e) r (s, t) (s', t')) → Rows rows
+          → TellsRow takes keeps refuses (place, schema_row bytes size e) r (s, t) (s', t')) → Rows rows
       cell_row_handed schema old holds before fed kept told = by_cell (result_ok (cell v i)) key_is holds
         where
           gone : (o : Option RowSieve) → is_some o ≡ false → o ≡ None
@@ -222,11 +222,11 @@ module _ (file : List ℕ) (from : Walk) (c : Reference) (kind : TreeKind) (v : 
               ap (λ U. payload file U c.address i x) (sym visited) in
               let one : rows_of file m.visits c v (i, x) ≡ schema_cell file m.visits c (i, x) ∷ [] = rw (schema, leaf) refl in
               let here : place ≡ row_place c.page i x.key = place_is ∙ ap (λ q. row_place q i key) (sym page) ∙ ap (row_place c.page i) key_is in
-              subst Rows (sym one) (row_handed takes drops keeps refuses r (schema_cell file m.visits c (i, x)) (s, t) (s', t')
-              (subst (λ q. TellsRow takes drops keeps refuses (q, schema_row (payload file m.visits c.address i x) x.size (encoding file)) r (s, t) (s', t'))
+              subst Rows (sym one) (row_handed takes keeps refuses r (schema_cell file m.visits c (i, x)) (s, t) (s', t')
+              (subst (λ q. TellsRow takes keeps refuses (q, schema_row (payload file m.visits c.address i x) x.size (encoding file)) r (s, t) (s', t'))
               here
-              (subst (λ e. TellsRow takes drops keeps refuses (place, schema_row (payload file m.visits c.address i x) x.size e) r (s, t) (s', t')) coded
-              (subst (λ b. TellsRow takes drops keeps refuses (place, schema_row b x.size e) r (s, t) (s', t')) bytes
+              (subst (λ e. TellsRow takes keeps refuses (place, schema_row (payload file m.visits c.address i x) x.size e) r (s, t) (s', t')) coded
+              (subst (λ b. TellsRow takes keeps refuses (place, schema_row b x.size e) r (s, t) (s', t')) bytes
               (told x.size e _ (fed.fed x e before h))))))
 
       -- by the start of the tree
@@ -234,7 +234,7 @@ module _ (file : List ℕ) (from : Walk) (c : Reference) (kind : TreeKind) (v : 
           → (1 ≤ k → old ≡ None)
           → AreBefore from.visits (then_step c.address (overflow_step i)) → FeedsPayload file from.visits c i overflow old new → is_some new ≡ is_some old
           → ((size : ℕ) (e : Encoding) (bytes : List ℕ) → HasFed new size e bytes
-          → TellsRow takes drops keeps refuses (place, schema_row bytes size e) r (s, t) (s', t')) → Rows rows
+          → TellsRow takes keeps refuses (place, schema_row bytes size e) r (s, t) (s', t')) → Rows rows
       row_told k start old holds other before fed kept told = elim (cases_Bool (start_of c.address == schema_start)) [
         | inl f ↦ (let z : k ≡ schema_start = sym start ∙ eqb-true (start_of c.address) schema_start f in cell_row_handed f old (holds z) before fed kept told)
         | inr f ↦ no_row_handed f (gone new (kept ∙ ap is_some (other (later start f))))
@@ -249,18 +249,18 @@ module _ (file : List ℕ) (from : Walk) (c : Reference) (kind : TreeKind) (v : 
 
     -- the row could not be taken, or not all was reported of it
     pub row_stops : (e : RunError) (marks : List Mark) (old new : Tree) (s s' : S) (t : T) (x : S × T) → old.greatest ≡ from.state.greatest → old.leaf
-        ≡ from.state.leaf → IsDone {A = Unit {0}} takes drops file from.visits chain (Ok tt) marks s s'
-        → StopsAt (watches takes keeps) (fails takes drops keeps refuses) e (s', t) (map given rows) x → Whole (Err e) (marks, new) (s, t) x
+        ≡ from.state.leaf → IsDone {A = Unit {0}} takes file from.visits chain (Ok tt) marks s s'
+        → StopsAt (watches takes keeps) (fails refuses) e (s', t) (map given rows) x → Whole (Err e) (marks, new) (s, t) x
     row_stops e marks old new s s' t x top depth done stops =
         own_done (Err e) marks old new s s' t x top depth done
-        (stop_first (watches takes keeps) (fails takes drops keeps refuses) e (s', t) x (map given rows) key_items stops) tt
+        (stop_first (watches takes keeps) (fails refuses) e (s', t) x (map given rows) key_items stops) tt
 
     -- the key's fault was reported, or not completely
     pub key_done : (r : Result (Unit {0}) RunError) (marks : List Mark) (old new : Tree) (s s' s'' : S) (t t' : T) (x : S × T) → old.greatest
-        ≡ from.state.greatest → old.leaf ≡ from.state.leaf → IsDone {A = Unit {0}} takes drops file from.visits chain (Ok tt) marks s s'
+        ≡ from.state.greatest → old.leaf ≡ from.state.leaf → IsDone {A = Unit {0}} takes file from.visits chain (Ok tt) marks s s'
         → Moves (watches takes keeps) (s', t) (map given rows) (s'', t')
-        → Handed (watches takes keeps) (fails takes drops keeps refuses) r (s'', t') key_items x
+        → Handed (watches takes keeps) (fails refuses) r (s'', t') key_items x
         → OnOk r ((new.greatest ≡ top_after old.greatest c.page i key) × (new.leaf ≡ old.leaf)) → Whole r (marks, new) (s, t) x
     key_done r marks old new s s' s'' t t' x top depth done moved handed tree_is =
-        own_done r marks old new s s' t x top depth done (handed_after (watches takes keeps) (fails takes drops keeps refuses) r (s', t) (s'', t') x
+        own_done r marks old new s s' t x top depth done (handed_after (watches takes keeps) (fails refuses) r (s', t) (s'', t') x
         (map given rows) key_items moved handed) tree_is

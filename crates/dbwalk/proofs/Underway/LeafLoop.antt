@@ -107,7 +107,7 @@ module _ (file : List ℕ) (from : Walk) (c : Reference) (kind : TreeKind) (v : 
       ∙ (has_steps file).join (bare from) (errands_before c kind v i) (flat_map (cell_errands c kind v) (range_with_len i n)) (quiet_before i)
       ∙ passed file c kind v leaf other n i (D i) after l rising
 
-  module _ {S T : Type 0} (takes : S → Finding → S → Type 0) (keeps : T → SchemaRow → Taken → T → Type 0) (stops : RunError → (S × T) → Item → (S × T) → Type 0)
+  module _ {S T : Type 0} (takes : S → Finding → S → Type 0) (keeps : T → SchemaRow → Taken → T → Type 0) (stops : (S × T) → Item → (S × T) → Type 0)
       (w : S × T) where
     -- at the first cell
     pub cells_start : (now : List Mark × Tree) → IsAt file from now.0 now.1 → HasEnded (watches takes keeps) stops file (D 0) (Ok tt) now w w

@@ -33,7 +33,7 @@ use Rattle.dbwalk.proofs.Trees.Bounds.{root_stays}
 use Rattle.dbwalk.proofs.Trees.Stacking.{left-push, top-push, from_first}
 use Rattle.dbwalk.proofs.Trees.Frames.{read_front, read_push, read_kept, calls_front, calls_on, calls_push}
 use Rattle.dbwalk.proofs.Underway.CellSteps.{order_told_of, cell_items, no_row_inside, greatest_behind}
-use Rattle.dbwalk.proofs.Underway.Underways.{items_of, under_event, under_visit, under_call, stop_event, stop_call}
+use Rattle.dbwalk.proofs.Underway.Underways.{items_of, under_event, under_visit, under_call, stop_call}
 use Rattle.dbformat.specs.SchemaRow.{SchemaRow}
 use Rattle.dbtrace.specs.Finding.{Finding, told_below, visited_below}
 use Rattle.dbtrace.proofs.Asides.{are_aside}
@@ -174,13 +174,6 @@ module _ {P : Type 0} {moves : P → Item → P → Type 0} {file : List ℕ} {W
           )
           (subst (λ l. Moves moves w l x) (sym items_are) m))
 
-      -- and its fault could not be reported
-      pub cell_stopped : (stops : RunError → P → Item → P → Type 0) (x_error : RunError) → StopsAt moves stops x_error w told x
-          → StopsAt moves stops x_error before (tree_walk file W c).items x
-      cell_stopped stops x_error k = stop_event moves file (tree_walk file W c) before on.now (marks, tree) (marks, tree) w x stops x_error
-          (record { key = _; event = event }) rest
-          (first_errands (tell_cell top frames.1.view n cell ∷ []) e) refl (subst (λ l. StopsAt moves stops x_error w l x) (sym items_are) k)
-
     -- a reference
     module _ (d : Reference) (e : errands_from file top f.next ≡ Go d ∷ errands_from file top (suc f.next)) where
       -- all visits so far are before it
@@ -188,7 +181,7 @@ module _ {P : Type 0} {moves : P → Item → P → Type 0} {file : List ℕ} {W
       next_is u h i (inl j) = (first_errands (Go d ∷ []) e).past u h i (inl j)
       next_is u h i (inr j) = absurd j
 
-      module _ (stops : RunError → P → Item → P → Type 0) (marks' : List Mark) (tree' : Tree) (x : P) where
+      module _ (stops : P → Item → P → Type 0) (marks' : List Mark) (tree' : Tree) (x : P) where
         -- all below it is done by a call: a chain, or a child that is refused, or a leaf
         pub on_call : {A : Type 0} (a : A) → tree'.kind ≡ tree.kind → HasDone moves stops file (done_below file on.now (Go d ∷ [])) (Ok a) (marks', tree') w x
             → IsWalkingOn moves file W c before (on_frames, levels) (marks', tree') x
@@ -245,15 +238,15 @@ module _ {P : Type 0} {moves : P → Item → P → Type 0} {file : List ℕ} {W
 
 -- A call that walks over an overflow chain, by what it promises of the visits: it has done its part of a walk.
 
-module _ {S T A : Type 0} (takes drops : S → Finding → S → Type 0) (keeps : T → SchemaRow → Taken → T → Type 0) (refuses : T → SchemaRow → T → Type 0)
+module _ {S T A : Type 0} (takes : S → Finding → S → Type 0) (keeps : T → SchemaRow → Taken → T → Type 0) (refuses : T → SchemaRow → T → Type 0)
     (file : List ℕ) (from : Walk) (c : Reference) (none : tree_kind (role_of c) ≡ None) where
   pub aside_done : (r : Result A RunError) (marks marks' : List Mark) (tree : Tree) (s s' : S) (t : T) → IfErr r IsReadOrWrite → IsAt file from marks tree
-      → IsDone takes drops file from.visits (Go c ∷ []) r marks' s s'
-      → HasDone (watches takes keeps) (fails takes drops keeps refuses) file (done_below file from (Go c ∷ [])) r (marks', tree) (s, t) (s', t)
+      → IsDone takes file from.visits (Go c ∷ []) r marks' s s'
+      → HasDone (watches takes keeps) (fails refuses) file (done_below file from (Go c ∷ [])) r (marks', tree) (s, t) (s', t)
   aside_done r marks marks' tree s s' t only at done = record {
     at = on_ok r done.marked;
-    handed = subst (λ items. Handed (watches takes keeps) (fails takes drops keeps refuses) r (s, t) items (s', t)) (sym aside.items)
-        (found_handed takes drops keeps refuses r (told_below file from.visits (Go c ∷ [])) s s' t (no_memory r only) done.told);
+    handed = subst (λ items. Handed (watches takes keeps) (fails refuses) r (s, t) items (s', t)) (sym aside.items)
+        (found_handed takes keeps refuses r (told_below file from.visits (Go c ∷ [])) s s' t (no_memory r only) done.told);
   }
     where
       aside : IsAside file (bare from) c

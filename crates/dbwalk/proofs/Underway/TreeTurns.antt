@@ -143,13 +143,6 @@ module _ {P : Type 0} {moves : P → Item → P → Type 0} {file : List ℕ} {W
           ∙ ap (top_after tree.greatest top.page h.n) (sym h.key)) leafs
           (subst (λ l. Moves moves w (map found l) x) told_key m)
 
-      -- its fault could not be reported
-      pub stopped_key : (stops : RunError → P → Item → P → Type 0) (e : RunError)
-          → StopsAt moves stops e w (map found (order_told false tree.greatest f.page (f.next / 3) value)) x
-          → StopsAt moves stops e before (tree_walk file W c).items x
-      stopped_key stops e k = steps.cell_stopped fs f on g page next up_to within_key h.n h.x x key_errand stops e
-          (subst (λ l. StopsAt moves stops e w (map found l) x) told_key k)
-
     -- an overflow chain
     module _ (first left : ℕ) (rowid : Option ℤ) (h : IsChainAt v f.next first left rowid) where
       abbrev pub chained : Reference
@@ -198,7 +191,7 @@ module _ {P : Type 0} {moves : P → Item → P → Type 0} {file : List ℕ} {W
       chain_next = steps.next_is fs f on g page next up_to within_chain chained chain_errand
 
       -- a call walks along it: the walk goes on after it, or not all of it could be done
-      module _ (stops : RunError → P → Item → P → Type 0) (marks' : List Mark) (x : P) {items : List StackFrame} {levels' : List (List ℕ)}
+      module _ (stops : P → Item → P → Type 0) (marks' : List Mark) (x : P) {items : List StackFrame} {levels' : List (List ℕ)}
           (are : items ≡ fs ++ (g ∷ [])) (same : levels' ≡ levels) where
         pub turned_chain : (r : Result (Unit {0}) RunError) → HasDone moves stops file (done_below file on.now (Go chained ∷ [])) r (marks', tree) w x
             → HasTurned moves stops file (W, c, before) r (items, levels') (marks', tree) x
@@ -259,10 +252,10 @@ module _ {P : Type 0} {moves : P → Item → P → Type 0} {file : List ℕ} {W
           ∙ key_is ∙ sym bounds)
 
       -- a call entered it
-      abbrev Entered : (RunError → P → Item → P → Type 0) → List (List ℕ) → List Mark × Tree → P → Result Bool RunError → Type 0
+      abbrev Entered : (P → Item → P → Type 0) → List (List ℕ) → List Mark × Tree → P → Result Bool RunError → Type 0
       Entered stops levels' now x r = HasDone moves stops file (entered file on.now d r) r now w x × IsEntered file on.now d r levels'
 
-      module _ (stops : RunError → P → Item → P → Type 0) {marks' : List Mark} {tree' : Tree} {x : P} (kinds : tree'.kind ≡ tree.kind) where
+      module _ (stops : P → Item → P → Type 0) {marks' : List Mark} {tree' : Tree} {x : P} (kinds : tree'.kind ≡ tree.kind) where
         -- it is refused, damaged, or a leaf
         pub child_passed : {levels' : List (List ℕ)} {yes : Bool} → yes ≡ false → Entered stops levels' (marks', tree') x (Ok yes)
             → IsWalkingOn moves file W c before (fs ++ (g ∷ []), levels) (marks', tree') x

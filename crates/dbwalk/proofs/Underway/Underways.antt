@@ -1,5 +1,5 @@
 -- A walk under way, step by step.
-use Rattle.std.proofs.Common.{◌≡◌, ℕ, inr, List, [], ◌∷◌, ◌++◌, None, Ok, Err, refl, sym, ap, subst, ◌∙◌, append_assoc, true}
+use Rattle.std.proofs.Common.{◌≡◌, ℕ, inr, List, [], ◌∷◌, ◌++◌, None, Ok, Err, sym, ap, subst, ◌∙◌, append_assoc, true}
 use Rattle.std.specs.Prelude.{option_to_list}
 use Rattle.std.proofs.lemmas.List.{append-nil}
 use Rattle.dbsurvey.specs.Address.{IsLeftOf}
@@ -65,7 +65,7 @@ module _ {P : Type 0} (moves : P → Item → P → Type 0) (file : List ℕ) (w
   }
 
   -- a call does the first errands
-  pub under_call : {A : Type 0} (stops : RunError → P → Item → P → Type 0) (a : A) (es fs : List (Errand Way Event))
+  pub under_call : {A : Type 0} (stops : P → Item → P → Type 0) (a : A) (es fs : List (Errand Way Event))
       → IsUnderway moves file whole before now (es ++ fs) state w → AreQuiet own_visit es
       → HasDone moves stops file (done_below file now es) (Ok a) state' w x → IsUnderway moves file whole before (run_below file now es) fs state' x
   under_call stops a es fs h q done =
@@ -86,8 +86,8 @@ module _ {P : Type 0} (moves : P → Item → P → Type 0) (file : List ℕ) (w
         handed = subst (λ l. Moves moves before l x) (sym items) (Moves-append moves before w x now.items (done_below file now es).items h.handed done.handed);
       }
 
-  -- an error, where these items were to be handed out next: the event's, or those of the first errands
-  module _ (stops : RunError → P → Item → P → Type 0) (e : RunError) where
+  -- an error, where these items were to be handed out next: those of the first errands
+  module _ (stops : P → Item → P → Type 0) (e : RunError) where
     stop : (left : List (Errand Way Event)) → IsUnderway moves file whole before now left state w → (m : Walk) (es : List (Errand Way Event))
         → run_below file now left ≡ run_below file m es
         → (out : List Item) → m.items ≡ now.items ++ out → StopsAt moves stops e w out x → StopsAt moves stops e before whole.items x
@@ -98,17 +98,13 @@ module _ {P : Type 0} (moves : P → Item → P → Type 0) (file : List ℕ) (w
         subst (λ l. StopsAt moves stops e before l x) (sym all)
         (stop_after moves stops e before w x now.items (out ++ Z) h.handed (stop_first moves stops e w x out Z k))
 
-    pub stop_event : (t : Told Event) (es : List (Errand Way Event)) → IsUnderway moves file whole before now (Tell t ∷ es) state w → own_visit t.event ≡ None
-        → StopsAt moves stops e w (items_of file now t.event) x → StopsAt moves stops e before whole.items x
-    stop_event t es h q k = stop (Tell t ∷ es) h (advance file now t.event) es ((has_steps file).event now t es q) (items_of file now t.event) refl k
-
     pub stop_call : {A : Type 0} (es fs : List (Errand Way Event)) → IsUnderway moves file whole before now (es ++ fs) state w → AreQuiet own_visit es
         → HasDone {A = A} moves stops file (done_below file now es) (Err e) state' w x → StopsAt moves stops e before whole.items x
     stop_call es fs h q done = stop (es ++ fs) h (run_below file now es) fs ((has_steps file).join now es fs q) (done_below file now es).items
         ((has_steps file).items now es) done.handed
 
 -- nothing is left: the walk is whole
-pub under_end : {P A : Type 0} (moves : P → Item → P → Type 0) (stops : RunError → P → Item → P → Type 0) (file : List ℕ) (whole : Walk) (before : P) (a : A)
+pub under_end : {P A : Type 0} (moves : P → Item → P → Type 0) (stops : P → Item → P → Type 0) (file : List ℕ) (whole : Walk) (before : P) (a : A)
     (now : Walk) (state : List Mark × Tree) (w : P)
     → IsUnderway moves file whole before now [] state w → HasDone moves stops file whole (Ok a) state before w
 under_end moves stops file whole before a now state w h =

@@ -11,7 +11,7 @@ use Rattle.dbtrace.specs.declared.TreeLeaf.{TreeLeaf}
 use Rattle.dbwalk.specs.LeafCells.{AreBefore}
 use Rattle.std.specs.Prelude.{OnOk, option_to_list}
 use Rattle.std.proofs.lemmas.List.{append-nil}
-use Rattle.dbsurvey.specs.Moves.{Moves, Stops}
+use Rattle.dbsurvey.specs.Moves.{Moves}
 use Rattle.dbsurvey.specs.Story.{Go, errands_of}
 use Rattle.dbsurvey.specs.Traverse.{is_followed}
 use Rattle.dbsurvey.proofs.Moving.{some_none}
@@ -32,12 +32,12 @@ use Rattle.dbmarks.specs.Marking.{AreMarksOf}
 use Rattle.dbwalk.specs.Telling.{Tells}
 use Rattle.dbwalk.specs.Found.{page_findings}
 use Rattle.dbwalk.specs.Underway.{IsAt, HasDone, done_below, entered, IsEntered}
-use Rattle.dbwalk.specs.Watching.{watches, fails, StopsAt, Handed}
+use Rattle.dbwalk.specs.Watching.{watches, fails, Handed}
 use Rattle.dbmarks.specs.declared.marks.Mark.{Mark}
 use Rattle.dbwalk.specs.declared.state.Tree.{Tree}
 use Rattle.dbwalk.specs.declared.taker.Taken.{Taken}
 use Rattle.dbwalk.proofs.Pages.PageTellings.{page_causes}
-use Rattle.dbwalk.proofs.Underway.Handing.{done_none, done_on, stops_on, found_moves, found_stops, found_handed}
+use Rattle.dbwalk.proofs.Underway.Handing.{done_none, done_on, found_moves, found_handed}
 
 -- Places between the steps of a page.
 
@@ -65,7 +65,7 @@ refused file from c = advance file (bare from) (at_refused c)
 abbrev pub visited : List ℕ → Walk → Reference → Walk
 visited file from c = advance file (bare from) (at_page c)
 
-module _ {P : Type 0} (moves : P → Item → P → Type 0) (stops : RunError → P → Item → P → Type 0) (file : List ℕ) (from : Walk) (c : Reference) where
+module _ {P : Type 0} (moves : P → Item → P → Type 0) (stops : P → Item → P → Type 0) (file : List ℕ) (from : Walk) (c : Reference) where
   -- a reference that is refused leaves marks and state
   pub done_refused : {A : Type 0} (r : Result A RunError) (now : List Mark × Tree) (w x : P) → is_followed (rules_of file) from.visits c ≡ false
       → IsAt file from now.0 now.1
@@ -98,13 +98,7 @@ module _ {P : Type 0} (moves : P → Item → P → Type 0) (stops : RunError �
         (subst (λ es. HasDone moves stops file (done_below file (visited file from c) es) (Ok a) now x x) (sym none)
         (done_none moves stops file (visited file from c) a now x at))
 
-    -- an error among the items of the page
-    pub visit_stops : {A : Type 0} (e : RunError) (now : List Mark × Tree) (w x : P) → StopsAt moves stops e w (visited file from c).items x
-        → HasDone {A = A} moves stops file (done_below file from (Go c ∷ [])) (Err e) now w x
-    visit_stops {A = A} e now w x h = subst (λ m. HasDone {A = A} moves stops file m (Err e) now w x) (sym whole)
-        (stops_on moves stops file (visited file from c) (errands_of (story_of file) c) e now w x h)
-
-module _ {P : Type 0} (moves : P → Item → P → Type 0) (stops : RunError → P → Item → P → Type 0) (file : List ℕ) (from : Walk) (c : Reference)
+module _ {P : Type 0} (moves : P → Item → P → Type 0) (stops : P → Item → P → Type 0) (file : List ℕ) (from : Walk) (c : Reference)
     (levels : List (List ℕ)) where
   -- what a function that looks at a reference answers, where all below it is done
   pub entered_past : {A : Type 0} (a : A) (now : List Mark × Tree) (w x : P) → HasDone moves stops file (done_below file from (Go c ∷ [])) (Ok a) now w x
@@ -119,7 +113,7 @@ module _ {P : Type 0} (moves : P → Item → P → Type 0) (stops : RunError �
       (record { at = tt; handed = h.handed }, tt)
 
 -- all below the reference was done, where the answer is false
-pub entered_done : {P A : Type 0} {moves : P → Item → P → Type 0} {stops : RunError → P → Item → P → Type 0} {file : List ℕ} (from : Walk) (c : Reference)
+pub entered_done : {P A : Type 0} {moves : P → Item → P → Type 0} {stops : P → Item → P → Type 0} {file : List ℕ} (from : Walk) (c : Reference)
     {now : List Mark × Tree} {w x : P} {yes : Bool} (a : A)
     → yes ≡ false → HasDone moves stops file (entered file from c (Ok yes)) (Ok yes) now w x
     → HasDone moves stops file (done_below file from (Go c ∷ [])) (Ok a) now w x
@@ -128,18 +122,23 @@ entered_done {moves = moves} {stops = stops} {file = file} from c {now = now} {w
     record { at = k.at; handed = k.handed }
 
 -- a page that could not be read
-pub unread : {P A : Type 0} (moves : P → Item → P → Type 0) (stops : RunError → P → Item → P → Type 0) (file : List ℕ) (done : Walk) (now : List Mark × Tree)
+pub unread : {P A : Type 0} (moves : P → Item → P → Type 0) (stops : P → Item → P → Type 0) (file : List ℕ) (done : Walk) (now : List Mark × Tree)
     (w : P) → HasDone {A = A} moves stops file done (Err ReadFailed) now w w
 unread moves stops file done now w = record { at = tt; handed = some_none moves w done.items }
 
+-- a sink that was found shut
+pub unasked : {P A : Type 0} (moves : P → Item → P → Type 0) (stops : P → Item → P → Type 0) (file : List ℕ) (done : Walk) (now : List Mark × Tree)
+    (w : P) → HasDone {A = A} moves stops file done (Err WriteFailed) now w w
+unasked moves stops file done now w = record { at = tt; handed = some_none moves w done.items }
+
 -- the reason against a reference, as the items of its refusal
-pub refused_handed : {S T A : Type 0} (takes drops : S → Finding → S → Type 0) (keeps : T → SchemaRow → Taken → T → Type 0)
+pub refused_handed : {S T A : Type 0} (takes : S → Finding → S → Type 0) (keeps : T → SchemaRow → Taken → T → Type 0)
     (refuses : T → SchemaRow → T → Type 0) (file : List ℕ) (from : Walk) (c : Reference)
-    (r : Result A RunError) (s s' : S) (t : T) → (r ≡ Err OutOfMemory → ⊥) → Tells takes drops r s (told_at file from.visits (at_refused c)) s'
-    → Handed (watches takes keeps) (fails takes drops keeps refuses) r (s, t) (refused file from c).items (s', t)
-refused_handed takes drops keeps refuses file from c r s s' t quiet h =
-    subst (λ items. Handed (watches takes keeps) (fails takes drops keeps refuses) r (s, t) items (s', t)) (sym are)
-    (found_handed takes drops keeps refuses r (told_at file from.visits (at_refused c)) s s' t quiet h)
+    (r : Result A RunError) (s s' : S) (t : T) → (r ≡ Err OutOfMemory → ⊥) → Tells takes r s (told_at file from.visits (at_refused c)) s'
+    → Handed (watches takes keeps) (fails refuses) r (s, t) (refused file from c).items (s', t)
+refused_handed takes keeps refuses file from c r s s' t quiet h =
+    subst (λ items. Handed (watches takes keeps) (fails refuses) r (s, t) items (s', t)) (sym are)
+    (found_handed takes keeps refuses r (told_at file from.visits (at_refused c)) s s' t quiet h)
   where
     are : (refused file from c).items ≡ map found (told_at file from.visits (at_refused c))
     are = ap (λ U. map found (told_at file U (at_refused c))) (append-nil from.visits)
@@ -164,18 +163,10 @@ module _ (file : List ℕ) (from : Walk) (c : Reference) {leaf : Option TreeLeaf
         ∙ ap (λ l. map found (page_findings file (record { above = key_value top; up_to = up_to }) l c)) (sym leaf_is)
 
     pub page_moves : {kind : TreeKind} → tree_kind (role_of c) ≡ Some kind
-        → {S T : Type 0} (takes drops : S → Finding → S → Type 0) (keeps : T → SchemaRow → Taken → T → Type 0) (refuses : T → SchemaRow → T → Type 0)
+        → {S T : Type 0} (takes : S → Finding → S → Type 0) (keeps : T → SchemaRow → Taken → T → Type 0) (refuses : T → SchemaRow → T → Type 0)
         (s s' : S) (t : T) → Moves takes s told s' → Moves (watches takes keeps) (s, t) (visited file from c).items (s', t)
-    page_moves role takes drops keeps refuses s s' t h =
-        subst (λ items. Moves (watches takes keeps) (s, t) items (s', t)) (sym (page_items role)) (found_moves takes drops keeps refuses told s s' t h)
-
-    pub page_stops : {kind : TreeKind} → tree_kind (role_of c) ≡ Some kind
-        → {S T : Type 0} (takes drops : S → Finding → S → Type 0) (keeps : T → SchemaRow → Taken → T → Type 0) (refuses : T → SchemaRow → T → Type 0)
-        (s s' : S) (t : T) → Stops takes drops s told s'
-        → Stops (watches takes keeps) (fails takes drops keeps refuses WriteFailed) (s, t) (visited file from c).items (s', t)
-    page_stops role takes drops keeps refuses s s' t h =
-        subst (λ items. Stops (watches takes keeps) (fails takes drops keeps refuses WriteFailed) (s, t) items (s', t)) (sym (page_items role))
-        (found_stops takes drops keeps refuses told s s' t h)
+    page_moves role takes keeps refuses s s' t h =
+        subst (λ items. Moves (watches takes keeps) (s, t) items (s', t)) (sym (page_items role)) (found_moves takes keeps refuses told s s' t h)
 
   -- and this is the point of the walk after it
   pub visited_at : {marks : List Mark} (tree : Tree) → AreMarksOf file (from.visits ++ (c ∷ [])) marks → tree.greatest ≡ from.state.greatest → tree.leaf

@@ -20,7 +20,7 @@ use Rattle.dbformat.specs.SchemaRow.{SchemaRow}
 use Rattle.dbformat.specs.Story.{at_page, at_refused, story_of}
 use Rattle.dbformat.specs.Survey.{rules_of}
 use Rattle.dbsource.specs.declared.error.RunError.{RunError}
-use Rattle.dbsource.specs.declared.error.RunError.TheVariants.{ReadFailed}
+use Rattle.dbsource.specs.declared.error.RunError.TheVariants.{ReadFailed, WriteFailed}
 use Rattle.dbtrace.specs.Finding.{Finding, told_at, told_below, visited_below}
 use Rattle.dbtrace.specs.Item.{Item, found, given_cells}
 use Rattle.dbtrace.specs.Walk.{begin, advance}
@@ -78,13 +78,13 @@ none_left {X} (x ∷ xs) o e h = absurd (none o e (h.1 (omega arith)))
 
 -- The walk over a whole tree: how it starts and ends, and what it has done by the definitions.
 
-module _ {S T : Type 0} (takes drops : S → Finding → S → Type 0) (keeps : T → SchemaRow → Taken → T → Type 0) (refuses : T → SchemaRow → T → Type 0)
+module _ {S T : Type 0} (takes : S → Finding → S → Type 0) (keeps : T → SchemaRow → Taken → T → Type 0) (refuses : T → SchemaRow → T → Type 0)
     (file : List ℕ) (k : ℕ) (W : List Reference) (c : Reference)
     (at : c.address ≡ k ∷ []) (early : AreOfEarlierStarts k W) where
   -- by the marks, and what was handed out
   pub tree_handed : (r : Result (Unit {0}) RunError) (marks : List Mark) (before after : S × T) → OnOk r (AreMarksOf file (tree_walk file W c).visits marks)
-      → Handed (watches takes keeps) (fails takes drops keeps refuses) r before (tree_walk file W c).items after
-      → IsTreeDone takes drops keeps refuses file W c r marks before after
+      → Handed (watches takes keeps) (fails refuses) r before (tree_walk file W c).items after
+      → IsTreeDone takes keeps refuses file W c r marks before after
   tree_handed r marks before after marked h = record {
     marked = subst (λ U. OnOk r (AreMarksOf file U marks)) ((is_fold file).visits_are k W c at early) marked;
     handed = h;
@@ -92,8 +92,8 @@ module _ {S T : Type 0} (takes drops : S → Finding → S → Type 0) (keeps : 
         let items = (tree_walk file W c).items in
         let none : given_cells items ≡ [] = (is_fold file).rows_are k W c at early
         ∙ ap (λ b. cond b (schema file (W ++ visited_below file W (Go c ∷ []))) []) (other (start_of c.address) l (ap start_of at)) in
-        handed_found takes drops keeps refuses r (told_below file W (Go c ∷ [])) before after
-        (subst (λ L. Handed (watches takes keeps) (fails takes drops keeps refuses) r before L after)
+        handed_found takes keeps refuses r (told_below file W (Go c ∷ [])) before after
+        (subst (λ L. Handed (watches takes keeps) (fails refuses) r before L after)
         (only_found items none ∙ ap (map found) ((is_fold file).findings_are k W c at early)) h);
   }
     where
@@ -101,8 +101,8 @@ module _ {S T : Type 0} (takes drops : S → Finding → S → Type 0) (keeps : 
       other n l e = grind (arith, nat_tests)
 
   pub tree_done : (r : Result (Unit {0}) RunError) (marks : List Mark) (tree : Tree) (before after : S × T)
-      → HasDone (watches takes keeps) (fails takes drops keeps refuses) file (tree_walk file W c) r (marks, tree) before after
-      → IsTreeDone takes drops keeps refuses file W c r marks before after
+      → HasDone (watches takes keeps) (fails refuses) file (tree_walk file W c) r (marks, tree) before after
+      → IsTreeDone takes keeps refuses file W c r marks before after
   tree_done r marks tree before after h = tree_handed r marks before after (marked r h.at) h.handed
     where
       marked : (r : Result (Unit {0}) RunError) → OnOk r (IsAt file (tree_walk file W c) marks tree)
@@ -110,27 +110,31 @@ module _ {S T : Type 0} (takes drops : S → Finding → S → Type 0) (keeps : 
       marked (Ok u) h = h.0
       marked (Err e) h = tt
 
-  -- the root is refused, and that was reported, or not completely
+  -- the root is refused, and that was reported
   pub tree_refused : (r : Result (Unit {0}) RunError) (marks : List Mark) (s s' : S) (t : T) → IfErr r IsReadOrWrite → is_followed (rules_of file) W c ≡ false
       → AreMarksOf file W marks
-      → Tells takes drops r s (told_at file W (at_refused c)) s' → IsTreeDone takes drops keeps refuses file W c r marks (s, t) (s', t)
+      → Tells takes r s (told_at file W (at_refused c)) s' → IsTreeDone takes keeps refuses file W c r marks (s, t) (s', t)
   tree_refused r marks s s' t only refused m told =
       let whole : tree_walk file W c ≡ advance file (begin W) (at_refused c) = (has_steps file).refused (begin W) c [] refused
       ∙ (has_steps file).none (advance file (begin W) (at_refused c)) in
       tree_handed r marks (s, t) (s', t) (on_ok r (sym (ap (λ m. m.visits) whole ∙ append-nil W)))
-      (subst (λ items. Handed (watches takes keeps) (fails takes drops keeps refuses) r (s, t) items (s', t))
+      (subst (λ items. Handed (watches takes keeps) (fails refuses) r (s, t) items (s', t))
       (ap (λ U. map found (told_at file U (at_refused c))) (sym (append-nil W)) ∙ sym (ap (λ m. m.items) whole))
-      (found_handed takes drops keeps refuses r (told_at file W (at_refused c)) s s' t (no_memory r only) told))
+      (found_handed takes keeps refuses r (told_at file W (at_refused c)) s s' t (no_memory r only) told))
     where
       on_ok : (r : Result (Unit {0}) RunError) → W ≡ (tree_walk file W c).visits → OnOk r (AreMarksOf file (tree_walk file W c).visits marks)
       on_ok (Ok u) e = subst (λ U. AreMarksOf file U marks) e m
       on_ok (Err e) k = tt
 
+  -- the sink was found shut at first
+  pub tree_unasked : (marks : List Mark) (s : S) (t : T) → IsTreeDone takes keeps refuses file W c (Err WriteFailed) marks (s, t) (s, t)
+  tree_unasked marks s t = tree_handed (Err WriteFailed) marks (s, t) (s, t) tt (some_none (watches takes keeps) (s, t) (tree_walk file W c).items)
+
   -- the root could not be read
-  pub tree_unread : (marks : List Mark) (s : S) (t : T) → IsTreeDone takes drops keeps refuses file W c (Err ReadFailed) marks (s, t) (s, t)
+  pub tree_unread : (marks : List Mark) (s : S) (t : T) → IsTreeDone takes keeps refuses file W c (Err ReadFailed) marks (s, t) (s, t)
   tree_unread marks s t = tree_handed (Err ReadFailed) marks (s, t) (s, t) tt (some_none (watches takes keeps) (s, t) (tree_walk file W c).items)
 
-module _ {P : Type 0} {moves : P → Item → P → Type 0} {stops : RunError → P → Item → P → Type 0} {file : List ℕ} (W : List Reference) (c : Reference)
+module _ {P : Type 0} {moves : P → Item → P → Type 0} {stops : P → Item → P → Type 0} {file : List ℕ} (W : List Reference) (c : Reference)
     {w : P} where
   -- the root is an undamaged interior page: the first frame
   pub tree_started : {levels : List (List ℕ)} {marks : List Mark} {tree : Tree} {x : P} {items : List StackFrame} (f : StackFrame) → items ≡ f ∷ [] → f.page

@@ -2,12 +2,13 @@
 use Rattle.std.proofs.Common.{◌≡◌, ℕ, zero, suc, ◌≤◌, inl, inr, Result, Ok, Err, refl, sym, ap, subst, ◌∙◌, arith}
 use Rattle.std.specs.Prelude.{IfErr}
 use Rattle.dbformat.specs.declared.Geometry.{Geometry}
-use Rattle.dbsource.specs.Errors.{is_out_of_memory, is_read_failed, is_write_failed}
+use Rattle.dbsource.specs.Errors.{is_out_of_memory, is_read_failed}
 use Rattle.dbsource.specs.Failures.{failures_after}
 use Rattle.dbsource.specs.Sources.{SourceState}
 use Rattle.dbsource.specs.declared.error.RunError.{RunError}
-use Rattle.dbwalk.specs.Telling.{IsReadOrWrite, IsReadWriteOrMemory, IsWriteOrMemory, SinkAfter, SinkState}
+use Rattle.dbwalk.specs.Telling.{IsReadOrWrite, IsReadWriteOrMemory, IsWriteOrMemory, SinkWalks, SinkState}
 use Rattle.dbwalk.specs.Walked.{IsTreeError, Walked}
+use Rattle.dbwalk.proofs.Telling.Sinks.{asked, asked_both, asked_walks, walks_after, walks_as, walks_ok}
 use Rattle.dbwalk.specs.declared.state.Tree.{Tree}
 use Rattle.dbwalk.specs.declared.tree_walk.TreeWalk.{TreeWalk}
 
@@ -50,7 +51,7 @@ IsSame old new = (new.source.ghost_name ≡ old.source.ghost_name) × (new.marks
 module _ {A S K T : Type 0} (told : S → SourceState) (held : K → SinkState) (refusals : T → ℕ) where
   pub walked_by : {R : Type 0} {r : Result R RunError} {g h : Geometry} {old new : TreeWalk A S K T} → IsSame old new → h ≡ g → (told new.source.now).failures
       ≡ failures_after is_read_failed r (told old.source.now).failures
-      → SinkAfter is_write_failed r (held old.sink.now) (held new.sink.now) → refusals new.taker.now
+      → SinkWalks r (held old.sink.now) (held new.sink.now) → refusals new.taker.now
       ≡ failures_after is_out_of_memory r (refusals old.taker.now) → IfErr r (IsTreeError old.tree.start)
       → (1 ≤ old.tree.start → new.taker.now ≡ old.taker.now)
       → Walked told held refusals r g h old new
@@ -78,12 +79,13 @@ module _ {A S K T : Type 0} (told : S → SourceState) (held : K → SinkState) 
   pub walked_as : {R Q : Type 0} {r : Result Q RunError} {e : RunError} {g g' : Geometry} {old new : TreeWalk A S K T} → r ≡ Err e
       → Walked {R = R} told held refusals (Err e) g g' old new → Walked told held refusals r g g' old new
   walked_as {g = g} {g' = g'} {old = old} {new = new} q w =
-      subst (λ r. Walked told held refusals r g g' old new) (sym q) (walked_by (same_of w) w.shape w.reads w.writes w.refused w.only w.others)
+      subst (λ r. Walked told held refusals r g g' old new) (sym q)
+      (walked_by (same_of w) w.shape w.reads (walks_as refl w.writes) w.refused w.only w.others)
 
   -- an error of the source or of the sink
   pub walked_err : {R : Type 0} {r : Result R RunError} {e : RunError} {g h : Geometry} {old new : TreeWalk A S K T} → r ≡ Err e → IsReadOrWrite e
       → IsSame old new → h ≡ g → (told new.source.now).failures ≡ failures_after {A = Unit {0}} is_read_failed (Err e) (told old.source.now).failures
-      → SinkAfter {A = Unit {0}} is_write_failed (Err e) (held old.sink.now) (held new.sink.now) → refusals new.taker.now ≡ refusals old.taker.now
+      → SinkWalks {A = Unit {0}} (Err e) (held old.sink.now) (held new.sink.now) → refusals new.taker.now ≡ refusals old.taker.now
       → (1 ≤ old.tree.start → new.taker.now ≡ old.taker.now) → Walked told held refusals r g h old new
   walked_err {e = e} q only same shape reads writes kept others = walked_as {R = Unit {0}} q
       (walked_by same shape reads writes (kept ∙ none_refused {A = Unit {0}} (Err e) _ only) (inl only) others)
@@ -91,7 +93,18 @@ module _ {A S K T : Type 0} (told : S → SourceState) (held : K → SinkState) 
   -- and so where there is none
   pub walked_as_ok : {R Q : Type 0} {a : R} {b : Q} {g g' : Geometry} {old new : TreeWalk A S K T} → Walked told held refusals (Ok a) g g' old new
       → Walked told held refusals (Ok b) g g' old new
-  walked_as_ok w = walked_by (same_of w) w.shape w.reads w.writes w.refused tt w.others
+  walked_as_ok w = walked_by (same_of w) w.shape w.reads (walks_ok w.writes.moves) w.refused tt w.others
+
+  -- all was done, and the sink is asked at the end
+  pub walked_asked : {R : Type 0} {a : R} {r : Result (Unit {0}) RunError} {g h : Geometry} {old new : TreeWalk A S K T}
+      → r ≡ asked (held new.sink.now).is_shut → Walked told held refusals (Ok a) g h old new → Walked told held refusals r g h old new
+  walked_asked {old = old} {new = new} e w =
+      let shut = (held new.sink.now).is_shut in
+      walked_by (same_of w) w.shape
+      (asked_both (λ r. (told new.source.now).failures ≡ failures_after is_read_failed r (told old.source.now).failures) shut e w.reads w.reads)
+      (asked_walks e w.writes.moves)
+      (asked_both (λ r. refusals new.taker.now ≡ failures_after is_out_of_memory r (refusals old.taker.now)) shut e w.refused w.refused)
+      (asked_both (λ r. IfErr r (IsTreeError old.tree.start)) shut e tt (inl (inr refl))) w.others
 
   -- a call after another
   pub walked_behind : {R Q : Type 0} {a : R} {r : Result Q RunError} {g h k : Geometry} {old mid new : TreeWalk A S K T}
@@ -106,7 +119,7 @@ module _ {A S K T : Type 0} (told : S → SourceState) (held : K → SinkState) 
     start = v.start ∙ w.start;
     kind = v.kind ∙ w.kind;
     reads = v.reads ∙ ap (failures_after is_read_failed r) w.reads;
-    writes = subst (λ s. SinkAfter is_write_failed r s (held new.sink.now)) w.writes v.writes;
+    writes = walks_after v.writes w.writes.moves;
     refused = v.refused ∙ ap (failures_after is_out_of_memory r) w.refused;
     only = subst (λ n. IfErr r (IsTreeError n)) w.start v.only;
     others = λ l. v.others (subst (λ n. 1 ≤ n) (sym w.start) l) ∙ w.others l;

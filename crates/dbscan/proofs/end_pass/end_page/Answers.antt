@@ -11,7 +11,7 @@ use Rattle.dbsource.specs.Bench.{Pages}
 use Rattle.dbsource.proofs.Logs.{has_weaker}
 use Rattle.dbmarks.specs.EndMarks.{mark_fault, late_fault}
 use Rattle.dbmarks.specs.Marking.{is_none}
-use Rattle.dbwalk.specs.Telling.{Tells}
+use Rattle.dbscan.specs.Hearing.{Tells}
 use Rattle.dbscan.specs.EndPass.{is_fixed_mark, page_notices}
 use Rattle.dbmarks.specs.EndMarks.{entry_value}
 use Rattle.dbscan.specs.MapReads.{HasMapFor, IsMapInUse}

@@ -6,10 +6,10 @@ use Rattle.dbformat.specs.File.{geometry}
 use Rattle.dbformat.specs.declared.Geometry.{Geometry}
 use Rattle.dbsource.specs.Bench.{Pages}
 use Rattle.dbsource.proofs.Logs.{asks_then, asks_weaker, has_none}
-use Rattle.dbwalk.specs.Telling.{StopsBy}
+use Rattle.dbscan.specs.Hearing.{StopsBy}
 use Rattle.dbmarks.specs.Marking.{mark_of, page_mark}
 use Rattle.dbmarks.proofs.Markings.{page_mark-in, marks_of-length}
-use Rattle.dbwalk.proofs.Telling.Belows.{stops_by_first, stops_by_after}
+use Rattle.dbscan.proofs.Hearings.{stops_by_first, stops_by_after}
 use Rattle.dbscan.specs.EndPass.{page_notices, pages_items}
 use Rattle.dbscan.specs.MapReads.{IsMapInUse, IsMapTurn, MapReadsBefore}
 use Rattle.dbscan.proofs.EndItems.{items_one_more, items_begin, fixed_by_mark}

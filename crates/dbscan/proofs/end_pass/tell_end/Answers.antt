@@ -12,8 +12,8 @@ use Rattle.dbsource.specs.declared.error.RunError.TheVariants.{WriteFailed}
 use Rattle.dbsource.proofs.Logs.{asks_weaker}
 use Rattle.dbmarks.specs.EndMarks.{least_other_marked}
 use Rattle.dbmarks.specs.Marking.{AreMarksOf, marks_of}
-use Rattle.dbwalk.specs.Telling.{Tells, StopsBy}
-use Rattle.dbwalk.proofs.Telling.Belows.{stops_by_first}
+use Rattle.dbscan.specs.Hearing.{Tells, StopsBy}
+use Rattle.dbscan.proofs.Hearings.{stops_by_first}
 use Rattle.dbscan.specs.Desks.{DeskView}
 use Rattle.dbscan.specs.EndPass.{pages_items}
 use Rattle.dbscan.specs.MapReads.{IsMapInUse, MapReads}

@@ -3,7 +3,7 @@ use Rattle.std.proofs.lemmas.Result.{err_from_is_err_and}
 use Rattle.dbsurvey.specs.Moves.{Moves, Stops}
 use Rattle.dbsurvey.proofs.Moving.{Moves-append, Moves-one, stops_after, stops_here, stops_first}
 use Rattle.dbscan.specs.Notices.{whole}
-use Rattle.dbwalk.specs.Telling.{Tells}
+use Rattle.dbscan.specs.Hearing.{Tells}
 use Rattle.dbscan.specs.Telling.{items_of}
 use Rattle.dbscan.proofs.ToldFaults.{items_more, items_around}
 use Rattle.dbscan.proofs.tell.tell_all.Goals.{in-Some+in_ok-hear, in_default}

@@ -6,7 +6,7 @@ use Rattle.dbsource.specs.Errors.{is_write_failed}
 use Rattle.dbsource.specs.HeaderBytes.{HeaderBytes}
 use Rattle.dbsource.specs.Headers.{IsHeaderOf}
 use Rattle.dbmarks.proofs.Readings.{asks_then}
-use Rattle.dbwalk.specs.Telling.{SinkAfter}
+use Rattle.dbscan.specs.Hearing.{ReporterAfter}
 use Rattle.dbscan.specs.Walks.{AreTold, IsBetweenStarts}
 use Rattle.dbscan.proofs.walks.walk_later.Goals as goal
 
@@ -33,8 +33,8 @@ returns-clause-keeps g c =
     let held = g.K.Reporter.held in record {
       header = then.header ∙ first.header;
       roots = then.roots ∙ first.roots;
-      writes = subst (λ t. SinkAfter is_write_failed c.walk_trunks.result (held c.args.reporter.now) (held t)) (search rules)
-          (subst (λ s. SinkAfter is_write_failed c.walk_trunks.result s (held c.walk_trunks.new.teller.reporter.now))
+      writes = subst (λ t. ReporterAfter is_write_failed c.walk_trunks.result (held c.args.reporter.now) (held t)) (search rules)
+          (subst (λ s. ReporterAfter is_write_failed c.walk_trunks.result s (held c.walk_trunks.new.teller.reporter.now))
           (ap held c.new.ensures.reporter ∙ first.writes) then.writes);
       only = then.only;
     }

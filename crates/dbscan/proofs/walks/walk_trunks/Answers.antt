@@ -11,7 +11,7 @@ use Rattle.dbmarks.proofs.Readings.{log_none}
 use Rattle.dbscan.specs.Desks.{DeskView}
 use Rattle.dbscan.specs.Walks.{AreTold, IsBetweenStarts}
 use Rattle.dbscan.proofs.DeskWalks.{desk_asks}
-use Rattle.dbscan.proofs.Tellers.{reporter_after}
+use Rattle.dbscan.proofs.Tellers.{reporter_after, shut_by}
 use Rattle.dbscan.proofs.TreeWalks.{freelist_told, no_freelist_told}
 use Rattle.dbscan.proofs.walks.walk_trunks.Goals as goal
 
@@ -42,7 +42,8 @@ returns-clause-asks g c =
     let some = c.first_trunk-first.ensures ∙ ap first_trunk is.begins ∙ first_trunk_within file in
     let there : (c.first_trunk-first.result == 0) ≡ false = grind (arith, nat_tests) in
     freelist_told g.K.Reporter.hears g.K.Reporter.cuts file V s before c.desk.inside.marks c.walk_freelist.new.marks c.args.teller.now c.walk_freelist.new.sink
-    c.first_trunk-first.result c.walk_freelist.result c.requires.start there some h walked)
+    c.first_trunk-first.result c.walk_freelist.result c.requires.«open» (shut_by g.K.Reporter.held c.walk_freelist.result c.args.teller.now
+    c.walk_freelist.new.sink c.requires.«open» c.walk_freelist.ensures.writes c.walk_freelist.ensures.shut) c.requires.start there some h walked)
 
 pub returns-clause-keeps : goal.returns-clause-keeps
 returns-clause-keeps g c = record {

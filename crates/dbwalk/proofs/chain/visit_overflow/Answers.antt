@@ -1,4 +1,4 @@
-use Rattle.std.proofs.Common.{◌+◌, ◌-◌, ◌<◌, false, Ok, Err, arith, sym, ap, ap₂, subst, ◌∙◌}
+use Rattle.std.proofs.Common.{◌+◌, ◌-◌, ◌<◌, false, inl, Ok, Err, arith, refl, sym, ap, ap₂, subst, ◌∙◌}
 use Rattle.std.proofs.lemmas.Result.{err_from_is_err_and}
 use Rattle.dbsurvey.specs.Moves.{Moves}
 use Rattle.dbformat.specs.File.{page_bytes}
@@ -8,15 +8,15 @@ use Rattle.dbformat.specs.Payload.{overflow_bytes, overflow_next}
 use Rattle.dbformat.specs.Story.{at_page}
 use Rattle.dbsource.proofs.Logs.{has_weaker}
 use Rattle.dbwalk.specs.Chains.{IsOverflowVisited, Feeds, walked_chain}
-use Rattle.dbwalk.specs.declared.overflow.NextPage.{NextPage}
 use Rattle.dbwalk.proofs.Chaining.Feedings.{held_is}
 use Rattle.dbtrace.specs.Finding.{told_at}
-use Rattle.dbwalk.specs.Telling.{Tells}
 use Rattle.dbtrace.specs.declared.Cause.TheVariants as cause
 use Rattle.dbwalk.proofs.Chaining.Heads.{head_cause}
 use Rattle.dbwalk.proofs.Chaining.Overflows.{page_read, told_is, moves_none}
 use Rattle.dbmarks.proofs.Readings.{log_load}
 use Rattle.dbwalk.proofs.Pages.Levels.{whole_page}
+use Rattle.dbwalk.proofs.Telling.Sinks.{walks_err, walks_ok}
+use Rattle.dbsource.specs.declared.error.RunError.TheVariants.{ReadFailed}
 use Rattle.dbwalk.proofs.chain.visit_overflow.Goals as goal
 
 pub returns-in_err-load-clause-log : goal.returns-in_err-load-clause-log
@@ -25,34 +25,10 @@ returns-in_err-load-clause-log g c =
     let q = err_from_is_err_and c.from_residual.result c.from_residual.ensures.1 in
     has_weaker _ _ (log_load c.args.bench.now.geometry.page_size c.args.page read.bytes (Err c.in_err-load.field-0.0) c.load.ensures.told read.size read.holds)
     (λ log l. l)
-    (λ file h e. subst (λ r. IsOverflowVisited g.K.Sink.takes g.K.Sink.drops file c.args.chain.now c.args.number c.args.page c.args.left r c.args.sieve.now
+    (λ file h e. subst (λ r. IsOverflowVisited g.K.Sink.takes file c.args.chain.now c.args.number c.args.page c.args.left r c.args.sieve.now
     c.args.sieve.now c.args.sink.now c.args.sink.now) (sym (q.1 ∙ ap Err q.2)) (record {
       next = tt;
       told = λ U d p l on head. moves_none g.K.Sink.takes c.args.sink.now (told_at file U (at_page d));
-      fed = tt;
-    }))
-
-pub returns-in_err-tell-clause-log : goal.returns-in_err-tell-clause-log
-returns-in_err-tell-clause-log g c =
-    let read = c.in_ok-load.ensures.level in
-    has_weaker _ _ (log_load c.args.bench.now.geometry.page_size c.args.page read.bytes (Ok tt) c.load.ensures.told read.size read.holds) (λ log l. l)
-    (λ file h e.
-    let k = page_read file read.bytes c.args.bench.now.geometry.page_size c.args.page read.size h (sym (ap (λ g. g.page_size) e)) in
-    let bytes = c.page.ensures.bytes ∙ ap (λ b. b.chain) read.only ∙ k in
-    let n = c.next_page-next.ensures.page ∙ ap overflow_next bytes in
-    let u = ap (λ g. g.usable) (c.geometry-usable.ensures.value ∙ ap (λ b. b.geometry) read.only ∙ e) in
-    let r = c.overflow_row-row.ensures in
-    let q = err_from_is_err_and c.from_residual-in_err-tell.result c.from_residual-in_err-tell.ensures.1 in
-    subst (λ r. IsOverflowVisited g.K.Sink.takes g.K.Sink.drops file c.args.chain.now c.args.number c.args.page c.args.left r c.args.sieve.now
-    c.feed_page.new.sieve c.args.sink.now c.tell.new.sink) (sym (q.1 ∙ ap Err q.2)) (record {
-      next = tt;
-      told = λ U d p l on head. subst (λ L. Tells {A = NextPage} g.K.Sink.takes g.K.Sink.drops (Err c.in_err-tell.field-0.0) c.args.sink.now L c.tell.new.sink)
-          (told_is file U d c.args.chain.now c.args.number c.args.page c.geometry-usable.result.usable c.args.left c.next_page-next.result.page
-          c.overflow_row-row.result c.last_fault-fault.result
-          u n p l on r.start r.path r.chain r.page.0 r.page.1 r.counts c.last_fault-fault.ensures _
-          (ap (λ x. cause.Chain (walked_chain c.args.chain.now c.args.number x c.args.left (c.args.number + 1) false)) u
-          ∙ sym (head_cause file U c.args.chain.now c.args.number c.args.left 1 false d l on head)))
-          c.in_err-tell.ensures.told;
       fed = tt;
     }))
 
@@ -74,7 +50,7 @@ returns-clause-log g c =
           u n p l on r.start r.path r.chain r.page.0 r.page.1 r.counts c.last_fault-fault.ensures _
           (ap (λ x. cause.Chain (walked_chain c.args.chain.now c.args.number x c.args.left (c.args.number + 1) false)) u
           ∙ sym (head_cause file U c.args.chain.now c.args.number c.args.left 1 false d l on head)))
-          c.in_ok-tell.ensures.told;
+          c.tell.ensures.items;
       fed = λ d p l.
           let b = c.page-2.ensures.bytes ∙ ap (λ b. b.chain) read.only ∙ k ∙ ap (page_bytes file) (sym p) in
           subst (λ l. Feeds c.args.sieve.now l c.feed_page.new.sieve)
@@ -82,6 +58,14 @@ returns-clause-log g c =
           ∙ sym (held_is file d c.args.left l))
           c.feed_page.ensures.fed;
     })
+
+pub returns-clause-writes : goal.returns-clause-writes
+returns-clause-writes g c = walks_ok c.tell.ensures.count
+
+pub returns-in_err-load-clause-writes : goal.returns-in_err-load-clause-writes
+returns-in_err-load-clause-writes g c =
+    let q = err_from_is_err_and c.from_residual.result c.from_residual.ensures.1 in
+    walks_err {e = ReadFailed} (q.1 ∙ ap Err q.2) (inl refl) c.requires.«open»
 
 pub next_page-next-requires : goal.next_page-next-requires
 next_page-next-requires g c =

@@ -5,6 +5,7 @@ use Rattle.dbformat.specs.Reference.{Reference}
 use Rattle.dbsource.specs.Sources.{HasLog}
 use Rattle.dbwalk.specs.Chains.{IsChainOf, IsOnWay, IsPlace}
 use Rattle.dbwalk.specs.Entered.{IsNext}
+use Rattle.dbwalk.specs.Telling.{SinkMoves}
 use Rattle.dbmarks.specs.Marking.{AreMarksOf}
 use Rattle.dbmarks.specs.Reads.{Reads}
 use Rattle.dbwalk.proofs.chain.walk_chain.Given as goal
@@ -20,7 +21,7 @@ invariant-loop-next g l = record {
       → IsOnWay g.K.Sink.takes file W c l.initial.sink l.chain l.place l.marks l.sink l.initial.sieve l.sieve)
       (g.S.Source.held l.initial.source) (g.S.Source.held l.source);
   reads : (g.S.Source.held l.source).failures ≡ (g.S.Source.held l.initial.source).failures;
-  writes : g.K.Sink.held l.sink ≡ g.K.Sink.held l.initial.sink;
+  writes : SinkMoves (g.K.Sink.held l.initial.sink) (g.K.Sink.held l.sink);
   bench : l.bench ≡ record l.initial.bench { chain = l.bench.chain };
   kept : is_some l.sieve ≡ is_some l.initial.sieve;
   place : IsPlace l.place;

@@ -1,6 +1,6 @@
-use Rattle.std.proofs.Common.{rules, [], ◌∷◌, ◌++◌, Err, inl, refl, sym, ap, subst, ◌∙◌}
+use Rattle.std.proofs.Common.{rules, [], ◌∷◌, ◌++◌, Err, refl, sym, ap, subst, ◌∙◌}
 use Rattle.std.proofs.lemmas.Result.{err_from_is_err_and}
-use Rattle.dbsurvey.specs.Moves.{Moves, Stops}
+use Rattle.dbsurvey.specs.Moves.{Moves}
 use Rattle.dbmarks.specs.Marking.{AreMarksOf, followed}
 use Rattle.dbwalk.specs.Entered.{Enters}
 use Rattle.dbtrace.specs.Finding.{told_fault}
@@ -16,8 +16,8 @@ returns-in-None-clause-entered g c = λ file W d is next m causes.
       refl,
     )
 
-pub returns-in_ok-fault-in-Some-clause-entered : goal.returns-in_ok-fault-in-Some-clause-entered
-returns-in_ok-fault-in-Some-clause-entered g c = λ file W d is next m causes.
+pub returns-in-Some-clause-entered : goal.returns-in-Some-clause-entered
+returns-in-Some-clause-entered g c = λ file W d is next m causes.
     let k = entered_no file W d c.args.marks.now c.args.step is next m c.in-Some.code c.cause.result
     (causes c.cause.result c.cause.ensures) (sym c.follow.ensures.why ∙ c.in-Some.is) in (
       k.0,
@@ -25,22 +25,9 @@ returns-in_ok-fault-in-Some-clause-entered g c = λ file W d is next m causes.
       subst (λ l. Moves g.K.Sink.takes c.args.sink.now l c.fault.new.self) (sym k.1) (
         c.fault.new.self,
         subst (λ f. g.K.Sink.takes c.args.sink.now (told_fault f c.cause.result) c.fault.new.self) c.new-fault.ensures
-            c.in_ok-fault-in-Some.ensures.item,
+            c.fault.ensures.item,
         refl,
       ),
-    )
-
-pub returns-in_err-fault-in-Some-clause-entered : goal.returns-in_err-fault-in-Some-clause-entered
-returns-in_err-fault-in-Some-clause-entered g c = λ file W d is next m causes.
-    let k = entered_no file W d c.args.marks.now c.args.step is next m c.in-Some.code c.cause.result
-    (causes c.cause.result c.cause.ensures) (sym c.follow.ensures.why ∙ c.in-Some.is) in
-    let p = err_from_is_err_and c.from_residual.result c.from_residual.ensures.1 in
-    subst (λ r. Enters g.K.Sink.takes g.K.Sink.drops file W d r c.follow.new.self c.args.sink.now c.fault.new.self) (sym (p.1 ∙ ap Err p.2)) (
-      k.0,
-      subst (λ l. AreMarksOf file W l) (sym (c.follow.ensures.marks ∙ ap (followed c.args.marks.now c.args.step.page c.args.step.mark) c.in-Some.is)) m,
-      subst (λ l. Stops g.K.Sink.takes g.K.Sink.drops c.args.sink.now l c.fault.new.self) (sym k.1)
-          (inl (subst (λ f. g.K.Sink.drops c.args.sink.now (told_fault f c.cause.result) c.fault.new.self) c.new-fault.ensures
-          c.in_err-fault-in-Some.ensures.item)),
     )
 
 pub returns-in-None-clause-page : goal.returns-in-None-clause-page
@@ -51,3 +38,8 @@ returns-in-None-clause-shallow g c = λ yes. (refusal_none _ _ (sym c.follow.ens
 
 pub returns-in-None-clause-marked : goal.returns-in-None-clause-marked
 returns-in-None-clause-marked g c = search rules
+
+pub returns-in_err-ask-clause-entered : goal.returns-in_err-ask-clause-entered
+returns-in_err-ask-clause-entered g c = λ file W d is next m causes.
+    let p = err_from_is_err_and c.from_residual.result c.from_residual.ensures.1 in
+    subst (λ r. Enters g.K.Sink.takes file W d r c.args.marks.now c.args.sink.now c.args.sink.now) (sym (p.1 ∙ ap Err p.2)) (m, refl)

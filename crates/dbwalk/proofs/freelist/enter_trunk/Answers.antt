@@ -16,6 +16,7 @@ use Rattle.dbwalk.proofs.FreeTrunks.{trunk_refused, trunk_unread, next_turned}
 use Rattle.dbwalk.proofs.Telling.Lefts.{no_chain_refusal, left_untold}
 use Rattle.dbwalk.proofs.Chaining.Overflows.{page_read}
 use Rattle.dbmarks.proofs.Readings.{put_count, log_load, log_none, log_opened, log_page}
+use Rattle.dbwalk.proofs.Telling.Sinks.{moves_then, walks_after, walks_as, walks_err, walks_ok}
 use Rattle.dbwalk.proofs.freelist.enter_trunk.Goals as goal
 
 pub returns-clause-less : goal.returns-clause-less
@@ -30,17 +31,17 @@ pub returns-in_err-enter-clause-log : goal.returns-in_err-enter-clause-log
 returns-in_err-enter-clause-log g c = log_none c.args.bench.now.geometry.page_size c.args.marks.now c.enter.new.marks (g.S.Source.held c.args.source.now)
     c.in_err-enter.ensures.after_error.1 (λ file e W d before on.
     let q = err_from_is_err_and c.from_residual.result c.from_residual.ensures.1 in
-    subst (λ r. TrunkTurns g.K.Sink.takes g.K.Sink.drops file W d before r c.enter.new.marks c.enter.new.sink) (sym (q.1 ∙ ap Err q.2))
-    (left_untold g.K.Sink.takes file W (Go d ∷ []) before on.visited c.args.marks.now c.args.sink.now g.K.Sink.drops c.enter.new.sink c.enter.new.marks
-    c.in_err-enter.field-0.0 on.d [] on.rest
+    subst (λ r. TrunkTurns g.K.Sink.takes file W d before r c.enter.new.marks c.enter.new.sink) (sym (q.1 ∙ ap Err q.2))
+    (left_untold g.K.Sink.takes file W (Go d ∷ []) before on.visited c.args.marks.now c.args.sink.now c.enter.new.sink c.enter.new.marks
+    c.in_err-enter.field-0.0 (Go on.d ∷ []) on.rest
     (c.in_err-enter.ensures.entered file on.visited on.d on.step on.rest.past on.rest.marked
-    (λ why p. no_chain_refusal file on.visited on.d (ap bytes_left on.role) ∙ sym p))))
+    (λ why p. no_chain_refusal file on.visited on.d (ap bytes_left on.role) ∙ sym p)).1))
 
 pub returns-then-not-branch-clause-log : goal.returns-then-not-branch-clause-log
 returns-then-not-branch-clause-log g c = log_none c.args.bench.now.geometry.page_size c.args.marks.now c.enter.new.marks (g.S.Source.held c.args.source.now)
     (c.in_ok-enter.ensures.unmarked c.if-not-branch.true) (λ file e W d before on.
-    trunk_refused g.K.Sink.takes g.K.Sink.drops file W d before c.args.step c.args.marks.now c.args.sink.now on c.enter.new.marks c.enter.new.sink
-    (subst (λ b. Enters g.K.Sink.takes g.K.Sink.drops file on.visited on.d (Ok b) c.enter.new.marks c.args.sink.now c.enter.new.sink) c.if-not-branch.true
+    trunk_refused g.K.Sink.takes file W d before c.args.step c.args.marks.now c.args.sink.now on c.enter.new.marks c.enter.new.sink
+    (subst (λ b. Enters g.K.Sink.takes file on.visited on.d (Ok b) c.enter.new.marks c.args.sink.now c.enter.new.sink) c.if-not-branch.true
     (c.in_ok-enter.ensures.entered file on.visited on.d on.step on.rest.past on.rest.marked
     (λ why p. no_chain_refusal file on.visited on.d (ap bytes_left on.role) ∙ sym p))))
 
@@ -53,13 +54,12 @@ returns-in_err-load-clause-log g c =
     (subst IsUse (sym c.requires) (record { some = refl; cleared = refl }))
     (log_load size c.args.step.page read.bytes (Err c.in_err-load.field-0.0) c.load.ensures.told read.size read.holds) (λ file h e W d before on.
     let q = err_from_is_err_and c.from_residual-in_err-load.result c.from_residual-in_err-load.ensures.1 in
-    let n = subst (λ b. Enters g.K.Sink.takes g.K.Sink.drops file on.visited on.d (Ok b) c.enter.new.marks c.args.sink.now c.enter.new.sink)
+    let n = subst (λ b. Enters g.K.Sink.takes file on.visited on.d (Ok b) c.enter.new.marks c.args.sink.now c.enter.new.sink)
     c.if-not-branch.false
     (c.in_ok-enter.ensures.entered file on.visited on.d on.step on.rest.past on.rest.marked
     (λ why p. no_chain_refusal file on.visited on.d (ap bytes_left on.role) ∙ sym p)) in
-    subst (λ r. TrunkTurns g.K.Sink.takes g.K.Sink.drops file W d before r c.enter.new.marks c.enter.new.sink) (sym (q.1 ∙ ap Err q.2))
-    (trunk_unread g.K.Sink.takes g.K.Sink.drops file W d before c.args.step c.args.marks.now c.args.sink.now on ReadFailed c.enter.new.marks c.enter.new.sink n
-    refl))
+    subst (λ r. TrunkTurns g.K.Sink.takes file W d before r c.enter.new.marks c.enter.new.sink) (sym (q.1 ∙ ap Err q.2))
+    (trunk_unread g.K.Sink.takes file W d before c.args.step c.args.marks.now c.args.sink.now on ReadFailed c.enter.new.marks c.enter.new.sink n))
 
 pub returns-in_err-item-clause-log : goal.returns-in_err-item-clause-log
 returns-in_err-item-clause-log g c =
@@ -72,14 +72,14 @@ returns-in_err-item-clause-log g c =
     let k = page_read file read.bytes size c.args.step.page read.size h (sym (ap (λ g. g.page_size) e)) in
     let b = c.page-bytes.ensures.bytes ∙ ap (λ b. b.chain) read.only ∙ k in
     let u = ap (λ g. g.usable) (c.geometry-usable.ensures.value ∙ ap (λ b. b.geometry) read.only ∙ e) in
-    let n = subst (λ b. Enters g.K.Sink.takes g.K.Sink.drops file on.visited on.d (Ok b) c.enter.new.marks c.args.sink.now c.enter.new.sink)
+    let n = subst (λ b. Enters g.K.Sink.takes file on.visited on.d (Ok b) c.enter.new.marks c.args.sink.now c.enter.new.sink)
     c.if-not-branch.false
     (c.in_ok-enter.ensures.entered file on.visited on.d on.step on.rest.past on.rest.marked
     (λ why p. no_chain_refusal file on.visited on.d (ap bytes_left on.role) ∙ sym p)) in
     let o = c.in_err-item.ensures.opened file W d before on.visited on.d c.args.marks.now on.step.page on.role b u n.0 n.1
     (subst (λ s. IsLeft g.K.Sink.takes file W (Go d ∷ []) before on.visited (Go on.d ∷ []) (c.args.marks.now, s)) n.2 on.rest) in
     let q = err_from_is_err_and c.from_residual-in_err-item.result c.from_residual-in_err-item.ensures.1 in
-    subst (λ r. TrunkTurns g.K.Sink.takes g.K.Sink.drops file W d before r c.open_trunk.new.marks c.open_trunk.new.sink) (sym (q.1 ∙ ap Err q.2)) o)
+    subst (λ r. TrunkTurns g.K.Sink.takes file W d before r c.open_trunk.new.marks c.open_trunk.new.sink) (sym (q.1 ∙ ap Err q.2)) o)
 
 pub returns-clause-log : goal.returns-clause-log
 returns-clause-log g c =
@@ -92,15 +92,15 @@ returns-clause-log g c =
     let k = page_read file read.bytes size c.args.step.page read.size h (sym (ap (λ g. g.page_size) e)) in
     let b = c.page-bytes.ensures.bytes ∙ ap (λ b. b.chain) read.only ∙ k in
     let u = ap (λ g. g.usable) (c.geometry-usable.ensures.value ∙ ap (λ b. b.geometry) read.only ∙ e) in
-    let n = subst (λ b. Enters g.K.Sink.takes g.K.Sink.drops file on.visited on.d (Ok b) c.enter.new.marks c.args.sink.now c.enter.new.sink)
+    let n = subst (λ b. Enters g.K.Sink.takes file on.visited on.d (Ok b) c.enter.new.marks c.args.sink.now c.enter.new.sink)
     c.if-not-branch.false
     (c.in_ok-enter.ensures.entered file on.visited on.d on.step on.rest.past on.rest.marked
     (λ why p. no_chain_refusal file on.visited on.d (ap bytes_left on.role) ∙ sym p)) in
     let o = c.in_ok-item.ensures.opened file W d before on.visited on.d c.args.marks.now on.step.page on.role b u n.0 n.1
     (subst (λ s. IsLeft g.K.Sink.takes file W (Go d ∷ []) before on.visited (Go on.d ∷ []) (c.args.marks.now, s)) n.2 on.rest) in
-    subst (λ o. TrunkTurns g.K.Sink.takes g.K.Sink.drops file W d before (Ok o) c.open_trunk.new.marks c.open_trunk.new.sink)
+    subst (λ o. TrunkTurns g.K.Sink.takes file W d before (Ok o) c.open_trunk.new.marks c.open_trunk.new.sink)
     (sym (c.next_trunk.ensures ∙ ap (λ b. next_step (u32_at 0 b) c.args.step.page c.in_ok-item.item) b))
-    (next_turned g.K.Sink.takes g.K.Sink.drops file W d before on.d c.args.step.page c.in_ok-item.item o.0 c.open_trunk.new.marks c.open_trunk.new.sink
+    (next_turned g.K.Sink.takes file W d before on.d c.args.step.page c.in_ok-item.item o.0 c.open_trunk.new.marks c.open_trunk.new.sink
     on.step.page o.1))
 
 pub enter-requires : goal.enter-requires
@@ -125,3 +125,24 @@ next_marked page from item = cond_both (page == 0) None (Some (trunk_step page f
 
 pub returns-clause-trunk : goal.returns-clause-trunk
 returns-clause-trunk g c = rw c.next_trunk.ensures (next_marked _ _ _)
+
+pub returns-in_err-enter-clause-writes : goal.returns-in_err-enter-clause-writes
+returns-in_err-enter-clause-writes g c =
+    let q = err_from_is_err_and c.from_residual.result c.from_residual.ensures.1 in
+    walks_as (q.1 ∙ ap Err q.2) c.in_err-enter.ensures.writes
+
+pub returns-then-not-branch-clause-writes : goal.returns-then-not-branch-clause-writes
+returns-then-not-branch-clause-writes g c = walks_ok c.in_ok-enter.ensures.writes.moves
+
+pub returns-in_err-load-clause-writes : goal.returns-in_err-load-clause-writes
+returns-in_err-load-clause-writes g c =
+    let q = err_from_is_err_and c.from_residual-in_err-load.result c.from_residual-in_err-load.ensures.1 in
+    walks_err {e = ReadFailed} (q.1 ∙ ap Err q.2) c.in_ok-enter.ensures.writes.moves (c.in_ok-enter.ensures.«open» (search rules))
+
+pub returns-in_err-item-clause-writes : goal.returns-in_err-item-clause-writes
+returns-in_err-item-clause-writes g c =
+    let q = err_from_is_err_and c.from_residual-in_err-item.result c.from_residual-in_err-item.ensures.1 in
+    walks_as (q.1 ∙ ap Err q.2) (walks_after c.in_err-item.ensures.writes c.in_ok-enter.ensures.writes.moves)
+
+pub returns-clause-writes : goal.returns-clause-writes
+returns-clause-writes g c = walks_ok (moves_then c.in_ok-enter.ensures.writes.moves c.in_ok-item.ensures.writes.moves)

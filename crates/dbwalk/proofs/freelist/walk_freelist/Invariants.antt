@@ -3,6 +3,7 @@ use Rattle.dbformat.specs.File.{geometry}
 use Rattle.dbformat.specs.Reference.{Reference}
 use Rattle.dbsource.specs.Sources.{HasLog}
 use Rattle.dbwalk.specs.Entered.{IsNext}
+use Rattle.dbwalk.specs.Telling.{SinkMoves}
 use Rattle.dbmarks.specs.Marking.{AreMarksOf, unmarked_pages}
 use Rattle.dbmarks.specs.Reads.{Reads}
 use Rattle.dbwalk.specs.Trunks.{IsFirstTrunk, IsOnTrunks}
@@ -19,7 +20,7 @@ invariant-loop-next g l = record {
       → IsFirstTrunk l.first c → IsNext W c → AreMarksOf file W l.initial.marks → IsOnTrunks g.K.Sink.takes file W c l.initial.sink l.step l.marks l.sink)
       (g.S.Source.held l.initial.source) (g.S.Source.held l.source);
   reads : (g.S.Source.held l.source).failures ≡ (g.S.Source.held l.initial.source).failures;
-  writes : g.K.Sink.held l.sink ≡ g.K.Sink.held l.initial.sink;
+  writes : SinkMoves (g.K.Sink.held l.initial.sink) (g.K.Sink.held l.sink);
   bench : l.bench ≡ record l.initial.bench { chain = l.bench.chain };
   trunk : l.step.mark ≡ Trunk;
 }

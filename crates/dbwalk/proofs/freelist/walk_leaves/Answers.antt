@@ -1,4 +1,4 @@
-use Rattle.std.proofs.Common.{◌≡◌, ◌+◌, ◌-◌, ◌<◌, inl, inr, ◌++◌, set, Err, refl, sym, ap, subst, ◌∙◌, arith}
+use Rattle.std.proofs.Common.{◌≡◌, ◌+◌, ◌-◌, ◌<◌, inl, inr, ◌++◌, ◌∷◌, set, Err, refl, sym, ap, subst, ◌∙◌, arith}
 use Rattle.std.proofs.lemmas.Bool.{cases_Bool}
 use Rattle.std.proofs.lemmas.Result.{err_from_is_err_and}
 use Rattle.dbwalk.specs.Trunks.{LeavesErrands, leaves_from}
@@ -8,6 +8,8 @@ use Rattle.dbmarks.specs.declared.marks.Mark.TheVariants.{FreeLeaf}
 use Rattle.dbwalk.proofs.FreeTrunks.{leaf_of, leaves_more, next_of_left, leaf_entered}
 use Rattle.dbwalk.proofs.Telling.Lefts.{left_untold}
 use Rattle.dbmarks.proofs.Readings.{keeps_same, keeps_then, keeps_put, put_count}
+use Rattle.dbsurvey.specs.Story.{Go}
+use Rattle.dbwalk.proofs.Telling.Sinks.{moves_then, walks_after, walks_as, walks_ok}
 use Rattle.dbwalk.proofs.freelist.walk_leaves.Goals as goal
 
 pub returns-clause-done : goal.returns-clause-done
@@ -28,12 +30,20 @@ returns-in_err-enter-clause-done g c = λ file W errands before U d tail p h.
     let q = err_from_is_err_and c.from_residual.result c.from_residual.ensures.1 in
     let e = leaf_of d c.args.bytes.now c.loop-index.index in
     let es = leaves_from d c.args.bytes.now (c.loop-index.index + 1) (c.args.count - c.loop-index.index - 1) ++ tail in
-    subst (λ r. LeavesErrands g.K.Sink.takes g.K.Sink.drops file W errands before tail r c.enter.new.marks c.enter.new.sink) (sym (q.1 ∙ ap Err q.2))
-    (left_untold g.K.Sink.takes file W errands before k.0 c.loop-index.marks c.loop-index.sink g.K.Sink.drops c.enter.new.sink c.enter.new.marks
-    c.in_err-enter.field-0.0 e es l
+    subst (λ r. LeavesErrands g.K.Sink.takes file W errands before tail r c.enter.new.marks c.enter.new.sink) (sym (q.1 ∙ ap Err q.2))
+    (left_untold g.K.Sink.takes file W errands before k.0 c.loop-index.marks c.loop-index.sink c.enter.new.sink c.enter.new.marks
+    c.in_err-enter.field-0.0 (Go e ∷ es) l
     (c.in_err-enter.ensures.entered file k.0 e (record { page = sym c.u32_at.ensures; mark = refl; from = p; item = refl; deep = refl })
-    (next_of_left g.K.Sink.takes g.K.Sink.drops file W errands before k.0 e es c.loop-index.marks c.enter.new.marks c.loop-index.sink c.enter.new.sink l)
-    l.marked (λ why p. sym p)))
+    (next_of_left g.K.Sink.takes file W errands before k.0 e es c.loop-index.marks c.enter.new.marks c.loop-index.sink c.enter.new.sink l)
+    l.marked (λ why p. sym p)).1)
+
+pub returns-in_err-enter-clause-writes : goal.returns-in_err-enter-clause-writes
+returns-in_err-enter-clause-writes g c =
+    let q = err_from_is_err_and c.from_residual.result c.from_residual.ensures.1 in
+    walks_as (q.1 ∙ ap Err q.2) (walks_after c.in_err-enter.ensures.writes c.loop-index.invariant.writes)
+
+pub returns-clause-writes : goal.returns-clause-writes
+returns-clause-writes g c = walks_ok c.loop-index.invariant.writes
 
 pub loop-index-preserved : goal.loop-index-preserved
 loop-index-preserved g c = record {
@@ -52,7 +62,7 @@ loop-index-preserved g c = record {
     | inr e ↦ (let n : unmarked_pages c.enter.new.marks ≡ unmarked_pages c.loop-index.marks =
         ap unmarked_pages (c.in_ok-enter.ensures.unmarked e) in omega (arith, c.loop-index.invariant.fewer))
   ];
-  writes = c.in_ok-enter.ensures.writes ∙ c.loop-index.invariant.writes;
+  writes = moves_then c.loop-index.invariant.writes c.in_ok-enter.ensures.writes.moves;
   left = λ file W errands before U d tail p h.
       let k = c.loop-index.invariant.left file W errands before U d tail p h in
       let n : 0 < c.args.count - c.loop-index.index = omega arith in
@@ -61,10 +71,10 @@ loop-index-preserved g c = record {
       let e = leaf_of d c.args.bytes.now c.loop-index.index in
       let es = leaves_from d c.args.bytes.now (c.loop-index.index + 1) (c.args.count - c.loop-index.index - 1) ++ tail in
       let m : c.args.count - c.loop-index.index - 1 ≡ c.args.count - (c.loop-index.index + 1) = omega arith in
-      let r = leaf_entered g.K.Sink.takes g.K.Sink.drops file W errands before k.0 e es c.loop-index.marks c.enter.new.marks c.loop-index.sink c.enter.new.sink
+      let r = leaf_entered g.K.Sink.takes file W errands before k.0 e es c.loop-index.marks c.enter.new.marks c.loop-index.sink c.enter.new.sink
       l c.in_ok-enter.field-0 refl
       (c.in_ok-enter.ensures.entered file k.0 e (record { page = sym c.u32_at.ensures; mark = refl; from = p; item = refl; deep = refl })
-      (next_of_left g.K.Sink.takes g.K.Sink.drops file W errands before k.0 e es c.loop-index.marks c.enter.new.marks c.loop-index.sink c.enter.new.sink l)
+      (next_of_left g.K.Sink.takes file W errands before k.0 e es c.loop-index.marks c.enter.new.marks c.loop-index.sink c.enter.new.sink l)
       l.marked (λ why p. sym p)) in (
         r.0,
         subst (λ n. IsLeft g.K.Sink.takes file W errands before r.0 (leaves_from d c.args.bytes.now (c.loop-index.index + 1) n ++ tail)

@@ -1,4 +1,4 @@
-use Rattle.std.proofs.Common.{rules, ◌≤◌, refl, sym, subst}
+use Rattle.std.proofs.Common.{rules, ◌≤◌, inl, refl, sym, subst}
 use Rattle.std.specs.Prelude.{IfSome}
 use Rattle.dbformat.specs.Payload.{most_payload}
 use Rattle.dbsource.proofs.Logs.{has_weaker}
@@ -8,12 +8,13 @@ use Rattle.dbmarks.proofs.Readings.{log_none}
 use Rattle.dbwalk.specs.LeafCells.{overflow_errands}
 use Rattle.dbwalk.proofs.Leaves.LeafErrands.{none_done, chain_start}
 use Rattle.dbwalk.proofs.Chaining.Feedings.{on_ok, feeds_nothing, feeds_chain}
+use Rattle.dbwalk.proofs.Telling.Sinks.{walks_ok}
 use Rattle.dbwalk.proofs.leaf.walk_overflow.Goals as goal
 
 pub returns-in-None-clause-log : goal.returns-in-None-clause-log
 returns-in-None-clause-log g c = log_none c.args.bench.now.geometry.page_size c.args.marks.now c.args.marks.now (g.S.Source.held c.args.source.now) refl
     (λ file e U d at row past m. (
-      none_done g.K.Sink.takes g.K.Sink.drops file U d c.args.i c.args.cell.overflow c.args.marks.now c.args.sink.now c.in-None.is m,
+      none_done g.K.Sink.takes file U d c.args.i c.args.cell.overflow c.args.marks.now c.args.sink.now c.in-None.is m,
       feeds_nothing file U d c.args.i c.args.cell.overflow c.args.sieve.now c.in-None.is,
     ))
 
@@ -23,7 +24,7 @@ returns-in-Some-clause-log g c = has_weaker _ _ c.walk_chain.ensures.log (λ log
     let next = subst (λ o. IsPast U (overflow_errands d c.args.i o)) c.in-Some.is past in
     let k = h e U _ (chain_start _ file t.kind t.start t.path.items d c.args.bench.now.levels c.args.page c.args.i c.in-Some.first c.in-Some.left at refl
     c.as_slice.ensures.value refl refl refl refl row) next m in (
-      subst (λ o. IsDone g.K.Sink.takes g.K.Sink.drops file U (overflow_errands d c.args.i o) c.walk_chain.result c.walk_chain.new.marks c.args.sink.now
+      subst (λ o. IsDone g.K.Sink.takes file U (overflow_errands d c.args.i o) c.walk_chain.result c.walk_chain.new.marks c.args.sink.now
           c.walk_chain.new.sink) (sym c.in-Some.is) k.0,
       on_ok c.walk_chain.result k.1 (feeds_chain file U d c.args.i c.in-Some.first c.in-Some.left c.args.cell.overflow c.args.sieve.now c.walk_chain.new.sieve
           c.in-Some.is next),
@@ -31,3 +32,6 @@ returns-in-Some-clause-log g c = has_weaker _ _ c.walk_chain.ensures.log (λ log
 
 pub walk_chain-requires : goal.walk_chain-requires
 walk_chain-requires g c = (search rules, (c.requires.0, subst (λ o. IfSome o (λ o. o.1 ≤ most_payload)) c.in-Some.is c.requires.1))
+
+pub returns-in-None-clause-writes : goal.returns-in-None-clause-writes
+returns-in-None-clause-writes g c = walks_ok (inl refl)

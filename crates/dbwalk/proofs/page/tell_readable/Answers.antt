@@ -1,30 +1,28 @@
-use Rattle.std.proofs.Common.{◌≡◌, [], Ok, rules, subst, ap, sym, ◌∙◌, refl}
+use Rattle.std.proofs.Common.{◌≡◌, [], rules, subst, ap, sym, ◌∙◌, refl}
 use Rattle.std.specs.Option.{is_none}
 use Rattle.dbtrace.specs.Finding.{told_by}
-use Rattle.dbsource.specs.declared.out.WriteFailed.{WriteFailed}
 use Rattle.dbwalk.specs.Found.{inner_cause, view_cause}
 use Rattle.dbwalk.specs.Telling.{IsReportedTo}
-use Rattle.dbwalk.proofs.Pages.PageTellings.{inner_found, inner_told, no_cell_faults}
+use Rattle.dbwalk.proofs.Pages.PageTellings.{inner_found, inner_told, no_cell_faults, told_nothing}
 use Rattle.dbwalk.proofs.page.tell_readable.Goals as goal
 
-pub returns-then-are_none : goal.returns-then-are_none
-returns-then-are_none g c =
+pub returns-else-not-are_none : goal.returns-else-not-are_none
+returns-else-not-are_none g c =
     let v = c.args.view.now in
     let none : c.is_none.result ≡ is_none c.freeblock_fault-freeblock.result = search rules in
     let found = inner_found v c.args.is_child c.is_none.result c.fragment_fault-fragments.result c.freeblock_fault-freeblock.result
     c.unheld_fault-coverage.result c.empty_fault-empty.result [] (no_cell_faults v c.requires.cells)
     c.fragment_fault-fragments.ensures c.freeblock_fault-freeblock.ensures c.unheld_fault-coverage.ensures c.empty_fault-empty.ensures none in
-    subst (λ fs. IsReportedTo {A = Unit {0}} {E = WriteFailed} g.K.Sink.takes g.K.Sink.drops g.K.Sink.held (Ok tt) c.args.sink.now
-    (told_by (view_cause c.args.place.now.rowids v) fs) c.args.sink.now)
-    (sym (c.if-are_none.ensures refl) ∙ found) (search rules)
+    subst (λ fs. IsReportedTo g.K.Sink.takes g.K.Sink.held c.args.sink.now (told_by (view_cause c.args.place.now.rowids v) fs) c.args.sink.now)
+    (sym (c.if-not-are_none.ensures refl) ∙ found) told_nothing
 
-pub returns : goal.returns
-returns g c =
+pub returns-then-not-are_none : goal.returns-then-not-are_none
+returns-then-not-are_none g c =
     let v = c.args.view.now in
     let place = c.args.place.now in
     let why = c.cause_within.result in
     let none : c.is_none.result ≡ is_none c.freeblock_fault-freeblock.result = search rules in
-    subst (λ L. IsReportedTo g.K.Sink.takes g.K.Sink.drops g.K.Sink.held c.tell_each.result c.args.sink.now L c.tell_each.new.sink)
+    subst (λ L. IsReportedTo g.K.Sink.takes g.K.Sink.held c.args.sink.now L c.tell_each.new.sink)
     (ap (told_by (inner_cause why)) (inner_found v c.args.is_child c.is_none.result c.fragment_fault-fragments.result c.freeblock_fault-freeblock.result
     c.unheld_fault-coverage.result c.empty_fault-empty.result [] (no_cell_faults v c.requires.cells)
     c.fragment_fault-fragments.ensures c.freeblock_fault-freeblock.ensures c.unheld_fault-coverage.ensures c.empty_fault-empty.ensures none)

@@ -1,50 +1,16 @@
 use Rattle.std.proofs.Common.{rules, ℤ, Option, ◌+◌, arith, sym, ap, ◌∙◌}
-use Rattle.std.proofs.lemmas.Result.{err_from_is_err_and}
 use Rattle.std.specs.Prelude.{slice_get}
 use Rattle.dbformat.specs.Head.{undamaged}
 use Rattle.dbtrace.specs.Progress.{key_value}
 use Rattle.dbtrace.specs.declared.RowidBounds.{RowidBounds}
 use Rattle.dbwalk.specs.Found.{damage_fault}
-use Rattle.dbwalk.specs.declared.page_report.PageFound.TheVariants.{Damaged, Interior, Leaf}
 use Rattle.dbwalk.proofs.Pages.Levels.{whole_page}
-use Rattle.dbwalk.proofs.Pages.PageVisits.{exit_damaged, exit_damaged_stop, exit_stop, exit_interior, exit_leaf, exit_leaf_stop}
+use Rattle.dbwalk.proofs.Pages.PageVisits.{exit_damaged, exit_interior, exit_leaf}
 use Rattle.dbwalk.proofs.page_report.tell_page.Goals as goal
 
 -- the rowids of the page
 abbrev rowids_of : Option ℤ → Option ℤ → RowidBounds
 rowids_of above up_to = record { above = above; up_to = up_to }
-
-pub returns-in_err-keys-in-Ok-clause-told : goal.returns-in_err-keys-in-Ok-clause-told
-returns-in_err-keys-in-Ok-clause-told g c = λ file d from item shape candidate there.
-    let q = err_from_is_err_and c.from_residual.result c.from_residual.ensures.1 in
-    let t = c.args.tree.now in
-    let level = c.len-level.ensures.value in
-    let u = ap (λ s. s.usable) (c.geometry-usable.ensures.value ∙ shape) in
-    let b = there c.uses-uses.result.0.now (ap (slice_get c.args.bench.now.levels) (sym level) ∙ c.uses-uses.ensures.page) in
-    exit_stop _ _ g.K.Sink.takes g.K.Sink.drops g.K.Sink.held file t.kind t.start t.path.items c.args.page from item d candidate
-    c.geometry-usable.result.usable u c.uses-uses.result.0.now b (rowids_of (key_value t.greatest) c.args.up_to) t.leaf c.as_slice.result.now
-    c.as_slice.ensures.value
-    (rowids_of c.key_value.result c.args.up_to) (ap (λ above. rowids_of above c.args.up_to) c.key_value.ensures) (c.len-level.result + 1)
-    (ap (λ n. n + 1) level) c.args.sink.now
-    c.in-Ok.view c.in-Ok.ensures.view c.in-Ok.ensures.of.0 c.in-Ok.ensures.faults c.tell_undamaged.result c.tell_undamaged.new.sink
-    c.tell_undamaged.ensures.told
-    _ c.from_residual.result c.in_err-keys-in-Ok.was q.1
-
-pub returns-in_err-tell_damaged-in-Err-clause-told : goal.returns-in_err-tell_damaged-in-Err-clause-told
-returns-in_err-tell_damaged-in-Err-clause-told g c = λ file d from item shape candidate there.
-    let q = err_from_is_err_and c.from_residual-in_err-tell_damaged-in-Err.result c.from_residual-in_err-tell_damaged-in-Err.ensures.1 in
-    let t = c.args.tree.now in
-    let level = c.len-level.ensures.value in
-    let u = ap (λ s. s.usable) (c.geometry-usable.ensures.value ∙ shape) in
-    let b = there c.uses-uses.result.0.now (ap (slice_get c.args.bench.now.levels) (sym level) ∙ c.uses-uses.ensures.page) in
-    exit_damaged_stop _ _ g.K.Sink.takes g.K.Sink.drops g.K.Sink.held file t.kind t.start t.path.items c.args.page from item d candidate
-    c.geometry-usable.result.usable u c.uses-uses.result.0.now b (rowids_of (key_value t.greatest) c.args.up_to) t.leaf c.as_slice.result.now
-    c.as_slice.ensures.value
-    (rowids_of c.key_value.result c.args.up_to) (ap (λ above. rowids_of above c.args.up_to) c.key_value.ensures) (c.len-level.result + 1)
-    (ap (λ n. n + 1) level) c.args.sink.now
-    (damage_fault c.args.page c.uses-uses.result.0.now c.in-Err.damage) c.in-Err.ensures.view c.in-Err.ensures.faults c.tell_damaged.result
-    c.tell_damaged.new.sink c.tell_damaged.ensures
-    _ c.from_residual-in_err-tell_damaged-in-Err.result c.in_err-tell_damaged-in-Err.was q.1
 
 pub returns-in-Err-clause-told : goal.returns-in-Err-clause-told
 returns-in-Err-clause-told g c = λ file d from item shape candidate there.
@@ -52,14 +18,13 @@ returns-in-Err-clause-told g c = λ file d from item shape candidate there.
     let level = c.len-level.ensures.value in
     let u = ap (λ s. s.usable) (c.geometry-usable.ensures.value ∙ shape) in
     let b = there c.uses-uses.result.0.now (ap (slice_get c.args.bench.now.levels) (sym level) ∙ c.uses-uses.ensures.page) in
-    exit_damaged _ _ g.K.Sink.takes g.K.Sink.drops g.K.Sink.held file t.kind t.start t.path.items c.args.page from item d candidate
+    exit_damaged g.K.Sink.takes g.K.Sink.held file t.kind t.start t.path.items c.args.page from item d candidate
     c.geometry-usable.result.usable u c.uses-uses.result.0.now b (rowids_of (key_value t.greatest) c.args.up_to) t.leaf c.as_slice.result.now
     c.as_slice.ensures.value
     (rowids_of c.key_value.result c.args.up_to) (ap (λ above. rowids_of above c.args.up_to) c.key_value.ensures) (c.len-level.result + 1)
     (ap (λ n. n + 1) level) c.args.sink.now
-    (damage_fault c.args.page c.uses-uses.result.0.now c.in-Err.damage) c.in-Err.ensures.view c.in-Err.ensures.faults c.tell_damaged.result
-    c.tell_damaged.new.sink c.tell_damaged.ensures
-    Damaged c.in_ok-tell_damaged-in-Err.was
+    (damage_fault c.args.page c.uses-uses.result.0.now c.in-Err.damage) c.in-Err.ensures.view c.in-Err.ensures.faults c.tell_damaged.new.sink
+    c.tell_damaged.ensures
 
 pub returns-then-is_interior-clause-told : goal.returns-then-is_interior-clause-told
 returns-then-is_interior-clause-told g c = λ file d from item shape candidate there.
@@ -67,31 +32,13 @@ returns-then-is_interior-clause-told g c = λ file d from item shape candidate t
     let level = c.len-level.ensures.value in
     let u = ap (λ s. s.usable) (c.geometry-usable.ensures.value ∙ shape) in
     let b = there c.uses-uses.result.0.now (ap (slice_get c.args.bench.now.levels) (sym level) ∙ c.uses-uses.ensures.page) in
-    exit_interior _ _ g.K.Sink.takes g.K.Sink.drops g.K.Sink.held file t.kind t.start t.path.items c.args.page from item d candidate
+    exit_interior g.K.Sink.takes g.K.Sink.held file t.kind t.start t.path.items c.args.page from item d candidate
     c.geometry-usable.result.usable u c.uses-uses.result.0.now b (rowids_of (key_value t.greatest) c.args.up_to) t.leaf c.as_slice.result.now
     c.as_slice.ensures.value
     (rowids_of c.key_value.result c.args.up_to) (ap (λ above. rowids_of above c.args.up_to) c.key_value.ensures) (c.len-level.result + 1)
     (ap (λ n. n + 1) level) c.args.sink.now
-    c.in-Ok.view c.in-Ok.ensures.view c.in-Ok.ensures.of.0 c.in-Ok.ensures.faults c.tell_undamaged.result c.tell_undamaged.new.sink
-    c.tell_undamaged.ensures.told
-    Interior c.in_ok-keys-in-Ok.was (search rules)
-
-pub returns-in_err-tell_depth-clause-told : goal.returns-in_err-tell_depth-clause-told
-returns-in_err-tell_depth-clause-told g c = λ file d from item shape candidate there.
-    let q = err_from_is_err_and c.from_residual-in_err-tell_depth.result c.from_residual-in_err-tell_depth.ensures.1 in
-    let t = c.args.tree.now in
-    let level = c.len-level.ensures.value in
-    let u = ap (λ s. s.usable) (c.geometry-usable.ensures.value ∙ shape) in
-    let b = there c.uses-uses.result.0.now (ap (slice_get c.args.bench.now.levels) (sym level) ∙ c.uses-uses.ensures.page) in
-    exit_leaf_stop _ _ g.K.Sink.takes g.K.Sink.drops g.K.Sink.held file t.kind t.start t.path.items c.args.page from item d candidate
-    c.geometry-usable.result.usable u c.uses-uses.result.0.now b (rowids_of (key_value t.greatest) c.args.up_to) t.leaf c.as_slice.result.now
-    c.as_slice.ensures.value
-    (rowids_of c.key_value.result c.args.up_to) (ap (λ above. rowids_of above c.args.up_to) c.key_value.ensures) (c.len-level.result + 1)
-    (ap (λ n. n + 1) level) c.args.sink.now
-    c.in-Ok.view c.in-Ok.ensures.view c.in-Ok.ensures.of.0 c.in-Ok.ensures.faults c.tell_undamaged.result c.tell_undamaged.new.sink
-    c.tell_undamaged.ensures.told
-    c.in_ok-keys-in-Ok.was (search rules) c.tell_depth.result c.tell_depth.new.sink c.tell_depth.ensures.told
-    _ c.from_residual-in_err-tell_depth.result c.in_err-tell_depth.was q.1
+    c.in-Ok.view c.in-Ok.ensures.view c.in-Ok.ensures.of.0 c.in-Ok.ensures.faults c.tell_undamaged-keys.new.sink
+    c.tell_undamaged-keys.ensures.told (search rules)
 
 pub returns-clause-told : goal.returns-clause-told
 returns-clause-told g c = λ file d from item shape candidate there.
@@ -99,15 +46,13 @@ returns-clause-told g c = λ file d from item shape candidate there.
     let level = c.len-level.ensures.value in
     let u = ap (λ s. s.usable) (c.geometry-usable.ensures.value ∙ shape) in
     let b = there c.uses-uses.result.0.now (ap (slice_get c.args.bench.now.levels) (sym level) ∙ c.uses-uses.ensures.page) in
-    exit_leaf _ _ g.K.Sink.takes g.K.Sink.drops g.K.Sink.held file t.kind t.start t.path.items c.args.page from item d candidate
+    exit_leaf g.K.Sink.takes g.K.Sink.held file t.kind t.start t.path.items c.args.page from item d candidate
     c.geometry-usable.result.usable u c.uses-uses.result.0.now b (rowids_of (key_value t.greatest) c.args.up_to) t.leaf c.as_slice.result.now
     c.as_slice.ensures.value
     (rowids_of c.key_value.result c.args.up_to) (ap (λ above. rowids_of above c.args.up_to) c.key_value.ensures) (c.len-level.result + 1)
     (ap (λ n. n + 1) level) c.args.sink.now
-    c.in-Ok.view c.in-Ok.ensures.view c.in-Ok.ensures.of.0 c.in-Ok.ensures.faults c.tell_undamaged.result c.tell_undamaged.new.sink
-    c.tell_undamaged.ensures.told
-    c.in_ok-keys-in-Ok.was (search rules) c.tell_depth.result c.tell_depth.new.sink c.tell_depth.ensures.told
-    (Leaf c.in_ok-keys-in-Ok.keys) c.tell_depth.new.self.leaf c.in_ok-tell_depth.was c.tell_depth.ensures.leaf
+    c.in-Ok.view c.in-Ok.ensures.view c.in-Ok.ensures.of.0 c.in-Ok.ensures.faults c.tell_undamaged-keys.new.sink
+    c.tell_undamaged-keys.ensures.told (search rules) c.tell_depth.new.sink c.tell_depth.ensures.told c.tell_depth.new.self.leaf c.tell_depth.ensures.leaf
 
 pub returns-clause-open : goal.returns-clause-open
 returns-clause-open g c =
@@ -122,7 +67,7 @@ returns-clause-open g c =
             ∙ ap (λ s. undamaged c.args.tree.now.kind c.args.page s.usable bytes) (sym c.geometry-usable.ensures.value) ∙ c.in-Ok.ensures.view;
         leaf = search rules;
       };
-      span = c.in_ok-keys-in-Ok.ensures.keys;
+      span = c.tell_undamaged-keys.ensures.keys;
     }
 
 pub returns-then-is_interior-clause-open : goal.returns-then-is_interior-clause-open
@@ -149,6 +94,6 @@ undamaged-requires-clause-whole g c = whole_page c.geometry-usable.ensures.value
 pub tell_damaged-requires-clause-whole : goal.tell_damaged-requires-clause-whole
 tell_damaged-requires-clause-whole g c = whole_page c.geometry-usable.ensures.value c.geometry-usable.ensures.range c.uses-uses.ensures.len.0
 
-pub tell_undamaged-requires-clause-room : goal.tell_undamaged-requires-clause-room
-tell_undamaged-requires-clause-room g c =
+pub tell_undamaged-keys-requires-clause-room : goal.tell_undamaged-keys-requires-clause-room
+tell_undamaged-keys-requires-clause-room g c =
     rw c.in-Ok.ensures.of.1 (whole_page c.geometry-usable.ensures.value c.geometry-usable.ensures.range c.uses-uses.ensures.len.1)

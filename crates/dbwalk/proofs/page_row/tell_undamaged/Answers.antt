@@ -1,51 +1,52 @@
-use Rattle.std.proofs.Common.{rules, sym, subst, ◌∙◌}
+use Rattle.std.proofs.Common.{rules, sym, subst}
 use Rattle.std.specs.Prelude.{ℕ, ◌<◌, MatchOption, MatchBool}
 use Rattle.dbformat.specs.Cell.{count}
 use Rattle.dbpage.specs.Packed.{IsPacked, IsUnpacked, IsAllLocal, HasOverflow}
 use Rattle.dbtrace.specs.Finding.{told_row}
 use Rattle.dbwalk.specs.Found.{view_row}
+use Rattle.dbwalk.proofs.Telling.Sinks.{moves_then}
 use Rattle.dbwalk.proofs.page_row.tell_undamaged.Given.{Over}
-use Rattle.dbwalk.proofs.page_row.tell_undamaged.Goals.{In_ok-row, in-Some, in-None}
+use Rattle.dbwalk.proofs.page_row.tell_undamaged.Goals.{After-row, in-Some, in-None}
 use Rattle.dbwalk.proofs.page_row.tell_undamaged.Goals as goal
 
 -- what packing the page answered
-is_packed : (g : Over) (c : In_ok-row g) → MatchOption c.match-packed.packed (IsUnpacked c.args.view.now) (IsPacked c.args.view.now)
+is_packed : (g : Over) (c : After-row g) → MatchOption c.match-packed.packed (IsUnpacked c.args.view.now) (IsPacked c.args.view.now)
 is_packed g c = elim c.match-packed.branch [
   | in-Some w ↦ subst (λ o. MatchOption o (IsUnpacked c.args.view.now) (IsPacked c.args.view.now)) (sym w.packed-is) w.in-Some.ensures
   | in-None w ↦ subst (λ o. MatchOption o (IsUnpacked c.args.view.now) (IsPacked c.args.view.now)) (sym w.packed-is) c.packed-packed.ensures
 ]
 
 -- the row is that of the page
-row_told : (g : Over) (c : In_ok-row g) → g.K.Sink.takes c.args.sink.now (told_row (view_row c.args.place.now.start c.args.place.now.path.now c.args.view.now))
+row_told : (g : Over) (c : After-row g) → g.K.Sink.takes c.args.sink.now (told_row (view_row c.args.place.now.start c.args.place.now.path.now c.args.view.now))
     c.row.new.self
 row_told g c = search rules
 
 pub tell_readable-requires-clause-cells : goal.tell_readable-requires-clause-cells
 tell_readable-requires-clause-cells g c = (subst (λ o. MatchOption o (IsUnpacked c.args.view.now) (IsPacked c.args.view.now)) c.in-Some-packed.is
-    (is_packed g (goal.at.tell_readable-requires-clause-cells g c).In_ok-row)).read.readable
+    (is_packed g (goal.at.tell_readable-requires-clause-cells g c).After-row)).read.readable
 
 pub returns-in_default-clause-told : goal.returns-in_default-clause-told
 returns-in_default-clause-told g c = record {
-  items = (c.row.new.self, row_told g (goal.at.returns-in_default-clause-told g c).In_ok-row, c.in_ok-tell_inner.ensures.items);
-  count = c.in_ok-tell_inner.ensures.count ∙ c.in_ok-row.ensures.count;
+  items = (c.row.new.self, row_told g (goal.at.returns-in_default-clause-told g c).After-row, c.tell_inner.ensures.items);
+  count = moves_then c.row.ensures.count c.tell_inner.ensures.count;
 }
 
 pub returns-then-page-clause-told : goal.returns-then-page-clause-told
 returns-then-page-clause-told g c = record {
-  items = (c.row.new.self, row_told g (goal.at.returns-then-page-clause-told g c).In_ok-row, c.in_ok-tell_readable.ensures.items);
-  count = c.in_ok-tell_readable.ensures.count ∙ c.in_ok-row.ensures.count;
+  items = (c.row.new.self, row_told g (goal.at.returns-then-page-clause-told g c).After-row, c.tell_readable.ensures.items);
+  count = moves_then c.row.ensures.count c.tell_readable.ensures.count;
 }
 
 pub returns-clause-told : goal.returns-clause-told
 returns-clause-told g c = record {
-  items = (c.row.new.self, row_told g (goal.at.returns-clause-told g c).In_ok-row, c.in_ok-tell_readable.ensures.items);
-  count = c.in_ok-tell_readable.ensures.count ∙ c.in_ok-row.ensures.count;
+  items = (c.row.new.self, row_told g (goal.at.returns-clause-told g c).After-row, c.tell_readable.ensures.items);
+  count = moves_then c.row.ensures.count c.tell_readable.ensures.count;
 }
 
 pub returns-clause-keys : goal.returns-clause-keys
 returns-clause-keys g c =
     let v = c.args.view.now in
-    let packed = (subst (λ o. MatchOption o (IsUnpacked v) (IsPacked v)) c.in-Some-packed.is (is_packed g (goal.at.returns-clause-keys g c).In_ok-row)).read in
+    let packed = (subst (λ o. MatchOption o (IsUnpacked v) (IsPacked v)) c.in-Some-packed.is (is_packed g (goal.at.returns-clause-keys g c).After-row)).read in
     record {
       whole = subst (λ b. MatchBool b (HasOverflow v (count v)) ((i : ℕ) → i < count v → IsAllLocal v i)) c.if-page.false packed.overflow_is;
       rising = packed.rising;

@@ -1,5 +1,5 @@
-use Rattle.std.proofs.Common.{rules, ◌≡◌, ◌-◌, ◌<◌, ◌≤◌, [], set, Some, Ok, Err, inl, inr, refl, sym, ap, subst, arith, ◌∙◌}
-use Rattle.std.specs.Prelude.{List, IfErr}
+use Rattle.std.proofs.Common.{rules, ◌≡◌, ◌-◌, ◌<◌, ◌≤◌, [], false, set, Some, Ok, Err, inl, inr, refl, sym, ap, subst, arith, ◌∙◌}
+use Rattle.std.specs.Prelude.{List, IfErr, OnOk}
 use Rattle.std.proofs.lemmas.Result.{err_from_is_err_and}
 use Rattle.dbformat.specs.File.{geometry, page_bytes}
 use Rattle.dbformat.specs.FixedPages.{IsPageNumber}
@@ -9,11 +9,11 @@ use Rattle.dbsource.specs.Bench.{bytes_at}
 use Rattle.dbsource.specs.Errors.{is_read_failed, is_write_failed}
 use Rattle.dbsource.specs.Failures.{failures_after}
 use Rattle.dbsource.specs.Sources.{Asks}
-use Rattle.dbsource.specs.declared.error.RunError.TheVariants.{ReadFailed}
+use Rattle.dbsource.specs.declared.error.RunError.TheVariants.{ReadFailed, WriteFailed}
 use Rattle.dbwalk.specs.Entered.{Enters}
 use Rattle.dbwalk.specs.Found.{HasPageAt}
 use Rattle.dbmarks.specs.Marking.{page_mark}
-use Rattle.dbwalk.specs.Telling.{IsReadOrWrite, SinkAfter}
+use Rattle.dbwalk.specs.Telling.{IsReadOrWrite, SinkAfter, Tells}
 use Rattle.dbmarks.specs.Reads.{Reads}
 use Rattle.dbwalk.specs.Roots.{IsRootAfter, kind_of, kind_in}
 use Rattle.dbwalk.specs.Done.{IsTreeDone}
@@ -24,13 +24,17 @@ use Rattle.dbwalk.proofs.Chaining.Overflows.{page_read}
 use Rattle.dbmarks.proofs.Readings.{log_load, log_none, log_page, log_then}
 use Rattle.dbwalk.proofs.Pages.Levels.{geometry_kept, read_there}
 use Rattle.dbwalk.proofs.Trees.Bounds.{root_address}
-use Rattle.dbwalk.proofs.Underway.WalkedTrees.{candidate_as, root_next, tree_done, tree_refused, tree_unread}
+use Rattle.dbwalk.proofs.Underway.WalkedTrees.{candidate_as, root_next, tree_done, tree_refused, tree_unasked, tree_unread}
 use Rattle.dbwalk.proofs.Underway.Walks.{with_memory, without_memory}
+use Rattle.dbformat.specs.Story.{at_refused}
+use Rattle.dbtrace.specs.Finding.{told_at}
+use Rattle.dbwalk.proofs.Telling.Sinks.{asked_both, asked_open, asked_walks, moves_open, moves_some, walks_after, walks_as, walks_end}
 use Rattle.dbwalk.proofs.tree.walk_tree.Goals as goal
 
 pub returns-in_err-enter-clause-asks : goal.returns-in_err-enter-clause-asks
 returns-in_err-enter-clause-asks g c =
     let q = err_from_is_err_and c.from_residual.result c.from_residual.ensures.1 in
+    let failed = q.1 ∙ ap Err (q.2 ∙ c.in_err-enter.ensures.after_error.0) in
     record {
       log = log_none c.args.bench.now.geometry.page_size c.args.marks.now c.enter.new.marks (g.S.Source.held c.args.source.now)
           c.in_err-enter.ensures.after_error.1 (λ file e coded W d at.
@@ -38,13 +42,15 @@ returns-in_err-enter-clause-asks g c =
           let is = c.tree_step-step.ensures.step (kind_in file root) root.start [] d refl at.candidate in
           let next = root_next file (kind_in file root) root.start root.page 0 root.start W d at.candidate at.early in
           let one = root_address d.address root.start at.candidate.depth at.candidate.start in
-          subst (λ r. IsTreeDone g.K.Sink.takes g.K.Sink.drops g.T.Taker.takes g.T.Taker.refuses file W d r c.enter.new.marks
-          (c.args.sink.now, c.args.taker.now) (c.enter.new.sink, c.args.taker.now)) (sym (q.1 ∙ ap Err q.2))
-          (let n = c.in_err-enter.ensures.entered file W d is next at.marked (λ why p. tree_refusal file W d at.candidate ∙ sym p) in
-          tree_refused g.K.Sink.takes g.K.Sink.drops g.T.Taker.takes g.T.Taker.refuses file root.start W d one at.early (Err c.in_err-enter.field-0.0)
-          c.enter.new.marks c.args.sink.now c.enter.new.sink c.args.taker.now (inr c.in_err-enter.ensures.after_error.0) n.0 n.1 n.2));
+          let n = c.in_err-enter.ensures.entered file W d is next at.marked (λ why p. tree_refusal file W d at.candidate ∙ sym p) in
+          subst (λ r. IsTreeDone g.K.Sink.takes g.T.Taker.takes g.T.Taker.refuses file W d r c.enter.new.marks
+          (c.args.sink.now, c.args.taker.now) (c.enter.new.sink, c.args.taker.now)) (sym failed)
+          (subst (λ s. IsTreeDone g.K.Sink.takes g.T.Taker.takes g.T.Taker.refuses file W d (Err WriteFailed) c.enter.new.marks
+          (c.args.sink.now, c.args.taker.now) (s, c.args.taker.now)) n.1
+          (tree_unasked g.K.Sink.takes g.T.Taker.takes g.T.Taker.refuses file root.start W d one at.early c.enter.new.marks c.args.sink.now
+          c.args.taker.now)));
       count = subst (λ r. (g.S.Source.held c.args.source.now).failures ≡ failures_after is_read_failed r (g.S.Source.held c.args.source.now).failures)
-          (sym (q.1 ∙ ap Err (q.2 ∙ c.in_err-enter.ensures.after_error.0))) refl;
+          (sym failed) refl;
     }
 
 pub returns-in_err-enter-clause-others : goal.returns-in_err-enter-clause-others
@@ -60,11 +66,15 @@ returns-then-not-branch-clause-asks g c = record {
       let is = c.tree_step-step.ensures.step (kind_in file root) root.start [] d refl at.candidate in
       let next = root_next file (kind_in file root) root.start root.page 0 root.start W d at.candidate at.early in
       let one = root_address d.address root.start at.candidate.depth at.candidate.start in
-      let none = subst (λ b. Enters g.K.Sink.takes g.K.Sink.drops file W d (Ok b) c.enter.new.marks c.args.sink.now c.enter.new.sink) c.if-not-branch.true
+      let none = subst (λ b. Enters g.K.Sink.takes file W d (Ok b) c.enter.new.marks c.args.sink.now c.enter.new.sink) c.if-not-branch.true
       (c.in_ok-enter.ensures.entered file W d is next at.marked (λ why p. tree_refusal file W d at.candidate ∙ sym p)) in
-      tree_refused g.K.Sink.takes g.K.Sink.drops g.T.Taker.takes g.T.Taker.refuses file root.start W d one at.early (Ok tt) c.enter.new.marks c.args.sink.now
-      c.enter.new.sink c.args.taker.now tt none.0 none.1 none.2);
-  count = refl;
+      tree_refused g.K.Sink.takes g.T.Taker.takes g.T.Taker.refuses file root.start W d one at.early c.ask.result c.enter.new.marks c.args.sink.now
+      c.enter.new.sink c.args.taker.now (asked_both (λ r. IfErr r IsReadOrWrite) (g.K.Sink.held c.enter.new.sink).is_shut c.ask.ensures tt (inr refl))
+      none.0 none.1 (asked_both (λ r. Tells g.K.Sink.takes r c.args.sink.now (told_at file W (at_refused d)) c.enter.new.sink)
+      (g.K.Sink.held c.enter.new.sink).is_shut c.ask.ensures none.2
+      (moves_some g.K.Sink.takes c.args.sink.now c.enter.new.sink (told_at file W (at_refused d)) none.2)));
+  count = asked_both (λ r. (g.S.Source.held c.args.source.now).failures ≡ failures_after is_read_failed r (g.S.Source.held c.args.source.now).failures)
+      (g.K.Sink.held c.enter.new.sink).is_shut c.ask.ensures refl refl;
 }
 
 pub returns-in_err-load-clause-asks : goal.returns-in_err-load-clause-asks
@@ -82,13 +92,13 @@ returns-in_err-load-clause-asks g c =
           let is = c.tree_step-step.ensures.step (kind_in file root) root.start [] d refl at.candidate in
           let next = root_next file (kind_in file root) root.start root.page 0 root.start W d at.candidate at.early in
           let one = root_address d.address root.start at.candidate.depth at.candidate.start in
-          let n = subst (λ b. Enters g.K.Sink.takes g.K.Sink.drops file W d (Ok b) c.enter.new.marks c.args.sink.now c.enter.new.sink) c.if-not-branch.false
+          let n = subst (λ b. Enters g.K.Sink.takes file W d (Ok b) c.enter.new.marks c.args.sink.now c.enter.new.sink) c.if-not-branch.false
           (c.in_ok-enter.ensures.entered file W d is next at.marked (λ why p. tree_refusal file W d at.candidate ∙ sym p)) in
-          subst (λ r. IsTreeDone g.K.Sink.takes g.K.Sink.drops g.T.Taker.takes g.T.Taker.refuses file W d r c.enter.new.marks
+          subst (λ r. IsTreeDone g.K.Sink.takes g.T.Taker.takes g.T.Taker.refuses file W d r c.enter.new.marks
           (c.args.sink.now, c.args.taker.now) (c.enter.new.sink, c.args.taker.now)) (sym (q.1 ∙ ap Err q.2))
-          (subst (λ s. IsTreeDone g.K.Sink.takes g.K.Sink.drops g.T.Taker.takes g.T.Taker.refuses file W d (Err ReadFailed) c.enter.new.marks
+          (subst (λ s. IsTreeDone g.K.Sink.takes g.T.Taker.takes g.T.Taker.refuses file W d (Err ReadFailed) c.enter.new.marks
           (c.args.sink.now, c.args.taker.now) (s, c.args.taker.now)) n.2
-          (tree_unread g.K.Sink.takes g.K.Sink.drops g.T.Taker.takes g.T.Taker.refuses file root.start W d one at.early c.enter.new.marks c.args.sink.now
+          (tree_unread g.K.Sink.takes g.T.Taker.takes g.T.Taker.refuses file root.start W d one at.early c.enter.new.marks c.args.sink.now
           c.args.taker.now)));
       count = subst (λ r. (g.S.Source.held c.load.new.source).failures ≡ failures_after is_read_failed r (g.S.Source.held c.args.source.now).failures)
           (sym (q.1 ∙ ap Err q.2)) c.in_err-load.ensures.count;
@@ -112,7 +122,7 @@ returns-clause-asks g c =
     λ m k t s. Asks g.S.Source.step (Reads size c.args.marks.now m)
     (λ file. c.args.bench.now.geometry ≡ geometry file → c.args.root.encoding ≡ encoding file
     → (W : List Reference) (d : Reference) → IsRootAfter file c.args.root W d c.args.marks.now
-    → IsTreeDone g.K.Sink.takes g.K.Sink.drops g.T.Taker.takes g.T.Taker.refuses file W d c.walk_pages.result m (c.args.sink.now, c.args.taker.now) (k, t))
+    → IsTreeDone g.K.Sink.takes g.T.Taker.takes g.T.Taker.refuses file W d c.walk_pages.result m (c.args.sink.now, c.args.taker.now) (k, t))
     is_read_failed c.walk_pages.result (g.S.Source.held c.args.source.now) (g.S.Source.held s) in
     let n = c.walk_pages.new.self in
     let marks : c.marks-1.given.0 ≡ n.marks.now = search rules in
@@ -137,11 +147,11 @@ returns-clause-asks g c =
           let kinds = c.new-tree.ensures.names.1 ∙ c.root_kind.ensures.kind
           ∙ ap (kind_of root.kind root.page) (there (bytes_at c.load.new.self 0) c.root_kind.ensures.there) in
           let starts = c.new-tree.ensures.names.0 in
-          let n = subst (λ b. Enters g.K.Sink.takes g.K.Sink.drops file W d (Ok b) c.enter.new.marks c.args.sink.now c.enter.new.sink) c.if-not-branch.false
+          let n = subst (λ b. Enters g.K.Sink.takes file W d (Ok b) c.enter.new.marks c.args.sink.now c.enter.new.sink) c.if-not-branch.false
           (c.in_ok-enter.ensures.entered file W d is next at.marked (λ why p. tree_refusal file W d at.candidate ∙ sym p)) in
-          subst (λ s. IsTreeDone g.K.Sink.takes g.K.Sink.drops g.T.Taker.takes g.T.Taker.refuses file W d c.walk_pages.result c.walk_pages.new.self.marks.now
+          subst (λ s. IsTreeDone g.K.Sink.takes g.T.Taker.takes g.T.Taker.refuses file W d c.walk_pages.result c.walk_pages.new.self.marks.now
           (s, c.args.taker.now) (c.walk_pages.new.self.sink.now, c.walk_pages.new.self.taker.now)) (sym n.2)
-          (tree_done g.K.Sink.takes g.K.Sink.drops g.T.Taker.takes g.T.Taker.refuses file root.start W d one at.early c.walk_pages.result
+          (tree_done g.K.Sink.takes g.T.Taker.takes g.T.Taker.refuses file root.start W d one at.early c.walk_pages.result
           c.walk_pages.new.self.marks.now c.walk_pages.new.self.tree (c.enter.new.sink, c.args.taker.now)
           (c.walk_pages.new.self.sink.now, c.walk_pages.new.self.taker.now)
           (done (shape ∙ e) coded W d (candidate_as (kind_in file root) t.kind root.start t.start [] [] root.page root.page 0 root.start t.start d kinds starts
@@ -176,9 +186,44 @@ walk_pages-requires g c =
 pub returns-clause-writes : goal.returns-clause-writes
 returns-clause-writes g c =
     let same : c.sink-1.given.0 ≡ c.walk_pages.new.self.sink.now = search rules in
-    subst (λ s. SinkAfter is_write_failed c.walk_pages.result s (g.K.Sink.held c.sink-1.given.0)) c.in_ok-enter.ensures.writes
-    (subst (λ s. SinkAfter is_write_failed c.walk_pages.result (g.K.Sink.held c.enter.new.sink) (g.K.Sink.held s)) (sym same)
-    c.walk_pages.ensures.walked.writes)
+    subst (λ s. SinkAfter is_write_failed c.walk_pages.result (g.K.Sink.held c.args.sink.now) (g.K.Sink.held s)) (sym same)
+    (walks_end c.walk_pages.result (walks_after c.walk_pages.ensures.walked.writes c.in_ok-enter.ensures.writes.moves) c.requires.«open»
+    c.walk_pages.ensures.«open»)
+
+pub returns-in_err-enter-clause-writes : goal.returns-in_err-enter-clause-writes
+returns-in_err-enter-clause-writes g c =
+    let q = err_from_is_err_and c.from_residual.result c.from_residual.ensures.1 in
+    walks_end c.from_residual.result (walks_as (q.1 ∙ ap Err q.2) c.in_err-enter.ensures.writes) c.requires.«open»
+    (subst (λ r. OnOk r ((g.K.Sink.held c.enter.new.sink).is_shut ≡ false)) (sym (q.1 ∙ ap Err q.2)) tt)
+
+pub returns-in_err-load-clause-writes : goal.returns-in_err-load-clause-writes
+returns-in_err-load-clause-writes g c =
+    let q = err_from_is_err_and c.from_residual-in_err-load.result c.from_residual-in_err-load.ensures.1 in
+    subst (λ r. SinkAfter is_write_failed r (g.K.Sink.held c.args.sink.now) (g.K.Sink.held c.enter.new.sink)) (sym (q.1 ∙ ap Err q.2))
+    (moves_open c.in_ok-enter.ensures.writes.moves (c.in_ok-enter.ensures.«open» (search rules)))
+
+pub returns-then-not-branch-clause-writes : goal.returns-then-not-branch-clause-writes
+returns-then-not-branch-clause-writes g c = walks_end c.ask.result (asked_walks c.ask.ensures c.in_ok-enter.ensures.writes.moves) c.requires.«open»
+    (asked_open _ c.ask.ensures)
+
+pub returns-clause-shut : goal.returns-clause-shut
+returns-clause-shut g c =
+    let same : c.sink-1.given.0 ≡ c.walk_pages.new.self.sink.now = search rules in
+    subst (λ s. IfErr c.walk_pages.result (λ e. (g.K.Sink.held s).is_shut ≡ is_write_failed e)) (sym same) c.walk_pages.ensures.walked.writes.shut
+
+pub returns-in_err-enter-clause-shut : goal.returns-in_err-enter-clause-shut
+returns-in_err-enter-clause-shut g c =
+    let q = err_from_is_err_and c.from_residual.result c.from_residual.ensures.1 in
+    (walks_as (q.1 ∙ ap Err q.2) c.in_err-enter.ensures.writes).shut
+
+pub returns-in_err-load-clause-shut : goal.returns-in_err-load-clause-shut
+returns-in_err-load-clause-shut g c =
+    let q = err_from_is_err_and c.from_residual-in_err-load.result c.from_residual-in_err-load.ensures.1 in
+    subst (λ r. IfErr r (λ e. (g.K.Sink.held c.enter.new.sink).is_shut ≡ is_write_failed e)) (sym (q.1 ∙ ap Err q.2))
+    (c.in_ok-enter.ensures.«open» (search rules))
+
+pub returns-then-not-branch-clause-shut : goal.returns-then-not-branch-clause-shut
+returns-then-not-branch-clause-shut g c = (asked_walks c.ask.ensures c.in_ok-enter.ensures.writes.moves).shut
 
 pub returns-clause-refusals : goal.returns-clause-refusals
 returns-clause-refusals g c =

@@ -5,7 +5,7 @@ use Rattle.dbsource.specs.declared.error.RunError.TheVariants as error
 use Rattle.dbsource.specs.declared.error.RunError.TheVariants.{ReadFailed}
 use Rattle.dbsource.specs.declared.out.WriteFailed.{WriteFailed}
 use Rattle.dbsource.proofs.Logs.{asks_weaker}
-use Rattle.dbwalk.specs.Telling.{one_out}
+use Rattle.dbscan.specs.Hearing.{one_out}
 use Rattle.dbscan.proofs.Finished.{finished}
 use Rattle.dbexplain.specs.Reporting.{Hears, LeavesExplained, explain_held}
 use Rattle.dbentries.proofs.Desks.{desk_kept, looked_keeps}

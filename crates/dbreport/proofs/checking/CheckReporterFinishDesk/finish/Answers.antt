@@ -1,7 +1,7 @@
 use Rattle.std.proofs.Common.{Ok, Err, [], ◌∷◌, ap, ap₂, inl, refl}
 use Rattle.std.proofs.lemmas.Result.{err_from_is_err_and}
 use Rattle.dbsource.specs.declared.error.RunError.TheVariants.{WriteFailed}
-use Rattle.dbwalk.specs.Telling.{one_out}
+use Rattle.dbscan.specs.Hearing.{one_out}
 use Rattle.dbscan.specs.Notices.{HearsFaults}
 use Rattle.dbscan.proofs.Finished.{finished}
 use Rattle.dbreport.specs.CheckReporter.{LeavesCheck, ShowsFault, check_held}

@@ -1,4 +1,4 @@
-use Rattle.std.proofs.Common.{rules, ◌≡◌, ℕ, ℤ, Option, ◌+◌, ◌<◌, ◌/◌, ◌++◌, [], ◌∷◌, length, Err, refl, sym, ap, subst, arith, ◌∙◌}
+use Rattle.std.proofs.Common.{rules, ◌≡◌, ℕ, ℤ, Option, ◌+◌, ◌<◌, ◌/◌, ◌++◌, [], ◌∷◌, length, inl, Err, refl, sym, ap, subst, arith, ◌∙◌}
 use Rattle.std.specs.Prelude.{Bool}
 use Rattle.std.proofs.lemmas.Result.{err_from_is_err_and}
 use Rattle.dbformat.specs.FixedPages.{IsPageNumber}
@@ -13,6 +13,7 @@ use Rattle.dbwalk.specs.declared.steps.StackFrame.{StackFrame}
 use Rattle.dbwalk.proofs.Underway.TreeSteps.{by_other}
 use Rattle.dbwalk.proofs.Underway.TreeTurns.{next_here, child_asked, child_passed, child_stopped, child_entered, turn_failed}
 use Rattle.dbwalk.proofs.Underway.Walks.{walked_as, walked_behind, walked_by}
+use Rattle.dbwalk.proofs.Telling.Sinks.{walks_ok}
 use Rattle.dbwalk.proofs.tree_walk.TreeWalk.enter_child.Goals as goal
 
 -- the frame of a page at its first step
@@ -37,7 +38,7 @@ returns-in_err-enter_page-clause-log g c = has_weaker _ _ c.in_err-enter_page.en
     c.args.page c.args.key here
     (c.push-2.ensures.items ∙ ap (λ l. l ++ (c.args.frame.next / 3 ∷ [])) c.requires.path) c.or-up_to.ensures (h e coded) in
     let q = err_from_is_err_and c.from_residual.result c.from_residual.ensures.1 in
-    let stops = fails g.K.Sink.takes g.K.Sink.drops g.T.Taker.takes g.T.Taker.refuses in
+    let stops = fails g.T.Taker.refuses in
     turn_failed _ (λ e. StopsAt _ stops e before (tree_walk file W d).items (c.enter_page.new.self.sink.now, c.enter_page.new.self.taker.now))
     c.from_residual.result c.in_err-enter_page.field-0.0 (q.1 ∙ ap Err q.2)
     (child_stopped c.args.frames.now.items c.args.frame walk candidate c.stepped.result c.stepped.ensures.page c.stepped.ensures.next c.stepped.ensures.up_to
@@ -70,7 +71,7 @@ returns-then-not-branch-clause-log g c = has_weaker _ _ c.in_ok-enter_page.ensur
       by_other (child_passed c.args.frames.now.items c.args.frame walk candidate c.stepped.result c.stepped.ensures.page c.stepped.ensures.next
           c.stepped.ensures.up_to
           c.args.page c.args.key here
-          (fails g.K.Sink.takes g.K.Sink.drops g.T.Taker.takes g.T.Taker.refuses) c.enter_page.ensures.walked.kind c.if-not-branch.true asked)
+          (fails g.T.Taker.refuses) c.enter_page.ensures.walked.kind c.if-not-branch.true asked)
           c.push.ensures.items refl refl refl (λ k l. c.enter_page.ensures.levels k (omega arith)),
       tt,
     ))
@@ -116,7 +117,7 @@ returns-clause-log g c = has_weaker _ _ c.in_ok-enter_page.ensures.log (λ log r
     (c.push-2.ensures.items ∙ ap (λ l. l ++ (c.args.frame.next / 3 ∷ [])) c.requires.path) c.or-up_to.ensures (h e coded) in
     let entered = child_entered c.args.frames.now.items c.args.frame walk candidate c.stepped.result c.stepped.ensures.page c.stepped.ensures.next
     c.stepped.ensures.up_to
-    c.args.page c.args.key here (fails g.K.Sink.takes g.K.Sink.drops g.T.Taker.takes g.T.Taker.refuses) c.enter_page.ensures.walked.kind (frame_of c.args.page
+    c.args.page c.args.key here (fails g.T.Taker.refuses) c.enter_page.ensures.walked.kind (frame_of c.args.page
     c.or-up_to.result)
     refl refl c.or-up_to.ensures (λ k l. c.enter_page.ensures.levels k (omega arith)) c.if-not-branch.false asked in (
       by_other entered (c.push-3.ensures.items ∙ ap (λ l. l ++ (frame_of c.args.page c.or-up_to.result ∷ [])) c.push.ensures.items) refl refl refl
@@ -129,7 +130,7 @@ returns-in_err-enter_page-clause-walked g c =
     let q = err_from_is_err_and c.from_residual.result c.from_residual.ensures.1 in
     walked_as g.S.Source.held g.K.Sink.held g.T.Taker.refusals {R = Bool} (q.1 ∙ ap Err q.2)
     (walked_behind g.S.Source.held g.K.Sink.held g.T.Taker.refusals {R = Unit {0}} {a = tt} c.in_err-enter_page.ensures.walked
-    (walked_by g.S.Source.held g.K.Sink.held g.T.Taker.refusals (refl, refl, refl, refl, refl, refl, refl) refl refl refl refl tt (λ l. refl)))
+    (walked_by g.S.Source.held g.K.Sink.held g.T.Taker.refusals (refl, refl, refl, refl, refl, refl, refl) refl refl (walks_ok (inl refl)) refl tt (λ l. refl)))
 
 pub push-requires-2 : goal.push-requires-2
 push-requires-2 g c = (search rules, subst (λ n. n < 20) (sym (ap length c.requires.path ∙ path_length c.args.frames.now.items)) c.requires.few)

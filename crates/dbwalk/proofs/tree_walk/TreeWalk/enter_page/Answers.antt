@@ -1,4 +1,4 @@
-use Rattle.std.proofs.Common.{rules, ◌≡◌, ◌+◌, ◌-◌, ◌*◌, ◌<◌, ◌≤◌, [], ◌∷◌, false, inl, inr, set, Result, Ok, Err, refl, sym, ap, subst, arith, ◌∙◌}
+use Rattle.std.proofs.Common.{rules, ◌≡◌, ◌+◌, ◌-◌, ◌*◌, ◌<◌, ◌≤◌, [], ◌∷◌, false, inl, inr, set, Ok, Err, refl, sym, ap, subst, arith, ◌∙◌}
 use Rattle.std.specs.Prelude.{slice_get}
 use Rattle.std.proofs.lemmas.Bool.{false≢true}
 use Rattle.std.proofs.lemmas.Result.{err_from_is_err_and}
@@ -7,13 +7,10 @@ use Rattle.dbformat.specs.FixedPages.{IsPageNumber}
 use Rattle.dbformat.specs.Log.{range, page_range}
 use Rattle.dbsurvey.specs.Story.{Go}
 use Rattle.dbsource.specs.Answers.{IsRangeOf}
-use Rattle.dbsource.specs.declared.error.RunError.{RunError}
-use Rattle.dbsource.specs.declared.error.RunError.TheVariants.{ReadFailed}
+use Rattle.dbsource.specs.declared.error.RunError.TheVariants.{ReadFailed, WriteFailed}
 use Rattle.dbsource.specs.declared.source.ReadFailed as source_error
 use Rattle.dbsource.proofs.Logs.{has_one}
-use Rattle.dbsource.specs.Errors.{is_write_failed}
 use Rattle.dbwalk.specs.Entered.{Enters}
-use Rattle.dbwalk.specs.Telling.{SinkAfter}
 use Rattle.dbmarks.specs.Marking.{unmarked_pages}
 use Rattle.dbwalk.proofs.Telling.Lefts.{tree_refusal}
 use Rattle.dbwalk.proofs.Chaining.Overflows.{page_read}
@@ -21,10 +18,11 @@ use Rattle.dbmarks.proofs.Readings.{log_none, log_page, log_then, put_count}
 use Rattle.dbwalk.specs.Found.{HasPageAt}
 use Rattle.dbwalk.specs.Underway.{HasDone, IsEntered, done_below, entered}
 use Rattle.dbwalk.specs.Watching.{watches, fails}
-use Rattle.dbwalk.proofs.Underway.Visits.{done_refused, refused_handed, entered_past, entered_err, unread}
+use Rattle.dbwalk.proofs.Underway.Visits.{done_refused, refused_handed, entered_past, entered_err, unasked, unread}
 use Rattle.dbwalk.proofs.Pages.Levels.{geometry_kept, read_there, below_kept, keeps_fewer, if_ok_all}
 use Rattle.std.proofs.lemmas.Result.{IfOk-weaker}
 use Rattle.dbwalk.proofs.Underway.Walks.{walked_behind, walked_by, walked_err}
+use Rattle.dbwalk.proofs.Telling.Sinks.{walks_as, walks_err, walks_ok}
 use Rattle.dbwalk.proofs.tree_walk.TreeWalk.enter_page.Goals as goal
 
 pub returns-in_err-enter-clause-log : goal.returns-in_err-enter-clause-log
@@ -33,32 +31,30 @@ returns-in_err-enter-clause-log g c = log_none c.args.bench.now.geometry.page_si
     let t = c.args.self.now.tree in
     let q = err_from_is_err_and c.from_residual.result c.from_residual.ensures.1 in
     let is = c.tree_step-step.ensures.step t.kind t.start t.path.items d (sym c.len-level.ensures.value) candidate in
-    let f = c.in_err-enter.ensures.after_error.0 in
-    let r : Result (Unit {0}) RunError = Err c.in_err-enter.field-0.0 in
     let n = c.in_err-enter.ensures.entered file from.visits d is next at.0 (λ why p. tree_refusal file from.visits d candidate ∙ sym p) in
-    entered_err (watches g.K.Sink.takes g.T.Taker.takes) (fails g.K.Sink.takes g.K.Sink.drops g.T.Taker.takes g.T.Taker.refuses) file from d
-    c.args.bench.now.levels _ c.in_err-enter.field-0.0 (c.enter.new.marks, c.args.self.now.tree) (c.args.self.now.sink.now, c.args.self.now.taker.now)
-    (c.enter.new.sink, c.args.self.now.taker.now) (q.1 ∙ ap Err q.2)
-    (done_refused (watches g.K.Sink.takes g.T.Taker.takes) (fails g.K.Sink.takes g.K.Sink.drops g.T.Taker.takes g.T.Taker.refuses) file from d r
-    (c.enter.new.marks, c.args.self.now.tree) (c.args.self.now.sink.now, c.args.self.now.taker.now) (c.enter.new.sink, c.args.self.now.taker.now) n.0
-    (n.1, at.1, at.2)
-    (refused_handed g.K.Sink.takes g.K.Sink.drops g.T.Taker.takes g.T.Taker.refuses file from d r c.args.self.now.sink.now c.enter.new.sink
-    c.args.self.now.taker.now (λ o. cc) n.2)))
+    subst (λ s. HasDone (watches g.K.Sink.takes g.T.Taker.takes) (fails g.T.Taker.refuses) file (entered file from d c.from_residual.result)
+    c.from_residual.result (c.enter.new.marks, t) (c.args.self.now.sink.now, c.args.self.now.taker.now) (s, c.args.self.now.taker.now)
+    × IsEntered file from d c.from_residual.result c.args.bench.now.levels) n.1
+    (entered_err (watches g.K.Sink.takes g.T.Taker.takes) (fails g.T.Taker.refuses) file from d c.args.bench.now.levels _ WriteFailed
+    (c.enter.new.marks, t) (c.args.self.now.sink.now, c.args.self.now.taker.now) (c.args.self.now.sink.now, c.args.self.now.taker.now)
+    (q.1 ∙ ap Err (q.2 ∙ c.in_err-enter.ensures.after_error.0))
+    (unasked {A = Unit {0}} (watches g.K.Sink.takes g.T.Taker.takes) (fails g.T.Taker.refuses) file (done_below file from (Go d ∷ []))
+    (c.enter.new.marks, t) (c.args.self.now.sink.now, c.args.self.now.taker.now))))
 
 pub returns-then-not-branch-clause-log : goal.returns-then-not-branch-clause-log
 returns-then-not-branch-clause-log g c = log_none c.args.bench.now.geometry.page_size c.args.self.now.marks.now c.enter.new.marks
     (g.S.Source.held c.args.self.now.source.now) (c.in_ok-enter.ensures.unmarked c.if-not-branch.true) (λ file e coded from d candidate next at bound.
     let t = c.args.self.now.tree in
     let is = c.tree_step-step.ensures.step t.kind t.start t.path.items d (sym c.len-level.ensures.value) candidate in
-    let n = subst (λ b. Enters g.K.Sink.takes g.K.Sink.drops file from.visits d (Ok b) c.enter.new.marks c.args.self.now.sink.now c.enter.new.sink)
+    let n = subst (λ b. Enters g.K.Sink.takes file from.visits d (Ok b) c.enter.new.marks c.args.self.now.sink.now c.enter.new.sink)
     c.if-not-branch.true (c.in_ok-enter.ensures.entered file from.visits d is next at.0 (λ why p. tree_refusal file from.visits d candidate ∙ sym p)) in
-    entered_past (watches g.K.Sink.takes g.T.Taker.takes) (fails g.K.Sink.takes g.K.Sink.drops g.T.Taker.takes g.T.Taker.refuses) file from d
+    entered_past (watches g.K.Sink.takes g.T.Taker.takes) (fails g.T.Taker.refuses) file from d
     c.args.bench.now.levels false (c.enter.new.marks, c.args.self.now.tree) (c.args.self.now.sink.now, c.args.self.now.taker.now)
     (c.enter.new.sink, c.args.self.now.taker.now)
-    (done_refused (watches g.K.Sink.takes g.T.Taker.takes) (fails g.K.Sink.takes g.K.Sink.drops g.T.Taker.takes g.T.Taker.refuses) file from d (Ok false)
+    (done_refused (watches g.K.Sink.takes g.T.Taker.takes) (fails g.T.Taker.refuses) file from d (Ok false)
     (c.enter.new.marks, c.args.self.now.tree) (c.args.self.now.sink.now, c.args.self.now.taker.now) (c.enter.new.sink, c.args.self.now.taker.now) n.0
     (n.1, at.1, at.2)
-    (refused_handed g.K.Sink.takes g.K.Sink.drops g.T.Taker.takes g.T.Taker.refuses file from d (Ok false) c.args.self.now.sink.now c.enter.new.sink
+    (refused_handed g.K.Sink.takes g.T.Taker.takes g.T.Taker.refuses file from d (Ok false) c.args.self.now.sink.now c.enter.new.sink
     c.args.self.now.taker.now (λ o. cc) n.2)))
 
 pub returns-in_err-load-clause-levels : goal.returns-in_err-load-clause-levels
@@ -82,16 +78,16 @@ returns-in_err-load-clause-log g c =
     let t = c.args.self.now.tree in
     let q = err_from_is_err_and c.from_residual-in_err-load.result c.from_residual-in_err-load.ensures.1 in
     let is = c.tree_step-step.ensures.step t.kind t.start t.path.items d (sym c.len-level.ensures.value) candidate in
-    let n = subst (λ b. Enters g.K.Sink.takes g.K.Sink.drops file from.visits d (Ok b) c.enter.new.marks c.args.self.now.sink.now c.enter.new.sink)
+    let n = subst (λ b. Enters g.K.Sink.takes file from.visits d (Ok b) c.enter.new.marks c.args.self.now.sink.now c.enter.new.sink)
     c.if-not-branch.false (c.in_ok-enter.ensures.entered file from.visits d is next at.0 (λ why p. tree_refusal file from.visits d candidate ∙ sym p)) in
-    subst (λ s. HasDone (watches g.K.Sink.takes g.T.Taker.takes) (fails g.K.Sink.takes g.K.Sink.drops g.T.Taker.takes g.T.Taker.refuses) file
+    subst (λ s. HasDone (watches g.K.Sink.takes g.T.Taker.takes) (fails g.T.Taker.refuses) file
     (entered file from d c.from_residual-in_err-load.result) c.from_residual-in_err-load.result (c.enter.new.marks, c.args.self.now.tree)
     (c.args.self.now.sink.now, c.args.self.now.taker.now) (s, c.args.self.now.taker.now)
     × IsEntered file from d c.from_residual-in_err-load.result c.load.new.self.levels) n.2
-    (entered_err (watches g.K.Sink.takes g.T.Taker.takes) (fails g.K.Sink.takes g.K.Sink.drops g.T.Taker.takes g.T.Taker.refuses) file from d
+    (entered_err (watches g.K.Sink.takes g.T.Taker.takes) (fails g.T.Taker.refuses) file from d
     c.load.new.self.levels _ ReadFailed (c.enter.new.marks, c.args.self.now.tree) (c.args.self.now.sink.now, c.args.self.now.taker.now)
     (c.args.self.now.sink.now, c.args.self.now.taker.now) (q.1 ∙ ap Err q.2)
-    (unread {A = Unit {0}} (watches g.K.Sink.takes g.T.Taker.takes) (fails g.K.Sink.takes g.K.Sink.drops g.T.Taker.takes g.T.Taker.refuses) file
+    (unread {A = Unit {0}} (watches g.K.Sink.takes g.T.Taker.takes) (fails g.T.Taker.refuses) file
     (done_below file from (Go d ∷ [])) (c.enter.new.marks, c.args.self.now.tree) (c.args.self.now.sink.now, c.args.self.now.taker.now))))
 
 pub returns-clause-levels : goal.returns-clause-levels
@@ -132,12 +128,12 @@ returns-clause-log g c =
     (λ file h done e coded from d candidate next at bound.
     let t = c.args.self.now.tree in
     let is = c.tree_step-step.ensures.step t.kind t.start t.path.items d (sym c.len-level.ensures.value) candidate in
-    let n = subst (λ b. Enters g.K.Sink.takes g.K.Sink.drops file from.visits d (Ok b) c.enter.new.marks c.args.self.now.sink.now c.enter.new.sink)
+    let n = subst (λ b. Enters g.K.Sink.takes file from.visits d (Ok b) c.enter.new.marks c.args.self.now.sink.now c.enter.new.sink)
     c.if-not-branch.false (c.in_ok-enter.ensures.entered file from.visits d is next at.0 (λ why p. tree_refusal file from.visits d candidate ∙ sym p)) in
     let read = page_read file change.bytes c.args.bench.now.geometry.page_size c.args.page change.size h (sym (ap (λ s. s.page_size) e)) in
     let there = subst (λ l. HasPageAt c.load.new.self.levels l (page_bytes file c.args.page)) c.len-level.ensures.value
     (read_there c.args.bench.now c.load.new.self c.len-level.result low change.bytes change.only (page_bytes file c.args.page) read) in
-    subst (λ s. HasDone (watches g.K.Sink.takes g.T.Taker.takes) (fails g.K.Sink.takes g.K.Sink.drops g.T.Taker.takes g.T.Taker.refuses) file
+    subst (λ s. HasDone (watches g.K.Sink.takes g.T.Taker.takes) (fails g.T.Taker.refuses) file
     (entered file from d c.visit_page.result) c.visit_page.result (c.visit_page.new.self.marks.now, c.visit_page.new.self.tree)
     (s, c.args.self.now.taker.now) (c.visit_page.new.self.sink.now, c.visit_page.new.self.taker.now)
     × IsEntered file from d c.visit_page.result c.visit_page.new.bench.levels) (sym n.2)
@@ -148,8 +144,7 @@ returns-in_err-enter-clause-walked g c =
     let q = err_from_is_err_and c.from_residual.result c.from_residual.ensures.1 in
     let f = c.in_err-enter.ensures.after_error.0 in
     walked_err g.S.Source.held g.K.Sink.held g.T.Taker.refusals (q.1 ∙ ap Err (q.2 ∙ f)) (inr refl) (refl, refl, refl, refl, refl, refl, refl) refl refl
-    (subst (λ e. SinkAfter {A = Unit {0}} is_write_failed (Err e) (g.K.Sink.held c.args.self.now.sink.now) (g.K.Sink.held c.enter.new.sink)) f
-    c.in_err-enter.ensures.writes) refl (λ l. refl)
+    (walks_as (ap Err (sym f)) c.in_err-enter.ensures.writes) refl (λ l. refl)
 
 pub returns-in_err-load-clause-walked : goal.returns-in_err-load-clause-walked
 returns-in_err-load-clause-walked g c =
@@ -158,7 +153,7 @@ returns-in_err-load-clause-walked g c =
     let change = c.load.ensures.level in
     walked_err g.S.Source.held g.K.Sink.held g.T.Taker.refusals {e = ReadFailed} (q.1 ∙ ap Err q.2) (inl refl) (refl, refl, refl, refl, refl, refl, refl)
     (geometry_kept c.args.bench.now c.load.new.self c.len-level.result low change.bytes change.only) c.in_err-load.ensures.count
-    c.in_ok-enter.ensures.writes refl (λ l. refl)
+    (walks_err refl c.in_ok-enter.ensures.writes.moves (c.in_ok-enter.ensures.«open» (search rules))) refl (λ l. refl)
 
 pub returns-clause-walked : goal.returns-clause-walked
 returns-clause-walked g c =
@@ -166,8 +161,8 @@ returns-clause-walked g c =
     let change = c.in_ok-load.ensures.level in
     walked_behind g.S.Source.held g.K.Sink.held g.T.Taker.refusals {R = Unit {0}} {a = tt} c.visit_page.ensures.walked
     (walked_by g.S.Source.held g.K.Sink.held g.T.Taker.refusals (refl, refl, refl, refl, refl, refl, refl)
-    (geometry_kept c.args.bench.now c.load.new.self c.len-level.result low change.bytes change.only) c.in_ok-load.ensures.count c.in_ok-enter.ensures.writes
-    refl tt (λ l. refl))
+    (geometry_kept c.args.bench.now c.load.new.self c.len-level.result low change.bytes change.only) c.in_ok-load.ensures.count
+    (walks_ok c.in_ok-enter.ensures.writes.moves) refl tt (λ l. refl))
 
 pub returns-clause-open : goal.returns-clause-open
 returns-clause-open g c =
@@ -196,3 +191,8 @@ returns-then-not-branch-clause-fewer g c =
 
 pub returns-then-not-branch-clause-open : goal.returns-then-not-branch-clause-open
 returns-then-not-branch-clause-open g c = λ is. absurd (false≢true is)
+
+pub returns-then-not-branch-clause-walked : goal.returns-then-not-branch-clause-walked
+returns-then-not-branch-clause-walked g c =
+    walked_by g.S.Source.held g.K.Sink.held g.T.Taker.refusals (refl, refl, refl, refl, refl, refl, refl) refl refl
+    (walks_ok c.in_ok-enter.ensures.writes.moves) refl tt (λ l. refl)

@@ -1,27 +1,24 @@
-use Rattle.std.proofs.Common.{rules, Some, ◌/◌, ◌≤◌, false, inr, Err, refl, ap, subst, arith, ◌∙◌, w64}
+use Rattle.std.proofs.Common.{rules, Some, ◌/◌, ◌≤◌, false, inl, refl, ap, subst, arith, ◌∙◌, w64}
 use Rattle.std.specs.Prelude.{slice_get}
 use Rattle.std.proofs.lemmas.Int.{to_z-of_z}
 use Rattle.dbformat.specs.Payload.{most_payload}
 use Rattle.dbformat.specs.FixedPages.{IsPageNumber}
-use Rattle.dbsurvey.specs.Moves.{Moves, Stops}
+use Rattle.dbsurvey.specs.Moves.{Moves}
 use Rattle.dbwalk.specs.LeafCells.{order_told, top_after}
-use Rattle.std.proofs.lemmas.Result.{err_from_is_err_and}
 use Rattle.dbsource.specs.Bench.{Pages}
 use Rattle.dbsource.proofs.Logs.{has_weaker}
 use Rattle.dbmarks.proofs.Readings.{log_none}
-use Rattle.dbsource.specs.declared.error.RunError.TheVariants.{WriteFailed}
 use Rattle.dbwalk.proofs.Trees.Frames.{ends_behind, ends_on, on_ok_all, next_at, at_step, goes_on, path_last, path_popped, path_push, step_on}
 use Rattle.dbwalk.proofs.Leaves.LeafCells.{cell_size}
 use Rattle.dbwalk.proofs.Pages.Levels.{keeps_fewer}
-use Rattle.dbwalk.specs.Underway.{tree_walk}
 use Rattle.dbwalk.specs.Walking.{path_of}
 use Rattle.dbwalk.specs.declared.steps.Next.TheVariants.{Chain, Key, Nothing}
-use Rattle.dbwalk.specs.Watching.{StopsAt, fails}
+use Rattle.dbwalk.specs.Watching.{fails}
 use Rattle.dbwalk.proofs.Underway.TreeSteps.{aside_done, by_other}
-use Rattle.dbwalk.proofs.Underway.Handing.{found_moves, found_stops}
-use Rattle.dbwalk.proofs.Underway.TreeTurns.{next_here, turned_behind, turned_empty, turned_key, stopped_key, chained, chain_is, chain_next, turned_chain}
-use Rattle.dbwalk.proofs.Underway.TreeTurns.{turn_failed}
-use Rattle.dbwalk.proofs.Underway.Walks.{none_refused, read_or_write, walked_by, walked_err}
+use Rattle.dbwalk.proofs.Underway.Handing.{found_moves}
+use Rattle.dbwalk.proofs.Underway.TreeTurns.{next_here, turned_behind, turned_empty, turned_key, chained, chain_is, chain_next, turned_chain}
+use Rattle.dbwalk.proofs.Underway.Walks.{none_refused, read_or_write, walked_by}
+use Rattle.dbwalk.proofs.Telling.Sinks.{walks_ok}
 use Rattle.dbwalk.proofs.tree_walk.TreeWalk.take_step.Goals as goal
 
 pub stepped-requires : goal.stepped-requires
@@ -82,44 +79,26 @@ returns-in-Nothing-clause-log g c = log_none c.args.bench.now.geometry.page_size
       tt,
     ))
 
-pub returns-in_err-tell_key-in-Key-clause-log : goal.returns-in_err-tell_key-in-Key-clause-log
-returns-in_err-tell_key-in-Key-clause-log g c = log_none c.args.bench.now.geometry.page_size c.args.self.now.marks.now c.args.self.now.marks.now
-    (g.S.Source.held c.args.self.now.source.now) refl (λ file e coded W d before candidate walk.
-    let here = next_here c.args.frames.now.items c.args.frame walk candidate (ap (λ s. s.usable) e) (next_at refl c.in-Key.is c.requires.step) in
-    let n = c.tell_key.new in
-    let q = err_from_is_err_and c.from_residual.result c.from_residual.ensures.1 in
-    let told = subst (λ z. Stops g.K.Sink.takes g.K.Sink.drops c.args.self.now.sink.now
-    (order_told false c.args.self.now.tree.greatest c.args.frame.page (c.args.frame.next / 3) z) n.sink) (to_z-of_z w64 c.in-Key.key (search rules))
-    c.in_err-tell_key-in-Key.ensures.told.items in
-    turn_failed _ (λ e. StopsAt _ (fails g.K.Sink.takes g.K.Sink.drops g.T.Taker.takes g.T.Taker.refuses) e before (tree_walk file W d).items
-    (n.sink, c.args.self.now.taker.now)) c.from_residual.result WriteFailed (q.1 ∙ ap Err q.2)
-    (stopped_key c.args.frames.now.items c.args.frame walk candidate c.stepped-in-Key.result c.stepped-in-Key.ensures.page c.stepped-in-Key.ensures.next
-    c.stepped-in-Key.ensures.up_to
-    c.in-Key.key here (n.sink, c.args.self.now.taker.now) (fails g.K.Sink.takes g.K.Sink.drops g.T.Taker.takes g.T.Taker.refuses) WriteFailed
-    (found_stops g.K.Sink.takes g.K.Sink.drops g.T.Taker.takes g.T.Taker.refuses
-    (order_told false c.args.self.now.tree.greatest c.args.frame.page (c.args.frame.next / 3) c.in-Key.key) c.args.self.now.sink.now n.sink
-    c.args.self.now.taker.now told)))
-
-pub returns-in_ok-tell_key-in-Key-clause-open : goal.returns-in_ok-tell_key-in-Key-clause-open
-returns-in_ok-tell_key-in-Key-clause-open g c = step_on c.args.frames.now.items c.args.frame
+pub returns-in-Key-clause-open : goal.returns-in-Key-clause-open
+returns-in-Key-clause-open g c = step_on c.args.frames.now.items c.args.frame
     (at_step c.args.frames.now.items c.args.frame c.requires.opened (next_at refl c.in-Key.is c.requires.step)) c.stepped-in-Key.result
     c.stepped-in-Key.ensures.page c.stepped-in-Key.ensures.next (goes_on (Key _) tt) c.push-in-Key.ensures.items c.args.bench.now.geometry.usable
     c.tell_key.new.self.kind c.args.bench.now.levels refl c.tell_key.ensures.others.1 (λ n l. refl)
 
-pub returns-in_ok-tell_key-in-Key-clause-ends : goal.returns-in_ok-tell_key-in-Key-clause-ends
-returns-in_ok-tell_key-in-Key-clause-ends g c = ends_on c.args.self.now.marks.now c.args.self.now.marks.now c.args.frames.now.items c.args.frame
+pub returns-in-Key-clause-ends : goal.returns-in-Key-clause-ends
+returns-in-Key-clause-ends g c = ends_on c.args.self.now.marks.now c.args.self.now.marks.now c.args.frames.now.items c.args.frame
     c.stepped-in-Key.result c.push-in-Key.ensures.items (omega arith) c.stepped-in-Key.ensures.next
     (at_step c.args.frames.now.items c.args.frame c.requires.opened (next_at refl c.in-Key.is c.requires.step)).most
 
-pub returns-in_ok-tell_key-in-Key-clause-log : goal.returns-in_ok-tell_key-in-Key-clause-log
-returns-in_ok-tell_key-in-Key-clause-log g c = log_none c.args.bench.now.geometry.page_size c.args.self.now.marks.now c.args.self.now.marks.now
+pub returns-in-Key-clause-log : goal.returns-in-Key-clause-log
+returns-in-Key-clause-log g c = log_none c.args.bench.now.geometry.page_size c.args.self.now.marks.now c.args.self.now.marks.now
     (g.S.Source.held c.args.self.now.source.now) refl (λ file e coded W d before candidate walk.
     let here = next_here c.args.frames.now.items c.args.frame walk candidate (ap (λ s. s.usable) e) (next_at refl c.in-Key.is c.requires.step) in
     let n = c.tell_key.new in
     let same = to_z-of_z w64 c.in-Key.key (search rules) in
     let told = subst (λ z. Moves g.K.Sink.takes c.args.self.now.sink.now
-    (order_told false c.args.self.now.tree.greatest c.args.frame.page (c.args.frame.next / 3) z) n.sink) same c.in_ok-tell_key-in-Key.ensures.told.items in
-    let moved = found_moves g.K.Sink.takes g.K.Sink.drops g.T.Taker.takes g.T.Taker.refuses
+    (order_told false c.args.self.now.tree.greatest c.args.frame.page (c.args.frame.next / 3) z) n.sink) same c.tell_key.ensures.told.items in
+    let moved = found_moves g.K.Sink.takes g.T.Taker.takes g.T.Taker.refuses
     (order_told false c.args.self.now.tree.greatest c.args.frame.page (c.args.frame.next / 3) c.in-Key.key) c.args.self.now.sink.now n.sink
     c.args.self.now.taker.now told in (
       by_other (turned_key c.args.frames.now.items c.args.frame walk candidate c.stepped-in-Key.result c.stepped-in-Key.ensures.page
@@ -157,7 +136,7 @@ returns-in-Chain-clause-log g c = has_weaker _ _ c.walk_unfed.ensures.log (λ lo
     refl refl refl in
     let next = chain_next c.args.frames.now.items c.args.frame walk candidate c.stepped-in-Chain.result c.stepped-in-Chain.ensures.page
     c.stepped-in-Chain.ensures.next c.stepped-in-Chain.ensures.up_to c.in-Chain.first c.in-Chain.left c.in-Chain.rowid here in
-    let done = aside_done g.K.Sink.takes g.K.Sink.drops g.T.Taker.takes g.T.Taker.refuses file walk.now
+    let done = aside_done g.K.Sink.takes g.T.Taker.takes g.T.Taker.refuses file walk.now
     (chained c.args.frames.now.items c.args.frame walk candidate c.stepped-in-Chain.result c.stepped-in-Chain.ensures.page c.stepped-in-Chain.ensures.next
     c.stepped-in-Chain.ensures.up_to
     c.in-Chain.first c.in-Chain.left c.in-Chain.rowid here) refl r c.args.self.now.marks.now n.marks c.args.self.now.tree c.args.self.now.sink.now n.sink
@@ -165,15 +144,8 @@ returns-in-Chain-clause-log g c = has_weaker _ _ c.walk_unfed.ensures.log (λ lo
     (h e walk.now.visits _ is next walk.under.at.0) in
     turned_chain c.args.frames.now.items c.args.frame walk candidate c.stepped-in-Chain.result c.stepped-in-Chain.ensures.page c.stepped-in-Chain.ensures.next
     c.stepped-in-Chain.ensures.up_to
-    c.in-Chain.first c.in-Chain.left c.in-Chain.rowid here (fails g.K.Sink.takes g.K.Sink.drops g.T.Taker.takes g.T.Taker.refuses) n.marks
+    c.in-Chain.first c.in-Chain.left c.in-Chain.rowid here (fails g.T.Taker.refuses) n.marks
     (n.sink, c.args.self.now.taker.now) c.push-in-Chain.ensures.items (ap (λ (p : Pages). p.levels) c.walk_unfed.ensures.bench) r done)
-
-pub returns-in_err-tell_key-in-Key-clause-walked : goal.returns-in_err-tell_key-in-Key-clause-walked
-returns-in_err-tell_key-in-Key-clause-walked g c =
-    let q = err_from_is_err_and c.from_residual.result c.from_residual.ensures.1 in
-    let same = c.tell_key.ensures.others in
-    walked_err g.S.Source.held g.K.Sink.held g.T.Taker.refusals {e = WriteFailed} (q.1 ∙ ap Err q.2) (inr refl)
-    (refl, refl, refl, refl, refl, same.0, same.1) refl refl c.in_err-tell_key-in-Key.ensures.told.count refl (λ l. refl)
 
 pub returns-in-Chain-clause-walked : goal.returns-in-Chain-clause-walked
 returns-in-Chain-clause-walked g c =
@@ -193,8 +165,8 @@ returns-in-End-clause-path g c = λ fs f e. path_popped _ _ _ _ (c.requires.path
 pub returns-in-Nothing-clause-path : goal.returns-in-Nothing-clause-path
 returns-in-Nothing-clause-path g c = path_last _ _ _ _ c.push.ensures.items c.requires.path
 
-pub returns-in_ok-tell_key-in-Key-clause-path : goal.returns-in_ok-tell_key-in-Key-clause-path
-returns-in_ok-tell_key-in-Key-clause-path g c =
+pub returns-in-Key-clause-path : goal.returns-in-Key-clause-path
+returns-in-Key-clause-path g c =
     path_last _ _ _ _ c.push-in-Key.ensures.items (ap (λ p. p.items) c.tell_key.ensures.others.3 ∙ c.requires.path)
 
 pub returns-in-Chain-clause-path : goal.returns-in-Chain-clause-path
@@ -202,3 +174,17 @@ returns-in-Chain-clause-path g c = on_ok_all c.walk_unfed.result (path_last _ _ 
 
 pub returns-in-Chain-clause-few : goal.returns-in-Chain-clause-few
 returns-in-Chain-clause-few g c = on_ok_all c.walk_unfed.result (omega (arith, c.push-in-Chain.ensures.len, c.requires.few))
+
+pub returns-in-End-clause-walked : goal.returns-in-End-clause-walked
+returns-in-End-clause-walked g c = walked_by g.S.Source.held g.K.Sink.held g.T.Taker.refusals (refl, refl, refl, refl, refl, refl, refl) refl refl
+    (walks_ok (inl refl)) refl tt (λ l. refl)
+
+pub returns-in-Nothing-clause-walked : goal.returns-in-Nothing-clause-walked
+returns-in-Nothing-clause-walked g c = walked_by g.S.Source.held g.K.Sink.held g.T.Taker.refusals (refl, refl, refl, refl, refl, refl, refl) refl refl
+    (walks_ok (inl refl)) refl tt (λ l. refl)
+
+pub returns-in-Key-clause-walked : goal.returns-in-Key-clause-walked
+returns-in-Key-clause-walked g c =
+    let same = c.tell_key.ensures.others in
+    walked_by g.S.Source.held g.K.Sink.held g.T.Taker.refusals (refl, refl, refl, refl, refl, same.0, same.1) refl refl
+    (walks_ok c.tell_key.ensures.told.count) refl tt (λ l. refl)

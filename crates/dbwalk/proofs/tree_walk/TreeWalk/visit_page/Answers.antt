@@ -1,9 +1,8 @@
-use Rattle.std.proofs.Common.{rules, ◌<◌, length, false, inr, Ok, Err, refl, sym, ap, subst, ◌∙◌}
+use Rattle.std.proofs.Common.{rules, ◌<◌, length, false, Ok, Err, refl, sym, ap, subst, ◌∙◌}
 use Rattle.std.proofs.lemmas.Bool.{false≢true}
 use Rattle.std.proofs.lemmas.Result.{err_from_is_err_and}
 use Rattle.dbformat.specs.Cell.{count}
 use Rattle.dbformat.proofs.Looping.{none_at_damage}
-use Rattle.dbsource.specs.declared.error.RunError.TheVariants.{WriteFailed}
 use Rattle.dbsource.proofs.Logs.{has_weaker}
 use Rattle.dbmarks.proofs.Readings.{log_none}
 use Rattle.dbwalk.specs.Found.{IsFound}
@@ -13,37 +12,26 @@ use Rattle.dbwalk.proofs.Leaves.RisingKeys.{rising_all}
 use Rattle.dbwalk.proofs.Pages.PageTellings.{with_span}
 use Rattle.dbwalk.proofs.Pages.PageVisits.{found_interior, found_damage, found_leaf, found_view, kind_is}
 use Rattle.dbwalk.proofs.Underway.CellSteps.{other_start, leaf_passed}
-use Rattle.dbwalk.proofs.Underway.Visits.{visited, visit_then, visit_alone, visit_stops, entered_past, entered_err, visited_before, page_moves, page_stops}
+use Rattle.dbwalk.proofs.Underway.Visits.{visited, visit_then, visit_alone, entered_past, entered_err, visited_before, page_moves}
 use Rattle.dbwalk.proofs.Underway.Visits.{visited_at}
-use Rattle.dbwalk.proofs.Underway.Walks.{walked_as, walked_as_ok, walked_behind, walked_by, walked_err}
+use Rattle.dbwalk.proofs.Underway.Walks.{walked_as, walked_as_ok, walked_behind, walked_by}
+use Rattle.dbwalk.proofs.Telling.Sinks.{walks_ok}
 use Rattle.dbwalk.proofs.tree_walk.TreeWalk.visit_page.Goals as goal
-
-pub returns-in_err-tell_page-clause-log : goal.returns-in_err-tell_page-clause-log
-returns-in_err-tell_page-clause-log g c = log_none c.args.bench.now.geometry.page_size c.args.self.now.marks.now c.args.self.now.marks.now
-    (g.S.Source.held c.args.self.now.source.now) refl
-    (λ file e coded from d above item candidate there next followed m top first bound.
-    let q = err_from_is_err_and c.from_residual.result c.from_residual.ensures.1 in
-    let told = c.in_err-tell_page.ensures.told file d above item e candidate there in
-    entered_err _ _ file from d _ _ WriteFailed _ _ _ (q.1 ∙ ap Err q.2)
-    (visit_stops _ _ file from d followed {A = Unit {0}} WriteFailed _ _ _
-    (page_stops file from d first top bound (kind_is file c.args.self.now.tree.kind c.args.self.now.tree.start c.args.self.now.tree.path.items c.args.page
-    above item
-    d candidate) g.K.Sink.takes g.K.Sink.drops g.T.Taker.takes g.T.Taker.refuses _ _ c.args.self.now.taker.now told.0.items)))
 
 pub returns-in-Interior-clause-log : goal.returns-in-Interior-clause-log
 returns-in-Interior-clause-log g c = log_none c.args.bench.now.geometry.page_size c.args.self.now.marks.now c.args.self.now.marks.now
     (g.S.Source.held c.args.self.now.source.now) refl
     (λ file e coded from d above item candidate there next followed m top first bound.
-    let told = c.in_ok-tell_page.ensures.told file d above item e candidate there in
+    let told = c.tell_page.ensures.told file d above item e candidate there in
     let found = subst (λ f. IsFound c.tell_page.new.bench.geometry.usable c.tell_page.new.tree.kind c.tell_page.new.bench.levels
-    (length c.args.self.now.tree.path.items) c.args.page f) c.in-Interior.is c.in_ok-tell_page.ensures.open in (
+    (length c.args.self.now.tree.path.items) c.args.page f) c.in-Interior.is c.tell_page.ensures.«open» in (
       record {
         at = visited_at file from d first c.tell_page.new.tree m (c.tell_page.ensures.tree.2 ∙ top) told.1;
         handed =
             page_moves file from d first top bound (kind_is file c.args.self.now.tree.kind c.args.self.now.tree.start c.args.self.now.tree.path.items
             c.args.page above
             item d
-            candidate) g.K.Sink.takes g.K.Sink.drops g.T.Taker.takes g.T.Taker.refuses _ _ c.args.self.now.taker.now told.0.items;
+            candidate) g.K.Sink.takes g.T.Taker.takes g.T.Taker.refuses _ _ c.args.self.now.taker.now told.0.items;
       },
       λ yes. found_interior file candidate there c.tell_page.ensures.bench.1 c.tell_page.ensures.tree.1 (ap (λ s. s.usable) (c.tell_page.ensures.bench.0 ∙ e))
           from followed found,
@@ -53,9 +41,9 @@ pub returns-in-Damaged-clause-log : goal.returns-in-Damaged-clause-log
 returns-in-Damaged-clause-log g c = log_none c.args.bench.now.geometry.page_size c.args.self.now.marks.now c.args.self.now.marks.now
     (g.S.Source.held c.args.self.now.source.now) refl
     (λ file e coded from d above item candidate there next followed m top first bound.
-    let told = c.in_ok-tell_page.ensures.told file d above item e candidate there in
+    let told = c.tell_page.ensures.told file d above item e candidate there in
     let found = subst (λ f. IsFound c.tell_page.new.bench.geometry.usable c.tell_page.new.tree.kind c.tell_page.new.bench.levels
-    (length c.args.self.now.tree.path.items) c.args.page f) c.in-Damaged.is c.in_ok-tell_page.ensures.open in
+    (length c.args.self.now.tree.path.items) c.args.page f) c.in-Damaged.is c.tell_page.ensures.«open» in
     let none = none_at_damage file d c.args.self.now.tree.kind
     (kind_is file c.args.self.now.tree.kind c.args.self.now.tree.start c.args.self.now.tree.path.items c.args.page above item d candidate)
     (found_damage file candidate there c.tell_page.ensures.bench.1 c.tell_page.ensures.tree.1 (ap (λ s. s.usable) (c.tell_page.ensures.bench.0 ∙ e)) found)
@@ -64,7 +52,7 @@ returns-in-Damaged-clause-log g c = log_none c.args.bench.now.geometry.page_size
     entered_past _ _ file from d _ false _ _ _ (visit_alone _ _ file from d followed false _ _ _ none at
     (page_moves file from d first top bound (kind_is file c.args.self.now.tree.kind c.args.self.now.tree.start c.args.self.now.tree.path.items c.args.page
     above item
-    d candidate) g.K.Sink.takes g.K.Sink.drops g.T.Taker.takes g.T.Taker.refuses _ _ c.args.self.now.taker.now told.0.items)))
+    d candidate) g.K.Sink.takes g.T.Taker.takes g.T.Taker.refuses _ _ c.args.self.now.taker.now told.0.items)))
 
 pub returns-in_err-walk_leaf-in-Leaf-clause-log : goal.returns-in_err-walk_leaf-in-Leaf-clause-log
 returns-in_err-walk_leaf-in-Leaf-clause-log g c = has_weaker _ _ c.in_err-walk_leaf-in-Leaf.ensures.log
@@ -72,21 +60,21 @@ returns-in_err-walk_leaf-in-Leaf-clause-log g c = has_weaker _ _ c.in_err-walk_l
     (λ file h e coded from d above item candidate there next followed m top first bound.
     let same = c.pass_over.ensures.others in
     let tree = c.tell_page.ensures.tree in
-    let told = c.in_ok-tell_page.ensures.told file d above item e candidate there in
+    let told = c.tell_page.ensures.told file d above item e candidate there in
     let found = subst (λ f. IsFound c.tell_page.new.bench.geometry.usable c.tell_page.new.tree.kind c.tell_page.new.bench.levels
-    (length c.args.self.now.tree.path.items) c.args.page f) c.in-Leaf.is c.in_ok-tell_page.ensures.open in
+    (length c.args.self.now.tree.path.items) c.args.page f) c.in-Leaf.is c.tell_page.ensures.«open» in
     let at = found_leaf file candidate there c.tell_page.ensures.bench.1 c.tell_page.ensures.tree.1 (ap (λ s. s.usable) (c.tell_page.ensures.bench.0 ∙ e))
     (same.1 ∙ tree.1) (same.0 ∙ tree.0) (ap (λ p. p.items) (same.3 ∙ tree.3)) found.leaf in
     let here = visited_at file from d first c.pass_over.new.self m (c.pass_over.ensures.kept c.if-pass_over.false ∙ tree.2 ∙ top) (same.2 ∙ told.1) in
     let done = h (c.tell_page.ensures.bench.0 ∙ e) coded (visited file from d) d found.leaf.view at
     (found_view file candidate there c.tell_page.ensures.bench.1 c.tell_page.ensures.tree.1 (ap (λ s. s.usable) (c.tell_page.ensures.bench.0 ∙ e))
     found.leaf) found.leaf.leaf (visited_before file from d next) here in
-    let q = err_from_is_err_and c.from_residual-in_err-walk_leaf-in-Leaf.result c.from_residual-in_err-walk_leaf-in-Leaf.ensures.1 in
+    let q = err_from_is_err_and c.from_residual.result c.from_residual.ensures.1 in
     entered_err _ _ file from d _ _ c.in_err-walk_leaf-in-Leaf.field-0.0 _ _ _ (q.1 ∙ ap Err q.2)
     (visit_then _ _ file from d followed (Err c.in_err-walk_leaf-in-Leaf.field-0.0) _ _ (c.tell_page.new.sink, c.args.self.now.taker.now) _
     (page_moves file from d first top bound (kind_is file c.args.self.now.tree.kind c.args.self.now.tree.start c.args.self.now.tree.path.items c.args.page
     above item
-    d candidate) g.K.Sink.takes g.K.Sink.drops g.T.Taker.takes g.T.Taker.refuses _ _ c.args.self.now.taker.now told.0.items) done))
+    d candidate) g.K.Sink.takes g.T.Taker.takes g.T.Taker.refuses _ _ c.args.self.now.taker.now told.0.items) done))
 
 pub returns-in_ok-walk_leaf-in-Leaf-clause-log : goal.returns-in_ok-walk_leaf-in-Leaf-clause-log
 returns-in_ok-walk_leaf-in-Leaf-clause-log g c = has_weaker _ _ c.in_ok-walk_leaf-in-Leaf.ensures.log
@@ -94,9 +82,9 @@ returns-in_ok-walk_leaf-in-Leaf-clause-log g c = has_weaker _ _ c.in_ok-walk_lea
     (λ file h e coded from d above item candidate there next followed m top first bound.
     let same = c.pass_over.ensures.others in
     let tree = c.tell_page.ensures.tree in
-    let told = c.in_ok-tell_page.ensures.told file d above item e candidate there in
+    let told = c.tell_page.ensures.told file d above item e candidate there in
     let found = subst (λ f. IsFound c.tell_page.new.bench.geometry.usable c.tell_page.new.tree.kind c.tell_page.new.bench.levels
-    (length c.args.self.now.tree.path.items) c.args.page f) c.in-Leaf.is c.in_ok-tell_page.ensures.open in
+    (length c.args.self.now.tree.path.items) c.args.page f) c.in-Leaf.is c.tell_page.ensures.«open» in
     let at = found_leaf file candidate there c.tell_page.ensures.bench.1 c.tell_page.ensures.tree.1 (ap (λ s. s.usable) (c.tell_page.ensures.bench.0 ∙ e))
     (same.1 ∙ tree.1) (same.0 ∙ tree.0) (ap (λ p. p.items) (same.3 ∙ tree.3)) found.leaf in
     let here = visited_at file from d first c.pass_over.new.self m (c.pass_over.ensures.kept c.if-pass_over.false ∙ tree.2 ∙ top) (same.2 ∙ told.1) in
@@ -107,7 +95,7 @@ returns-in_ok-walk_leaf-in-Leaf-clause-log g c = has_weaker _ _ c.in_ok-walk_lea
     (visit_then _ _ file from d followed (Ok c.in_ok-walk_leaf-in-Leaf.field-0) _ _ (c.tell_page.new.sink, c.args.self.now.taker.now) _
     (page_moves file from d first top bound (kind_is file c.args.self.now.tree.kind c.args.self.now.tree.start c.args.self.now.tree.path.items c.args.page
     above item
-    d candidate) g.K.Sink.takes g.K.Sink.drops g.T.Taker.takes g.T.Taker.refuses _ _ c.args.self.now.taker.now told.0.items) done))
+    d candidate) g.K.Sink.takes g.T.Taker.takes g.T.Taker.refuses _ _ c.args.self.now.taker.now told.0.items) done))
 
 pub returns-then-pass_over-clause-log : goal.returns-then-pass_over-clause-log
 returns-then-pass_over-clause-log g c = log_none c.args.bench.now.geometry.page_size c.args.self.now.marks.now c.args.self.now.marks.now
@@ -115,9 +103,9 @@ returns-then-pass_over-clause-log g c = log_none c.args.bench.now.geometry.page_
     (λ file e coded from d above item candidate there next followed m top first bound.
     let n = c.tell_page.new.tree in
     let after = c.pass_over.new.self in
-    let told = c.in_ok-tell_page.ensures.told file d above item e candidate there in
+    let told = c.tell_page.ensures.told file d above item e candidate there in
     let found = subst (λ f. IsFound c.tell_page.new.bench.geometry.usable c.tell_page.new.tree.kind c.tell_page.new.bench.levels
-    (length c.args.self.now.tree.path.items) c.args.page f) c.in-Leaf.is c.in_ok-tell_page.ensures.open in
+    (length c.args.self.now.tree.path.items) c.args.page f) c.in-Leaf.is c.tell_page.ensures.«open» in
     let keys = with_span c.in-Leaf.keys (λ span. ArePassed c.args.page n.start n.greatest span after.greatest) (λ span. HasSpan found.leaf.view span)
     (c.pass_over.ensures.passed c.if-pass_over.true) found.span in
     let rising = subst (λ a. AreRisingFrom c.args.page found.leaf.view 0 (count found.leaf.view) n.greatest a) (sym keys.1.after_is)
@@ -134,24 +122,17 @@ returns-then-pass_over-clause-log g c = log_none c.args.bench.now.geometry.page_
     entered_past _ _ file from d _ tt _ _ _ (visit_then _ _ file from d followed (Ok tt) _ _ (c.tell_page.new.sink, c.args.self.now.taker.now) _
     (page_moves file from d first top bound (kind_is file c.args.self.now.tree.kind c.args.self.now.tree.start c.args.self.now.tree.path.items c.args.page
     above item
-    d candidate) g.K.Sink.takes g.K.Sink.drops g.T.Taker.takes g.T.Taker.refuses _ _ c.args.self.now.taker.now told.0.items) done))
+    d candidate) g.K.Sink.takes g.T.Taker.takes g.T.Taker.refuses _ _ c.args.self.now.taker.now told.0.items) done))
 
 pub returns-in_err-walk_leaf-in-Leaf-clause-walked : goal.returns-in_err-walk_leaf-in-Leaf-clause-walked
 returns-in_err-walk_leaf-in-Leaf-clause-walked g c =
-    let q = err_from_is_err_and c.from_residual-in_err-walk_leaf-in-Leaf.result c.from_residual-in_err-walk_leaf-in-Leaf.ensures.1 in
+    let q = err_from_is_err_and c.from_residual.result c.from_residual.ensures.1 in
     let same = c.pass_over.ensures.others in
     walked_as g.S.Source.held g.K.Sink.held g.T.Taker.refusals {R = Unit {0}} (q.1 ∙ ap Err q.2)
     (walked_behind g.S.Source.held g.K.Sink.held g.T.Taker.refusals {R = Unit {0}} {a = tt} c.in_err-walk_leaf-in-Leaf.ensures.walked
     (walked_by g.S.Source.held g.K.Sink.held g.T.Taker.refusals
     (refl, refl, refl, refl, refl, same.0 ∙ c.tell_page.ensures.tree.0, same.1 ∙ c.tell_page.ensures.tree.1) c.tell_page.ensures.bench.0 refl
-    c.in_ok-tell_page.ensures.writes refl tt (λ l. refl)))
-
-pub returns-in_err-tell_page-clause-walked : goal.returns-in_err-tell_page-clause-walked
-returns-in_err-tell_page-clause-walked g c =
-    let q = err_from_is_err_and c.from_residual.result c.from_residual.ensures.1 in
-    let same = c.tell_page.ensures.tree in
-    walked_err g.S.Source.held g.K.Sink.held g.T.Taker.refusals {e = WriteFailed} (q.1 ∙ ap Err q.2) (inr refl)
-    (refl, refl, refl, refl, refl, same.0, same.1) c.tell_page.ensures.bench.0 refl c.in_err-tell_page.ensures.writes refl (λ l. refl)
+    (walks_ok c.tell_page.ensures.writes) refl tt (λ l. refl)))
 
 pub walk_leaf-requires : goal.walk_leaf-requires
 walk_leaf-requires g c =
@@ -162,7 +143,7 @@ returns-then-pass_over-clause-walked g c =
     let same = c.pass_over.ensures.others in
     walked_by g.S.Source.held g.K.Sink.held g.T.Taker.refusals
     (refl, refl, refl, refl, refl, same.0 ∙ c.tell_page.ensures.tree.0, same.1 ∙ c.tell_page.ensures.tree.1) c.tell_page.ensures.bench.0 refl
-    c.in_ok-tell_page.ensures.writes refl tt (λ l. refl)
+    (walks_ok c.tell_page.ensures.writes) refl tt (λ l. refl)
 
 pub returns-in_ok-walk_leaf-in-Leaf-clause-walked : goal.returns-in_ok-walk_leaf-in-Leaf-clause-walked
 returns-in_ok-walk_leaf-in-Leaf-clause-walked g c =
@@ -171,7 +152,7 @@ returns-in_ok-walk_leaf-in-Leaf-clause-walked g c =
     (walked_behind g.S.Source.held g.K.Sink.held g.T.Taker.refusals {R = Unit {0}} {a = tt} c.in_ok-walk_leaf-in-Leaf.ensures.walked
     (walked_by g.S.Source.held g.K.Sink.held g.T.Taker.refusals
     (refl, refl, refl, refl, refl, same.0 ∙ c.tell_page.ensures.tree.0, same.1 ∙ c.tell_page.ensures.tree.1) c.tell_page.ensures.bench.0 refl
-    c.in_ok-tell_page.ensures.writes refl tt (λ l. refl)))
+    (walks_ok c.tell_page.ensures.writes) refl tt (λ l. refl)))
 
 pub returns-in-Damaged-clause-open : goal.returns-in-Damaged-clause-open
 returns-in-Damaged-clause-open g c = λ is. absurd (false≢true is)
@@ -183,4 +164,11 @@ pub returns-in_ok-walk_leaf-in-Leaf-clause-open : goal.returns-in_ok-walk_leaf-i
 returns-in_ok-walk_leaf-in-Leaf-clause-open g c = λ is. absurd (false≢true is)
 
 pub returns-in-Interior-clause-walked : goal.returns-in-Interior-clause-walked
-returns-in-Interior-clause-walked g c = search rules
+returns-in-Interior-clause-walked g c =
+    walked_by g.S.Source.held g.K.Sink.held g.T.Taker.refusals (refl, refl, refl, refl, refl, c.tell_page.ensures.tree.0, c.tell_page.ensures.tree.1)
+    c.tell_page.ensures.bench.0 refl (walks_ok c.tell_page.ensures.writes) refl tt (λ l. refl)
+
+pub returns-in-Damaged-clause-walked : goal.returns-in-Damaged-clause-walked
+returns-in-Damaged-clause-walked g c =
+    walked_by g.S.Source.held g.K.Sink.held g.T.Taker.refusals (refl, refl, refl, refl, refl, c.tell_page.ensures.tree.0, c.tell_page.ensures.tree.1)
+    c.tell_page.ensures.bench.0 refl (walks_ok c.tell_page.ensures.writes) refl tt (λ l. refl)

@@ -1,4 +1,4 @@
-use Rattle.std.proofs.Common.{rules, ◌≡◌, ◌+◌, ◌-◌, ◌<◌, ◌≤◌, length, None, Ok, Err, refl, sym, ap, subst, ◌∙◌, arith}
+use Rattle.std.proofs.Common.{rules, ◌≡◌, ◌+◌, ◌-◌, ◌<◌, ◌≤◌, length, inl, None, Ok, Err, refl, sym, ap, subst, ◌∙◌, arith}
 use Rattle.std.proofs.lemmas.Result.{err_from_is_err_and}
 use Rattle.dbformat.specs.Cell.{count}
 use Rattle.dbformat.specs.Errands.{cell_errands}
@@ -13,12 +13,13 @@ use Rattle.dbwalk.proofs.Underway.Handing.{stopped_as}
 use Rattle.dbwalk.proofs.Underway.LeafLoop.{cells_done, leaf_as, passed_same, on_start, on_more, on_stop, on_pass, on_end}
 use Rattle.dbwalk.proofs.Underway.CellSteps.{other_start}
 use Rattle.dbwalk.proofs.Underway.Walks.{walked_as, walked_behind, walked_by, walked_tree}
+use Rattle.dbwalk.proofs.Telling.Sinks.{walks_ok}
 use Rattle.dbwalk.proofs.tree_walk.TreeWalk.walk_leaf.Goals as goal
 
 pub loop-i-init : goal.loop-i-init
 loop-i-init g c = record {
   walked = walked_by g.S.Source.held g.K.Sink.held g.T.Taker.refusals
-      (refl, refl, refl, refl, refl, c.pass_cells-i.ensures.others.0, c.pass_cells-i.ensures.others.1) refl refl refl refl tt (λ l. refl);
+      (refl, refl, refl, refl, refl, c.pass_cells-i.ensures.others.0, c.pass_cells-i.ensures.others.1) refl refl (walks_ok (inl refl)) refl tt (λ l. refl);
   levels = refl;
   tree = c.pass_cells-i.ensures.others;
   empty = λ later. refl;
@@ -29,11 +30,11 @@ loop-i-init g c = record {
       let seen = seen_here file at viewed (ap (λ s. s.usable) e) in
       let rise = subst (λ q. (c.pass_cells-i.result ≤ count v) × AreRisingFrom q v 0 (c.pass_cells-i.result - 0) t.greatest c.pass_cells-i.new.tree.greatest)
       (sym at.page) (p.passed.rising (page_bytes file c.args.page) v at.bytes seen (omega arith)) in
-      on_pass file from d t.kind v leaf g.K.Sink.takes g.T.Taker.takes (fails g.K.Sink.takes g.K.Sink.drops g.T.Taker.takes g.T.Taker.refuses)
+      on_pass file from d t.kind v leaf g.K.Sink.takes g.T.Taker.takes (fails g.T.Taker.refuses)
       (c.args.self.now.sink.now, c.args.self.now.taker.now) 0 c.pass_cells-i.result c.args.self.now.marks.now t c.pass_cells-i.new.tree
       (c.args.self.now.sink.now, c.args.self.now.taker.now) p.passed.ahead rise.0 (λ l. other_start d.address t.start at.start (p.other l)) rise.1
       p.others.2
-      (on_start file from d t.kind v leaf g.K.Sink.takes g.T.Taker.takes (fails g.K.Sink.takes g.K.Sink.drops g.T.Taker.takes g.T.Taker.refuses)
+      (on_start file from d t.kind v leaf g.K.Sink.takes g.T.Taker.takes (fails g.T.Taker.refuses)
       (c.args.self.now.sink.now, c.args.self.now.taker.now) (c.args.self.now.marks.now, t) isat before));
 }
 
@@ -66,14 +67,14 @@ loop-i-preserved g c =
           let cell = done (w.walked.shape ∙ e) (w.walked.coded ∙ coded) (cells_done file from d t.kind v c.loop-i.i) d v
           (leaf_as file t.kind c.loop-i.self.tree.kind t.start c.loop-i.self.tree.start t.path.items c.loop-i.self.tree.path.items c.args.bench.now.levels
           c.loop-i.bench.levels c.args.page d w.tree.1 w.tree.0 (ap (λ p. p.items) w.tree.3) w.levels at) viewed leaf low s.1 s.0.at in
-          on_pass file from d t.kind v leaf g.K.Sink.takes g.T.Taker.takes (fails g.K.Sink.takes g.K.Sink.drops g.T.Taker.takes g.T.Taker.refuses)
+          on_pass file from d t.kind v leaf g.K.Sink.takes g.T.Taker.takes (fails g.T.Taker.refuses)
           (c.args.self.now.sink.now, c.args.self.now.taker.now) (c.loop-i.i + 1) end new.self.marks.now new.self.tree after
           (new.self.sink.now, new.self.taker.now) passed.ahead rise.0
           (λ l. other_start d.address t.start at.start (subst (λ k. 1 ≤ k) (n.tree.0 ∙ w.tree.0) (p.other l))) rise.1 p.others.2
-          (on_more file from d t.kind v leaf g.K.Sink.takes g.T.Taker.takes (fails g.K.Sink.takes g.K.Sink.drops g.T.Taker.takes g.T.Taker.refuses)
+          (on_more file from d t.kind v leaf g.K.Sink.takes g.T.Taker.takes (fails g.T.Taker.refuses)
           (c.args.self.now.sink.now, c.args.self.now.taker.now) c.loop-i.i (c.loop-i.self.marks.now, c.loop-i.self.tree) (new.self.marks.now, new.self.tree)
           (c.loop-i.self.sink.now, c.loop-i.self.taker.now) (new.self.sink.now, new.self.taker.now) low s
-          (subst (λ k. HasDone (watches g.K.Sink.takes g.T.Taker.takes) (fails g.K.Sink.takes g.K.Sink.drops g.T.Taker.takes g.T.Taker.refuses) file
+          (subst (λ k. HasDone (watches g.K.Sink.takes g.T.Taker.takes) (fails g.T.Taker.refuses) file
           (done_below file (cells_done file from d t.kind v c.loop-i.i) (cell_errands d k v c.loop-i.i)) (Ok tt) (new.self.marks.now, new.self.tree)
           (c.loop-i.self.sink.now, c.loop-i.self.taker.now) (new.self.sink.now, new.self.taker.now)) w.tree.1 cell)));
     }
@@ -92,14 +93,14 @@ returns-in_err-walk_leaf_cell-clause-log g c =
     (leaf_as file t.kind c.loop-i.self.tree.kind t.start c.loop-i.self.tree.start t.path.items c.loop-i.self.tree.path.items c.args.bench.now.levels
     c.loop-i.bench.levels c.args.page d w.tree.1 w.tree.0 (ap (λ p. p.items) w.tree.3) w.levels at) viewed leaf low s.1 s.0.at in
     stopped_as (q.1 ∙ ap Err q.2)
-    (subst (λ es. HasDone {A = Unit {0}} (watches g.K.Sink.takes g.T.Taker.takes) (fails g.K.Sink.takes g.K.Sink.drops g.T.Taker.takes g.T.Taker.refuses) file
+    (subst (λ es. HasDone {A = Unit {0}} (watches g.K.Sink.takes g.T.Taker.takes) (fails g.T.Taker.refuses) file
     (done_below file from es) (Err c.in_err-walk_leaf_cell.field-0.0) (new.self.marks.now, new.self.tree)
     (c.args.self.now.sink.now, c.args.self.now.taker.now) (new.self.sink.now, new.self.taker.now))
     (sym (leaf_errands_are file d t.kind v at.kind_is viewed leaf))
-    (on_stop file from d t.kind v leaf g.K.Sink.takes g.T.Taker.takes (fails g.K.Sink.takes g.K.Sink.drops g.T.Taker.takes g.T.Taker.refuses)
+    (on_stop file from d t.kind v leaf g.K.Sink.takes g.T.Taker.takes (fails g.T.Taker.refuses)
     (c.args.self.now.sink.now, c.args.self.now.taker.now) c.in_err-walk_leaf_cell.field-0.0 c.loop-i.i (c.loop-i.self.marks.now, c.loop-i.self.tree)
     (new.self.marks.now, new.self.tree) (c.loop-i.self.sink.now, c.loop-i.self.taker.now) (new.self.sink.now, new.self.taker.now) low s
-    (subst (λ k. HasDone {A = Unit {0}} (watches g.K.Sink.takes g.T.Taker.takes) (fails g.K.Sink.takes g.K.Sink.drops g.T.Taker.takes g.T.Taker.refuses) file
+    (subst (λ k. HasDone {A = Unit {0}} (watches g.K.Sink.takes g.T.Taker.takes) (fails g.T.Taker.refuses) file
     (done_below file (cells_done file from d t.kind v c.loop-i.i) (cell_errands d k v c.loop-i.i)) (Err c.in_err-walk_leaf_cell.field-0.0)
     (new.self.marks.now, new.self.tree) (c.loop-i.self.sink.now, c.loop-i.self.taker.now) (new.self.sink.now, new.self.taker.now)) w.tree.1 cell))).handed)
 
@@ -112,10 +113,10 @@ returns-clause-log g c =
     let s = on e coded from d v at viewed leaf before isat in
     let within = s.2 in
     let end : c.loop-i.i ≡ count v = omega arith in
-    subst (λ es. HasDone (watches g.K.Sink.takes g.T.Taker.takes) (fails g.K.Sink.takes g.K.Sink.drops g.T.Taker.takes g.T.Taker.refuses) file
+    subst (λ es. HasDone (watches g.K.Sink.takes g.T.Taker.takes) (fails g.T.Taker.refuses) file
     (done_below file from es) (Ok tt) (c.loop-i.self.marks.now, c.loop-i.self.tree) (c.args.self.now.sink.now, c.args.self.now.taker.now)
     (c.loop-i.self.sink.now, c.loop-i.self.taker.now)) (sym (leaf_errands_are file d t.kind v at.kind_is viewed leaf))
-    (on_end file from d t.kind v leaf g.K.Sink.takes g.T.Taker.takes (fails g.K.Sink.takes g.K.Sink.drops g.T.Taker.takes g.T.Taker.refuses)
+    (on_end file from d t.kind v leaf g.K.Sink.takes g.T.Taker.takes (fails g.T.Taker.refuses)
     (c.args.self.now.sink.now, c.args.self.now.taker.now) (c.loop-i.self.marks.now, c.loop-i.self.tree) (c.loop-i.self.sink.now, c.loop-i.self.taker.now)
     c.loop-i.i end s))
 

@@ -24,7 +24,7 @@ invariant-loop-i g l = record {
       l.page
       → tree_view file c ≡ Some v → is_interior v.kind ≡ false → AreBefore from.visits (then_step c.address 0)
       → IsAt file from l.fn.self.marks.now l.fn.self.tree
-      → Does {R = Unit {0}} (watches g.K.Sink.takes g.T.Taker.takes) (fails g.K.Sink.takes g.K.Sink.drops g.T.Taker.takes g.T.Taker.refuses) file
+      → Does {R = Unit {0}} (watches g.K.Sink.takes g.T.Taker.takes) (fails g.T.Taker.refuses) file
       (cells_done file from c l.fn.self.tree.kind v l.i) (Ok tt) l.fn.self l.self
       × AreBefore (cells_done file from c l.fn.self.tree.kind v l.i).visits (then_step c.address (overflow_step l.i)) × (l.i ≤ count v));
 }

@@ -1,20 +1,19 @@
-use Rattle.std.proofs.Common.{rules, ℕ, ◌≡◌, ◌≤◌, false, inr, Option, Some, None, Result, Ok, Err, refl, sym, ap, subst, ◌∙◌}
+use Rattle.std.proofs.Common.{rules, ℕ, ◌≡◌, ◌≤◌, false, Option, Some, None, Result, Ok, Err, refl, sym, ap, subst, ◌∙◌}
 use Rattle.std.specs.Prelude.{is_some}
 use Rattle.dbbytes.specs.declared.sieve.RowSieve.{RowSieve}
 use Rattle.dbsource.specs.declared.error.RunError.{RunError}
 use Rattle.std.proofs.lemmas.Result.{err_from_is_err_and}
 use Rattle.dbformat.specs.File.{page_bytes}
-use Rattle.dbsource.specs.Errors.{is_write_failed}
-use Rattle.dbsource.specs.declared.error.RunError.TheVariants.{WriteFailed}
 use Rattle.dbsource.proofs.Logs.{has_weaker}
-use Rattle.dbsurvey.specs.Moves.{Moves, Stops}
+use Rattle.dbsurvey.specs.Moves.{Moves}
 use Rattle.dbwalk.specs.LeafCells.{late_told, top_after}
-use Rattle.dbwalk.specs.Telling.{IsWriteOrMemory, SinkAfter}
+use Rattle.dbwalk.specs.Telling.{IsWriteOrMemory}
 use Rattle.dbwalk.specs.Walked.{IsTreeError}
 use Rattle.dbwalk.proofs.Leaves.LeafErrands.{past_cell, seen_here, rowid_here, cell_here}
-use Rattle.dbwalk.proofs.Underway.Handing.{stopped_as, found_moves, found_stops}
+use Rattle.dbwalk.proofs.Underway.Handing.{stopped_as, found_moves}
 use Rattle.dbwalk.proofs.Underway.LeafCellRuns.{chain_stops, row_told, row_stops, key_done}
 use Rattle.dbwalk.proofs.Underway.Walks.{tree_error, unread, walked_as, walked_by, walked_err}
+use Rattle.dbwalk.proofs.Telling.Sinks.{moves_then, walks_after, walks_ok}
 use Rattle.dbwalk.proofs.tree_walk.TreeWalk.walk_leaf_cell.Goals as goal
 
 gone : (o : Option RowSieve) → is_some o ≡ false → o ≡ None
@@ -28,7 +27,7 @@ returns-in_err-walk_overflow-clause-log g c = has_weaker _ _ c.in_err-walk_overf
     let cell = cell_here file at viewed (ap (λ s. s.usable) e) c.len.ensures.value c.leaf_cell-cell.ensures low in
     stopped_as (q.1 ∙ ap Err q.2)
     (chain_stops file from d c.args.self.now.tree.kind v leaf c.args.i c.leaf_cell-cell.result.overflow cell.0 c.leaf_cell-cell.result.key cell.1 g.K.Sink.takes
-    g.K.Sink.drops g.T.Taker.takes g.T.Taker.refuses c.in_err-walk_overflow.field-0.0 c.walk_overflow.new.marks
+    g.T.Taker.takes g.T.Taker.refuses c.in_err-walk_overflow.field-0.0 c.walk_overflow.new.marks
     (c.walk_overflow.new.marks, c.args.self.now.tree)
     c.args.self.now.sink.now c.walk_overflow.new.sink c.args.self.now.taker.now c.in_err-walk_overflow.ensures.only c.args.self.now.tree isat.1 isat.2
     (h e from.visits d at (rowid_here file at viewed (ap (λ s. s.usable) e) c.args.i ∙ sym cell.1)
@@ -43,39 +42,15 @@ returns-in_err-tell_row-clause-log g c = has_weaker _ _ c.in_ok-walk_overflow.en
     (past_cell from.visits d c.args.i c.leaf_cell-cell.result.overflow before) isat.0 in
     stopped_as (q.1 ∙ ap Err q.2)
     (row_stops file from d c.args.self.now.tree.kind v leaf c.args.i c.leaf_cell-cell.result.overflow cell.0 c.leaf_cell-cell.result.key cell.1 g.K.Sink.takes
-    g.K.Sink.drops g.T.Taker.takes g.T.Taker.refuses c.in_err-tell_row.field-0.0 c.walk_overflow.new.marks c.args.self.now.tree c.args.self.now.tree
+    g.T.Taker.takes g.T.Taker.refuses c.in_err-tell_row.field-0.0 c.walk_overflow.new.marks c.args.self.now.tree c.args.self.now.tree
     c.args.self.now.sink.now c.walk_overflow.new.sink c.args.self.now.taker.now (c.tell_row.new.sink, c.tell_row.new.taker) isat.1 isat.2 done.0
     (row_told file from d c.args.self.now.tree.kind v leaf c.args.i c.leaf_cell-cell.result.overflow cell.0 c.leaf_cell-cell.result.key cell.1 g.K.Sink.takes
-    g.K.Sink.drops g.T.Taker.takes g.T.Taker.refuses c.args.self.now.taker.now c.tell_row.new.taker c.new-place.result c.args.page c.new-place.ensures
+    g.T.Taker.takes g.T.Taker.refuses c.args.self.now.taker.now c.tell_row.new.taker c.new-place.result c.args.page c.new-place.ensures
     at.page c.args.self.now.encoding coded (Err c.in_err-tell_row.field-0.0)
     c.walk_overflow.new.sink c.tell_row.new.sink c.walk_overflow.new.sieve c.in_err-tell_row.ensures.none c.args.self.now.tree.start at.start
     c.begin_row.new.sieve (λ z. (c.begin_row.ensures.schema z).read (page_bytes file c.args.page) v at.bytes
     (seen_here file at viewed (ap (λ s. s.usable) e)) low) (λ l. c.begin_row.ensures.other l ∙ c.requires.2 l) before done.1
     c.walk_overflow.ensures.kept.2 c.in_err-tell_row.ensures.told)).handed)
-
-pub returns-in_err-tell_rowid-clause-log : goal.returns-in_err-tell_rowid-clause-log
-returns-in_err-tell_rowid-clause-log g c = has_weaker _ _ c.in_ok-walk_overflow.ensures.log (λ log r. r)
-    (λ file h e coded from d v at viewed leaf low before isat.
-    let q = err_from_is_err_and c.from_residual-in_err-tell_rowid.result c.from_residual-in_err-tell_rowid.ensures.1 in
-    let cell = cell_here file at viewed (ap (λ s. s.usable) e) c.len.ensures.value c.leaf_cell-cell.ensures low in
-    let done = h e from.visits d at (rowid_here file at viewed (ap (λ s. s.usable) e) c.args.i ∙ sym cell.1)
-    (past_cell from.visits d c.args.i c.leaf_cell-cell.result.overflow before) isat.0 in
-    let late = ap (λ top. late_told top c.args.page c.args.i c.leaf_cell-cell.result.key) isat.1
-    ∙ ap (λ p. late_told from.state.greatest p c.args.i c.leaf_cell-cell.result.key) (sym at.page) in
-    stopped_as (q.1 ∙ ap Err q.2)
-    (key_done file from d c.args.self.now.tree.kind v leaf c.args.i c.leaf_cell-cell.result.overflow cell.0 c.leaf_cell-cell.result.key cell.1 g.K.Sink.takes
-    g.K.Sink.drops g.T.Taker.takes g.T.Taker.refuses (Err WriteFailed) c.walk_overflow.new.marks c.args.self.now.tree c.tell_rowid.new.tree
-    c.args.self.now.sink.now c.walk_overflow.new.sink c.tell_row.new.sink c.args.self.now.taker.now c.tell_row.new.taker
-    (c.tell_rowid.new.sink, c.tell_row.new.taker) isat.1 isat.2 done.0
-    (row_told file from d c.args.self.now.tree.kind v leaf c.args.i c.leaf_cell-cell.result.overflow cell.0 c.leaf_cell-cell.result.key cell.1 g.K.Sink.takes
-    g.K.Sink.drops g.T.Taker.takes g.T.Taker.refuses c.args.self.now.taker.now c.tell_row.new.taker c.new-place.result c.args.page c.new-place.ensures
-    at.page c.args.self.now.encoding coded (Ok tt)
-    c.walk_overflow.new.sink c.tell_row.new.sink c.walk_overflow.new.sieve c.in_ok-tell_row.ensures.none c.args.self.now.tree.start at.start
-    c.begin_row.new.sieve (λ z. (c.begin_row.ensures.schema z).read (page_bytes file c.args.page) v at.bytes
-    (seen_here file at viewed (ap (λ s. s.usable) e)) low) (λ l. c.begin_row.ensures.other l ∙ c.requires.2 l) before done.1
-    c.walk_overflow.ensures.kept.2 c.in_ok-tell_row.ensures.told)
-    (found_stops g.K.Sink.takes g.K.Sink.drops g.T.Taker.takes g.T.Taker.refuses _ c.tell_row.new.sink c.tell_rowid.new.sink c.tell_row.new.taker
-    (subst (λ l. Stops g.K.Sink.takes g.K.Sink.drops c.tell_row.new.sink l c.tell_rowid.new.sink) late c.in_err-tell_rowid.ensures.told.items)) tt).handed)
 
 pub returns-clause-log : goal.returns-clause-log
 returns-clause-log g c = has_weaker _ _ c.in_ok-walk_overflow.ensures.log (λ log r. r) (λ file h e coded from d v at viewed leaf low before isat.
@@ -85,18 +60,18 @@ returns-clause-log g c = has_weaker _ _ c.in_ok-walk_overflow.ensures.log (λ lo
     let late = ap (λ top. late_told top c.args.page c.args.i c.leaf_cell-cell.result.key) isat.1
     ∙ ap (λ p. late_told from.state.greatest p c.args.i c.leaf_cell-cell.result.key) (sym at.page) in
     key_done file from d c.args.self.now.tree.kind v leaf c.args.i c.leaf_cell-cell.result.overflow cell.0 c.leaf_cell-cell.result.key cell.1 g.K.Sink.takes
-    g.K.Sink.drops g.T.Taker.takes g.T.Taker.refuses (Ok tt) c.walk_overflow.new.marks c.args.self.now.tree c.tell_rowid.new.tree
+    g.T.Taker.takes g.T.Taker.refuses (Ok tt) c.walk_overflow.new.marks c.args.self.now.tree c.tell_rowid.new.tree
     c.args.self.now.sink.now c.walk_overflow.new.sink c.tell_row.new.sink c.args.self.now.taker.now c.tell_row.new.taker
     (c.tell_rowid.new.sink, c.tell_row.new.taker) isat.1 isat.2 done.0
     (row_told file from d c.args.self.now.tree.kind v leaf c.args.i c.leaf_cell-cell.result.overflow cell.0 c.leaf_cell-cell.result.key cell.1 g.K.Sink.takes
-    g.K.Sink.drops g.T.Taker.takes g.T.Taker.refuses c.args.self.now.taker.now c.tell_row.new.taker c.new-place.result c.args.page c.new-place.ensures
+    g.T.Taker.takes g.T.Taker.refuses c.args.self.now.taker.now c.tell_row.new.taker c.new-place.result c.args.page c.new-place.ensures
     at.page c.args.self.now.encoding coded (Ok tt)
     c.walk_overflow.new.sink c.tell_row.new.sink c.walk_overflow.new.sieve c.in_ok-tell_row.ensures.none c.args.self.now.tree.start at.start
     c.begin_row.new.sieve (λ z. (c.begin_row.ensures.schema z).read (page_bytes file c.args.page) v at.bytes
     (seen_here file at viewed (ap (λ s. s.usable) e)) low) (λ l. c.begin_row.ensures.other l ∙ c.requires.2 l) before done.1
     c.walk_overflow.ensures.kept.2 c.in_ok-tell_row.ensures.told)
-    (found_moves g.K.Sink.takes g.K.Sink.drops g.T.Taker.takes g.T.Taker.refuses _ c.tell_row.new.sink c.tell_rowid.new.sink c.tell_row.new.taker
-    (subst (λ l. Moves g.K.Sink.takes c.tell_row.new.sink l c.tell_rowid.new.sink) late c.in_ok-tell_rowid.ensures.told.items)) (
+    (found_moves g.K.Sink.takes g.T.Taker.takes g.T.Taker.refuses _ c.tell_row.new.sink c.tell_rowid.new.sink c.tell_row.new.taker
+    (subst (λ l. Moves g.K.Sink.takes c.tell_row.new.sink l c.tell_rowid.new.sink) late c.tell_rowid.ensures.told.items)) (
       c.tell_rowid.ensures.greatest ∙ ap (λ p. top_after c.args.self.now.tree.greatest p c.args.i c.leaf_cell-cell.result.key) (sym at.page),
       c.tell_rowid.ensures.others.2,
     ))
@@ -122,20 +97,7 @@ returns-in_err-tell_row-clause-walked g c =
     walked_as g.S.Source.held g.K.Sink.held g.T.Taker.refusals {R = Unit {0}} (q.1 ∙ ap Err q.2)
     (walked_by g.S.Source.held g.K.Sink.held g.T.Taker.refusals (refl, refl, refl, refl, refl, refl, refl) c.walk_overflow.ensures.kept.0
     (unread e.only c.in_ok-walk_overflow.ensures.reads)
-    (subst (λ s. SinkAfter {A = Unit {0}} is_write_failed (Err c.in_err-tell_row.field-0.0) s (g.K.Sink.held c.tell_row.new.sink))
-    c.in_ok-walk_overflow.ensures.writes e.writes) e.refusals no.0 (λ l. absurd (no.1 l)))
-
-pub returns-in_err-tell_rowid-clause-walked : goal.returns-in_err-tell_rowid-clause-walked
-returns-in_err-tell_rowid-clause-walked g c =
-    let q = err_from_is_err_and c.from_residual-in_err-tell_rowid.result c.from_residual-in_err-tell_rowid.ensures.1 in
-    let e = c.in_ok-tell_row.ensures in
-    walked_err g.S.Source.held g.K.Sink.held g.T.Taker.refusals {e = WriteFailed} (q.1 ∙ ap Err q.2) (inr refl)
-    (refl, refl, refl, refl, refl, c.tell_rowid.ensures.others.0, c.tell_rowid.ensures.others.1) c.walk_overflow.ensures.kept.0
-    c.in_ok-walk_overflow.ensures.reads
-    (subst (λ s. SinkAfter {A = Unit {0}} is_write_failed (Err WriteFailed) s (g.K.Sink.held c.tell_rowid.new.sink))
-    (e.writes ∙ c.in_ok-walk_overflow.ensures.writes) c.in_err-tell_rowid.ensures.told.count) e.refusals
-    (λ later. (e.none (gone c.walk_overflow.new.sieve
-    (c.walk_overflow.ensures.kept.2 ∙ ap is_some (c.begin_row.ensures.other later ∙ c.requires.2 later)))).2)
+    (walks_after e.writes c.in_ok-walk_overflow.ensures.writes.moves) e.refusals no.0 (λ l. absurd (no.1 l)))
 
 pub returns-clause-empty : goal.returns-clause-empty
 returns-clause-empty g c = λ later. gone c.walk_overflow.new.sieve
@@ -146,7 +108,8 @@ returns-clause-walked g c =
     let e = c.in_ok-tell_row.ensures in
     walked_by g.S.Source.held g.K.Sink.held g.T.Taker.refusals (refl, refl, refl, refl, refl, c.tell_rowid.ensures.others.0, c.tell_rowid.ensures.others.1)
     c.walk_overflow.ensures.kept.0 c.in_ok-walk_overflow.ensures.reads
-    (c.in_ok-tell_rowid.ensures.told.count ∙ e.writes ∙ c.in_ok-walk_overflow.ensures.writes) e.refusals tt (λ later. (e.none (gone c.walk_overflow.new.sieve
+    (walks_ok (moves_then (moves_then c.in_ok-walk_overflow.ensures.writes.moves e.writes.moves) c.tell_rowid.ensures.told.count)) e.refusals tt
+    (λ later. (e.none (gone c.walk_overflow.new.sieve
     (c.walk_overflow.ensures.kept.2 ∙ ap is_some (c.begin_row.ensures.other later ∙ c.requires.2 later)))).2)
 
 pub returns-clause-levels : goal.returns-clause-levels

@@ -13,11 +13,12 @@ use Rattle.dbwalk.proofs.Trees.Frames.{ends_past, next_at, path_last}
 use Rattle.dbtrace.specs.Walk.{begin}
 use Rattle.dbwalk.proofs.Pages.PageVisits.{kind_is}
 use Rattle.dbwalk.proofs.Underway.WalkedTrees.{candidate_as, none_left, tree_started, tree_ended}
-use Rattle.dbwalk.proofs.Underway.Handing.{stopped_as}
+use Rattle.dbwalk.proofs.Underway.Handing.{asked_done, stopped_as}
 use Rattle.dbwalk.proofs.Underway.TreeSteps.{by_other}
 use Rattle.dbwalk.proofs.Underway.Visits.{entered_done}
 use Rattle.dbwalk.proofs.Underway.Passing.{open_past, walking_past}
-use Rattle.dbwalk.proofs.Underway.Walks.{walked_as, walked_as_ok, walked_behind}
+use Rattle.dbwalk.proofs.Underway.Walks.{walked_as, walked_as_ok, walked_asked, walked_behind}
+use Rattle.dbwalk.proofs.Telling.Sinks.{asked_open}
 use Rattle.dbwalk.proofs.tree_walk.TreeWalk.walk_pages.Goals as goal
 
 pub visit_page-requires : goal.visit_page-requires
@@ -42,7 +43,7 @@ returns-then-not-branch-clause-log g c = has_weaker _ _ c.in_ok-visit_page.ensur
     candidate)
     (subst (λ l. HasPageAt c.args.bench.now.levels (length l) (page_bytes file c.args.page)) (sym c.requires.3) there) next followed m c.requires.1
     c.requires.2 (no_key_up_to file (W ++ (d ∷ [])) d candidate.depth) in
-    entered_done (begin W) d tt c.if-not-branch.true entry.0)
+    asked_done _ c.ask.ensures (entered_done (begin W) d tt c.if-not-branch.true entry.0))
 
 pub loop-frame-init : goal.loop-frame-init
 loop-frame-init g c =
@@ -140,7 +141,8 @@ pub returns-clause-log : goal.returns-clause-log
 returns-clause-log g c =
     let empty = none_left c.loop-frame.frames.items c.pop.result c.in_default.is c.pop.ensures.variant in
     has_weaker _ _ c.loop-frame.invariant.log (λ log r. r)
-    (λ file walking e coded W d candidate there followed next m. tree_ended W d empty (walking e coded W d candidate there followed next m))
+    (λ file walking e coded W d candidate there followed next m.
+    asked_done _ c.ask-2.ensures (tree_ended W d empty (walking e coded W d candidate there followed next m)))
 
 pub returns-in_err-visit_page-clause-walked : goal.returns-in_err-visit_page-clause-walked
 returns-in_err-visit_page-clause-walked g c =
@@ -154,10 +156,17 @@ returns-in_err-take_step-clause-walked g c =
     (walked_behind g.S.Source.held g.K.Sink.held g.T.Taker.refusals c.in_err-take_step.ensures.walked c.loop-frame.invariant.walked)
 
 pub returns-clause-walked : goal.returns-clause-walked
-returns-clause-walked g c = c.loop-frame.invariant.walked
+returns-clause-walked g c = walked_asked g.S.Source.held g.K.Sink.held g.T.Taker.refusals c.ask-2.ensures c.loop-frame.invariant.walked
+
+pub returns-clause-open : goal.returns-clause-open
+returns-clause-open g c = asked_open _ c.ask-2.ensures
+
+pub returns-then-not-branch-clause-open : goal.returns-then-not-branch-clause-open
+returns-then-not-branch-clause-open g c = asked_open _ c.ask.ensures
 
 pub push-requires : goal.push-requires
 push-requires g c = (search rules, omega (arith, ap length c.new-frames.ensures))
 
 pub returns-then-not-branch-clause-walked : goal.returns-then-not-branch-clause-walked
-returns-then-not-branch-clause-walked g c = walked_as_ok g.S.Source.held g.K.Sink.held g.T.Taker.refusals c.in_ok-visit_page.ensures.walked
+returns-then-not-branch-clause-walked g c =
+    walked_asked g.S.Source.held g.K.Sink.held g.T.Taker.refusals c.ask.ensures c.in_ok-visit_page.ensures.walked
