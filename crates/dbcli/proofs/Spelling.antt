@@ -78,14 +78,6 @@ pub same_change : (text : Text) (c d : Change) → SpellsChange text c → Spell
 same_change text c d s t = ap₂ (λ o b. let e : Change = record { offset = o; bytes = b } in e) (sym s.offset.1 ∙ t.offset.1)
     (same_bytes _ c.bytes d.bytes s.bytes t.bytes)
 
--- bytes that are a change's make one
-pub made : (offset : ℕ) (bytes : List ℕ) (error : ChangeError) → change_at offset bytes ≡ Err error → 1 ≤ length bytes → length bytes ≤ 16 → ⊥
-made offset bytes error e some few =
-    let not_none : (length bytes == 0) ≡ false = grind (arith, nat_tests) in
-    let not_long : nat_lt 16 (length bytes) ≡ false = grind (arith, nat_tests) in
-    let ok : change_at offset bytes ≡ Ok (record { offset = offset; bytes = bytes }) = rw (not_none, not_long) refl in
-    cc
-
 -- where the first words spell some changes, all words spell these and more
 prefix_spelled : (texts : List Text) (done changes : List Change) (n : ℕ) → n < length texts → AllZip SpellsChange (take n texts) done
     → AllZip SpellsChange texts changes

@@ -1,10 +1,13 @@
 pub mod CommandLine
+pub mod Copies
 pub mod ErrorLines
 pub mod Exit
 pub mod Finishing
 pub mod Handing
 pub mod NoteLines
 pub mod Requests
+pub mod Rest
 pub mod Running
 pub mod Spelled
+pub mod Stamps
 pub mod Status

@@ -1,6 +1,6 @@
 -- The lines of notes.
-use Rattle.std.specs.Prelude.{◌≡◌, ◌⊎◌, ℕ, List, ◌++◌, Result, codes, decimal}
-use Rattle.std.specs.List.{flat_map}
+use Rattle.std.specs.Prelude.{◌≡◌, ◌⊎◌, ℕ, ◌==◌, if◌then◌else◌, List, ◌++◌, Result, codes, decimal}
+use Rattle.std.specs.List.{flat_map, list_all}
 use Rattle.dbformat.specs.FirstBytes.{begins_with}
 use Rattle.dbsource.specs.Outs.{OutState, Puts}
 use Rattle.dbsource.specs.declared.out.WriteFailed.{WriteFailed}
@@ -24,6 +24,14 @@ pieces_text pieces = flat_map piece_text pieces
 -- the line of a note of a name, as it is shown, and of these pieces
 abbrev pub note_line : List ℕ → List Piece → List ℕ
 note_line name pieces = codes "dbck: note: " ++ name ++ pieces_text pieces ++ codes "\n"
+
+-- the line of a note of a name, as it is shown, and of what is said of it
+abbrev pub said_line : List ℕ → List (List ℕ) → List ℕ
+said_line name said = codes "dbck: note: " ++ name ++ flat_map (λ text. text) said ++ codes "\n"
+
+-- what the first bytes of a file are: zeros, or else these bytes
+abbrev pub beginning_text : List ℕ → List ℕ
+beginning_text first = if list_all (λ byte. byte == 0) first then codes " begins with zeros" else first_bytes_text first
 
 -- A text was put, as far as the Out took it; or nothing, where there was no memory for the text.
 abbrev pub PutsIfRoom : OutState → OutState → List ℕ → Type 0

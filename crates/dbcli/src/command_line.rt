@@ -23,7 +23,7 @@ use crate::words_error::WordsError;
 use clap::error::ErrorKind;
 use clap::{Arg, ArgAction, ArgMatches, Command as Words, value_parser};
 use dbreport::Command;
-use dbsource::Changes;
+use dbsource::{Changes, NoMemory};
 use std::alloc::{AllocError, Global};
 use std::path::Path;
 use thiserror::Error;
@@ -83,6 +83,18 @@ impl From<AllocError> for LineError {
     ghost from_gives = { λ _ error. error ≡ Words OutOfMemory };
 
     fn from(_error: AllocError) -> LineError {
+        LineError::Words(WordsError::out_of_memory())
+    }
+}
+
+impl From<NoMemory> for LineError {
+    ghost use Rattle.std.specs.Prelude.{◌≡◌};
+    ghost use Rattle.clap.specs.declared.error.kind.ErrorKind.TheVariants.{OutOfMemory};
+    ghost use Rattle.dbcli.specs.declared.command_line.LineError.TheVariants.{Words};
+
+    ghost from_gives = { λ _ error. error ≡ Words OutOfMemory };
+
+    fn from(_error: NoMemory) -> LineError {
         LineError::Words(WordsError::out_of_memory())
     }
 }

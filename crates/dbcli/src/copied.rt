@@ -1,4 +1,7 @@
 // Copies of a database that were made as of a text, by what its first page has.
+ghost use Rattle.std.specs.Prelude.{◌≡◌, ◌↔◌, IsTrue, MatchOption, drop};
+ghost use Rattle.dbcli.specs.Copies.{AreAfterReturns, HasEndsOfLines, HasLetters, IsCopied, IsUncopied, IsUtf8SoFar, copied_text};
+
 use std::str;
 
 // With fewer line feeds, or bytes above 127, a page may look so by chance.
@@ -20,10 +23,12 @@ pub enum Copied {
 
 impl Copied {
     /// How a file was copied whose first bytes are these, or `None` where nothing is seen of that.
-    pub fn of(bytes: &[u8]) -> Option<Copied> {
+    pub fn of(bytes: &[u8]) -> Option<Copied>
+        ensures { MatchOption result (IsUncopied bytes.now) (IsCopied bytes.now) }
+    {
         if has_ends_of_lines(bytes) {
             Some(Copied::Lines)
-        } else if is_changed_text(bytes.get(NUMBERS..).unwrap_or(&[])) {
+        } else if has_letters(after_numbers(bytes)) {
             Some(Copied::Letters)
         } else {
             None
@@ -31,7 +36,10 @@ impl Copied {
     }
 
     /// What is seen, and what it means.
-    pub fn text(self) -> &'static str {
+    #[tactic(auto, unfolding(crate::specs::Copies::copied_text))]
+    pub fn text(self) -> &'static str
+        ensures { result.now ≡ copied_text self }
+    {
         match self {
             Copied::Lines => {
                 "every line feed of the first page comes after a carriage return: perhaps copied as text (see the manual)"
@@ -43,30 +51,51 @@ impl Copied {
     }
 }
 
-// Whether there are some line feeds, each after a carriage return.
-fn has_ends_of_lines(bytes: &[u8]) -> bool {
-    let mut count = 0usize;
+// The bytes in which a header has no number: those from 80 on, if there are some.
+fn after_numbers(bytes: &[u8]) -> &[u8]
+    ensures { result.now ≡ drop 80 bytes.now }
+{
+    if bytes.len() < NUMBERS {
+        &[]
+    } else {
+        &bytes[NUMBERS..]
+    }
+}
+
+// Whether each line feed comes after a carriage return.
+fn are_after_returns(bytes: &[u8]) -> bool
+    ensures { IsTrue result ↔ AreAfterReturns bytes.now }
+{
     let mut last = 0u8;
     for byte in bytes {
-        if *byte == b'\n' {
-            if last != b'\r' {
-                return false;
-            }
-            count = count.saturating_add(1);
+        if *byte == b'\n' && last != b'\r' {
+            return false;
         }
         last = *byte;
     }
-    count >= LINE_FEEDS
+    true
+}
+
+// Whether there are some line feeds, each after a carriage return.
+fn has_ends_of_lines(bytes: &[u8]) -> bool
+    ensures { IsTrue result ↔ HasEndsOfLines bytes.now }
+{
+    let count = bytes.iter().filter(|byte| **byte == b'\n').count();
+    count >= LINE_FEEDS && are_after_returns(bytes)
 }
 
 // Whether there are some bytes above 127, and all bytes are well-formed UTF-8; the last character may be cut.
-fn is_changed_text(bytes: &[u8]) -> bool {
+fn has_letters(bytes: &[u8]) -> bool
+    ensures { IsTrue result ↔ HasLetters bytes.now }
+{
     let high = bytes.iter().filter(|byte| **byte > 127).count();
     high >= HIGH_BYTES && is_utf8_so_far(bytes)
 }
 
 // Whether the bytes begin a well-formed UTF-8 text: an error has no length where more bytes may follow.
-fn is_utf8_so_far(bytes: &[u8]) -> bool {
+fn is_utf8_so_far(bytes: &[u8]) -> bool
+    ensures { IsTrue result ↔ IsUtf8SoFar bytes.now }
+{
     match str::from_utf8(bytes) {
         Ok(_) => true,
         Err(error) => error.error_len().is_none(),

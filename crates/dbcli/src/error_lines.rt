@@ -1,6 +1,7 @@
 // The lines of errors.
 ghost use Rattle.std.specs.Prelude.{◌≡◌};
 ghost use Rattle.dbcli.specs.ErrorLines.{error_line, past_end_line, refusal_line};
+ghost use Rattle.dbsource.specs.declared.error.RunError.TheVariants.{OutOfMemory};
 
 use dbsource::{Refusal, RunError};
 
@@ -27,6 +28,14 @@ pub fn past_end_line() -> &'static str
     "dbck: E11 a byte of --with is past the end of the file\n"
 }
 
+/// The line of want of memory, with its line feed.
+#[tactic(auto, unfolding(crate::specs::ErrorLines::error_line))]
+pub fn no_memory_line() -> &'static str
+    ensures { result.now ≡ error_line OutOfMemory }
+{
+    "dbck: E9 out of memory\n"
+}
+
 /// The line of an error, with its line feed: the program's name and the text of the error.
 #[tactic(auto, unfolding(crate::specs::ErrorLines::error_line))]
 pub fn error_line(error: RunError) -> &'static str
@@ -35,7 +44,7 @@ pub fn error_line(error: RunError) -> &'static str
     match error {
         RunError::Refused(refusal) => refusal_line(refusal),
         RunError::ReadFailed => "dbck: E8 the file cannot be read\n",
-        RunError::OutOfMemory => "dbck: E9 out of memory\n",
+        RunError::OutOfMemory { .. } => no_memory_line(),
         RunError::WriteFailed => "dbck: E10 the output cannot be written\n",
     }
 }

@@ -27,26 +27,15 @@ pub trait Notes {
     fn tell_past_end(&mut self);
 }
 
-// Hands on what is pending, gives the notes the error, puts its line, and hands that on, as far as it can. If handing
-// on and the line both fail, no more is tried.
-fn put_error<E: Out, N: Notes>(err: &mut E, error: RunError, notes: &mut N)
-    ensures { EndsWithLine (error_line error) 2 (E.held err.old) (E.held err.new) }
+// Ends a run by a line: hands on what is pending, tells the notes why, puts the line, and hands that on, as far as it can. If handing on
+// and the line both fail, no more is tried.
+fn put_last<E: Out, F: FnOnce()>(err: &mut E, line: &str, tell_notes: F)
+    requires { F.pre tell_notes }
+    ensures { EndsWithLine line.now 2 (E.held err.old) (E.held err.new) }
 {
     let is_flushed = err.flush().is_ok();
-    notes.tell(&Err(error));
-    let is_put = err.put(error_line(error).as_bytes()).is_ok();
-    if is_flushed || is_put {
-        let _ = err.flush();
-    }
-}
-
-// Ends a line whose changes are not all inside the file: as `put_error` puts an error, but with the line of that.
-fn put_past_end<E: Out, N: Notes>(err: &mut E, notes: &mut N)
-    ensures { EndsWithLine past_end_line 2 (E.held err.old) (E.held err.new) }
-{
-    let is_flushed = err.flush().is_ok();
-    notes.tell_past_end();
-    let is_put = err.put(past_end_line().as_bytes()).is_ok();
+    tell_notes();
+    let is_put = err.put(line.as_bytes()).is_ok();
     if is_flushed || is_put {
         let _ = err.flush();
     }
@@ -61,7 +50,7 @@ pub fn end<E: Out, N: Notes>(err: &mut E, outcome: Result<Verdict, RunError>, no
 {
     match outcome {
         Ok(_) => notes.tell(&outcome),
-        Err(error) => put_error(err, error, notes),
+        Err(error) => put_last(err, error_line(error), || notes.tell(&outcome)),
     }
     status_of(&outcome)
 }
@@ -139,7 +128,7 @@ pub(crate) fn finish_line<S: Source, O: Out, E: Out, N: Notes>(
             finish(alloc, line.request, source, out, err, notes)
         }
         Ok(_) => {
-            put_past_end(err, notes);
+            put_last(err, past_end_line(), || notes.tell_past_end());
             3
         }
         Err(error) => end(err, Err(RunError::from(error)), notes),

@@ -19,6 +19,7 @@ mod rest;
 mod running;
 mod shown;
 mod spelled;
+mod stamp;
 mod status;
 mod watched;
 mod words;

@@ -1,5 +1,7 @@
 // Notes on a file: lines beside the report, which they do not change.
-ghost use Rattle.std.specs.Prelude.{◌≡◌};
+ghost use Rattle.std.specs.Prelude.{◌≡◌, ◌==◌};
+ghost use Rattle.std.specs.List.{list_all};
+ghost use Rattle.dbcli.specs.NoteLines.{beginning_text, piece_text};
 
 use crate::finishing::Notes;
 use crate::logs::put_log_notes;
@@ -7,11 +9,10 @@ use crate::lookup::Lookup;
 use crate::note::{NoteOut, Piece};
 use crate::rest::put_rest;
 use crate::shown::Shown;
+use crate::stamp::Stamp;
 use crate::watched::Watch;
 use dbreport::Verdict;
 use dbsource::{Changes, Out, Refusal, RunError};
-use std::fs::Metadata;
-use std::os::unix::fs::MetadataExt;
 
 /// Puts notes on the file at a path; `watch` has what the run has seen of it.
 #[derive(Drop)]
@@ -20,7 +21,7 @@ pub struct FileNotes<'a, R, N> {
     file: &'a str,
     watch: &'a Watch,
     notes: NoteOut<'a, N>,
-    before: Option<Metadata>,
+    before: Option<Stamp>,
     is_open: bool,
     // The file's name, and why it cannot be opened, if that is known.
     reason: Option<Shown>,
@@ -36,7 +37,7 @@ impl<'a, R: Lookup + AllocGlobal, N: Out> FileNotes<'a, R, N> {
             file,
             watch,
             notes: NoteOut::new(rt.alloc(), notes),
-            before: rt.metadata(file).ok(),
+            before: Stamp::at(rt, file),
             is_open: false,
             reason: None,
         }
@@ -116,12 +117,12 @@ impl<'a, R: Lookup + AllocGlobal, N: Out> FileNotes<'a, R, N> {
 
     // Whether the file was changed, if its name still leads to it.
     fn has_changed(&self) -> bool {
-        let Some(before) = &self.before else {
+        let Some(before) = self.before else {
             return false;
         };
-        match self.rt.metadata(self.file) {
-            Ok(after) => is_changed(before, &after),
-            Err(_) => false,
+        match Stamp::at(self.rt, self.file) {
+            Some(after) => before.is_changed(after),
+            None => false,
         }
     }
 }
@@ -184,20 +185,22 @@ fn changed_bytes(changes: &Changes) -> u64 {
     count
 }
 
+// Whether bytes are zeros.
+fn are_zeros(bytes: &[u8]) -> bool
+    ensures { result ≡ list_all (λ byte. byte == 0) bytes.now }
+{
+    bytes.iter().all(|byte| *byte == 0)
+}
+
 // What the first bytes of a file are.
-fn beginning(first: [u8; 16]) -> Piece {
-    if first == [0; 16] {
+fn beginning(first: [u8; 16]) -> Piece
+    ensures { piece_text result ≡ beginning_text first }
+{
+    if are_zeros(&first) {
         Piece::Words(" begins with zeros")
     } else {
         Piece::First(first)
     }
-}
-
-// Whether a file got another length, or was written, between two looks at it.
-fn is_changed(before: &Metadata, after: &Metadata) -> bool {
-    let is_same = before.dev() == after.dev() && before.ino() == after.ino();
-    let is_written = before.mtime() != after.mtime() || before.mtime_nsec() != after.mtime_nsec();
-    is_same && (is_written || before.len() != after.len())
 }
 
 // Whether the length of the file is not that of whole pages.

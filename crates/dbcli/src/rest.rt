@@ -1,11 +1,16 @@
 // The note on bytes after the last page.
+ghost use Rattle.std.specs.Prelude.{◌≡◌, ◌-◌, ◌*◌};
+ghost use Rattle.dbcli.specs.NoteLines.{PutsIfRoom, said_line};
+ghost use Rattle.dbcli.specs.Rest.{PutsRest, after_words, bytes_after, read_words, rest_said, whole_words};
 
 use crate::note::{NoteOut, Piece};
 use crate::shown::Shown;
 use dbsource::{Geometry, Out};
 
 // What stands between the number of bytes and that of the last page.
-fn after_words(rest: u64) -> &'static str {
+fn after_words(rest: u64) -> &'static str
+    ensures { result.now ≡ after_words rest }
+{
     if rest == 1 {
         " byte after page "
     } else {
@@ -14,7 +19,9 @@ fn after_words(rest: u64) -> &'static str {
 }
 
 // That these bytes are not read.
-fn read_words(rest: u64) -> &'static str {
+fn read_words(rest: u64) -> &'static str
+    ensures { result.now ≡ read_words rest }
+{
     if rest == 1 {
         " is not read"
     } else {
@@ -23,7 +30,9 @@ fn read_words(rest: u64) -> &'static str {
 }
 
 // That so many whole pages are among them.
-fn whole_words(pages: u64) -> &'static str {
+fn whole_words(pages: u64) -> &'static str
+    ensures { result.now ≡ whole_words pages }
+{
     if pages == 1 {
         " whole page among them"
     } else {
@@ -32,7 +41,9 @@ fn whole_words(pages: u64) -> &'static str {
 }
 
 // Puts the note on so many bytes after this page, which have so many whole pages.
-fn put_counts<N: Out>(notes: &mut NoteOut<'_, N>, none: &Shown, rest: u64, page: u64, pages: u64) {
+fn put_counts<N: Out>(notes: &mut NoteOut<'_, N>, none: &Shown, rest: u64, page: u64, pages: u64)
+    ensures { PutsIfRoom (N.held notes.old.out.now) (N.held notes.new.out.now) (said_line none.now (rest_said rest page pages)) }
+{
     let after = Piece::Words(after_words(rest));
     let read = Piece::Words(read_words(rest));
     let (rest, page) = (Piece::Number(rest), Piece::Number(page));
@@ -46,7 +57,9 @@ fn put_counts<N: Out>(notes: &mut NoteOut<'_, N>, none: &Shown, rest: u64, page:
 }
 
 // How many bytes there are after the last page of a file of this length.
-fn bytes_after(len: u64, geometry: Geometry) -> u64 {
+fn bytes_after(len: u64, geometry: Geometry) -> u64
+    ensures { result ≡ bytes_after len geometry }
+{
     len.saturating_sub(u64::from(geometry.pages) * u64::from(geometry.page_size))
 }
 
@@ -57,7 +70,9 @@ pub(crate) fn put_rest<N: Out>(
     none: &Shown,
     len: u64,
     geometry: Geometry,
-) {
+)
+    ensures { PutsRest (N.held notes.old.out.now) (N.held notes.new.out.now) none.now len geometry }
+{
     let rest = bytes_after(len, geometry);
     if rest == 0 {
         return;

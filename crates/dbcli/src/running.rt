@@ -3,7 +3,7 @@ ghost use Rattle.std.specs.Prelude.{◌≡◌, map};
 ghost use Rattle.dbcli.specs.Running.{AnswersWords, IsErrorStatus, RunsLine};
 
 use crate::command_line::{Line, LineError, line_of};
-use crate::error_lines::error_line;
+use crate::error_lines::{error_line, no_memory_line};
 use crate::finishing::{end, finish_line};
 use crate::lookup::Lookup;
 use crate::notes::FileNotes;
@@ -119,7 +119,7 @@ pub fn tell<R: Print + Eprint + AllocGlobal>(rt: &R, error: &LineError) -> u8
     let status = line_status(error);
     let printed = match error {
         LineError::Words(words) => match words.kind() {
-            ErrorKind::OutOfMemory => rt.eprint(error_line(RunError::OutOfMemory)),
+            ErrorKind::OutOfMemory => rt.eprint(no_memory_line()),
             ErrorKind::DisplayHelp | ErrorKind::DisplayVersion => rt.print(words),
             _ => print_error(rt, words),
         },

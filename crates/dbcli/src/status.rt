@@ -17,7 +17,7 @@ pub fn status_of(outcome: &Result<Verdict, RunError>) -> u8
         Ok(Verdict::Faulty(_)) => 1,
         Err(RunError::Refused(_)) => 3,
         Err(RunError::ReadFailed) => 4,
-        Err(RunError::OutOfMemory) => 5,
+        Err(RunError::OutOfMemory { .. }) => 5,
         Err(RunError::WriteFailed) => 6,
     }
 }

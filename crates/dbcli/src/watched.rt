@@ -3,7 +3,7 @@ ghost use Rattle.std.specs.Prelude.{◌≡◌};
 
 use crate::copied::Copied;
 use crate::progress::Progress;
-use dbsource::{ByteRange, Failures, Geometry, Header, MemSource, ReadFailed, Source};
+use dbsource::{ByteRange, Geometry, ReadFailed, Source, shape_of};
 use std::cell::Cell;
 
 /// What was seen of a source.
@@ -78,7 +78,7 @@ impl Watch {
             self.failed.set(Some(ByteRange { offset, len }));
         } else if is_first {
             self.first.set(first_of(bytes));
-            self.geometry.set(geometry_of(bytes, self.len()));
+            self.geometry.set(shape_of(bytes, self.len()));
         }
         if is_read && offset == 0 {
             self.copied.set(Copied::of(bytes));
@@ -93,49 +93,6 @@ fn first_of(bytes: &[u8]) -> [u8; 16] {
         *to = *from;
     }
     first
-}
-
-// The first bytes of a file whose length is `file_len`.
-#[derive(Drop)]
-struct FirstBytes<'a> {
-    bytes: &'a [u8],
-    file_len: u64,
-    failures: Failures,
-}
-
-impl Source for FirstBytes<'_> {
-    ghost use Rattle.dbsource.specs.Sources.{any_length, no_step, untold_source};
-
-    ghost held = { λ s. record untold_source { failures = s.failures } };
-
-    ghost step = { no_step };
-
-    ghost lengths = { any_length };
-
-    fn len(&mut self) -> Result<u64, ReadFailed> {
-        Ok(self.file_len)
-    }
-
-    fn read_at(&mut self, offset: u64, buf: &mut [u8]) -> Result<(), ReadFailed> {
-        let read = MemSource::new(self.bytes).read_at(offset, buf);
-        if read.is_err() {
-            self.failures.add();
-        }
-        read
-    }
-}
-
-// The shape of a file of this length with these first bytes, if its header is accepted.
-fn geometry_of(bytes: &[u8], file_len: u64) -> Option<Geometry> {
-    let mut first_bytes = FirstBytes {
-        bytes,
-        file_len,
-        failures: Failures::new(),
-    };
-    match Header::read(&mut first_bytes) {
-        Ok(header) => Some(header.geometry()),
-        Err(_) => None,
-    }
 }
 
 /// A source over another source, which answers what that one answers, and shows the progress.

@@ -13,8 +13,10 @@ use crate::entry::Entry;
 use crate::page_bits::PageBits;
 use crate::runs::{NO_RUNS, Runs};
 use dbformat::{Fault, FaultCode, Look};
+use dbsource::NoMemory;
+use dbsource::memory::filled;
 use dbtrace::{Cause, Part, Reported};
-use std::alloc::{AllocError, Allocator, Global};
+use std::alloc::{Allocator, Global};
 use std::marker::Model;
 
 /// The entries of the reported faults: the first ones, as many as there is room for, and how many faults belong to the others; and
@@ -92,12 +94,12 @@ impl<A: Allocator + Copy> Listing<A> {
     ///
     /// # Errors
     ///
-    /// [`AllocError`] where a growth was refused.
-    pub fn new_in(alloc: A, limit: u32, pages: u32) -> Result<Listing<A>, AllocError>
+    /// [`NoMemory`] where a growth was refused.
+    pub fn new_in(alloc: A, limit: u32, pages: u32) -> Result<Listing<A>, NoMemory>
         ensures none { IfOk result (IsUnused limit) }
         ensures room { IfOk result (λ listing. HasPageBit listing.zeros pages) }
     {
-        let entries = Vec::from_elem(alloc, Entry::of(&NO_ENTRY), limit as usize)?;
+        let entries = filled(alloc, Entry::of(&NO_ENTRY), limit as usize)?;
         let zeros = PageBits::new_in(alloc, pages)?;
         Ok(Listing {
             entries,

@@ -2,7 +2,9 @@
 ghost use Rattle.std.specs.Prelude.{◌≡◌, ℕ, false, IfOk};
 ghost use Rattle.dbentries.specs.Bits.{bit_set, has_bit, HasPageBit};
 
-use std::alloc::{AllocError, Allocator, Global};
+use dbsource::NoMemory;
+use dbsource::memory::filled;
+use std::alloc::{Allocator, Global};
 use std::marker::Model;
 
 /// A bit for each page of a file.
@@ -24,12 +26,12 @@ impl<A: Allocator + Copy> PageBits<A> {
     ///
     /// # Errors
     ///
-    /// [`AllocError`] where the growth was refused.
-    pub fn new_in(alloc: A, pages: u32) -> Result<PageBits<A>, AllocError>
+    /// [`NoMemory`] where the growth was refused.
+    pub fn new_in(alloc: A, pages: u32) -> Result<PageBits<A>, NoMemory>
         ensures room { IfOk result (λ bits. HasPageBit bits pages) }
         ensures none { IfOk result (λ bits. (page : ℕ) → has_bit bits page ≡ false) }
     {
-        let words = Vec::from_elem(alloc, 0u64, pages as usize / 64 + 1)?;
+        let words = filled(alloc, 0u64, pages as usize / 64 + 1)?;
         Ok(PageBits { words })
     }
 }

@@ -6,8 +6,8 @@ ghost use Rattle.dbexplain.specs.Keeping.{IsEmpty};
 use crate::tally::Tally;
 use dbentries::Listing;
 use dbscan::PageTrees;
-use dbsource::Geometry;
-use std::alloc::{AllocError, Allocator, Global};
+use dbsource::{Geometry, NoMemory};
+use std::alloc::{Allocator, Global};
 
 /// What is listed of its faults, the counts of the summary, and the tree of each page.
 #[derive(Drop)]
@@ -19,7 +19,7 @@ pub(crate) struct Kept<A: Allocator = Global> {
 
 impl<A: Allocator + Copy> Kept<A> {
     // For a file of this shape, before it is read, with room for `limit` entries. It takes no memory after this.
-    pub(crate) fn new_in(alloc: A, limit: u32, geometry: &Geometry) -> Result<Kept<A>, AllocError>
+    pub(crate) fn new_in(alloc: A, limit: u32, geometry: &Geometry) -> Result<Kept<A>, NoMemory>
         requires { IsInRange geometry.now }
         ensures { IfOk result (IsEmpty limit geometry.now) }
     {

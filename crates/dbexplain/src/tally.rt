@@ -5,8 +5,9 @@ ghost use Rattle.dbexplain.specs.Tallies.{code_told, count_at, count_of, fault_t
 use dbentries::PageBits;
 use dbformat::{FaultCode, Geometry};
 use dbscan::StartTable;
+use dbsource::NoMemory;
 use dbtrace::{Part, Reported};
-use std::alloc::{AllocError, Allocator, Global};
+use std::alloc::{Allocator, Global};
 use std::marker::Model;
 
 /// What is counted of a start: the faults that were reported there; and then the pages that were reached from it, and those of them
@@ -56,8 +57,8 @@ impl<A: Allocator + Copy> Tally<A> {
     ///
     /// # Errors
     ///
-    /// [`AllocError`] where a growth was refused.
-    pub fn new_in(alloc: A, geometry: &Geometry) -> Result<Tally<A>, AllocError>
+    /// [`NoMemory`] where a growth was refused.
+    pub fn new_in(alloc: A, geometry: &Geometry) -> Result<Tally<A>, NoMemory>
         ensures { IfOk result (IsTallyOf geometry.now.pages []) }
     {
         let starts = StartTable::new_in(alloc, StartCount::default())?;

@@ -7,7 +7,9 @@ ghost use Rattle.dbmarks.specs.EndMarks.{MarksTellTheEnd};
 ghost use Rattle.dbmarks.specs.Reads.{ReadsEachPageOnce};
 
 use dbformat::{FaultCode, Geometry};
-use std::alloc::{AllocError, Allocator, Global};
+use dbsource::NoMemory;
+use dbsource::memory::filled;
+use std::alloc::{Allocator, Global};
 use std::marker::Model;
 
 /// How a page is used, with the page that it is reached from where a pointer map would name it.
@@ -113,12 +115,12 @@ impl<A: Allocator> Marks<A> {
     ///
     /// # Errors
     ///
-    /// [`AllocError`] where the growth was refused.
-    pub fn new_in(alloc: A, geometry: &Geometry) -> Result<Marks<A>, AllocError>
+    /// [`NoMemory`] where the growth was refused.
+    pub fn new_in(alloc: A, geometry: &Geometry) -> Result<Marks<A>, NoMemory>
         requires { IsInRange geometry.now }
         ensures { IfOk result (λ marks. marks ≡ marks_of geometry.now []) }
     {
-        let mut words = Vec::from_elem(alloc, 0u32, geometry.pages as usize)?;
+        let mut words = filled(alloc, 0u32, geometry.pages as usize)?;
         for index in 0..geometry.pages {
             words[index as usize] = first_word(geometry, index + 1);
         }
@@ -196,8 +198,8 @@ impl Marks {
     ///
     /// # Errors
     ///
-    /// [`AllocError`] where the growth was refused.
-    pub fn new(alloc: Global, geometry: &Geometry) -> Result<Marks, AllocError>
+    /// [`NoMemory`] where the growth was refused.
+    pub fn new(alloc: Global, geometry: &Geometry) -> Result<Marks, NoMemory>
         requires { IsInRange geometry.now }
         ensures { IfOk result (λ marks. marks ≡ marks_of geometry.now []) }
     {

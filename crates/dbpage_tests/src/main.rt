@@ -47,7 +47,7 @@ fn answer(alloc: Global, page: &mut Page, question: &str, text: &mut Text) -> Op
         "record" => records::add_rows(of, text),
         "name" => names::add_name(alloc, of, false, text),
         "plain" => names::add_name(alloc, of, true, text),
-        "error" => errors::add_error(of, text),
+        "error" => errors::add_error(alloc, of, text),
         _ => page.add_part(word, text),
     }
 }

@@ -10,7 +10,9 @@ ghost use Rattle.dbpicture.specs.Grids.{square_of};
 use crate::faults::{Sign, SquareFaults};
 use crate::grid::Grid;
 use dbentries::PageBits;
-use std::alloc::{AllocError, Allocator, Global};
+use dbsource::NoMemory;
+use dbsource::memory::filled;
+use std::alloc::{Allocator, Global};
 
 /// What is noted of faults: what each square shows of them, and of each page whether it has a fault, and whether it has the strong frame.
 #[derive(Drop)]
@@ -28,12 +30,12 @@ impl<A: Allocator + Copy> FaultNotes<A> {
     ///
     /// # Errors
     ///
-    /// [`AllocError`] where a growth was refused.
-    pub(crate) fn new_in(alloc: A, pages: u32) -> Result<FaultNotes<A>, AllocError>
+    /// [`NoMemory`] where a growth was refused.
+    pub(crate) fn new_in(alloc: A, pages: u32) -> Result<FaultNotes<A>, NoMemory>
         ensures { IfOk result (AreNoted pages []) }
     {
         let grid = Grid::new(pages, 0);
-        let squares = Vec::from_elem(alloc, SquareFaults::default(), grid.squares as usize)?;
+        let squares = filled(alloc, SquareFaults::default(), grid.squares as usize)?;
         let faulty = PageBits::new_in(alloc, pages)?;
         let framed = PageBits::new_in(alloc, pages)?;
         Ok(FaultNotes {

@@ -9,9 +9,9 @@ use crate::faults::Sign;
 use crate::tally::PageTally;
 use dbentries::{Listing, Reported};
 use dbscan::PageTrees;
-use dbsource::Geometry;
+use dbsource::{Geometry, NoMemory};
 use dbwalk::Row;
-use std::alloc::{AllocError, Allocator, Global};
+use std::alloc::{Allocator, Global};
 
 // How many entries are kept: as many as `explain` lists where no other number is given.
 const ENTRIES: u32 = 100;
@@ -37,8 +37,8 @@ impl<A: Allocator + Copy> KeptFaults<A> {
     ///
     /// # Errors
     ///
-    /// [`AllocError`] where a growth was refused.
-    pub fn new_in(alloc: A, geometry: &Geometry) -> Result<KeptFaults<A>, AllocError>
+    /// [`NoMemory`] where a growth was refused.
+    pub fn new_in(alloc: A, geometry: &Geometry) -> Result<KeptFaults<A>, NoMemory>
         requires { IsInRange geometry.now }
         ensures { IfOk result (HearsNone geometry.now.pages) }
     {

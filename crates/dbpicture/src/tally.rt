@@ -8,8 +8,9 @@ ghost use Rattle.dbpicture.specs.Tallies.{page_counted, pages_at, share_at, star
 use crate::owner_shares::{Share, is_overflow};
 use arrayvec::ArrayVec;
 use dbscan::{PageTrees, Place, StartTable, place_of};
+use dbsource::NoMemory;
 use dbwalk::Marks;
-use std::alloc::{AllocError, Allocator, Global};
+use std::alloc::{Allocator, Global};
 use std::marker::Model;
 
 /// How many trees have a colour of their own.
@@ -38,8 +39,8 @@ impl<A: Allocator> PageTally<A> {
     ///
     /// # Errors
     ///
-    /// [`AllocError`] where the growth was refused.
-    pub(crate) fn new_in(alloc: A) -> Result<PageTally<A>, AllocError> {
+    /// [`NoMemory`] where the growth was refused.
+    pub(crate) fn new_in(alloc: A) -> Result<PageTally<A>, NoMemory> {
         let starts = StartTable::new_in(alloc, Share::default())?;
         Ok(PageTally {
             starts,

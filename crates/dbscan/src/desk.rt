@@ -5,9 +5,9 @@ ghost use Rattle.dbformat.specs.FixedPages.{geometry_of, IsInRange};
 ghost use Rattle.dbscan.specs.Desks.{IsFresh, shape_of};
 
 use crate::roots::RootList;
-use dbsource::{Bench, Geometry, Header};
+use dbsource::{Bench, Geometry, Header, NoMemory};
 use dbwalk::Marks;
-use std::alloc::{AllocError, Allocator, Global};
+use std::alloc::{Allocator, Global};
 use std::marker::Model;
 
 /// All that runs over one file keep: its header, 22 page buffers, a mark a page, and the roots that its schema names.
@@ -79,8 +79,8 @@ impl<A: Allocator + Copy> Desk<A> {
     ///
     /// # Errors
     ///
-    /// [`AllocError`] where a growth was refused.
-    pub fn new_in(alloc: A, header: Header) -> Result<Desk<A>, AllocError>
+    /// [`NoMemory`] where a growth was refused.
+    pub fn new_in(alloc: A, header: Header) -> Result<Desk<A>, NoMemory>
         ensures header { IfOk result (λ desk. desk.header ≡ header) }
         ensures roots { IfOk result (λ desk. (desk.roots.rows ≡ []) × (desk.roots.refusals ≡ 0)) }
         ensures range { IsInRange (geometry_of header.bytes header.file_len) }
@@ -102,8 +102,8 @@ impl Desk {
     ///
     /// # Errors
     ///
-    /// [`AllocError`] where a growth was refused.
-    pub fn new(alloc: Global, header: Header) -> Result<Desk, AllocError>
+    /// [`NoMemory`] where a growth was refused.
+    pub fn new(alloc: Global, header: Header) -> Result<Desk, NoMemory>
         ensures header { IfOk result (λ desk. desk.header ≡ header) }
         ensures roots { IfOk result (λ desk. (desk.roots.rows ≡ []) × (desk.roots.refusals ≡ 0)) }
         ensures range { IsInRange (geometry_of header.bytes header.file_len) }

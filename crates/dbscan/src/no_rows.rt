@@ -1,7 +1,7 @@
 // A taker for the trees that are not the schema's.
 use dbbytes::SchemaRow;
+use dbsource::NoMemory;
 use dbwalk::{Taken, Taker};
-use std::alloc::AllocError;
 
 // Takes no row. Only the walk over the schema's tree gives any.
 #[derive(Drop)]
@@ -16,7 +16,7 @@ impl Taker for NoRows {
 
     ghost refusals = { λ _. 0 };
 
-    fn take(&mut self, _row: &SchemaRow<'_>) -> Result<Taken, AllocError> {
+    fn take(&mut self, _row: &SchemaRow<'_>) -> Result<Taken, NoMemory> {
         Ok(Taken::NoRoot)
     }
 }

@@ -10,8 +10,10 @@ ghost use Rattle.dbwalk.specs.Rows.{row_of};
 
 use crate::place::mark_of;
 use dbformat::{FREELIST_START, Geometry};
+use dbsource::NoMemory;
+use dbsource::memory::filled;
 use dbwalk::{Mark, Marks, Row};
-use std::alloc::{AllocError, Allocator, Global};
+use std::alloc::{Allocator, Global};
 use std::marker::Model;
 
 /// Of each page of a tree or an overflow chain the start of its tree, in four bytes, as rows are heard.
@@ -36,12 +38,12 @@ impl<A: Allocator> PageTrees<A> {
     ///
     /// # Errors
     ///
-    /// [`AllocError`] where the growth was refused.
-    pub fn new_in(alloc: A, geometry: &Geometry) -> Result<PageTrees<A>, AllocError>
+    /// [`NoMemory`] where the growth was refused.
+    pub fn new_in(alloc: A, geometry: &Geometry) -> Result<PageTrees<A>, NoMemory>
         requires { IsInRange geometry.now }
         ensures { IfOk result (λ trees. length trees.known ≡ geometry.now.pages + 1) }
     {
-        let starts = Vec::from_elem(alloc, 0u32, geometry.pages as usize + 1)?;
+        let starts = filled(alloc, 0u32, geometry.pages as usize + 1)?;
         Ok(PageTrees { starts })
     }
 

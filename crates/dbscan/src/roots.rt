@@ -6,9 +6,9 @@ ghost use Rattle.dbscan.specs.Roots.{kept_row, root_page, short_name, name_in, I
 
 use dbbytes::{MAX_NAME, SchemaRow};
 use dbformat::{MOST_ROOTS, RowKind, SCHEMA_START};
-use dbsource::Failures;
+use dbsource::{Failures, NoMemory, memory};
 use dbwalk::{Taken, Taker};
-use std::alloc::{AllocError, Allocator, Global};
+use std::alloc::{Allocator, Global};
 use std::marker::Model;
 
 // The place of a name among the bytes of all names.
@@ -124,7 +124,7 @@ impl<A: Allocator> RootList<A> {
 
     // Adds a row, for which there is room.
     #[tactic(auto, using(crate::proofs::RootLists::rows_kept))]
-    fn add(&mut self, row: &SchemaRow<'_>) -> Result<(), AllocError>
+    fn add(&mut self, row: &SchemaRow<'_>) -> Result<(), NoMemory>
         requires { length self.old.rows < 65536 }
         ensures added { OnOk result (self.new ≡ record self.old { rows = self.old.rows ++ kept_row (schema_row_of row.now) ∷ [] }) }
         ensures refused { OnErr result (self.new ≡ self.old) }
@@ -136,9 +136,9 @@ impl<A: Allocator> RootList<A> {
             kind: row.kind,
             name,
         };
-        if self.entries.push(entry).is_err() {
+        if let Err(error) = memory::push(&mut self.entries, entry) {
             self.names.truncate(old_len);
-            return Err(AllocError);
+            return Err(error);
         }
         Ok(())
     }
@@ -153,7 +153,7 @@ impl<A: Allocator> Taker for RootList<A> {
 
     ghost refusals = { λ l. l.refusals };
 
-    fn take(&mut self, row: &SchemaRow<'_>) -> Result<Taken, AllocError> {
+    fn take(&mut self, row: &SchemaRow<'_>) -> Result<Taken, NoMemory> {
         if row.root == 0 {
             return Ok(Taken::NoRoot);
         }
@@ -174,7 +174,7 @@ impl<A: Allocator> Taker for RootList<A> {
 fn keep_name<A: Allocator>(
     names: &mut Vec<u8, A>,
     name: Option<&[u8]>,
-) -> Result<Option<Span>, AllocError>
+) -> Result<Option<Span>, NoMemory>
     requires { vec_len names.old ≤ 65536000 }
     ensures more { IfOk result (λ _. Grows names.old.items names.new.items) }
     ensures len { (vec_len names.old ≤ vec_len names.new) × (vec_len names.new ≤ vec_len names.old + 1000) }
@@ -186,7 +186,7 @@ fn keep_name<A: Allocator>(
         Some(bytes) if bytes.len() <= MAX_NAME => {
             let start = names.len() as u32;
             let len = bytes.len() as u32;
-            names.extend_from_slice(bytes)?;
+            memory::extend(names, bytes)?;
             Ok(Some(Span { start, len }))
         }
         _ => Ok(None),

@@ -3,7 +3,9 @@ ghost use Rattle.std.specs.Prelude.{◌≡◌, IfOk, replicate, slice_get, slice
 ghost use Rattle.dbscan.specs.StartTable.{most_starts};
 
 use dbformat::FREELIST_START;
-use std::alloc::{AllocError, Allocator, Global};
+use dbsource::NoMemory;
+use dbsource::memory::with_room;
+use std::alloc::{Allocator, Global};
 use std::marker::Model;
 
 /// A value for each start, with room for all of them. Of the trees' values those up to the last that was set are written, and no
@@ -35,11 +37,11 @@ impl<T: Copy, A: Allocator> StartTable<T, A> {
     ///
     /// # Errors
     ///
-    /// [`AllocError`] where the growth was refused.
-    pub fn new_in(alloc: A, value: T) -> Result<StartTable<T, A>, AllocError>
+    /// [`NoMemory`] where the growth was refused.
+    pub fn new_in(alloc: A, value: T) -> Result<StartTable<T, A>, NoMemory>
         ensures { IfOk result (λ t. t ≡ replicate most_starts value) }
     {
-        let trees = Vec::with_capacity(alloc, FREELIST_START as usize)?;
+        let trees = with_room(alloc, FREELIST_START as usize)?;
         Ok(StartTable {
             trees,
             rest: value,

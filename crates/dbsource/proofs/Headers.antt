@@ -1,7 +1,7 @@
 -- What length and bytes say of a file whose first 100 they are.
 use Rattle.std.proofs.Common.{Option, ◌≡◌, ℕ, ◌+◌, ◌-◌, ◌<◌, ◌≤◌, List, [], ◌∷◌, ◌++◌, length, take, true, false, refl, sym, ap, ◌∙◌, arith, subst, Some, None}
 use Rattle.std.proofs.Common.{Err, Result, length-append}
-use Rattle.std.specs.Prelude.{nat_lt, IfSome}
+use Rattle.std.specs.Prelude.{nat_lt, nat_le, Bool, if◌then◌else◌, IfSome}
 use Rattle.std.proofs.Math.ListN.{replicate}
 use Rattle.std.proofs.lemmas.List.{length-replicate}
 use Rattle.std.proofs.Math.Seq.{take-append_seam}
@@ -15,7 +15,7 @@ use Rattle.dbformat.specs.declared.Refusal.{Refusal}
 use Rattle.dbformat.specs.declared.Refusal.TheVariants.{Short, Magic, PageSize, Usable, NoPage, TooManyPages, MapAtLock}
 use Rattle.dbformat.proofs.HeaderPrefix.{geometry_within, refusal_within}
 use Rattle.dbformat.proofs.TestsLemmas.{found_value}
-use Rattle.dbsource.specs.Headers.{IsHeaderOf, IsOpenLog, IsOpenOf, Opens}
+use Rattle.dbsource.specs.Headers.{IsHeaderOf, IsOpenLog, IsOpenOf, Opens, shape_of, shape_unless}
 use Rattle.dbsource.specs.HeaderBytes.{HeaderBytes}
 use Rattle.dbsource.specs.Sources.{SourceState}
 use Rattle.dbsource.specs.Answers.{IsRangeOf, Lengths, Step}
@@ -38,6 +38,17 @@ not_below a b h = grind (arith, nat_tests)
 pub too_short : (file : List ℕ) (n : ℕ) → n ≡ length file → n < 100 → refusal file ≡ Some Short
 unfolding refusal_of
 too_short file n e h = let short : nat_lt (length file) 100 ≡ true = below (length file) 100 (omega arith) in rw short refl
+
+-- so it has no shape
+pub no_shape : (bytes : List ℕ) (n : ℕ) → n < 100 → shape_of bytes n ≡ None
+unfolding refusal_of
+no_shape bytes n h =
+    let short : nat_lt n 100 ≡ true = below n 100 h in
+    by_length (nat_le 100 (length bytes)) short
+  where
+    by_length : (b : Bool) → nat_lt n 100 ≡ true → (if b then shape_unless (refusal_of bytes n) (geometry_of bytes n) else None) ≡ None
+    by_length true short = rw short refl
+    by_length false short = refl
 
 -- what was read is how the file begins
 begins : (file bytes : List ℕ) → length bytes ≡ 100 → IsRangeOf file 0 bytes → bytes ≡ take 100 file

@@ -1,9 +1,11 @@
 -- What a header is of a file, and what it takes to read it.
-use Rattle.std.specs.Prelude.{◌≡◌, ◌<◌, ℕ, List, [], ◌∷◌, length, take, None, Some, IfSome, Result, Ok, Err, ◌⊎◌}
+use Rattle.std.specs.Prelude.{◌≡◌, ◌<◌, ℕ, List, [], ◌∷◌, length, take, nat_le, if◌then◌else◌, Option, None, Some, IfSome, Result, Ok, Err, ◌⊎◌}
 use Rattle.dbformat.specs.FixedPages.{geometry_of}
-use Rattle.dbformat.specs.File.{refusal, geometry}
+use Rattle.dbformat.specs.File.{refusal, refusal_of, geometry}
 use Rattle.dbformat.specs.Log.{header_range}
 use Rattle.dbformat.specs.declared.ByteRange.{ByteRange}
+use Rattle.dbformat.specs.declared.Geometry.{Geometry}
+use Rattle.dbformat.specs.declared.Refusal.{Refusal}
 use Rattle.dbformat.specs.declared.Refusal.TheVariants.{Short}
 use Rattle.dbsource.specs.Answers.{Fits, Lengths, Step}
 use Rattle.dbsource.specs.Errors.{is_open_failed}
@@ -11,6 +13,15 @@ use Rattle.dbsource.specs.HeaderBytes.{HeaderBytes}
 use Rattle.dbsource.specs.Sources.{Asks, SourceState}
 use Rattle.dbsource.specs.declared.error.OpenError.{OpenError}
 use Rattle.dbsource.specs.declared.error.OpenError.TheVariants.{Refused, ReadFailed}
+
+-- a shape, of a file that is not refused
+abbrev pub shape_unless : Option Refusal → Geometry → Option Geometry
+shape_unless None g = Some g
+shape_unless (Some refusal) g = None
+
+-- the shape of a file of len bytes that begins with these, if they are a header and the file is not refused
+abbrev pub shape_of : List ℕ → ℕ → Option Geometry
+shape_of bytes len = if nat_le 100 (length bytes) then shape_unless (refusal_of bytes len) (geometry_of bytes len) else None
 
 -- the header of a file that is read: its first bytes, its length, and so its shape
 pub record IsHeaderOf (h : HeaderBytes) (file : List ℕ) : Type 0 where

@@ -7,9 +7,10 @@ ghost use Rattle.dbsource.specs.Failures.{failures_after, is_any};
 ghost use Rattle.dbsource.specs.Lending.{LendsChain, LendsUses};
 ghost use Rattle.dbsource.specs.Answers.{IsRangeOf, answer};
 
-use crate::{Geometry, ReadFailed, Source};
+use crate::memory::filled;
+use crate::{Geometry, NoMemory, ReadFailed, Source};
 use arrayvec::ArrayVec;
-use std::alloc::{AllocError, Allocator, Global};
+use std::alloc::{Allocator, Global};
 use std::marker::Model;
 
 /// The 22 buffers that a walk reads pages into, each of a page's size: 20 for the levels of a tree, one for the page of
@@ -112,18 +113,18 @@ impl<A: Allocator + Copy> Bench<A> {
     ///
     /// # Errors
     ///
-    /// [`AllocError`] where a growth was refused.
-    pub fn new_in(alloc: A, geometry: Geometry) -> Result<Bench<A>, AllocError>
+    /// [`NoMemory`] where a growth was refused.
+    pub fn new_in(alloc: A, geometry: Geometry) -> Result<Bench<A>, NoMemory>
         requires { IsInRange geometry }
         ensures { IfOk result (λ b. b.geometry ≡ geometry) }
     {
         let page_size = geometry.page_size as usize;
         let mut levels = ArrayVec::new_in(alloc);
         for _i in 0..20usize {
-            levels.push(Vec::from_elem(alloc, 0u8, page_size)?);
+            levels.push(filled(alloc, 0u8, page_size)?);
         }
-        let chain = Vec::from_elem(alloc, 0u8, page_size)?;
-        let uses = Vec::from_elem(alloc, 0u8, page_size)?;
+        let chain = filled(alloc, 0u8, page_size)?;
+        let uses = filled(alloc, 0u8, page_size)?;
         Ok(Bench {
             geometry,
             levels,
@@ -138,8 +139,8 @@ impl Bench {
     ///
     /// # Errors
     ///
-    /// [`AllocError`] where a growth was refused.
-    pub fn new(alloc: Global, geometry: Geometry) -> Result<Bench, AllocError>
+    /// [`NoMemory`] where a growth was refused.
+    pub fn new(alloc: Global, geometry: Geometry) -> Result<Bench, NoMemory>
         requires { IsInRange geometry }
         ensures { IfOk result (λ b. b.geometry ≡ geometry) }
     {

@@ -4,9 +4,10 @@ ghost use Rattle.std.specs.Io.KnownBytes.{Appends, Keeps, append_known};
 ghost use Rattle.dbsource.specs.Gathers.{begun_line, gathered_most, gathered_with, kept_line, told};
 ghost use Rattle.dbsource.specs.Outs.{Begins, Flushes, Puts, Writes};
 
+use crate::memory::with_room;
 use crate::stream_out::write_whole;
-use crate::{Failures, Out, WriteFailed};
-use std::alloc::{AllocError, Allocator, Global};
+use crate::{Failures, NoMemory, Out, WriteFailed};
+use std::alloc::{Allocator, Global};
 use std::io::Write;
 use std::marker::Model;
 
@@ -46,8 +47,8 @@ impl<W: Write> BufferedOut<W> {
     ///
     /// # Errors
     ///
-    /// [`AllocError`] where the buffer was refused. The writer is dropped then.
-    pub fn new(alloc: Global, writer: W) -> Result<BufferedOut<W>, AllocError>
+    /// [`NoMemory`] where the buffer was refused. The writer is dropped then.
+    pub fn new(alloc: Global, writer: W) -> Result<BufferedOut<W>, NoMemory>
     where
         W: Drop,
         ensures { IfOk result (λ out. out ≡ record { written = W.contents writer; gathered = []; failures = 0 }) }
@@ -62,13 +63,13 @@ impl<W: Write, A: Allocator> BufferedOut<W, A> {
     ///
     /// # Errors
     ///
-    /// [`AllocError`] where the buffer was refused. The writer is dropped then.
-    pub fn new_in(alloc: A, writer: W) -> Result<BufferedOut<W, A>, AllocError>
+    /// [`NoMemory`] where the buffer was refused. The writer is dropped then.
+    pub fn new_in(alloc: A, writer: W) -> Result<BufferedOut<W, A>, NoMemory>
     where
         W: Drop,
         ensures { IfOk result (λ out. out ≡ record { written = W.contents writer; gathered = []; failures = 0 }) }
     {
-        let gathered = Vec::with_capacity(alloc, CAPACITY)?;
+        let gathered = with_room(alloc, CAPACITY)?;
         Ok(BufferedOut {
             writer,
             gathered,

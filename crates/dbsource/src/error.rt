@@ -1,6 +1,6 @@
 // Why a file was not opened, and why a run did not end with a verdict.
+use crate::memory::NoMemory;
 use crate::{ReadFailed, Refusal, WriteFailed};
-use std::alloc::{AllocError, AllocFailed};
 use thiserror::Error;
 
 /// Why a header was not read.
@@ -23,8 +23,9 @@ pub enum RunError {
     /// The source failed to answer its length, or a read.
     #[error("E8 the file cannot be read")]
     ReadFailed,
-    /// Memory was refused.
+    /// Memory was refused. Outside this crate only a [`NoMemory`] becomes one, so none is answered where nothing was refused.
     #[error("E9 out of memory")]
+    #[non_exhaustive]
     OutOfMemory,
     /// An Out failed to take what was put, or to hand it on.
     #[error("E10 the output cannot be written")]
@@ -89,24 +90,13 @@ impl From<WriteFailed> for RunError {
     }
 }
 
-impl From<AllocError> for RunError {
+impl From<NoMemory> for RunError {
     ghost use Rattle.std.specs.Prelude.{◌≡◌};
     ghost use Rattle.dbsource.specs.declared.error.RunError.TheVariants as run_error;
 
     ghost from_gives = { λ _ e. e ≡ run_error.OutOfMemory };
 
-    fn from(_error: AllocError) -> RunError {
-        RunError::OutOfMemory
-    }
-}
-
-impl<T: Drop> From<AllocFailed<T>> for RunError {
-    ghost use Rattle.std.specs.Prelude.{◌≡◌};
-    ghost use Rattle.dbsource.specs.declared.error.RunError.TheVariants as run_error;
-
-    ghost from_gives = { λ _ e. e ≡ run_error.OutOfMemory };
-
-    fn from(_error: AllocFailed<T>) -> RunError {
+    fn from(_error: NoMemory) -> RunError {
         RunError::OutOfMemory
     }
 }

@@ -3,8 +3,9 @@ ghost use Rattle.std.specs.Prelude.{◌≡◌, ◌≤◌, ◌<◌, ◌^◌, leng
 ghost use Rattle.dbformat.specs.FixedPages.{geometry_of};
 ghost use Rattle.dbformat.specs.File.{refusal_of};
 ghost use Rattle.dbformat.specs.Header.{page_size, page_count, usable_size, has_pointer_map};
+ghost use Rattle.dbsource.specs.Headers.{shape_of};
 
-use crate::header_words::{has_magic, has_page_size, page_count, page_size};
+use crate::header_words::{HEADER_LEN, has_magic, has_page_size, page_count, page_size};
 use crate::{Geometry, Refusal};
 use dbformat::u32_at;
 
@@ -70,4 +71,21 @@ pub(crate) fn refusal_of(header: &[u8], file_len: u64) -> Option<Refusal>
     geometry_of(header, file_len)
         .has_map_at_lock()
         .then_some(Refusal::MapAtLock)
+}
+
+/// The shape of a file of `file_len` bytes that begins with these, or `None` where it is refused, or where these are fewer than
+/// the 100 bytes of a header.
+pub fn shape_of(bytes: &[u8], file_len: u64) -> Option<Geometry>
+    ensures { result ≡ shape_of bytes.now file_len }
+{
+    if bytes.len() < HEADER_LEN {
+        return None;
+    }
+    if file_len < HEADER_LEN as u64 {
+        return None;
+    }
+    match refusal_of(bytes, file_len) {
+        Some(_) => None,
+        None => Some(geometry_of(bytes, file_len)),
+    }
 }

@@ -4,7 +4,7 @@ ghost use Rattle.dbwalk.specs.Rows.{schema_row_of};
 ghost use Rattle.dbsource.specs.Failures.{failures_after, is_any};
 
 use dbbytes::SchemaRow;
-use std::alloc::AllocError;
+use dbsource::NoMemory;
 
 /// What the taker did with a row of the schema.
 #[derive(Clone, Copy)]
@@ -33,7 +33,7 @@ pub enum Taken {
 ///
 ///     ghost refusals = { λ _. 0 };
 ///
-///     fn take(&mut self, row: &SchemaRow<'_>) -> Result<Taken, AllocError> {
+///     fn take(&mut self, row: &SchemaRow<'_>) -> Result<Taken, NoMemory> {
 ///         if row.root == 0 {
 ///             return Ok(Taken::NoRoot);
 ///         }
@@ -60,8 +60,8 @@ pub trait Taker {
     ///
     /// # Errors
     ///
-    /// [`AllocError`] where memory was refused; this counts as one refusal.
-    fn take(&mut self, row: &SchemaRow<'_>) -> Result<Taken, AllocError>
+    /// [`NoMemory`] where memory was refused; this counts as one refusal.
+    fn take(&mut self, row: &SchemaRow<'_>) -> Result<Taken, NoMemory>
         ensures row { MatchResult result (λ answer. takes self.old (schema_row_of row.now) answer self.new)
             (λ _. refuses self.old (schema_row_of row.now) self.new) }
         ensures count { refusals self.new ≡ failures_after is_any result (refusals self.old) };

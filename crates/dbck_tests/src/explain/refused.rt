@@ -1,5 +1,5 @@
 // Reads and memory that are refused in turn. What a write that fails leaves is said by the clauses of `explain`.
-use crate::support::cases::{are_lines, lines};
+use crate::support::cases::{are_lines, lines, out_of_memory};
 use crate::support::fakes::SmallOut;
 use crate::support::samples::file_of;
 use crate::support::stated::StatedSource;
@@ -181,7 +181,7 @@ fn each_growth_is_refused(rt: HostRuntime) -> Result<(), Fail> {
         NAMES + 16,
     ] {
         let answer = if room <= NAMES {
-            Err(RunError::OutOfMemory)
+            out_of_memory(rt.alloc())
         } else {
             Ok(Verdict::Faulty(2))
         };

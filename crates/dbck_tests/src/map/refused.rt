@@ -1,4 +1,5 @@
 // Reads and memory that are refused in turn. What a write that fails leaves is said by the clauses of `map`.
+use crate::support::cases::out_of_memory;
 use crate::support::samples::file_of;
 use crate::support::stated::StatedSource;
 use crate::support::stops::holds;
@@ -108,7 +109,7 @@ fn each_growth_is_refused(rt: HostRuntime) -> Result<(), Fail> {
         ROOTS + 16,
     ] {
         let wanted = if room <= ROOTS {
-            Err(RunError::OutOfMemory)
+            out_of_memory(rt.alloc())
         } else {
             Ok(Verdict::Faulty(1))
         };

@@ -72,7 +72,9 @@ fn is_put<A: Allocator>(
 
 // How many writes pieces take, if all are taken.
 fn writes_of(alloc: Global, pieces: &str) -> Result<Option<u64>, AllocError> {
-    let mut out = BufferedOut::new(alloc, CountingWriter { writes: 0 })?;
+    let Ok(mut out) = BufferedOut::new(alloc, CountingWriter { writes: 0 }) else {
+        return Ok(None);
+    };
     for piece in pieces.split(' ') {
         if !is_put(alloc, &mut out, piece)? {
             return Ok(None);

@@ -1,5 +1,5 @@
 // How many growths a run takes: 22 buffers of a page and the marks, and each is refused in turn; and the list of roots.
-use crate::support::cases::{begins, command_of, verdict_of};
+use crate::support::cases::{begins, command_of, out_of_memory, verdict_of};
 use crate::support::fakes::SmallOut;
 use crate::support::files::{DEEP_ROWS, EMPTY_PAGES, LONG_ROW_ROWS, OLD_VERSION};
 use crate::support::samples::file_of;
@@ -100,7 +100,7 @@ fn takes_growths(
 ) -> Result<bool, AllocError> {
     if growths < 23 {
         let found = run_in_arena(alloc, what, file, growths.wrapping_mul(512))?;
-        return Ok(found == (Err(RunError::OutOfMemory), 0, 0, 0));
+        return Ok(found == (out_of_memory(alloc), 0, 0, 0));
     }
     let verdict = verdict_of(if *what == "check" { out } else { err });
     let found = run_in_arena(alloc, what, file, marks.wrapping_add(22 * 512))?;
@@ -198,7 +198,7 @@ fn refusals(
     (what, texts, held): (&str, (&str, &str), (usize, usize)),
     file: &[u8],
 ) -> Result<Option<usize>, AllocError> {
-    let refused = Some((Err(RunError::OutOfMemory), held.0, held.1));
+    let refused = Some((out_of_memory(alloc), held.0, held.1));
     let whole = Some((Ok(Verdict::Faulty(1)), texts.0.len(), texts.1.len()));
     let mut refusals: usize = 0;
     for more in 0..32usize {

@@ -1,6 +1,9 @@
 // Commands and verdicts by texts.
 use crate::runs::{check_of, stat_of};
 use dbreport::{Command, Verdict};
+use dbsource::RunError;
+use dbsource::memory::with_room;
+use std::alloc::Global;
 
 /// How many line feeds there are.
 pub(crate) fn lines(bytes: &[u8]) -> usize {
@@ -15,6 +18,12 @@ pub(crate) fn verdict_of(report: &str) -> Verdict {
     } else {
         Verdict::Faulty(faults as u64)
     }
+}
+
+/// What a run answers that finds no memory: no machine has room for so much.
+pub(crate) fn out_of_memory(alloc: Global) -> Result<Verdict, RunError> {
+    let _room = with_room::<u8, Global>(alloc, usize::MAX)?;
+    Ok(Verdict::Clean)
 }
 
 /// The command that a text names: a check that shows a hundred faults, or a form of the statistics.

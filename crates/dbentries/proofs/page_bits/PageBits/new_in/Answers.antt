@@ -4,4 +4,4 @@ use Rattle.dbentries.proofs.Bits.{none_set}
 use Rattle.dbentries.proofs.page_bits.PageBits.new_in.Goals as goal
 
 pub returns-clause-none : goal.returns-clause-none
-returns-clause-none g c = λ p. ap (λ words. has_bit words p) (c.in_ok-words.ensures.items_if_clones_equal (λ y e. e)) ∙ none_set _ p
+returns-clause-none g c = λ p. ap (λ words. has_bit words p) c.in_ok-words.ensures.items ∙ none_set _ p

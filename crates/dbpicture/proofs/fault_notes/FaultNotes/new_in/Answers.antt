@@ -20,7 +20,7 @@ returns g c =
     let many = ap (λ g. g.squares) grid in
     let empty : List SquareFaults = replicate (div_ceil c.args.pages (run_for c.args.pages)) (record { bits = 0 }) in
     let all : c.in_ok-squares.squares.items ≡ empty =
-    c.in_ok-squares.ensures.items_if_clones_equal (λ y e. e) ∙ (λ i. replicate (many i) (record { bits = c.default.ensures i })) in
+    c.in_ok-squares.ensures.items ∙ (λ i. replicate (many i) (record { bits = c.default.ensures i })) in
     record {
       pages = refl;
       run = ap (λ g. g.run) grid;

@@ -1,0 +1,25 @@
+use Rattle.std.proofs.Common.{◌≡◌, List, ℕ, [], ◌∷◌, true, false, refl, sym, ap, ◌∙◌, subst, arith}
+use Rattle.std.specs.Prelude.{codes, decimal, ◌==◌}
+use Rattle.std.proofs.lemmas.Bool.Decides.{nat_tests}
+use Rattle.dbcli.specs.NoteLines.{PutsIfRoom, said_line}
+use Rattle.dbcli.specs.Rest.{after_words, read_words, rest_said, whole_words}
+use Rattle.dbcli.proofs.rest.put_counts.Goals as goal
+
+pub returns-then-pages-eq0 : goal.returns-then-pages-eq0
+returns-then-pages-eq0 g c =
+    let P : List (List ℕ) → Type 0 = λ said.
+    PutsIfRoom (g.N.Out.held c.args.notes.now.out.now) (g.N.Out.held c.put.new.self.out.now) (said_line c.args.none.now said) in
+    let none : (c.args.pages == 0) ≡ true = grind (arith, nat_tests, c.if-pages-eq0.true) in
+    let said : (decimal c.args.rest ∷ c.after_words.result.now ∷ decimal c.args.page ∷ c.read_words.result.now ∷ [])
+    ≡ rest_said c.args.rest c.args.page c.args.pages = rw (none, c.after_words.ensures, c.read_words.ensures) refl in
+    subst P said c.put.ensures
+
+pub returns : goal.returns
+returns g c =
+    let P : List (List ℕ) → Type 0 = λ said.
+    PutsIfRoom (g.N.Out.held c.args.notes.now.out.now) (g.N.Out.held c.put-2.new.self.out.now) (said_line c.args.none.now said) in
+    let some : (c.args.pages == 0) ≡ false = grind (arith, nat_tests, c.if-pages-eq0.false) in
+    let said : (decimal c.args.rest ∷ c.after_words.result.now ∷ decimal c.args.page ∷ c.read_words.result.now ∷ codes ", "
+    ∷ decimal c.args.pages ∷ c.whole_words.result.now ∷ []) ≡ rest_said c.args.rest c.args.page c.args.pages =
+    rw (some, c.after_words.ensures, c.read_words.ensures, c.whole_words.ensures) refl in
+    subst P said c.put-2.ensures
