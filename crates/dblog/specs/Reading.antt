@@ -7,8 +7,7 @@ use Rattle.dbsource.specs.Answers.{Answer, Fits, IsRangeOf, Leads, Lengths, Step
 use Rattle.dbsource.specs.Failures.{failures_after, one_more}
 use Rattle.dbsource.specs.Sources.{SourceState}
 use Rattle.dblog.specs.Indexes.{Indexed, Indexes}
-use Rattle.dblog.specs.Scanning.{LooksAt, Scanned, Scans}
-use Rattle.dblog.specs.Wal.{frame_size, header, is_header, known_version, version}
+use Rattle.dblog.specs.Wal.{header, is_header, known_version, version}
 use Rattle.dblog.specs.declared.error.LogError.{LogError}
 use Rattle.dblog.specs.declared.error.LogError.TheVariants.{OutOfMemory, ReadFailed, Version}
 

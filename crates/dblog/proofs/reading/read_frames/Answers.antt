@@ -1,4 +1,4 @@
-use Rattle.std.proofs.Common.{◌≡◌, ◌≤◌, ◌∙◌, ◌*◌, ◌+◌, Ok, Err, ap, subst, arith, inl}
+use Rattle.std.proofs.Common.{◌∙◌, ◌*◌, ◌+◌, Ok, Err, ap, subst, arith}
 use Rattle.std.proofs.lemmas.Result.{err_from_is_err_and}
 use Rattle.dblog.proofs.Pieces.{no_pieces, nothing_read, piece_failed, piece_read, pieces_read, room_for_piece}
 use Rattle.dblog.specs.Reading.{ReadsFrames}
