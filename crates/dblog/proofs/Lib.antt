@@ -11,5 +11,6 @@ pub mod Padded
 pub mod BothRead
 pub mod ByPages
 pub mod Besides
+pub mod BothRuns
 pub mod Recovery
 pub mod Answered

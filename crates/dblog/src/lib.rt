@@ -17,5 +17,5 @@ mod wal_header;
 pub use entry::Entry;
 pub use error::LogError;
 pub use index::{Counts, Index};
-pub use laws::index_recovers;
+pub use laws::{both_are_read, index_recovers};
 pub use logged::Logged;

@@ -52,6 +52,13 @@ impl<B: Source, L: Source, A: Allocator> Logged<B, L, A> {
         }
     }
 
+    /// The size of a page in bytes, as the log states it.
+    pub fn page_size(&self) -> u32
+        ensures { result ≡ self.now.placed.page_size }
+    {
+        self.index.page_size()
+    }
+
     /// The file, and the log.
     pub fn into_inner(self) -> (B, L)
         ensures { result ≡ (self.base, self.log) }
