@@ -94,5 +94,6 @@ step_read p offset r buf old new h = record {
 pub told_read : {E : Type 0} {bs ls : Step} (p : Placed) (offset : ℕ) (r : Result (Unit {0}) E) (buf : List ℕ) (old new : Both SourceState)
     → ReadsBoth bs ls p offset r buf old new
     → OnOk r (IfSome (told_through p old.base.bytes old.log.bytes) (λ bytes. IsRangeOf bytes offset buf))
-told_read p offset (Ok x) buf old new h = told_both (λ f. Fits f h.asks.base) (λ g. Fits g h.asks.log) (λ file. IsRangeOf file offset buf) p old.base.bytes old.log.bytes h.gives h.asks.tells_base h.asks.tells_log
+told_read p offset (Ok x) buf old new h = told_both (λ f. Fits f h.asks.base) (λ g. Fits g h.asks.log) (λ file. IsRangeOf file offset buf) p
+    old.base.bytes old.log.bytes h.gives h.asks.tells_base h.asks.tells_log
 told_read p offset (Err e) buf old new h = tt

@@ -60,7 +60,8 @@ began_more p offset at seen piece all old mid new e z h k = record {
   told_log = k.told_log ∙ h.told_log;
   asks = asks_join old mid new h.told_base h.told_log h.asks k.asks;
   gives = λ f g x y. let a = fits_parts f h.asks.base k.asks.base x in let b = fits_parts g h.asks.log k.asks.log y in
-      subst (IsRangeOf (through p f g) offset) (sym e) (range_join (through p f g) offset seen piece (h.gives f g a.0 b.0) (subst (λ n. IsRangeOf (through p f g) n piece) z (k.gives f g a.1 b.1)));
+      subst (IsRangeOf (through p f g) offset) (sym e) (range_join (through p f g) offset seen piece (h.gives f g a.0 b.0)
+      (subst (λ n. IsRangeOf (through p f g) n piece) z (k.gives f g a.1 b.1)));
   count = k.count ∙ h.count;
 }
 

@@ -33,7 +33,8 @@ named_some page i es l is h =
     let test : ((get_or es i no_entry).page == page) ≡ true = grind (arith, nat_tests) in
     let rest : find (λ e. e.page == page) (drop i es) ≡ Some (get_or es i no_entry) = rw (drop_more es i no_entry l) (rw test refl) in
     ap (λ xs. option_map (λ (e : Entry). e.frame) (find (λ e. e.page == page) xs)) (sym (take-append-drop i es))
-    ∙ ap (option_map (λ (e : Entry). e.frame)) (find-append (λ e. e.page == page) (take i es) (drop i es) ∙ ap (λ o. option_or o (find (λ e. e.page == page) (drop i es))) fore ∙ rest)
+    ∙ ap (option_map (λ (e : Entry). e.frame)) (find-append (λ e. e.page == page) (take i es) (drop i es)
+    ∙ ap (λ o. option_or o (find (λ e. e.page == page) (drop i es))) fore ∙ rest)
   where
     before : (k : ℕ) → k < length (take i es) → (get_or (take i es) k no_entry).page ≡ page → ⊥
     before k m e =

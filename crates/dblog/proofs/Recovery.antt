@@ -181,7 +181,8 @@ unfolding is_header
 header_sized h t = sized (page_size h) (third (length h == 32) (is_magic (u32_at 0 h)) (is_page_size (page_size h)) (has_its_sums h) t)
 
 -- a byte of a frame is one of the log
-frame_byte : (h log : List ℕ) (k r : ℕ) → r < page_size h → slice_index (frame_at (frame_size h) log k) (24 + r) ≡ slice_index log (page_start (page_size h) k + r)
+frame_byte : (h log : List ℕ) (k r : ℕ) → r < page_size h
+    → slice_index (frame_at (frame_size h) log k) (24 + r) ≡ slice_index log (page_start (page_size h) k + r)
 frame_byte h log k r l =
     get_or-take (frame_size h) (drop (32 + frame_size h * k) log) (24 + r) 0 (omega arith) ∙ get_or-drop (32 + frame_size h * k) log (24 + r) 0
     ∙ ap (slice_index log) (omega arith)

@@ -19,9 +19,11 @@ returns-in-Some g c =
     ap₂ (λ a b. a + c.args.offset % b) (c.start_of.ensures ∙ ap (λ n. page_start n c.in-Some.frame) size) size in
     read_from_log p c.args.offset c.in-Some.frame c.read_at.result c.read_at.new.buf _ _ _ some
     (subst (λ n. IsInOnePage p (range c.args.offset n)) (sym c.read_at.auto.buf) c.requires.one) at c.read_at.ensures.told
-    (subst (λ n. g.L.Source.step (g.L.Source.held c.args.log.now).trail (answer c.read_at.result n c.read_at.new.buf) (g.L.Source.held c.read_at.new.self).trail)
+    (subst (λ n. g.L.Source.step (g.L.Source.held c.args.log.now).trail (answer c.read_at.result n c.read_at.new.buf)
+    (g.L.Source.held c.read_at.new.self).trail)
     place c.read_at.ensures.trail) c.read_at.ensures.count
-    (subst (λ n. OnOk c.read_at.result (IfSome (g.L.Source.held c.args.log.now).bytes (λ file. IsRangeOf file n c.read_at.new.buf))) place c.read_at.ensures.bytes)
+    (subst (λ n. OnOk c.read_at.result (IfSome (g.L.Source.held c.args.log.now).bytes (λ file. IsRangeOf file n c.read_at.new.buf)))
+    place c.read_at.ensures.bytes)
 
 pub returns-in-None : goal.returns-in-None
 returns-in-None g c =

@@ -9,7 +9,8 @@ returns-in_err-len-clause-reads g c =
     rw p.1 (rw p.2 (log_unanswered _ _ c.in_err-len.ensures.told c.in_err-len.ensures.trail c.in_err-len.ensures.count))
 
 pub returns-then-len-clause-reads : goal.returns-then-len-clause-reads
-returns-then-len-clause-reads g c = rw c.none.ensures (log_short c.in_ok-len.len _ _ c.in_ok-len.ensures.told c.in_ok-len.ensures.trail c.in_ok-len.ensures.count
+returns-then-len-clause-reads g c = rw c.none.ensures (log_short c.in_ok-len.len _ _
+    c.in_ok-len.ensures.told c.in_ok-len.ensures.trail c.in_ok-len.ensures.count
     c.if-len.true c.in_ok-len.ensures.length c.in_ok-len.ensures.number)
 
 pub returns-in_err-read_at-clause-reads : goal.returns-in_err-read_at-clause-reads

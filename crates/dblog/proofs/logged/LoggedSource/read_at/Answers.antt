@@ -15,7 +15,8 @@ returns-then-offset-len-clause-trail g c =
     ]))
 
 pub returns-clause-trail : goal.returns-clause-trail
-returns-clause-trail g c = rw (← c.self.view_is) (step_read (placed c.self.inside.index c.self.inside.base_len) c.args.offset c.read_range.result c.read_range.new.buf _ _
+returns-clause-trail g c = rw (← c.self.view_is) (step_read (placed c.self.inside.index c.self.inside.base_len)
+    c.args.offset c.read_range.result c.read_range.new.buf _ _
     c.read_range.ensures)
 
 pub returns-clause-bytes : goal.returns-clause-bytes
