@@ -13,9 +13,9 @@ _dbck() {
         return
     else
         case $command in
-            check | explain) words='--limit --with --no-progress --help' ;;
-            map) words='--with --no-progress --help' ;;
-            stat) words='--aggregate --all --with --no-progress --help' ;;
+            check | explain) words='--limit --recovered --with --no-progress --help' ;;
+            map) words='--recovered --with --no-progress --help' ;;
+            stat) words='--aggregate --all --recovered --with --no-progress --help' ;;
             help) words='check explain map stat' ;;
             *) return ;;
         esac

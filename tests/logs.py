@@ -1,16 +1,20 @@
 #!/usr/bin/env python3
-"""The definitions of SQLite's two logs, beside SQLite itself.
+"""SQLite's two logs: what `dbck --recovered` reports beside them, and their definitions, beside SQLite itself.
 
-    tests/logs.py FOLDER [PAIRS [SEED]]
+    tests/logs.py DBCK FOLDER [PAIRS [SEED]]
 
 Makes PAIRS pairs of a database and a log (500 if it is not said) in FOLDER, whole and damaged. SQLite recovers a copy of each; the
 definitions of `dblog`, written here once more from SQLite's document on its file format (sections 3 and 4), have to give the same bytes.
+Beside a write-ahead log the program has to print of the pair, with `--recovered`, what it prints of the recovered file, and end so; and
+the pair has to be as it was. A rollback journal is not read by it yet: there its definitions alone are compared.
 """
 
 import os
 import random
 import shutil
+import signal
 import sqlite3
+import subprocess
 import sys
 
 WAL_MAGIC = (0x377F0682, 0x377F0683)
@@ -298,7 +302,75 @@ def by_sqlite(folder, db, log, suffix):
         return recovered.read()
 
 
-def run(folder, pairs, seed):
+COMMANDS = (["check"], ["check", "--limit", "3"], ["stat", "--all"], ["stat", "--aggregate"], ["explain"])
+UNFIT = b"dbck: E11 the log does not fit the database\n"
+
+
+def ran(dbck, words):
+    done = subprocess.run([dbck] + words, stdout=subprocess.PIPE, stderr=subprocess.PIPE, check=False, timeout=60)
+    lines = done.stderr.splitlines(keepends=True)
+    return done.returncode, done.stdout, b"".join(line for line in lines if not line.startswith(b"dbck: note: "))
+
+
+def put(path, data):
+    with open(path, "wb") as out:
+        out.write(data)
+
+
+def seen(paths):
+    """The bytes of these files, and when they were written."""
+    found = []
+    for path in paths:
+        with open(path, "rb") as data:
+            found.append((data.read(), os.stat(path).st_mtime_ns))
+    return found
+
+
+def reports(dbck, folder, db, wal, recovered):
+    """What the program says of the pair that it does not say of the recovered file; None is that the log does not fit."""
+    pair, whole = folder + "/pair", folder + "/whole"
+    put(pair, db)
+    put(pair + "-wal", wal)
+    put(whole, recovered or b"")
+    before = seen((pair, pair + "-wal"))
+    wrong = []
+    for command in COMMANDS:
+        got = ran(dbck, command + ["--recovered", pair])
+        wanted = (3, b"", UNFIT) if recovered is None else ran(dbck, command + [whole])
+        if got != wanted:
+            wrong.append("%s: status %d, and not %d" % (" ".join(command), got[0], wanted[0]))
+    if seen((pair, pair + "-wal")) != before:
+        wrong.append("the pair was changed")
+    return wrong
+
+
+def fits(wal, recovered):
+    """Whether the recovered file states the page size of the log, or none."""
+    stated_size = stored_size(recovered)
+    is_database = recovered[:16] == b"SQLite format 3\0" and is_power(stated_size, 512, 65536)
+    return not used_frames(wal) or not is_database or stated_size == u32(wal, 8)
+
+
+def killed_pair(folder, rnd):
+    """A pair that a writer left that was killed."""
+    path = folder + "/made"
+    begun(path, rnd, "WAL").close()
+    child = os.fork()
+    if child == 0:
+        db = connect(path)
+        db.execute("PRAGMA journal_mode = WAL")
+        db.execute("PRAGMA wal_autocheckpoint = %d" % rnd.choice((0, 3, 20)))
+        db.execute("PRAGMA cache_size = 5")
+        transactions(db, rnd, 6)
+        db.execute("BEGIN")
+        for _ in range(rnd.randrange(5)):
+            change(db, rnd)
+        os.kill(os.getpid(), signal.SIGKILL)
+    os.waitpid(child, 0)
+    kept(path, "-wal", folder)
+
+
+def run(dbck, folder, pairs, seed):
     rnd = random.Random(seed)
     wrong, counts = 0, {}
     for number in range(pairs):
@@ -306,7 +378,8 @@ def run(folder, pairs, seed):
         os.makedirs(folder)
         is_wal = rnd.random() < 0.6
         suffix = "-wal" if is_wal else "-journal"
-        (wal_pair if is_wal else journal_pair)(folder, rnd)
+        maker = (killed_pair if rnd.random() < 0.2 else wal_pair) if is_wal else journal_pair
+        maker(folder, rnd)
         with open(folder + "/kept", "rb") as kept_db, open(folder + "/kept" + suffix, "rb") as kept_log:
             db, log = kept_db.read(), kept_log.read()
         log, way = damaged(log, rnd, is_wal)
@@ -322,6 +395,12 @@ def run(folder, pairs, seed):
         if theirs is not None and ours != theirs:
             wrong += 1
             print("pair %d: %s, %s: %s bytes, by SQLite %d" % (number, suffix, way, ours and len(ours), len(theirs)))
+        if is_wal:
+            known = not is_log(log) or u32(log, 4) == VERSION
+            said = reports(dbck, folder, db, log, ours if known and fits(log, ours) else None)
+            wrong += bool(said)
+            for line in said:
+                print("pair %d: %s, %s: %s" % (number, suffix, way, line))
     for key in sorted(counts):
         print("%5d  %s" % (counts[key], ", ".join(key)))
     print("%d pairs, %d differ" % (pairs, wrong))
@@ -329,6 +408,6 @@ def run(folder, pairs, seed):
 
 
 if __name__ == "__main__":
-    if len(sys.argv) < 2:
+    if len(sys.argv) < 3:
         sys.exit(__doc__)
-    sys.exit(run(sys.argv[1], *(int(word) for word in (sys.argv[2:4] + ["500", "1"][len(sys.argv) - 2 :])[:2])))
+    sys.exit(run(*sys.argv[1:3], *(int(word) for word in (sys.argv[3:5] + ["500", "1"][len(sys.argv) - 3 :])[:2])))

@@ -96,9 +96,10 @@ def usage():
         for helper in ("limited_command", "with_file"):
             if f"{helper}(" in body:
                 body += bodies[helper]
+        log = ["recovered"] if "recovered_arg(" in body else []
         changes = ["with OFFSET=HEX"] if "changes_arg(" in body else []
         progress = ["no-progress"] if "no_progress_arg(" in body else []
-        program.append((name, limit + flags + changes + progress))
+        program.append((name, limit + flags + log + changes + progress))
     synopsis = re.search(r"^\.Sh SYNOPSIS\n(.*?)^\.Sh", text_of("docs/dbck.1"), re.S | re.M)[1]
     manual = []
     for part in re.findall(r"^\.Nm\n\.Cm (\w+)\n(.*?)\.Ar FILE", synopsis, re.M | re.S):

@@ -190,9 +190,9 @@ at_first_note() {
 
 # log_notes FILE: the notes on the logs of a database, as the program names it: wal and journal.
 log_notes() {
-    local rest='is not read, and may hold changes; let SQLite open a copy of both files to'
-    wal="dbck: note: $1-wal $rest checkpoint it, and check that copy"$'\n'
-    journal="dbck: note: $1-journal $rest recover it, and check that copy"$'\n'
+    local rest='is not read, and may hold changes;'
+    wal="dbck: note: $1-wal $rest --recovered reads it"$'\n'
+    journal="dbck: note: $1-journal $rest let SQLite open a copy of both files to recover it, and check that copy"$'\n'
 }
 
 # changed_note FILE: the note on a file that was written meanwhile.

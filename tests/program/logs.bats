@@ -5,7 +5,7 @@ load common
 # noted: makes noted.db; $wal and $journal are the notes on its logs.
 noted() {
     cp "$data/empty.db" "$work/noted.db"
-    wal="dbck: note: $work/noted.db-wal is not read, and may hold changes; let SQLite open a copy of both files to checkpoint it, and check that copy"$'\n'
+    wal="dbck: note: $work/noted.db-wal is not read, and may hold changes; --recovered reads it"$'\n'
     journal="dbck: note: $work/noted.db-journal is not read, and may hold changes; let SQLite open a copy of both files to recover it, and check that copy"$'\n'
 }
 

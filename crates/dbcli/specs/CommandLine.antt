@@ -40,9 +40,13 @@ no_progress_rule = flag_rule (codes "no-progress")
 abbrev pub changes_rule : Rule
 changes_rule = record (new_rule (codes "OFFSET=HEX")) { long = Some (codes "with"); action = Some Append }
 
--- a subcommand with what each has: the changes, the flag that turns progress off, and the file
+-- the flag that has the log of the file read too
+abbrev pub recovered_rule : Rule
+recovered_rule = flag_rule (codes "recovered")
+
+-- a subcommand with what each has: the log, the changes, the flag that turns progress off, and the file
 abbrev pub with_file_rules : App → App
-with_file_rules app = with_rule (with_rule (with_rule app changes_rule) no_progress_rule) file_rule
+with_file_rules app = with_rule (with_rule (with_rule (with_rule app recovered_rule) changes_rule) no_progress_rule) file_rule
 
 -- a subcommand of this name with a limit
 abbrev pub limited_app : Text → ℕ → App
@@ -126,6 +130,11 @@ IsNameOf (Map name) file = name.now ≡ unwrap_or (path_file_name file) file
 abbrev pub IsProgressOf : Bool → Option (Text × List Row) → Type 0
 IsProgressOf shown None = ⊥
 IsProgressOf shown (Some (name, rows)) = IsFlag (not shown) (codes "no-progress") rows
+
+-- the log of the file is read if a flag of the subcommand says so
+abbrev pub IsRecoveredOf : Bool → Option (Text × List Row) → Type 0
+IsRecoveredOf recovered None = ⊥
+IsRecoveredOf recovered (Some (name, rows)) = IsFlag recovered (codes "recovered") rows
 
 -- the words in which the changes are given
 abbrev pub change_texts : Option (Text × List Row) → List Text

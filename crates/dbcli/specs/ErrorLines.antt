@@ -2,6 +2,8 @@
 use Rattle.std.specs.Prelude.{ℕ, ◌==◌, if◌then◌else◌, List, [], codes, Option, Some, None}
 use Rattle.dbformat.specs.declared.Refusal.{Refusal}
 use Rattle.dbformat.specs.declared.Refusal.TheVariants.{Short, Magic, PageSize, Usable, NoPage, TooManyPages, MapAtLock}
+use Rattle.dbcli.specs.declared.error_lines.Unrun.{Unrun}
+use Rattle.dbcli.specs.declared.error_lines.Unrun.TheVariants.{PastEnd, Version, PageSize}
 use Rattle.dbsource.specs.declared.error.RunError.{RunError}
 use Rattle.dbsource.specs.declared.error.RunError.TheVariants.{Refused, ReadFailed, OutOfMemory, WriteFailed}
 
@@ -22,9 +24,11 @@ error_line ReadFailed = codes "dbck: E8 the file cannot be read\n"
 error_line OutOfMemory = codes "dbck: E9 out of memory\n"
 error_line WriteFailed = codes "dbck: E10 the output cannot be written\n"
 
--- the line that says that a change is past the end of the file
-unfoldable pub past_end_line : List ℕ
-past_end_line = codes "dbck: E11 a byte of --with is past the end of the file\n"
+-- the line that says why there is no run of a file that was opened: a change is past its end, or its log does not fit it
+unfoldable pub unrun_line : Unrun → List ℕ
+unrun_line PastEnd = codes "dbck: E11 a byte of --with is past the end of the file\n"
+unrun_line Version = codes "dbck: E11 the log does not fit the database\n"
+unrun_line PageSize = codes "dbck: E11 the log does not fit the database\n"
 
 -- at 3 the line of the file's refusal
 abbrev pub refused_line : Option Refusal → List ℕ

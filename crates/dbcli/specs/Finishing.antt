@@ -17,10 +17,11 @@ use Rattle.dbsource.specs.declared.error.RunError.{RunError}
 use Rattle.dbsource.specs.declared.error.RunError.TheVariants.{ReadFailed}
 use Rattle.dbsource.specs.declared.out.Out.{Ghosts as OutWords}
 use Rattle.dbsource.specs.declared.source.Source.{Ghosts as SourceWords}
-use Rattle.dbcli.specs.ErrorLines.{error_line, past_end_line}
+use Rattle.dbcli.specs.ErrorLines.{error_line, unrun_line}
 use Rattle.dbcli.specs.Exit.{EndsWithLine, OutHasFailed, IsFinishOf, IsHandedOn, IsHandedOnOrFailed, IsKnown, failures_at_4, first_most, second_most}
 use Rattle.dbcli.specs.Requests.{WritesToFirst}
 use Rattle.dbcli.specs.Status.{exit_status}
+use Rattle.dbcli.specs.declared.error_lines.Unrun.TheVariants.{PastEnd}
 use Rattle.dbcli.specs.declared.request.Request.{Request}
 
 -- What finishing says of each file that agrees with what was read, it says of the bytes that a source tells.
@@ -96,7 +97,7 @@ module _ {S O E : Type 0} (source : SourceWords S) (out : OutWords O) (err : Out
     -- nothing was done to the first Out
     pub first : new.1 ≡ old.1
     -- the second got the line E11, and that was handed on, if it could be
-    pub second : EndsWithLine past_end_line 2 (err.held old.2) (err.held new.2)
+    pub second : EndsWithLine (unrun_line PastEnd) 2 (err.held old.2) (err.held new.2)
 
   -- Where the source did not answer its length.
   pub record IsUnmeasured (status : ℕ) (old new : S × O × E) : Type 0 where
@@ -119,12 +120,3 @@ module _ {S O E : Type 0} (source : SourceWords S) (out : OutWords O) (err : Out
   RunsInside [] Ran status old new = Ran old new
   RunsInside (c ∷ changes) Ran status old new =
       IsInsideRun (c ∷ changes) Ran old new ⊎ IsPastEnd (c ∷ changes) status old new ⊎ IsUnmeasured status old new
-
-  -- Where no file was opened.
-  pub record IsUnopened (status : ℕ) (old new : O × E) : Type 0 where
-    -- the status is that of a file that cannot be read
-    pub at_4 : status ≡ 4
-    -- nothing was done to the first Out
-    pub first : new.0 ≡ old.0
-    -- the second got the line E8, and that was handed on, if it could be
-    pub second : EndsWithLine (error_line ReadFailed) 2 (err.held old.1) (err.held new.1)

@@ -1,3 +1,4 @@
+pub mod Beside
 pub mod CommandLine
 pub mod Copies
 pub mod ErrorLines

@@ -1,13 +1,15 @@
 -- From the words of a command line to an exit status: what was opened, what became of it, and how it was given back.
-use Rattle.std.specs.Prelude.{◌≡◌, ◌⊎◌, ℕ, List, [], Result, Ok, Err}
+use Rattle.std.specs.Prelude.{◌≡◌, ◌⊎◌, ℕ, Bool, List, [], Option, Result, Ok, Err}
 use Rattle.clap.specs.Words.{Text, fault_of, subcommand_of}
 use Rattle.dbsource.specs.Changes.{AreChanges, Change}
+use Rattle.dbsource.specs.declared.error.RunError.{RunError}
 use Rattle.dbsource.specs.declared.out.Out.{Ghosts as OutWords}
 use Rattle.dbsource.specs.declared.source.ReadFailed.{ReadFailed as Unread}
 use Rattle.dbsource.specs.declared.source.Source.{Ghosts as SourceWords}
-use Rattle.dbcli.specs.CommandLine.{AreSpelled, AsksFor, HasLimit, IsErrorOf, dbck_app}
-use Rattle.dbcli.specs.Finishing.{Finishes, IsUnopened, RunsInside}
-use Rattle.dbcli.specs.Status.{line_status}
+use Rattle.dbcli.specs.Beside.{ClosesFiles, EndsSo, OpensFiles, RunsFiles}
+use Rattle.dbcli.specs.CommandLine.{AreSpelled, AsksFor, HasLimit, IsErrorOf, IsRecoveredOf, dbck_app}
+use Rattle.dbcli.specs.ErrorLines.{error_line}
+use Rattle.dbcli.specs.Status.{exit_status, line_status}
 use Rattle.dbcli.specs.declared.command_line.LineError.{LineError}
 use Rattle.dbcli.specs.declared.request.Request.{Request}
 
@@ -15,22 +17,23 @@ use Rattle.dbcli.specs.declared.request.Request.{Request}
 abbrev pub IsErrorStatus : ℕ → LineError → Type 0
 IsErrorStatus status error = (status ≡ line_status error) ⊎ ((line_status error ≡ 0) × (status ≡ 6))
 
-module _ {F S O E : Type 0} (opens : F → List ℕ → Result S Unread → F → Type 0) (closes : F → S → F → Type 0)
+module _ {F S O E : Type 0} (opens : F → List ℕ → Result S Unread → F → Type 0)
+    (opens_log : F → List ℕ → List ℕ → Result (Option S) RunError → F → Type 0) (closes : F → S → F → Type 0)
     (source : SourceWords S) (out : OutWords O) (err : OutWords E) where
-  -- What was opened was finished with these changes, if they are inside it, and was given back as that left it: nothing else was
-  -- asked of it. Or nothing was opened.
-  abbrev pub RunsOpened : List Change → Request → ℕ → Result S Unread → F × O × E → F × O × E → Type 0
-  RunsOpened changes asked status (Ok s) old new = (left : S)
-      × RunsInside source out err changes (Finishes source out err changes asked status) status (s, old.1, old.2) (left, new.1, new.2)
-      × closes old.0 left new.0
-  RunsOpened changes asked status (Err e) old new = IsUnopened source out err status (old.1, old.2) (new.1, new.2) × (new.0 ≡ old.0)
+  -- What was opened was run with these changes, and was given back as that left it: nothing else was asked of it. Or nothing is open.
+  abbrev pub RunsOpened : List Change → Request → ℕ → Result (S × Option S) RunError → F × O × E → F × O × E → Type 0
+  RunsOpened changes asked status (Ok opened) old new = (left : S × Option S)
+      × RunsFiles source out err changes asked status opened left (old.1, old.2) (new.1, new.2)
+      × ClosesFiles opens opens_log closes left old.0 new.0
+  RunsOpened changes asked status (Err e) old new =
+      (status ≡ exit_status (Err e)) × EndsSo source out err (error_line e) (old.1, old.2) (new.1, new.2) × (new.0 ≡ old.0)
 
-  -- What became of a line that asks this of the file at this path, with these changes.
-  pub record RunsLine (changes : List Change) (asked : Request) (path : Text) (status : ℕ) (old new : F × O × E) : Type 0 where
-    -- that file was opened, or could not be, and no other
-    pub answer : Result S Unread
+  -- What became of a line that asks this of the file at this path, with its log or without, and with these changes.
+  pub record RunsLine (recovered : Bool) (changes : List Change) (asked : Request) (path : Text) (status : ℕ) (old new : F × O × E) : Type 0 where
+    -- that file was opened, and its log, if the line asks for it, or could not be, and no other
+    pub answer : Result (S × Option S) RunError
     pub between : F
-    pub opened : opens old.0 path answer between
+    pub opened : OpensFiles opens opens_log closes recovered path answer old.0 between
     -- and what was opened was run
     pub ran : RunsOpened changes asked status answer (between, old.1, old.2) new
 
@@ -44,7 +47,9 @@ module _ {F S O E : Type 0} (opens : F → List ℕ → Result S Unread → F �
     pub changes : List Change
     pub are_changes : AreChanges changes
     pub spelled : AreSpelled changes (subcommand_of dbck_app words)
-    pub ran : RunsLine changes request file status old new
+    pub recovered : Bool
+    pub is_recovered : IsRecoveredOf recovered (subcommand_of dbck_app words)
+    pub ran : RunsLine recovered changes request file status old new
 
   module _ {N : Type 0} (notes : OutWords N) where
     -- What became of words that are not: no file was opened, and nothing was put to an Out or to the notes.

@@ -10,6 +10,7 @@ ghost use Rattle.dbcli.specs.CommandLine.{AreSpelled, AsksForNone, IsErrorIn, Sp
 ghost use Rattle.dbcli.specs.Spelled.{texts_in};
 ghost use Rattle.dbsource.specs.Changes.{AreChanges};
 ghost use Rattle.dbcli.specs.CommandLine.{AsksFor, HasFlags, HasLimit, IsErrorOf, IsFlag, IsInRow, IsLimit, IsLimitOf, IsNameOf, IsProgressOf};
+ghost use Rattle.dbcli.specs.CommandLine.{IsRecoveredOf};
 ghost use Rattle.dbcli.specs.declared.request.Request.{Request as request_type};
 
 use crate::help::{
@@ -37,6 +38,8 @@ pub struct Line<'a> {
     pub file: &'a str,
     /// The changes with which the file is reported.
     pub changes: Changes,
+    /// Whether its log is read too.
+    pub recovered: bool,
     /// Whether progress is shown.
     pub progress: bool,
 }
@@ -47,6 +50,7 @@ struct Asked<'m, 'a> {
     request: Request<'a>,
     file: &'a str,
     changes: Option<&'m [&'a str]>,
+    recovered: bool,
     progress: bool,
 }
 
@@ -153,6 +157,14 @@ fn changes_arg<'a>(alloc: Global) -> Arg<'a>
         .help(help)
 }
 
+fn recovered_arg<'a>(alloc: Global) -> Arg<'a>
+    ensures rule { rule_of result ≡ flag_rule (codes "recovered") }
+    ensures local { result.global ≡ false }
+{
+    let help = "Report the database that SQLite would recover from FILE and FILE-wal";
+    flag_arg(alloc, "recovered", help)
+}
+
 fn no_progress_arg<'a>(alloc: Global) -> Arg<'a>
     ensures rule { rule_of result ≡ flag_rule (codes "no-progress") }
     ensures local { result.global ≡ false }
@@ -169,12 +181,13 @@ fn described<'a>(alloc: Global, name: &'a str, about: &'a str, after: &'a str) -
     Words::new(alloc, name).about(about).after_help(after)
 }
 
-// The command with what each subcommand takes last: the changes, the flag that turns progress off, and the file.
+// The command with what each subcommand takes last: the log, the changes, the flag that turns progress off, and the file.
 fn with_file<'a>(alloc: Global, command: Words<'a>) -> Result<Words<'a>, AllocError>
     ensures { (app : App) → app_of command.entry ≡ app → (fields_of command.entry).has_globals ≡ false
         → IfOk result (λ c. (app_of c ≡ with_file_rules app) × ((fields_of c).has_globals ≡ false)) }
 {
     command
+        .arg(recovered_arg(alloc))?
         .arg(changes_arg(alloc))?
         .arg(no_progress_arg(alloc))?
         .arg(file_arg(alloc))
@@ -341,6 +354,13 @@ fn shows_progress(given: &ArgMatches<'_>) -> bool
     !given.get_flag("no-progress")
 }
 
+// Whether the log of the file is read too.
+fn is_recovered(given: &ArgMatches<'_>) -> bool
+    ensures { IsFlag result (codes "recovered") (rows_of (found_of given.now)) }
+{
+    given.get_flag("recovered")
+}
+
 // What this subcommand asks for, of the file at this path.
 fn request_of<'a>(name: &str, given: &ArgMatches<'_>, file: &'a str) -> Option<Request<'a>>
     ensures named { IfSome result (λ request. name.now ≡ name_of request) }
@@ -365,6 +385,7 @@ fn asked_of<'m, 'a: 'm>(matches: &'m ArgMatches<'a>) -> Option<Asked<'m, 'a>>
     ensures asks { IfSome result (λ asked. AsksFor (subcommand_rows_of matches.now) asked.request asked.file.now) }
     ensures limit { IfSome result (λ asked. HasLimit asked.request) }
     ensures progress { IfSome result (λ asked. IsProgressOf asked.progress (subcommand_rows_of matches.now)) }
+    ensures recovered { IfSome result (λ asked. IsRecoveredOf asked.recovered (subcommand_rows_of matches.now)) }
     ensures changes { IfSome result (λ asked. texts_in asked.changes ≡ change_texts (subcommand_rows_of matches.now)) }
     ensures none { IfNone result (AsksForNone (subcommand_rows_of matches.now)) }
 {
@@ -374,6 +395,7 @@ fn asked_of<'m, 'a: 'm>(matches: &'m ArgMatches<'a>) -> Option<Asked<'m, 'a>>
         request: request_of(name, given, file)?,
         file,
         changes: given.get_strs("OFFSET=HEX"),
+        recovered: is_recovered(given),
         progress: shows_progress(given),
     })
 }
@@ -406,6 +428,7 @@ fn line_in<'a>(alloc: Global, matches: &ArgMatches<'a>) -> Result<Line<'a>, Line
     ensures asks { IfOk result (λ line. AsksFor (subcommand_rows_of matches.now) line.request line.file.now) }
     ensures limit { IfOk result (λ line. HasLimit line.request) }
     ensures progress { IfOk result (λ line. IsProgressOf line.progress (subcommand_rows_of matches.now)) }
+    ensures recovered { IfOk result (λ line. IsRecoveredOf line.recovered (subcommand_rows_of matches.now)) }
     ensures changes { IfOk result (λ line. AreSpelled line.changes (subcommand_rows_of matches.now)) }
     ensures apart { IfOk result (λ line. AreChanges line.changes) }
     ensures refused { IfErr result (λ error. IsErrorIn error (subcommand_rows_of matches.now)) }
@@ -418,6 +441,7 @@ fn line_in<'a>(alloc: Global, matches: &ArgMatches<'a>) -> Result<Line<'a>, Line
             request: asked.request,
             file: asked.file,
             changes,
+            recovered: asked.recovered,
             progress: asked.progress,
         }),
         Err(misspelled) => Err(with_error(alloc, misspelled)),
@@ -436,6 +460,7 @@ pub fn line_of<'a>(alloc: Global, words: &'a [&'a str]) -> Result<Line<'a>, Line
     ensures asks { IfOk result (λ line. AsksFor (subcommand_of dbck_app (map (λ word. word.now) words.entry.now)) line.request line.file.now) }
     ensures limit { IfOk result (λ line. HasLimit line.request) }
     ensures progress { IfOk result (λ line. IsProgressOf line.progress (subcommand_of dbck_app (map (λ word. word.now) words.entry.now))) }
+    ensures recovered { IfOk result (λ line. IsRecoveredOf line.recovered (subcommand_of dbck_app (map (λ word. word.now) words.entry.now))) }
     ensures changes { IfOk result (λ line. AreSpelled line.changes (subcommand_of dbck_app (map (λ word. word.now) words.entry.now))) }
     ensures apart { IfOk result (λ line. AreChanges line.changes) }
     // Exactly the words in which the parser finds no fault are taken, and its fault is why others are not.

@@ -1,6 +1,6 @@
 // The lines of errors.
 ghost use Rattle.std.specs.Prelude.{◌≡◌};
-ghost use Rattle.dbcli.specs.ErrorLines.{error_line, past_end_line, refusal_line};
+ghost use Rattle.dbcli.specs.ErrorLines.{error_line, refusal_line, unrun_line};
 ghost use Rattle.dbsource.specs.declared.error.RunError.TheVariants.{OutOfMemory};
 
 use dbsource::{Refusal, RunError};
@@ -20,12 +20,26 @@ fn refusal_line(refusal: Refusal) -> &'static str
     }
 }
 
-/// The line that says that a change is past the end of the file, with its line feed.
-#[tactic(auto, unfolding(crate::specs::ErrorLines::past_end_line))]
-pub fn past_end_line() -> &'static str
-    ensures { result.now ≡ past_end_line }
+/// Why there is no run of a file that was opened.
+#[derive(Clone, Copy)]
+pub enum Unrun {
+    /// A change is past its end.
+    PastEnd,
+    /// Its log has a version that SQLite does not open.
+    Version,
+    /// Its log has pages of another size.
+    PageSize,
+}
+
+/// The line that says why there is no run, with its line feed.
+#[tactic(auto, unfolding(crate::specs::ErrorLines::unrun_line))]
+pub fn unrun_line(why: Unrun) -> &'static str
+    ensures { result.now ≡ unrun_line why }
 {
-    "dbck: E11 a byte of --with is past the end of the file\n"
+    match why {
+        Unrun::PastEnd => "dbck: E11 a byte of --with is past the end of the file\n",
+        Unrun::Version | Unrun::PageSize => "dbck: E11 the log does not fit the database\n",
+    }
 }
 
 /// The line of want of memory, with its line feed.

@@ -1,14 +1,14 @@
 // From an opened file to an exit status.
 ghost use Rattle.std.specs.Prelude.{◌≡◌, [], IfErr, OnOk};
 ghost use Rattle.dbreport.specs.Runs.{IsUnwritten};
-ghost use Rattle.dbcli.specs.ErrorLines.{error_line, past_end_line};
+ghost use Rattle.dbcli.specs.ErrorLines.{error_line, unrun_line};
 ghost use Rattle.dbcli.specs.Exit.{EndsWithLine, IsKnown};
 ghost use Rattle.dbcli.specs.Finishing.{FailsByStatus, Finishes, IsFinished, LeavesFirst, LeavesSecond, RunsInside, ToldFilesAreFinished};
 ghost use Rattle.dbcli.specs.Handing.{IsHanded};
 ghost use Rattle.dbcli.specs.Status.{exit_status};
 
 use crate::command_line::Line;
-use crate::error_lines::{error_line, past_end_line};
+use crate::error_lines::{Unrun, error_line, unrun_line};
 use crate::request::{Request, run_request};
 use crate::status::status_of;
 use dbreport::Verdict;
@@ -23,8 +23,8 @@ pub trait Notes {
     /// The run has this outcome. The line of an error is not yet put.
     fn tell(&mut self, outcome: &Result<Verdict, RunError>);
 
-    /// There is no run, since a change is past the end of the file. The line of that is not yet put.
-    fn tell_past_end(&mut self);
+    /// There is no run, for this reason. The line of that is not yet put.
+    fn tell_unrun(&mut self, why: Unrun);
 }
 
 // Ends a run by a line: hands on what is pending, tells the notes why, puts the line, and hands that on, as far as it can. If handing on
@@ -39,6 +39,13 @@ fn put_last<E: Out, F: FnOnce()>(err: &mut E, line: &str, tell_notes: F)
     if is_flushed || is_put {
         let _ = err.flush();
     }
+}
+
+// Ends a line of which there is no run.
+pub(crate) fn put_unrun<E: Out, N: Notes>(err: &mut E, why: Unrun, notes: &mut N)
+    ensures { EndsWithLine (unrun_line why) 2 (E.held err.old) (E.held err.new) }
+{
+    put_last(err, unrun_line(why), || notes.tell_unrun(why));
 }
 
 /// Ends a run: gives the notes the outcome; at an error puts its line to `err`, after the notes, and hands it on, as
@@ -128,7 +135,7 @@ pub(crate) fn finish_line<S: Source, O: Out, E: Out, N: Notes>(
             finish(alloc, line.request, source, out, err, notes)
         }
         Ok(_) => {
-            put_last(err, past_end_line(), || notes.tell_past_end());
+            put_unrun(err, Unrun::PastEnd, notes);
             3
         }
         Err(error) => end(err, Err(RunError::from(error)), notes),

@@ -57,7 +57,7 @@ pub(crate) const STATUSES: &str = "Exit status:
   0  no fault was found, or help or the version was asked for
   1  the file has faults
   2  the command line is wrong
-  3  the file is not a database that dbck checks (E1 to E7), or ends before a byte of --with (E11)
+  3  the file is not a database that dbck checks (E1 to E7), ends before a byte of --with, or does not fit its log (E11)
   4  the file cannot be read (E8)
   5  out of memory (E9)
   6  the output cannot be written (E10)";

@@ -2,12 +2,14 @@
 //! the request, and reports errors, notes and progress.
 #![tactic(auto)]
 
+mod beside;
 mod command_line;
 mod copied;
 mod error_lines;
 mod finishing;
 mod help;
 mod line_out;
+mod log_notes;
 mod logs;
 mod lookup;
 mod note;

@@ -3,7 +3,10 @@ ghost use Rattle.std.specs.Prelude.{◌≡◌, ◌==◌};
 ghost use Rattle.std.specs.List.{list_all};
 ghost use Rattle.dbcli.specs.NoteLines.{beginning_text, piece_text};
 
+use crate::beside::WAL;
+use crate::error_lines::Unrun;
 use crate::finishing::Notes;
+use crate::log_notes::put_found;
 use crate::logs::put_log_notes;
 use crate::lookup::Lookup;
 use crate::note::{NoteOut, Piece};
@@ -11,8 +14,10 @@ use crate::rest::put_rest;
 use crate::shown::Shown;
 use crate::stamp::Stamp;
 use crate::watched::Watch;
+use dblog::{Index, LogError};
 use dbreport::Verdict;
 use dbsource::{Changes, Out, Refusal, RunError};
+use std::alloc::Global;
 
 /// Puts notes on the file at a path; `watch` has what the run has seen of it.
 #[derive(Drop)]
@@ -23,6 +28,8 @@ pub struct FileNotes<'a, R, N> {
     notes: NoteOut<'a, N>,
     before: Option<Stamp>,
     is_open: bool,
+    // Whether its log could be read, if it has one that is read.
+    is_read: bool,
     // The file's name, and why it cannot be opened, if that is known.
     reason: Option<Shown>,
 }
@@ -39,24 +46,46 @@ impl<'a, R: Lookup + AllocGlobal, N: Out> FileNotes<'a, R, N> {
             notes: NoteOut::new(rt.alloc(), notes),
             before: Stamp::at(rt, file),
             is_open: false,
+            is_read: true,
             reason: None,
         }
     }
 
-    /// Says that the file was opened. A note is put on each log beside it.
-    pub fn opened(&mut self) {
-        self.is_open = true;
-        put_log_notes(self.rt, self.file, &mut self.notes);
+    /// What gives memory.
+    pub fn alloc(&self) -> Global {
+        self.rt.alloc()
     }
 
-    /// Says that the file could not be opened, and why, if that is known.
-    pub fn unopened(&mut self, reason: Option<&str>) {
+    /// What the run has seen of the file.
+    pub fn watch(&self) -> &'a Watch {
+        self.watch
+    }
+
+    /// Says that the file was opened, and its write-ahead log too, if that is read. A note is put on each log beside it that is not.
+    pub fn opened(&mut self, recovered: bool) {
+        self.is_open = true;
+        put_log_notes(self.rt, self.file, recovered, &mut self.notes);
+    }
+
+    /// Says that the file could not be opened, or a log of it, and why, if that is known.
+    pub fn unopened(&mut self, reason: Option<(&str, &str)>) {
         let (alloc, file) = (self.rt.alloc(), self.file);
-        if let Some(reason) = reason
-            && let Ok(said) = format!(in alloc; "{file}: {reason}")
+        if let Some((suffix, reason)) = reason
+            && let Ok(said) = format!(in alloc; "{file}{suffix}: {reason}")
         {
             self.reason = Shown::of(alloc, said.as_str()).ok();
         }
+    }
+
+    /// Says what was found in the write-ahead log, and in the file after that: a note is put on it.
+    pub fn log_read(&mut self, found: &Result<(Index, u64), LogError>) {
+        let (alloc, file) = (self.rt.alloc(), self.file);
+        if let Ok(name) = format!(in alloc; "{file}{WAL}")
+            && let Ok(name) = Shown::of(alloc, name.as_str())
+        {
+            put_found(&mut self.notes, &name, found);
+        }
+        self.is_read = found.is_ok();
     }
 
     // Puts a note of the file's name, and of what is said of it.
@@ -90,6 +119,9 @@ impl<'a, R: Lookup + AllocGlobal, N: Out> FileNotes<'a, R, N> {
             }
             return;
         }
+        if !self.is_read {
+            return;
+        }
         match self.watch.failed() {
             Some(range) => self.put_of_file(&[
                 Piece::Words(": the "),
@@ -113,6 +145,17 @@ impl<'a, R: Lookup + AllocGlobal, N: Out> FileNotes<'a, R, N> {
             Refusal::Magic => self.put_of_file(&[beginning(self.watch.first())]),
             _ => {}
         }
+    }
+
+    // How many bytes the file has.
+    fn put_length(&mut self) {
+        let noun = match self.watch.len() {
+            0 => return self.put_of_file(&[Piece::Words(" has no bytes")]),
+            1 => " byte",
+            _ => " bytes",
+        };
+        let len = Piece::Number(self.watch.len());
+        self.put_of_file(&[Piece::Words(" has "), len, Piece::Words(noun)]);
     }
 
     // Whether the file was changed, if its name still leads to it.
@@ -142,14 +185,14 @@ impl<R: Lookup + AllocGlobal, N: Out> Notes for FileNotes<'_, R, N> {
         ]);
     }
 
-    fn tell_past_end(&mut self) {
-        let noun = match self.watch.len() {
-            0 => return self.put_of_file(&[Piece::Words(" has no bytes")]),
-            1 => " byte",
-            _ => " bytes",
-        };
-        let len = Piece::Number(self.watch.len());
-        self.put_of_file(&[Piece::Words(" has "), len, Piece::Words(noun)]);
+    fn tell_unrun(&mut self, why: Unrun) {
+        match why {
+            Unrun::PastEnd => self.put_length(),
+            Unrun::Version => {}
+            Unrun::PageSize => self.put_of_file(&[Piece::Words(
+                " and its log have pages of different sizes",
+            )]),
+        }
     }
 
     fn tell(&mut self, outcome: &Result<Verdict, RunError>) {

@@ -1,5 +1,6 @@
 // Who opens a file, and gets it back.
-use dbsource::{FileSource, ReadFailed, Source};
+use crate::lookup::Lookup;
+use dbsource::{FileSource, ReadFailed, RunError, Source};
 use std::alloc::AllocError;
 use std::fs::{self, File};
 use std::io;
@@ -8,7 +9,8 @@ use std::rt::{Clock, Files};
 
 /// Opens files by their paths, and gets each back when it was read.
 pub trait Opener {
-    ghost use Rattle.std.specs.Prelude.{ℕ, List, Result};
+    ghost use Rattle.std.specs.Prelude.{ℕ, List, Option, Result};
+    ghost use Rattle.dbsource.specs.declared.error.RunError.{RunError as Why};
     ghost use Rattle.dbsource.specs.declared.source.ReadFailed.{ReadFailed as Unread};
 
     /// What the bytes of an opened file are read from.
@@ -16,6 +18,9 @@ pub trait Opener {
 
     // What opening a path makes of the opener, and which file the answer is.
     ghost opens: { Self → List ℕ → Result Self.File Unread → Self → Type 0 };
+    // What opening the log of a path makes of the opener, by what the log's name has after that of its database: the answer is the log,
+    // or that there is none.
+    ghost opens_log: { Self → List ℕ → List ℕ → Result (Option Self.File) Why → Self → Type 0 };
     // What a file that is given back makes of the opener, by the state in which it is.
     ghost closes: { Self → Self.File → Self → Type 0 };
 
@@ -27,36 +32,52 @@ pub trait Opener {
     fn open(&mut self, path: &str) -> Result<Self::File, ReadFailed>
         ensures { opens self.old path.now result self.new };
 
+    /// Opens the log of the database at `path`, for reading: its name has `suffix` after that of the database, and if `path` is a link,
+    /// that is what it leads to. `None` where there is no log of this name, or it has no bytes.
+    ///
+    /// # Errors
+    ///
+    /// [`RunError::ReadFailed`] where it cannot be opened, and [`RunError::OutOfMemory`] where memory for its name was refused.
+    fn open_log(&mut self, path: &str, suffix: &'static str) -> Result<Option<Self::File>, RunError>
+        ensures { opens_log self.old path.now suffix.now result self.new };
+
     /// Takes back a file that it opened.
     fn close(&mut self, file: Self::File)
         ensures { closes self.old file self.new };
 
-    /// Why the last file could not be opened, if that is known.
-    fn reason(&self) -> Option<&str>;
+    /// Why the last file could not be opened, if that is known; and before that, what its name has after that of the database.
+    fn reason(&self) -> Option<(&str, &str)>;
 }
 
 /// The files of the system, as [`FileSource`] opens them.
 #[derive(Drop)]
 pub struct SystemFiles<'a, R> {
     rt: &'a R,
+    suffix: &'static str,
     reason: Option<String>,
 }
 
 impl<'a, R: Files<File = File> + Clock + AllocGlobal> SystemFiles<'a, R> {
     /// The files of the system that `rt` reaches.
     pub fn new(rt: &'a R) -> SystemFiles<'a, R> {
-        SystemFiles { rt, reason: None }
+        SystemFiles {
+            rt,
+            suffix: "",
+            reason: None,
+        }
     }
 }
 
 impl<'a, R: Files<File = File> + Clock + AllocGlobal> Opener for SystemFiles<'a, R> {
-    ghost use Rattle.std.specs.Prelude.{◌≡◌, IfOk, ⊤};
+    ghost use Rattle.std.specs.Prelude.{◌≡◌, IfOk, IfSome, ⊤};
     ghost use Rattle.dbsource.specs.Sources.{untold_source};
 
     type File = FileSource<'a, R>;
 
     // No contract knows the bytes of a file.
     ghost opens = { λ old path opened new. IfOk opened (λ source. source ≡ untold_source) };
+
+    ghost opens_log = { λ old path suffix opened new. IfOk opened (λ log. IfSome log (λ source. source ≡ untold_source)) };
 
     ghost closes = { λ old file new. ⊤ };
 
@@ -68,10 +89,50 @@ impl<'a, R: Files<File = File> + Clock + AllocGlobal> Opener for SystemFiles<'a,
         opened
     }
 
+    fn open_log(
+        &mut self,
+        path: &str,
+        suffix: &'static str,
+    ) -> Result<Option<FileSource<'a, R>>, RunError> {
+        let Ok(name) = log_name(self.rt, path, suffix) else {
+            return Err(RunError::OutOfMemory);
+        };
+        if !has_log(self.rt, name.as_str()) {
+            return Ok(None);
+        }
+        match self.open(name.as_str()) {
+            Ok(log) => Ok(Some(log)),
+            Err(error) => {
+                self.suffix = suffix;
+                Err(RunError::from(error))
+            }
+        }
+    }
+
     fn close(&mut self, _file: FileSource<'a, R>) {}
 
-    fn reason(&self) -> Option<&str> {
-        self.reason.as_deref()
+    fn reason(&self) -> Option<(&str, &str)> {
+        let reason = self.reason.as_deref()?;
+        Some((self.suffix, reason))
+    }
+}
+
+// The name of a log of the database at this path.
+fn log_name<R: Files + AllocGlobal>(
+    rt: &R,
+    path: &str,
+    suffix: &str,
+) -> Result<String, AllocError> {
+    let target = rt.link_target(path).unwrap_or(None);
+    let database = target.as_deref().unwrap_or(path);
+    format!(in rt.alloc(); "{database}{suffix}")
+}
+
+// Whether there is something at this path, that is not a file without bytes.
+fn has_log<R: Files + AllocGlobal>(rt: &R, path: &str) -> bool {
+    match rt.metadata(path) {
+        Ok(metadata) => !metadata.is_file() || metadata.len() > 0,
+        Err(error) => error.kind() != io::ErrorKind::NotFound,
     }
 }
 

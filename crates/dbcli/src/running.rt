@@ -2,21 +2,22 @@
 ghost use Rattle.std.specs.Prelude.{◌≡◌, map};
 ghost use Rattle.dbcli.specs.Running.{AnswersWords, IsErrorStatus, RunsLine};
 
+use crate::beside::{close_files, open_files, run_files};
 use crate::command_line::{Line, LineError, line_of};
 use crate::error_lines::{error_line, no_memory_line};
-use crate::finishing::{end, finish_line};
+use crate::finishing::end;
 use crate::lookup::Lookup;
 use crate::notes::FileNotes;
 use crate::opening::Opener;
 use crate::progress::Progress;
 use crate::status::line_status;
-use crate::watched::{Watch, Watched};
+use crate::watched::Watch;
 use crate::words_error::WordsError;
 use clap::error::ErrorKind;
-use dbsource::{Out, Patched, RunError};
+use dbsource::{Out, RunError};
 use std::io;
 
-/// The system of a run: its memory, what it looks paths up by, and the opener of its file.
+/// The system of a run: its memory, what it looks paths up by, and the opener of its files.
 #[derive(Drop)]
 pub struct System<'a, R, F> {
     /// Gives memory, and what is known of a path, for the notes.
@@ -34,8 +35,8 @@ impl<'a, R, F> System<'a, R, F> {
     }
 }
 
-/// Runs what a line asks for, on its file alone with its changes, and answers the exit status. What is reported of the file beside the
-/// report is put to `notes`, and the progress is wiped at the end.
+/// Runs what a line asks for, on its file, with its log if the line asks for that, and with its changes, and answers the exit status.
+/// What is reported of the file beside the report is put to `notes`, and the progress is wiped at the end.
 pub fn run_line<R: Lookup + AllocGlobal, F: Opener, O: Out, E: Out, N: Out, W: Print>(
     system: &mut System<'_, R, F>,
     line: Line<'_>,
@@ -44,29 +45,24 @@ pub fn run_line<R: Lookup + AllocGlobal, F: Opener, O: Out, E: Out, N: Out, W: P
     notes: &mut N,
     progress: &Progress<W>,
 ) -> u8
-    ensures { RunsLine F.opens F.closes F.File.Source O.Out E.Out line.entry.changes line.entry.request line.entry.file.now result
-        (system.old.files, out.old, err.old) (system.new.files, out.new, err.new) }
+    ensures { RunsLine F.opens F.opens_log F.closes F.File.Source O.Out E.Out line.entry.recovered line.entry.changes line.entry.request
+        line.entry.file.now result (system.old.files, out.old, err.old) (system.new.files, out.new, err.new) }
 {
-    let rt = system.rt;
     let watch = Watch::new();
-    let mut notes = FileNotes::new(rt, line.file, &watch, notes);
+    let mut notes = FileNotes::new(system.rt, line.file, &watch, notes);
     if !line.progress {
         progress.turn_off();
     }
-    let opened = system.files.open(line.file);
-    match opened {
-        Ok(source) => {
-            notes.opened();
-            let patched = Patched::new(&line.changes, source);
-            let mut watched = Watched::new(patched, &watch, progress);
-            let status = finish_line(rt.alloc(), &line, &mut watched, out, err, &mut notes);
-            system.files.close(watched.into_inner().into_inner());
-            progress.wipe();
+    match open_files(&mut system.files, &line) {
+        Ok(opened) => {
+            notes.opened(line.recovered);
+            let (status, left) = run_files(&line, opened, out, err, &mut notes, progress);
+            close_files(&mut system.files, left);
             status
         }
         Err(error) => {
             notes.unopened(system.files.reason());
-            end(err, Err(RunError::from(error)), &mut notes)
+            end(err, Err(error), &mut notes)
         }
     }
 }
@@ -90,7 +86,7 @@ pub fn answer_words<
     notes: &mut N,
     progress: &Progress<W>,
 ) -> u8
-    ensures { AnswersWords F.opens F.closes F.File.Source O.Out E.Out N.Out (map (λ word. word.now) words.entry.now) result
+    ensures { AnswersWords F.opens F.opens_log F.closes F.File.Source O.Out E.Out N.Out (map (λ word. word.now) words.entry.now) result
         (system.old.files, out.old, err.old, notes.old) (system.new.files, out.new, err.new, notes.new) }
 {
     let rt = system.rt;

@@ -1,26 +1,26 @@
 -- What the reader of a log answers is right for each log that it may have read.
-use Rattle.std.proofs.Common.{◌≡◌, ℕ, suc, zero, ◌<◌, ◌≤◌, ◌+◌, ◌-◌, ◌*◌, ◌/◌, ◌^◌, Bool, true, false, List, []}
+use Rattle.std.proofs.Common.{◌≡◌, ℕ, suc, zero, ◌<◌, ◌≤◌, ◌+◌, ◌-◌, ◌*◌, ◌/◌, true, false, List, []}
 use Rattle.std.proofs.Common.{◌∷◌, ◌++◌, length, take, drop, map, get_or, refl, sym, ap, subst, ◌∙◌, arith, cond, inl, inr}
-use Rattle.std.specs.Prelude.{◌⊎◌, ◌==◌, ◌&&◌, min, Option, Some, None, IfSome, Result, Ok, Err, IsTrue, slice_index}
-use Rattle.std.specs.List.{All, AllPairs, concat, range_with_len}
+use Rattle.std.specs.Prelude.{◌==◌, IfSome, Result, Ok, Err}
+use Rattle.std.specs.List.{All, concat}
 use Rattle.std.proofs.Math.Nat.{div-mul-le_self}
 use Rattle.std.proofs.lemmas.Bool.Decides.{nat_tests}
 use Rattle.std.proofs.lemmas.List.{drop-drop, drop-take, drop_at, length-append, length-take, take-take, take_at}
 use Rattle.std.proofs.lemmas.List.Elements.{All-head, All-tail}
 use Rattle.std.proofs.lemmas.List.FromFn.{fill_by_all}
-use Rattle.dbsource.specs.Answers.{Fits, IsRangeOf, Lengths, Step, failed, given}
+use Rattle.dbsource.specs.Answers.{IsRangeOf, Lengths, Step, failed, given}
 use Rattle.dbformat.specs.Log.{range}
 use Rattle.dbsource.specs.Failures.{failures_after, one_more}
 use Rattle.dbsource.specs.Sources.{SourceState}
 use Rattle.dbsource.proofs.Headers.{beginning, told_len, told_len_is}
 use Rattle.dbsource.proofs.Told.{if_told, if_told_both}
 use Rattle.dblog.specs.Entries.{IsIndexOf}
-use Rattle.dblog.specs.Indexes.{Indexed, Indexes, IndexesFrames, counts, counts_of, no_counts}
-use Rattle.dblog.specs.Reading.{IsAnswerFor, Reads, ReadsFrames, ReadsLog, ReadsRest, has_failed, is_failed, longest_read}
+use Rattle.dblog.specs.Indexes.{Indexed, Indexes, IndexesFrames, counts_of, no_counts}
+use Rattle.dblog.specs.Reading.{IsAnswerFor, Reads, ReadsFrames, ReadsLog, ReadsRest, has_failed, is_failed}
 use Rattle.dblog.specs.Scanning.{Scanned, Scans}
 use Rattle.dblog.specs.Sums.{sums_at}
 use Rattle.dblog.specs.Wal.{committed, frame_at, frame_size, frames, header, is_header, known_version}
-use Rattle.dblog.specs.Wal.{page_number, stated_pages, used, valid, valid_frames, version, whole_frames}
+use Rattle.dblog.specs.Wal.{page_number, stated_pages, valid, valid_frames, version, whole_frames}
 use Rattle.dblog.specs.declared.error.LogError.{LogError}
 use Rattle.dblog.specs.declared.error.LogError.TheVariants.{OutOfMemory, ReadFailed, Version}
 use Rattle.dblog.proofs.Pieces.{length_concat, times_le}
@@ -97,7 +97,7 @@ indexes_from file index t k =
 
 other_error : (e : LogError) → ¬ (e ≡ Version) → (file : List ℕ) → IsAnswerFor (Err e) file
 other_error ReadFailed n file = tt
-other_error OutOfMemory n file = tt
+other_error (OutOfMemory refused) n file = tt
 other_error Version n file = absurd (n refl)
 
 pub differs : (n m : ℕ) → false ≡ (n == m) → n ≡ m → ⊥

@@ -1,11 +1,11 @@
 -- A scan at the end of a log.
-use Rattle.std.proofs.Common.{◌≡◌, ℕ, ◌<◌, ◌≤◌, ◌+◌, Bool, true, false, List, [], ◌∷◌, ◌++◌}
+use Rattle.std.proofs.Common.{◌≡◌, ℕ, ◌≤◌, ◌+◌, Bool, true, false, List, [], ◌∷◌, ◌++◌}
 use Rattle.std.proofs.Common.{length, take, drop, map, refl, sym, ap, subst, ◌∙◌, arith, cond, append-nil}
 use Rattle.std.specs.Prelude.{Option, ◌||◌}
 use Rattle.std.specs.List.{filter, fold, list_any}
 use Rattle.std.proofs.lemmas.List.{drop-drop, drop_at, length-map, take-map}
 use Rattle.dblog.specs.Entries.{Gathers, IsIndexOf}
-use Rattle.dblog.specs.Indexes.{Indexed, IndexesFrames, broken_at, counts_of}
+use Rattle.dblog.specs.Indexes.{IndexesFrames, broken_at}
 use Rattle.dblog.specs.Scanning.{Scanned, Scans}
 use Rattle.dblog.specs.Sums.{sums_at}
 use Rattle.dblog.specs.Wal.{commits, committed, has_salts, page_number, page_size, pages_after, stated_pages, valid_frames}

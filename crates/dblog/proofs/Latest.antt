@@ -1,7 +1,7 @@
 -- Entries that others replace are not missed.
 use Rattle.std.proofs.Common.{◌≡◌, ℕ, ◌<◌, ◌≤◌, ◌+◌, suc, zero, Bool, true, false, List, [], ◌∷◌}
 use Rattle.std.proofs.Common.{length, get_or, refl, sym, ap, subst, ◌∙◌, ◌++◌, take, inl, inr, arith, cond}
-use Rattle.std.specs.Prelude.{◌⊎◌, ◌==◌, ◌&&◌, ◌||◌, nat_le, nat_lt, slice_index}
+use Rattle.std.specs.Prelude.{◌⊎◌, nat_lt, slice_index}
 use Rattle.std.specs.List.{All, AllPairs, Any, filter}
 use Rattle.std.specs.List.Sorted.{IsPermutation}
 use Rattle.std.specs.Ordering.{is_lt, nat_cmp, ordering_then}

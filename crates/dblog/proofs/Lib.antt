@@ -1,8 +1,16 @@
 pub mod Adding
 pub mod Latest
+pub mod Named
 pub mod Scans
 pub mod FrameRows
 pub mod Finished
 pub mod ReadSteps
 pub mod Pieces
+pub mod Ranges
+pub mod Padded
+pub mod BothRead
+pub mod ByPages
+pub mod Besides
+pub mod BothRuns
+pub mod Recovery
 pub mod Answered

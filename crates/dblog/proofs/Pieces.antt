@@ -1,9 +1,8 @@
 -- The pieces of a log, one after another.
-use Rattle.std.proofs.Common.{◌≡◌, ℕ, suc, ◌<◌, ◌≤◌, ◌+◌, ◌-◌, ◌*◌, ◌^◌, Bool, true, false, List}
-use Rattle.std.proofs.Common.{[], ◌∷◌, ◌++◌, length, take, drop, map, refl, sym, ap, subst, ◌∙◌, arith, append-nil}
-use Rattle.std.specs.Prelude.{Result, Ok, Err}
+use Rattle.std.proofs.Common.{◌≡◌, ℕ, suc, ◌<◌, ◌≤◌, ◌+◌, ◌*◌, ◌^◌, false, List}
+use Rattle.std.proofs.Common.{[], ◌∷◌, ◌++◌, length, refl, sym, ap, subst, ◌∙◌, arith}
+use Rattle.std.specs.Prelude.{Ok, Err}
 use Rattle.std.specs.List.{All, concat}
-use Rattle.std.proofs.Math.Nat.{mul-le-mul_left}
 use Rattle.std.proofs.lemmas.List.{length-append}
 use Rattle.std.proofs.lemmas.List.Folds.{concat-append}
 use Rattle.std.proofs.lemmas.List.Elements.{All-append, All-head, All-nil, All-tail}
@@ -13,6 +12,7 @@ use Rattle.dblog.specs.Reading.{Reads, ReadsFrames}
 use Rattle.dblog.specs.Scanning.{HasRoom, LooksAt, Scanned, Scans}
 use Rattle.dblog.specs.declared.error.LogError.{LogError}
 use Rattle.dblog.specs.declared.error.LogError.TheVariants.{OutOfMemory}
+use Rattle.dbsource.specs.declared.memory.NoMemory.{NoMemory}
 use Rattle.dblog.proofs.ReadSteps.{reads_join, reads_none}
 use Rattle.dblog.proofs.Scans.{scans_room}
 
@@ -101,9 +101,9 @@ pieces_read size count done old new s l p = record {
 }
 
 -- nothing was read, for want of memory
-pub nothing_read : {step : Step} {X : Type 0} {P : List (List ℕ) → X → Type 0} (size count : ℕ) (s : SourceState)
-    → ReadsFrames {X = X} step size 32 count (Err OutOfMemory) s s P
-nothing_read size count s = record {
+pub nothing_read : {step : Step} {X : Type 0} {P : List (List ℕ) → X → Type 0} (size count : ℕ) (s : SourceState) (refused : NoMemory)
+    → ReadsFrames {X = X} step size 32 count (Err (OutOfMemory refused)) s s P
+nothing_read size count s refused = record {
   frames = [];
   sized = All-nil (λ g. length g ≡ size);
   most = omega arith;

@@ -1,16 +1,15 @@
 -- What was read of a source, one range after another.
-use Rattle.std.proofs.Common.{◌≡◌, ℕ, ◌<◌, ◌≤◌, ◌+◌, ◌-◌, ◌*◌, Bool, true, false, List, [], ◌∷◌, ◌++◌}
-use Rattle.std.proofs.Common.{length, take, drop, map, refl, sym, ap, subst, ◌∙◌, inl, inr, arith, cond, append_assoc, append-nil}
-use Rattle.std.specs.Prelude.{◌⊎◌, Option, Some, None, IfSome, Result, Ok, Err, OnOk, IfOk}
-use Rattle.std.specs.List.{All, concat}
-use Rattle.std.proofs.lemmas.List.{drop-drop, drop-take, length-append, length-take-le, length-drop}
-use Rattle.std.proofs.lemmas.List.{map-append, take-append-drop, take-take, take_at, drop_at, take_all}
+use Rattle.std.proofs.Common.{◌≡◌, ℕ, ◌≤◌, ◌+◌, Bool, true, false, List, [], ◌∷◌, ◌++◌}
+use Rattle.std.proofs.Common.{length, take, drop, map, refl, sym, ap, subst, ◌∙◌, arith, cond}
+use Rattle.std.specs.Prelude.{IfSome}
+use Rattle.std.proofs.lemmas.List.{drop-drop, drop-take, length-append}
+use Rattle.std.proofs.lemmas.List.{map-append, take-append-drop, take-take, take_at, drop_at}
 use Rattle.dbformat.specs.Log.{range}
 use Rattle.dbformat.specs.declared.ByteRange.{ByteRange}
-use Rattle.dbsource.specs.Answers.{Answer, Fits, IsRangeOf, Leads, Step, answer, asked, failed, given}
-use Rattle.dbsource.specs.Failures.{failures_after, is_any, one_more}
+use Rattle.dbsource.specs.Answers.{Fits, IsRangeOf, Step, asked, failed, given}
+use Rattle.dbsource.specs.Failures.{one_more}
 use Rattle.dbsource.specs.Sources.{SourceState}
-use Rattle.dbsource.proofs.Logs.{asked_range, fits_join, fits_parts, leads_append}
+use Rattle.dbsource.proofs.Logs.{fits_join, fits_parts, leads_append}
 use Rattle.dbsource.proofs.Told.{if_told, if_told_both, told_all}
 use Rattle.dblog.specs.Reading.{InOrder, Reads, longest_read}
 

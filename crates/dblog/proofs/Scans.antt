@@ -1,9 +1,8 @@
 -- The frames of a log, one after another.
-use Rattle.std.proofs.Common.{◌≡◌, ℕ, ◌<◌, ◌≤◌, ◌+◌, ◌-◌, ◌^◌, Bool, true, false, List, [], ◌∷◌, ◌++◌}
-use Rattle.std.proofs.Common.{length, drop, map, refl, sym, ap, subst, ◌∙◌, inl, inr, arith, cond, append_assoc, append-nil}
-use Rattle.std.specs.Prelude.{◌⊎◌, ◌||◌, Result, Ok, Err, OnOk}
-use Rattle.std.specs.List.{filter, fold, list_any}
-use Rattle.std.proofs.lemmas.Bool.Decides.{nat_tests}
+use Rattle.std.proofs.Common.{◌≡◌, ℕ, ◌<◌, ◌≤◌, ◌+◌, ◌^◌, Bool, true, false, List, [], ◌∷◌, ◌++◌}
+use Rattle.std.proofs.Common.{length, drop, map, refl, sym, ap, subst, ◌∙◌, arith, cond, append_assoc, append-nil}
+use Rattle.std.specs.Prelude.{◌||◌, Result, Ok, Err, OnOk}
+use Rattle.std.specs.List.{filter, list_any}
 use Rattle.std.proofs.lemmas.List.{drop-append-le, length-append, length-drop, length_push, length-map, map-append}
 use Rattle.std.proofs.lemmas.List.Folds.{list_any-append}
 use Rattle.std.proofs.lemmas.List.Sums.{fold-append}

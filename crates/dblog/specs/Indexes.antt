@@ -1,5 +1,5 @@
 -- What is known of a log after it was read.
-use Rattle.std.specs.Prelude.{◌≡◌, ℕ, ◌+◌, ◌*◌, List, [], drop, length, map, nat_lt, Option, Some, None, if◌then◌else◌, IsTrue}
+use Rattle.std.specs.Prelude.{◌≡◌, ℕ, ◌+◌, ◌*◌, List, drop, length, map, nat_lt, Option, Some, None, if◌then◌else◌, IsTrue}
 use Rattle.std.specs.List.{filter}
 use Rattle.dblog.specs.Entries.{IsIndexOf}
 use Rattle.dblog.specs.Sums.{sums_at}

@@ -1,6 +1,10 @@
+pub mod Beside
 pub mod Entries
 pub mod Indexes
+pub mod Laws
+pub mod Placed
 pub mod Reading
+pub mod Recovered
 pub mod Scanning
 pub mod Sums
 pub mod Wal

@@ -7,8 +7,7 @@ use Rattle.dbsource.specs.Answers.{Answer, Fits, IsRangeOf, Leads, Lengths, Step
 use Rattle.dbsource.specs.Failures.{failures_after, one_more}
 use Rattle.dbsource.specs.Sources.{SourceState}
 use Rattle.dblog.specs.Indexes.{Indexed, Indexes}
-use Rattle.dblog.specs.Scanning.{LooksAt, Scanned, Scans}
-use Rattle.dblog.specs.Wal.{frame_size, header, is_header, known_version, version}
+use Rattle.dblog.specs.Wal.{header, is_header, known_version, version}
 use Rattle.dblog.specs.declared.error.LogError.{LogError}
 use Rattle.dblog.specs.declared.error.LogError.TheVariants.{OutOfMemory, ReadFailed, Version}
 
@@ -43,7 +42,7 @@ pub record Reads (step : Step) (from : ℕ) (failed : Bool) (old new : SourceSta
 -- whether the source failed
 abbrev pub is_failed : LogError → Bool
 is_failed ReadFailed = true
-is_failed OutOfMemory = false
+is_failed (OutOfMemory refused) = false
 is_failed Version = false
 
 abbrev pub has_failed : {X : Type 0} → Result X LogError → Bool

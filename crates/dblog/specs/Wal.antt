@@ -1,5 +1,5 @@
 -- The write-ahead log (Database File Format, 4.1 to 4.4): a header of 32 bytes, and then frames, each of a head of 24 bytes and a page.
-use Rattle.std.specs.Prelude.{ℕ, ◌+◌, ◌*◌, ◌-◌, ◌/◌, ◌^◌, ◌==◌, Bool, ◌&&◌, ◌||◌, List, [], ◌∷◌, drop, take, length, map, min, nat_le, nat_lt, if◌then◌else◌}
+use Rattle.std.specs.Prelude.{ℕ, ◌+◌, ◌*◌, ◌-◌, ◌/◌, ◌^◌, ◌==◌, Bool, ◌&&◌, ◌||◌, List, [], ◌∷◌, drop, take, length, map, min, nat_lt, if◌then◌else◌}
 use Rattle.std.specs.List.{fold, list_any, range_with_len}
 use Rattle.std.specs.Str.{bytes_eq}
 use Rattle.byteorder.specs.Endian.{big_number, little_number}

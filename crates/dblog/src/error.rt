@@ -1,6 +1,5 @@
 // Why a log was not read.
-use dbsource::ReadFailed;
-use std::alloc::AllocError;
+use dbsource::{NoMemory, ReadFailed};
 use thiserror::Error;
 
 /// Why a log was not read.
@@ -11,7 +10,7 @@ pub enum LogError {
     ReadFailed,
     /// Memory was refused.
     #[error("out of memory")]
-    OutOfMemory,
+    OutOfMemory(NoMemory),
     /// The log has a version that SQLite does not open.
     #[error("the log has an unknown version")]
     Version,
@@ -28,13 +27,13 @@ impl From<ReadFailed> for LogError {
     }
 }
 
-impl From<AllocError> for LogError {
+impl From<NoMemory> for LogError {
     ghost use Rattle.std.specs.Prelude.{◌≡◌};
     ghost use Rattle.dblog.specs.declared.error.LogError.TheVariants as log_error;
 
-    ghost from_gives = { λ _ e. e ≡ log_error.OutOfMemory };
+    ghost from_gives = { λ refused e. e ≡ log_error.OutOfMemory refused };
 
-    fn from(_error: AllocError) -> LogError {
-        LogError::OutOfMemory
+    fn from(refused: NoMemory) -> LogError {
+        LogError::OutOfMemory(refused)
     }
 }

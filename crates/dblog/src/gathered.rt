@@ -4,7 +4,8 @@ ghost use Rattle.std.specs.List.{All, AllPairs, filter};
 ghost use Rattle.dblog.specs.Entries.{Gathers, IsIndexOf};
 
 use crate::entry::{Entry, keep_latest};
-use std::alloc::{AllocError, Allocator};
+use dbsource::{NoMemory, memory};
+use std::alloc::Allocator;
 use std::marker::Model;
 
 // So many entries are gathered before the first are dropped.
@@ -78,14 +79,14 @@ impl<A: Allocator> Gathered<A> {
     }
 
     // One more frame, of this page; and whether it is committed with all before it.
-    pub fn add(&mut self, page: u32, frame: u32, commits: bool) -> Result<(), AllocError>
+    pub fn add(&mut self, page: u32, frame: u32, commits: bool) -> Result<(), NoMemory>
         requires { frame + 1 < 2 ^ 32 }
         ensures gathers { OnOk result ((pages : List ℕ) → length pages ≡ frame → self.old.committed ≤ frame
             → Gathers self.old.entries pages self.old.committed → Gathers self.new.entries (pages ++ page ∷ []) self.new.committed) }
         ensures committed { OnOk result (self.new.committed ≡ (if commits then frame + 1 else self.old.committed)) }
     {
         self.make_room();
-        self.entries.push(Entry::new(page, frame))?;
+        memory::push(&mut self.entries, Entry::new(page, frame))?;
         if commits {
             self.committed = frame + 1;
         }

@@ -94,7 +94,9 @@ impl<A: Allocator> Index<A> {
 
     /// The size of a page in bytes, or 0 where the file is no log.
     pub fn page_size(&self) -> u32
-        ensures { result ≡ self.now.page_size }
+        ensures size { result ≡ self.now.page_size }
+        ensures most { result ≤ 65536 }
+        ensures least { 0 < self.now.pages → 512 ≤ result }
     {
         self.page_size
     }
@@ -113,11 +115,30 @@ impl<A: Allocator> Index<A> {
         self.entries.as_slice()
     }
 
+    /// The last used frame of a page, if it has one.
+    pub fn frame_of(&self, page: u64) -> Option<u32>
+        ensures { result ≡ named_frame self.now.entries page }
+    {
+        named_frame(self.entries.as_slice(), page)
+    }
+
     /// What was found in the log.
     pub fn counts(&self) -> Counts
         ensures { result ≡ self.now.counts }
     {
         self.counts
+    }
+}
+
+// The frame that is named for a page, if one is: the pages rise.
+fn named_frame(entries: &[Entry], page: u64) -> Option<u32>
+    requires { AllPairs (λ d e. d.page < e.page) entries.now }
+    ensures { result ≡ named_frame entries.now page }
+{
+    let place = entries.partition_point(|entry| u64::from(entry.page()) < page);
+    match entries.get(place) {
+        Some(entry) if u64::from(entry.page()) == page => Some(entry.frame()),
+        _ => None,
     }
 }
 

@@ -1,5 +1,6 @@
 // Reading a write-ahead log: once, in order, from its start.
-ghost use Rattle.std.specs.Prelude.{◌≡◌, ◌+◌, ◌*◌, ◌^◌, ◌<◌, ◌≤◌, length};
+ghost use Rattle.std.specs.Prelude.{◌≡◌, ◌+◌, ◌*◌, ◌^◌, ◌<◌, ◌≤◌, IfSome, length};
+ghost use Rattle.dbsource.specs.Sources.{AreBytes};
 ghost use Rattle.dblog.specs.Reading.{ReadsFrames, ReadsLog, ReadsRest, longest_read};
 ghost use Rattle.dblog.specs.Scanning.{HasRoom, LooksAt, Scans};
 ghost use Rattle.dblog.specs.Wal.{frame_size, page_size, whole_frames};
@@ -8,7 +9,7 @@ use crate::error::LogError;
 use crate::index::Index;
 use crate::scan::Scan;
 use crate::wal_header::{HEADER_LEN, frame_size, has_known_version, is_header};
-use dbsource::Source;
+use dbsource::{Source, memory};
 use std::alloc::Allocator;
 
 // The most bytes of frames that are read at once, if a frame has no more.
@@ -58,7 +59,7 @@ fn read_frames<S: Source, A: Allocator + Copy>(
 {
     let size = frame_size(header);
     let most = frames_at_once(size);
-    let mut buffer = Vec::from_elem(alloc, 0u8, most.min(count) * size)?;
+    let mut buffer = memory::filled(alloc, 0u8, most.min(count) * size)?;
     let mut scan = Scan::new(alloc, header);
     let mut done = 0;
     while done < count {
@@ -116,7 +117,8 @@ impl<A: Allocator + Copy> Index<A> {
     /// [`LogError::ReadFailed`] exactly where the source failed, [`LogError::OutOfMemory`] where memory was refused, and
     /// [`LogError::Version`] where the file is a log of another version than SQLite opens.
     pub fn read<S: Source>(alloc: A, log: &mut S) -> Result<Index<A>, LogError>
-        ensures { ReadsLog S.step S.lengths result (S.held log.old) (S.held log.new) }
+        ensures reads { ReadsLog S.step S.lengths result (S.held log.old) (S.held log.new) }
+        ensures bytes { IfSome (S.held log.old).bytes AreBytes }
     {
         let len = log.len()?;
         if len < HEADER_LEN as u64 {

@@ -10,7 +10,8 @@ use crate::index::{Counts, Index, broken_at};
 use crate::sums::Sums;
 use crate::wal_header::{has_salts, is_valid, page_size};
 use dbformat::u32_at;
-use std::alloc::{AllocError, Allocator};
+use dbsource::NoMemory;
+use std::alloc::Allocator;
 use std::marker::Model;
 
 /// What is kept of the frames that were looked at.
@@ -63,7 +64,7 @@ impl<A: Allocator> Scan<A> {
     }
 
     // A valid frame more.
-    fn add(&mut self, frame: &[u8]) -> Result<(), AllocError>
+    fn add(&mut self, frame: &[u8]) -> Result<(), NoMemory>
         requires frame { 24 ≤ length frame.now }
         requires room { HasRoom 1 self.old }
         ensures { OnOk result (Adds frame.now self.old self.new) }
@@ -93,7 +94,7 @@ impl<A: Allocator> Scan<A> {
     }
 
     // The next frame.
-    pub fn look_at(&mut self, header: &[u8], frame: &[u8]) -> Result<(), AllocError>
+    pub fn look_at(&mut self, header: &[u8], frame: &[u8]) -> Result<(), NoMemory>
         requires header { 32 ≤ length header.now }
         requires frame { 24 ≤ length frame.now }
         requires room { HasRoom 1 self.old }
@@ -124,7 +125,7 @@ impl<A: Allocator> Scan<A> {
         frames: &[u8],
         size: usize,
         count: usize,
-    ) -> Result<(), AllocError>
+    ) -> Result<(), NoMemory>
         requires header { 32 ≤ length header.now }
         requires size { 24 ≤ size }
         requires whole { length frames.now ≡ count * size }

@@ -2,7 +2,7 @@ use Rattle.std.proofs.Common.{ap, ◌∙◌, ◌≡◌, sym, subst, map, [], Ok,
 use Rattle.std.specs.Prelude.{IfOk}
 use Rattle.clap.specs.Words.{HasKind, fault_of, is_simple, is_simple_and_free, subcommand_of}
 use Rattle.dbcli.proofs.Subcommands.{error_is_in_words, is_free_dbck, is_simple_dbck, memory_error, words_error}
-use Rattle.dbcli.specs.CommandLine.{AreSpelled, AsksFor, IsProgressOf, dbck_app}
+use Rattle.dbcli.specs.CommandLine.{AreSpelled, AsksFor, IsProgressOf, IsRecoveredOf, dbck_app}
 use Rattle.dbcli.proofs.command_line.line_of.Goals as goal
 
 pub returns-in-Ok-clause-asks : goal.returns-in-Ok-clause-asks
@@ -18,6 +18,13 @@ returns-in-Ok-clause-progress c =
     let words = map (λ word. word.now) c.args.words.now in
     let met = (c.in-Ok.ensures.matches (ap is_simple app ∙ is_simple_dbck)).1 ∙ ap (λ a. subcommand_of a words) app in
     subst (λ a. IfOk c.line_in.result (λ line. IsProgressOf line.progress a)) met c.line_in.ensures.progress
+
+pub returns-in-Ok-clause-recovered : goal.returns-in-Ok-clause-recovered
+returns-in-Ok-clause-recovered c =
+    let app = c.in_ok-command.ensures in
+    let words = map (λ word. word.now) c.args.words.now in
+    let met = (c.in-Ok.ensures.matches (ap is_simple app ∙ is_simple_dbck)).1 ∙ ap (λ a. subcommand_of a words) app in
+    subst (λ a. IfOk c.line_in.result (λ line. IsRecoveredOf line.recovered a)) met c.line_in.ensures.recovered
 
 pub returns-in-Ok-clause-changes : goal.returns-in-Ok-clause-changes
 returns-in-Ok-clause-changes c =

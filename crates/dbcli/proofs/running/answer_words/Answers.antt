@@ -11,6 +11,8 @@ returns-in-Ok g c = inl (record {
   changes = c.in-Ok.line.changes;
   are_changes = c.in-Ok.ensures.apart;
   spelled = c.in-Ok.ensures.changes;
+  recovered = c.in-Ok.line.recovered;
+  is_recovered = c.in-Ok.ensures.recovered;
   ran = c.run_line.ensures;
 })
 

@@ -1,4 +1,4 @@
-use Rattle.std.proofs.Common.{◌≡◌, ◌≤◌, ◌∙◌, ◌*◌, ◌+◌, Ok, Err, ap, subst, arith, inl}
+use Rattle.std.proofs.Common.{◌∙◌, ◌*◌, ◌+◌, Ok, Err, ap, subst, arith}
 use Rattle.std.proofs.lemmas.Result.{err_from_is_err_and}
 use Rattle.dblog.proofs.Pieces.{no_pieces, nothing_read, piece_failed, piece_read, pieces_read, room_for_piece}
 use Rattle.dblog.specs.Reading.{ReadsFrames}
@@ -9,7 +9,7 @@ use Rattle.dblog.proofs.reading.read_frames.Goals as goal
 pub returns-in_err-buffer : goal.returns-in_err-buffer
 returns-in_err-buffer g c =
     let p = err_from_is_err_and c.from_residual.result c.from_residual.ensures.1 in
-    rw p.1 (rw p.2 (nothing_read (frame_size c.args.header.now) c.args.count (g.S.Source.held c.args.log.now)))
+    rw p.1 (rw p.2 (nothing_read (frame_size c.args.header.now) c.args.count (g.S.Source.held c.args.log.now) _))
 
 pub loop-done-init : goal.loop-done-init
 loop-done-init g c = (

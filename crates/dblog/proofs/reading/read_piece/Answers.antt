@@ -1,11 +1,10 @@
-use Rattle.std.proofs.Common.{◌≡◌, ◌∙◌, ◌*◌, ◌+◌, ◌≤◌, length, refl, sym, subst, ap, arith, Ok, false, [], ℕ, List}
+use Rattle.std.proofs.Common.{◌≡◌, ◌∙◌, length, subst, arith, []}
 use Rattle.std.specs.List.{concat}
 use Rattle.std.proofs.lemmas.List.Elements.{All-nil}
 use Rattle.std.proofs.lemmas.Result.{err_from_is_err_and}
-use Rattle.dbsource.specs.declared.source.ReadFailed.{ReadFailed}
 use Rattle.dblog.proofs.FrameRows.{cut}
 use Rattle.dblog.proofs.ReadSteps.{reads_failed, reads_given}
-use Rattle.dblog.specs.Reading.{AreFrames, Reads, ReadsFrames}
+use Rattle.dblog.specs.Reading.{AreFrames}
 use Rattle.dblog.specs.Wal.{frame_size}
 use Rattle.dblog.proofs.reading.read_piece.Goals as goal
 

@@ -1,4 +1,4 @@
-use Rattle.std.proofs.Common.{◌∙◌, List, ℕ, ap, refl, sym, subst, Ok, Err}
+use Rattle.std.proofs.Common.{◌∙◌, ap, refl, sym, subst, Ok, Err}
 use Rattle.std.proofs.lemmas.Result.{err_from_is_err_and}
 use Rattle.dblog.proofs.Answered.{differs, no_log, rest_failed, rest_none, rest_read, same_number}
 use Rattle.dblog.specs.Reading.{ReadsFrames}

@@ -1,4 +1,4 @@
-use Rattle.std.proofs.Common.{◌≡◌, ◌≤◌, ◌∙◌, ◌++◌, ◌+◌, [], ◌∷◌, ap, arith, sym, subst, inl, inr, refl}
+use Rattle.std.proofs.Common.{◌∙◌, ◌++◌, ◌+◌, [], ◌∷◌, ap, arith, sym, subst, inl, inr, refl}
 use Rattle.dblog.specs.Entries.{Gathers}
 use Rattle.dblog.proofs.Latest.{gathers_more}
 use Rattle.dblog.proofs.gathered.Gathered.add.Goals as goal

@@ -3,17 +3,18 @@ use Rattle.std.proofs.lemmas.Result.{err_from_is_err_and}
 use Rattle.dblog.proofs.Answered.{log_headless, log_of_rest, log_short, log_unanswered}
 use Rattle.dblog.proofs.index.Index.read.Goals as goal
 
-pub returns-in_err-len : goal.returns-in_err-len
-returns-in_err-len g c =
+pub returns-in_err-len-clause-reads : goal.returns-in_err-len-clause-reads
+returns-in_err-len-clause-reads g c =
     let p = err_from_is_err_and c.from_residual.result c.from_residual.ensures.1 in
     rw p.1 (rw p.2 (log_unanswered _ _ c.in_err-len.ensures.told c.in_err-len.ensures.trail c.in_err-len.ensures.count))
 
-pub returns-then-len : goal.returns-then-len
-returns-then-len g c = rw c.none.ensures (log_short c.in_ok-len.len _ _ c.in_ok-len.ensures.told c.in_ok-len.ensures.trail c.in_ok-len.ensures.count
+pub returns-then-len-clause-reads : goal.returns-then-len-clause-reads
+returns-then-len-clause-reads g c = rw c.none.ensures (log_short c.in_ok-len.len _ _
+    c.in_ok-len.ensures.told c.in_ok-len.ensures.trail c.in_ok-len.ensures.count
     c.if-len.true c.in_ok-len.ensures.length c.in_ok-len.ensures.number)
 
-pub returns-in_err-read_at : goal.returns-in_err-read_at
-returns-in_err-read_at g c =
+pub returns-in_err-read_at-clause-reads : goal.returns-in_err-read_at-clause-reads
+returns-in_err-read_at-clause-reads g c =
     let p = err_from_is_err_and c.from_residual-in_err-read_at.result c.from_residual-in_err-read_at.ensures.1 in
     let long : length c.read_at.new.buf ≡ 32 = omega (arith, c.read_at.auto.buf) in
     rw p.1 (rw p.2 (log_headless c.in_ok-len.len c.read_at.new.buf _ _ _ long (omega (arith, c.if-len.false))
@@ -21,8 +22,8 @@ returns-in_err-read_at g c =
     c.in_err-read_at.ensures.told c.in_err-read_at.ensures.trail c.in_err-read_at.ensures.count
     c.in_ok-len.ensures.length c.in_ok-len.ensures.number))
 
-pub returns : goal.returns
-returns g c =
+pub returns-clause-reads : goal.returns-clause-reads
+returns-clause-reads g c =
     let long : length c.read_at.new.buf ≡ 32 = omega (arith, c.read_at.auto.buf) in
     log_of_rest c.in_ok-len.len c.read_at.new.buf c.read_rest.result _ _ _ _ long
     c.in_ok-len.ensures.told c.in_ok-len.ensures.trail c.in_ok-len.ensures.count

@@ -1,4 +1,4 @@
-use Rattle.std.proofs.Common.{◌+◌, sym, subst, arith}
+use Rattle.std.proofs.Common.{sym, subst, arith}
 use Rattle.dblog.proofs.Finished.{finished}
 use Rattle.dblog.specs.Scanning.{Scans}
 use Rattle.dblog.proofs.scan.Scan.finish.Goals as goal

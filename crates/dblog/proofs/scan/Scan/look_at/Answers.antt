@@ -1,5 +1,5 @@
 use Rattle.std.proofs.Common.{◌∙◌, ap, sym, subst, [], ◌∷◌}
-use Rattle.dblog.proofs.Scans.{added_room, broken_room, on_ok, passed_room, scans_added, scans_broken, scans_passed}
+use Rattle.dblog.proofs.Scans.{added_room, on_ok, passed_room, scans_added, scans_passed}
 use Rattle.dblog.specs.Scanning.{LooksAt}
 use Rattle.dblog.specs.Wal.{is_valid}
 use Rattle.dblog.proofs.scan.Scan.look_at.Goals as goal

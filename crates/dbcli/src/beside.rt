@@ -1,0 +1,214 @@
+// A file, and the log beside it.
+ghost use Rattle.std.specs.Prelude.{◌≡◌, IfSome, OnOk};
+ghost use Rattle.dbsource.specs.Sources.{AreBytes};
+ghost use Rattle.dbcli.specs.Beside.{ClosesFiles, FindsLog, FitsError, LooksAtHeader, OpensFiles, RunsBeside, RunsFiles, RunsLogged, is_used, log_line, log_status};
+ghost use Rattle.dbcli.specs.Exit.{EndsWithLine};
+ghost use Rattle.dbcli.specs.Finishing.{Finishes, RunsInside};
+
+use crate::command_line::Line;
+use crate::error_lines::Unrun;
+use crate::finishing::{Notes, end, finish_line, put_unrun};
+use crate::lookup::Lookup;
+use crate::notes::FileNotes;
+use crate::opening::Opener;
+use crate::progress::Progress;
+use crate::watched::Watched;
+use dblog::{Index, LogError, Logged};
+use dbsource::{Header, OpenError, Out, Patched, ReadFailed, RunError, Source};
+use std::alloc::Global;
+
+/// What a write-ahead log's name has after that of its database.
+pub(crate) const WAL: &str = "-wal";
+
+/// Opens the file of a line, and its log, if the line asks for it and there is one. Where the log cannot be opened, the file is given
+/// back.
+pub(crate) fn open_files<F: Opener>(
+    files: &mut F,
+    line: &Line<'_>,
+) -> Result<(F::File, Option<F::File>), RunError>
+    ensures { OpensFiles F.opens F.opens_log F.closes line.now.recovered line.now.file.now result files.old files.new }
+{
+    let base = match files.open(line.file) {
+        Ok(base) => base,
+        Err(error) => return Err(RunError::from(error)),
+    };
+    if !line.recovered {
+        return Ok((base, None));
+    }
+    match files.open_log(line.file, WAL) {
+        Ok(log) => Ok((base, log)),
+        Err(error) => {
+            files.close(base);
+            Err(error)
+        }
+    }
+}
+
+/// Gives back what was opened.
+pub(crate) fn close_files<F: Opener>(files: &mut F, opened: (F::File, Option<F::File>))
+    ensures { ClosesFiles F.opens F.opens_log F.closes opened files.old files.new }
+{
+    let (base, log) = opened;
+    files.close(base);
+    if let Some(log) = log {
+        files.close(log);
+    }
+}
+
+// Runs a line over a source, and answers the exit status, and the source.
+fn run_over<R: Lookup + AllocGlobal, S: Source + Drop, O: Out, E: Out, N: Out, W: Print>(
+    line: &Line<'_>,
+    source: S,
+    out: &mut O,
+    err: &mut E,
+    notes: &mut FileNotes<'_, R, N>,
+    progress: &Progress<W>,
+) -> (u8, S)
+    ensures { RunsInside S.Source O.Out E.Out line.now.changes (Finishes S.Source O.Out E.Out line.now.changes line.now.request result.0) result.0
+        (source, out.old, err.old) (result.1, out.new, err.new) }
+{
+    let patched = Patched::new(&line.changes, source);
+    let mut watched = Watched::new(patched, notes.watch(), progress);
+    let status = finish_line(notes.alloc(), line, &mut watched, out, err, notes);
+    progress.wipe();
+    (status, watched.into_inner().into_inner())
+}
+
+// Reads a log, and then asks for the length of its file.
+fn find_log<S: Source>(alloc: Global, base: &mut S, log: &mut S) -> Result<(Index, u64), LogError>
+    ensures found { FindsLog S.Source result (base.old, log.old) (base.new, log.new) }
+    ensures log { IfSome (S.held log.new).bytes AreBytes }
+    ensures base { OnOk result (IfSome (S.held base.new).bytes AreBytes) }
+{
+    let index = Index::read(alloc, log)?;
+    match base.len() {
+        Ok(len) => Ok((index, len)),
+        Err(error) => Err(LogError::from(error)),
+    }
+}
+
+// Puts the line of a log that was not read, and answers its status.
+fn end_log<E: Out, N: Notes>(err: &mut E, error: LogError, notes: &mut N) -> u8
+    ensures status { result ≡ log_status error }
+    ensures line { EndsWithLine (log_line error) 2 (E.held err.old) (E.held err.new) }
+{
+    match error {
+        LogError::ReadFailed => end(err, Err(RunError::ReadFailed), notes),
+        LogError::OutOfMemory(refused) => end(err, Err(RunError::from(refused)), notes),
+        LogError::Version => {
+            put_unrun(err, Unrun::Version, notes);
+            3
+        }
+    }
+}
+
+// That a header fits that is refused.
+fn unless_unread(error: OpenError) -> Result<bool, ReadFailed>
+    ensures { FitsError error result }
+{
+    match error {
+        OpenError::Refused(_) => Ok(true),
+        OpenError::ReadFailed => Err(ReadFailed),
+    }
+}
+
+// Whether the header of the database states the page size of the log. One that is refused is left to the run.
+fn fits<S: Source>(both: &mut Logged<S, S>) -> Result<bool, ReadFailed>
+    ensures { LooksAtHeader S.Source result both.old both.new }
+{
+    let size = both.page_size();
+    match Header::read(both) {
+        Ok(header) => Ok(header.geometry().page_size == size),
+        Err(error) => unless_unread(error),
+    }
+}
+
+// Runs a line over a file and its log as one, if they fit.
+fn run_logged<R: Lookup + AllocGlobal, S: Source + Drop, O: Out, E: Out, N: Out, W: Print>(
+    line: &Line<'_>,
+    both: Logged<S, S>,
+    out: &mut O,
+    err: &mut E,
+    notes: &mut FileNotes<'_, R, N>,
+    progress: &Progress<W>,
+) -> (u8, Logged<S, S>)
+    ensures { RunsLogged S.Source O.Out E.Out line.now.changes line.now.request result.0 (both, out.old, err.old) (result.1, out.new, err.new) }
+{
+    let mut both = both;
+    match fits(&mut both) {
+        Ok(is_fit) => {
+            if is_fit {
+                return run_over(line, both, out, err, notes, progress);
+            }
+            put_unrun(err, Unrun::PageSize, notes);
+            (3, both)
+        }
+        Err(error) => (end(err, Err(RunError::from(error)), notes), both),
+    }
+}
+
+// Whether something of a log with this index is used beside a file of this length.
+fn is_used(index: &Index, len: u64) -> bool
+    ensures { result ≡ is_used index.now len }
+{
+    index.pages() > 0 && len > 0
+}
+
+// Runs a line over a file and its log: over both as one, if something of the log is used.
+fn run_beside<R: Lookup + AllocGlobal, S: Source + Drop, O: Out, E: Out, N: Out, W: Print>(
+    line: &Line<'_>,
+    opened: (S, S),
+    out: &mut O,
+    err: &mut E,
+    notes: &mut FileNotes<'_, R, N>,
+    progress: &Progress<W>,
+) -> (u8, (S, S))
+    ensures { RunsBeside S.Source O.Out E.Out line.now.changes line.now.request result.0 (opened, out.old, err.old) (result.1, out.new, err.new) }
+{
+    let (mut base, mut log) = opened;
+    let found = find_log(notes.alloc(), &mut base, &mut log);
+    notes.log_read(&found);
+    match found {
+        Ok((index, len)) => {
+            if is_used(&index, len) {
+                let both = Logged::new(index, base, len, log);
+                let (status, both) = run_logged(line, both, out, err, notes, progress);
+                return (status, both.into_inner());
+            }
+            let (status, base) = run_over(line, base, out, err, notes, progress);
+            (status, (base, log))
+        }
+        Err(error) => (end_log(err, error, notes), (base, log)),
+    }
+}
+
+/// Runs a line over what was opened, and answers the exit status, and what is to be given back.
+pub(crate) fn run_files<
+    R: Lookup + AllocGlobal,
+    S: Source + Drop,
+    O: Out,
+    E: Out,
+    N: Out,
+    W: Print,
+>(
+    line: &Line<'_>,
+    opened: (S, Option<S>),
+    out: &mut O,
+    err: &mut E,
+    notes: &mut FileNotes<'_, R, N>,
+    progress: &Progress<W>,
+) -> (u8, (S, Option<S>))
+    ensures { RunsFiles S.Source O.Out E.Out line.now.changes line.now.request result.0 opened result.1 (out.old, err.old) (out.new, err.new) }
+{
+    let (base, log) = opened;
+    match log {
+        None => {
+            let (status, base) = run_over(line, base, out, err, notes, progress);
+            (status, (base, None))
+        }
+        Some(log) => {
+            let (status, (base, log)) = run_beside(line, (base, log), out, err, notes, progress);
+            (status, (base, Some(log)))
+        }
+    }
+}
