@@ -41,7 +41,8 @@ module _ {S : Type 0} (inner : SourceWords S) where
     pub tried_below : (r : Result Count RunError) → HasCounted over_words r s t
         → (t.source.ghost_name ≡ s.source.ghost_name) × HasTried inner s.changes.now r s.source.now t.source.now
     tried_below r h =
-        let below = patched_file (LentStep inner.step) (LentLength inner.lengths) IsSomeRunLog (λ file ranges. IsRunLog (geometry file) ranges × IsCountOf file r)
+        let below = patched_file (LentStep inner.step) (LentLength inner.lengths) IsSomeRunLog
+        (λ file ranges. IsRunLog (geometry file) ranges × IsCountOf file r)
         (lent s.source.ghost_name (inner.held s.source.now)) (lent t.source.ghost_name (inner.held t.source.now)) s.changes.now t.changes.now
         (λ ranges p. p) h.read in
         let k = lent_read inner.step inner.lengths IsSomeRunLog _ s.source.ghost_name t.source.ghost_name (inner.held s.source.now)

@@ -47,7 +47,8 @@ error_answer file ReadFailed h = tt
 error_answer file OutOfMemory h = h
 error_answer file WriteFailed h = h
 
-error_asked : (step : Step) (e : RunError) (old new : Trail) → AsksHeaderAlone {A = Verdict} step (Err e) old new → AsksHeaderAlone {A = Count} step (Err e) old new
+error_asked : (step : Step) (e : RunError) (old new : Trail) → AsksHeaderAlone {A = Verdict} step (Err e) old new
+    → AsksHeaderAlone {A = Count} step (Err e) old new
 error_asked step (Refused r) old new h = h
 error_asked step ReadFailed old new h = tt
 error_asked step OutOfMemory old new h = tt
@@ -79,10 +80,12 @@ module _ {S : Type 0} (source : SourceWords S) (old : S) where
   module _ (h : HeaderBytes) (mid new : S) (is_opened : IsOpened source h old mid) (s t : Counter) (none : s.faults ≡ 0) where
     abbrev HasLeft : Result Verdict RunError → Type 0
     HasLeft r = HasReadAfterHeader source.step (IsPageLog (geometry_of h.bytes h.file_len)) h
-        (λ file. (V : List Reference) → Survey file V → Leaves (HearsFaults CountsFault) CutsNever LeavesCount file V r s t) (source.held mid) (source.held new)
+        (λ file. (V : List Reference) → Survey file V → Leaves (HearsFaults CountsFault) CutsNever LeavesCount file V r s t)
+        (source.held mid) (source.held new)
 
     -- an error stopped it
-    pub stopped_count : (e : RunError) → HasLeft (Err e) → (source.held new).failures ≡ failures_after {A = Verdict} is_read_failed (Err e) (source.held mid).failures
+    pub stopped_count : (e : RunError) → HasLeft (Err e)
+        → (source.held new).failures ≡ failures_after {A = Verdict} is_read_failed (Err e) (source.held mid).failures
         → IsReadWriteOrMemory e → HasCounted source (Err e) old new
     stopped_count e left reads only =
         let k = opened source old {Says = λ file. IsCountOf file (Err e)} h mid new is_opened (Err e)
@@ -91,7 +94,8 @@ module _ {S : Type 0} (source : SourceWords S) (old : S) where
 
     -- all was heard
     whole_count : (v : Verdict) (c : Count) → c.faults ≡ t.faults → c.page_size ≡ (geometry_of h.bytes h.file_len).page_size
-        → (file : List ℕ) → IsHeaderOf h file → ((V : List Reference) → Survey file V → Leaves (HearsFaults CountsFault) CutsNever LeavesCount file V (Ok v) s t)
+        → (file : List ℕ) → IsHeaderOf h file
+        → ((V : List Reference) → Survey file V → Leaves (HearsFaults CountsFault) CutsNever LeavesCount file V (Ok v) s t)
         → IsCountOf file (Ok c)
     whole_count v c same size file is left =
         let V = survey file in
@@ -102,17 +106,20 @@ module _ {S : Type 0} (source : SourceWords S) (old : S) where
           faults = λ V s'. same ∙ (count_left file V s' s t (Ok v) (left V s') none).0;
           size = size ∙ ap (λ (g : Geometry). g.page_size) is.shape;
           answer = is.is_read;
-          sound = none_is_clean c.faults v (Sound file) (found.1 ∙ sym (verdict_counted (faults file V)) ∙ ap verdict_of (sym found.0 ∙ sym same)) clean;
+          sound = none_is_clean c.faults v (Sound file)
+              (found.1 ∙ sym (verdict_counted (faults file V)) ∙ ap verdict_of (sym found.0 ∙ sym same)) clean;
         }
 
     pub run_counted : (v : Verdict) (c : Count) → c.faults ≡ t.faults → c.page_size ≡ (geometry_of h.bytes h.file_len).page_size → HasLeft (Ok v)
         → (source.held new).failures ≡ (source.held mid).failures → HasCounted source (Ok c) old new
     run_counted v c same size left reads =
-        let k = opened source old {Says = λ file. IsCountOf file (Ok c)} h mid new is_opened (Ok v) (after_weaker h _ left (whole_count v c same size)) reads tt in
+        let k = opened source old {Says = λ file. IsCountOf file (Ok c)} h mid new is_opened (Ok v)
+        (after_weaker h _ left (whole_count v c same size)) reads tt in
         record { read = k.read; reads = k.reads; asked = tt }
 
 -- a reporter without Outs has no failed write
-pub never_written : (e : RunError) (s t : Counter) → SinkAfter {A = Verdict} is_write_failed (Err e) (borrows_none s) (borrows_none t) → is_write_failed e ≡ false
+pub never_written : (e : RunError) (s t : Counter) → SinkAfter {A = Verdict} is_write_failed (Err e) (borrows_none s) (borrows_none t)
+    → is_write_failed e ≡ false
 never_written (Refused r) s t h = refl
 never_written ReadFailed s t h = refl
 never_written OutOfMemory s t h = refl

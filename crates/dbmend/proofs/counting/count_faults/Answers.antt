@@ -24,5 +24,6 @@ pub returns-clause-counted : goal.returns-clause-counted
 returns-clause-counted g c =
     let ran = c.in_ok-run_over.ensures in
     run_counted g.S.Source c.args.source.now c.in_ok-desk.desk.header c.open_in.new.source c.run_over.new.source c.in_ok-desk.ensures
-    c.new-counter.result c.run_over.new.reporter c.new-counter.ensures c.in_ok-run_over.field-0 _ refl (ap (λ (g : Geometry). g.page_size) (c.geometry.ensures.shape
+    c.new-counter.result c.run_over.new.reporter c.new-counter.ensures c.in_ok-run_over.field-0 _ refl
+    (ap (λ (g : Geometry). g.page_size) (c.geometry.ensures.shape
     ∙ ap (λ (h : HeaderBytes). geometry_of h.bytes h.file_len) ran.keeps.desk.header)) ran.read ran.reads
