@@ -67,6 +67,13 @@ impl Changes {
     {
         self.changes.iter().all(|change| change.is_inside(len))
     }
+
+    /// Puts their bytes over those that were read at `offset`.
+    pub fn put_over(&self, offset: u64, buf: &mut [u8])
+        ensures { buf.new ≡ changed_from self.now offset buf.old }
+    {
+        put_changes(self.changes.as_slice(), offset, buf);
+    }
 }
 
 // Puts changes over bytes that were read at `offset`.

@@ -1,0 +1,57 @@
+// What may be wrong, and what may have been there: the edits that are worth a trial.
+ghost use Rattle.dbmend.specs.Deeds.{HasDone};
+
+use crate::counting::Findings;
+use crate::edit::Edit;
+use crate::header_edits::add_header;
+use crate::lost::{Lost, look_at_lost};
+use crate::numbers::add_entry;
+use crate::places::add_places;
+use crate::reading::{Paper, read_page};
+use crate::wanted::wanted_of;
+use arrayvec::ArrayVec;
+use dbformat::FaultCode;
+use dbsource::{RunError, Source};
+use std::alloc::Allocator;
+
+/// Edits to try, in their order.
+pub type Tries = ArrayVec<Edit, 60>;
+
+// Adds one, where there is room.
+pub(crate) fn add_try(tries: &mut Tries, offset: u64, bytes: &[u8]) {
+    if bytes.len() <= 8 {
+        let _ = tries.try_push(Edit::new(offset, bytes));
+    }
+}
+
+/// The edits that are worth a trial after some others, by what a run over the file with these found. Pages are read for it: each lost page,
+/// to see which of them no other one names, and then those that may have a wrong number.
+///
+/// # Errors
+///
+/// [`RunError::ReadFailed`] exactly where the source failed, and [`RunError::OutOfMemory`] where a growth was refused.
+pub fn candidates<A: Allocator + Copy, S: Source>(
+    alloc: A,
+    edits: &[Edit],
+    found: &Findings<A>,
+    source: &mut S,
+) -> Result<Tries, RunError>
+    ensures { HasDone S.Source result 0 0 (λ deeds. Unit {0}) source.old source.new }
+{
+    let mut paper = Paper::new_in(alloc, found.desk.geometry())?;
+    let mut lost = Lost::new_in(alloc, found.desk.geometry().pages)?;
+    look_at_lost(&found.desk, edits, source, &mut paper, &mut lost)?;
+    let mut tries = ArrayVec::new();
+    for fault in found.counter.noted() {
+        add_header(&mut tries, &found.desk, &lost, fault);
+        if let FaultCode::M01 = fault.code {
+            add_entry(&mut tries, &found.desk, fault.page);
+        }
+    }
+    let wanted = wanted_of(&found.desk, found.counter.noted());
+    for want in wanted.as_slice() {
+        read_page(source, edits, want.page, &mut paper)?;
+        add_places(&mut tries, &found.desk, &lost, want, &paper);
+    }
+    Ok(tries)
+}

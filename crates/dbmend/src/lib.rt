@@ -1,0 +1,32 @@
+//! What a search for the changes that make a damaged database sound stands on: runs over a file with changes, and the edits that are
+//! worth such a run.
+//!
+//! [`count_changed`] counts the faults of a file with some changes, as a check does of the file itself. It writes nothing. So whether a
+//! file would be sound with other bytes is answered before they are written.
+//!
+//! [`candidates`] gives, by what a run found, the edits that are worth a trial: a reference that is wrong and the lost pages that no
+//! other lost page names, or a number with one right value. What it finds is tested, not proved: it is plain code, of which is proved that it
+//! ends, and that it reads pages and nothing else.
+#![tactic(auto)]
+
+mod choosing;
+mod count;
+mod counter;
+mod counting;
+mod edit;
+mod header_edits;
+mod lent;
+mod looking;
+mod lost;
+mod numbers;
+mod places;
+mod pointers;
+mod reading;
+mod wanted;
+
+pub use choosing::{Tries, candidates};
+pub use count::Count;
+pub use counter::Counter;
+pub use counting::{Findings, count_changed};
+pub use dbsource::{Change, Changes, RunError, Source};
+pub use edit::{Edit, changes_with};
