@@ -40,7 +40,8 @@ IsReadOrMemory e = (e ≡ ReadFailed) ⊎ (e ≡ OutOfMemory)
 module _ {S : Type 0} (source : SourceWords S) where
   -- A run, whatever the source answered: there is a file that agrees with every byte that the run used, and of each such file the answer is so.
   pub record HasCounted (r : Result Count RunError) (old new : S) : Type 0 where
-    pub read : HasRead source.step source.lengths IsSomeRunLog (λ file ranges. IsRunLog (geometry file) ranges × IsCountOf file r) (source.held old) (source.held new)
+    pub read : HasRead source.step source.lengths IsSomeRunLog (λ file ranges. IsRunLog (geometry file) ranges
+        × IsCountOf file r) (source.held old) (source.held new)
     pub reads : (source.held new).failures ≡ failures_after is_read_failed r (source.held old).failures
     pub asked : AsksHeaderAlone source.step r (source.held old).trail (source.held new).trail
 

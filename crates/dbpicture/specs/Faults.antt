@@ -1,6 +1,7 @@
 -- What is shown of faults: the codes of a square's pages, and the frames. The strong frame is of the pages of the first entries, of those that
 -- the values of their first faults name, and of the causes of these.
-use Rattle.std.specs.Prelude.{ℕ, ◌+◌, ◌-◌, ◌*◌, ◌%◌, ◌^◌, ℤ, pos, Bool, List, [], ◌∷◌, map, min, flat_map, nat_lt, if◌then◌else◌, not, ◌&&◌, ◌++◌, codes, take, ◌==◌}
+use Rattle.std.specs.Prelude.{ℕ, ◌+◌, ◌-◌, ◌*◌, ◌%◌, ◌^◌, ℤ, pos, Bool, List, [], ◌∷◌, map, min, flat_map, nat_lt, if◌then◌else◌, not, ◌&&◌, ◌++◌}
+use Rattle.std.specs.Prelude.{codes, take, ◌==◌}
 use Rattle.std.specs.Int.{bit_at}
 use Rattle.std.specs.Int.RustNames.{bit_or}
 use Rattle.std.specs.List.{list_any, range_with_len}

@@ -44,4 +44,5 @@ pub record IsFresh (d : DeskView) : Type 0 where
 -- What walks over a desk asked for: pages of its file, none twice, each of which got its mark in between. What was left holds
 -- of each file with its header that agrees with what was read. The source failed exactly where that is answered.
 abbrev pub AsksOver : {A : Type 0} → Step → DeskView → DeskView → (List ℕ → Type 0) → Result A RunError → SourceState → SourceState → Type 0
-AsksOver step old new T r before after = Asks step (Reads (shape_of old).page_size old.marks new.marks) (λ file. IsHeaderOf old.header file → T file) is_read_failed r before after
+AsksOver step old new T r before after = Asks step (Reads (shape_of old).page_size old.marks new.marks) (λ file. IsHeaderOf old.header file
+    → T file) is_read_failed r before after

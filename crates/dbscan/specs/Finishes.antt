@@ -35,7 +35,8 @@ pub record HasHeard {K : Type 0} (hears : K → Notice → K → Type 0) (d : De
 -- What the end of a report makes of a reporter, whatever the source answered. Pages that were not visited may be read, each
 -- once. Of each file that agrees with what was read, and whose notices were all that the reporter had heard, this is what a run
 -- leaves. The answer says who failed.
-pub record HasFinished {S K : Type 0} (source : SourceWords S) (hears : K → Notice → K → Type 0) (held : K → ReporterState) (leaves : List ℕ → List Reference → Result Verdict RunError → K → K → Type 0)
+pub record HasFinished {S K : Type 0} (source : SourceWords S) (hears : K → Notice → K → Type 0) (held : K → ReporterState)
+    (leaves : List ℕ → List Reference → Result Verdict RunError → K → K → Type 0)
     (r : Result Verdict RunError) (before after : DeskView) (old new : S × K) : Type 0 where
   pub asks : Asks source.step (ReadsRising (shape_of before).page_size (IsUnmarked before.marks))
       (λ file. (V : List Reference) → (first : K) → HasHeard hears before file V first old.1 → leaves file V r first new.1)
@@ -50,9 +51,11 @@ Leaves hears cuts leaves file V r s t = leaves file V r s t ⊎ ((e : RunError) 
 
 -- What a run over a desk makes of a reporter, whatever the source answered: there is a file of the desk's header that agrees
 -- with all that was read after it, and of each such file, by any survey, this is what a run leaves. The answer says who failed.
-pub record HasReported {S K : Type 0} (source : SourceWords S) (held : K → ReporterState) (leaves : List ℕ → List Reference → Result Verdict RunError → K → K → Type 0)
+pub record HasReported {S K : Type 0} (source : SourceWords S) (held : K → ReporterState)
+    (leaves : List ℕ → List Reference → Result Verdict RunError → K → K → Type 0)
     (r : Result Verdict RunError) (before after : DeskView) (old new : S × K) : Type 0 where
-  pub read : HasReadAfterHeader source.step (IsPageLog (shape_of before)) before.header (λ file. (V : List Reference) → Survey file V → leaves file V r old.1 new.1)
+  pub read : HasReadAfterHeader source.step (IsPageLog (shape_of before)) before.header (λ file. (V : List Reference) → Survey file V
+      → leaves file V r old.1 new.1)
       (source.held old.0) (source.held new.0)
   pub reads : (source.held new.0).failures ≡ failures_after is_read_failed r (source.held old.0).failures
   pub keeps : KeepsHeader r before after (held old.1) (held new.1)

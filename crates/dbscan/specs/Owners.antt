@@ -49,7 +49,8 @@ owner_of file V p =
 -- is visited at the start of its visit, and that is the first start that names this root page.
 pub record HasOwner (file : List ℕ) (V : List Reference) (r : Reference) : Type 0 where
   pub free : (owner_of file V r.page ≡ Freelist) ↔ (start_of r.address ≡ freelist_start)
-  pub tree : (start_of r.address ≡ freelist_start → ⊥) → (u : Reference) × IsIn u V × (u.address ≡ start_of r.address ∷ []) × (owner_of file V r.page ≡ Tree u.page)
+  pub tree : (start_of r.address ≡ freelist_start → ⊥) → (u : Reference) × IsIn u V × (u.address ≡ start_of r.address ∷ [])
+      × (owner_of file V r.page ≡ Tree u.page)
   pub first : (q : ℕ) → owner_of file V r.page ≡ Tree q → first_start (starts file V) q ≡ start_at V r.page
 
 -- so it is of each visit of a survey

@@ -1,5 +1,6 @@
 -- The list of roots: the rows of the schema that have a root page, as far as there is room.
-use Rattle.std.specs.Prelude.{◌≡◌, ℕ, ◌+◌, ◌-◌, ◌*◌, ◌≤◌, ◌==◌, nat_le, List, ◌++◌, length, take, drop, map, slice_get, All, vec_len, Option, Some, None, if◌then◌else◌}
+use Rattle.std.specs.Prelude.{◌≡◌, ℕ, ◌+◌, ◌-◌, ◌*◌, ◌≤◌, ◌==◌, nat_le, List, ◌++◌, length, take, drop, map, slice_get, All, vec_len, Option, Some}
+use Rattle.std.specs.Prelude.{None, if◌then◌else◌}
 use Rattle.std.specs.Option.{option_map_or}
 use Rattle.dbformat.specs.Address.{last_root_start, schema_start}
 use Rattle.dbformat.specs.Reference.{Reference}

@@ -11,7 +11,8 @@ use Rattle.dbscan.specs.Notices.{Notice, run_notices}
 
 -- All that a run reports was heard, or after an error a beginning of it. At Ok the survey is marked, and a list has the rows of the
 -- schema with a root page.
-pub record IsScanned {S A : Type 0} (hears cuts : S → Notice → S → Type 0) (file : List ℕ) (V : List Reference) (r : Result A RunError) (marks : List Mark) (rows : List SchemaRow) (before after : S) : Type 0 where
+pub record IsScanned {S A : Type 0} (hears cuts : S → Notice → S → Type 0)
+    (file : List ℕ) (V : List Reference) (r : Result A RunError) (marks : List Mark) (rows : List SchemaRow) (before after : S) : Type 0 where
   pub told : Tells hears cuts r before (run_notices file V) after
   pub marked : OnOk r (AreMarksOf file V marks)
   pub listed : OnOk r (AreListed file V rows)

@@ -95,14 +95,17 @@ pub record IsNextPage (file : List ℕ) (page left : ℕ) (next : NextPage) : Ty
   pub zeros : usable_size file - 4 < left → next.is_in_zeros ≡ is_zeros (usable_size file) (page_bytes file page)
 
 -- What the visit of a page of a chain leaves: the number of the next page, what was reported, and what a sieve was fed.
-pub record IsOverflowVisited {S : Type 0} (takes : S → Finding → S → Type 0) (file : List ℕ) (chain : Chain) (number page left : ℕ) (r : Result NextPage RunError) (old new : Option RowSieve) (before after : S) : Type 0 where
+pub record IsOverflowVisited {S : Type 0} (takes : S → Finding → S → Type 0)
+    (file : List ℕ) (chain : Chain) (number page left : ℕ) (r : Result NextPage RunError) (old new : Option RowSieve)
+    (before after : S) : Type 0 where
   pub next : IfOk r (IsNextPage file page left)
   pub told : (U : List Reference) (c : Reference) → c.page ≡ page → bytes_left (role_of c) ≡ Some left → IsOnChain chain number c
       → HasHead file chain U c → Tells takes r before (told_at file U (at_page c)) after
   pub fed : OnOk r ((c : Reference) → c.page ≡ page → bytes_left (role_of c) ≡ Some left → Feeds old (held_bytes file c) new)
 
 -- Along the chain below c: the reference at this place is left, and a sieve was fed the pages so far.
-pub record IsOnWay {S : Type 0} (takes : S → Finding → S → Type 0) (file : List ℕ) (W : List Reference) (c : Reference) (before : S) (chain : Chain) (place : ChainPlace) (marks : List Mark) (now : S) (old new : Option RowSieve) : Type 0 where
+pub record IsOnWay {S : Type 0} (takes : S → Finding → S → Type 0) (file : List ℕ) (W : List Reference) (c : Reference) (before : S) (chain : Chain)
+    (place : ChainPlace) (marks : List Mark) (now : S) (old new : Option RowSieve) : Type 0 where
   pub pages : List Reference
   pub fed : FeedsPages file old pages new
   pub visited : List Reference
@@ -116,7 +119,9 @@ pub record IsOnWay {S : Type 0} (takes : S → Finding → S → Type 0) (file :
   pub rest : IsLeft takes file W (Go c ∷ []) before visited (Go d ∷ []) (marks, now)
 
 -- after a turn: at the next place, or at the end, or stopped by an error
-abbrev pub Turns : {S : Type 0} → (S → Finding → S → Type 0) → List ℕ → List Reference → Reference → S → Chain → Result (Option ChainPlace) RunError → List Mark → S → Option RowSieve → Option RowSieve → Type 0
+abbrev pub Turns : {S : Type 0} → (S → Finding → S → Type 0) → List ℕ → List Reference → Reference → S → Chain → Result (Option ChainPlace) RunError
+    → List Mark → S → Option RowSieve → Option RowSieve → Type 0
 Turns takes file W c before chain (Ok (Some place)) marks now old new = IsOnWay takes file W c before chain place marks now old new
-Turns takes file W c before chain (Ok None) marks now old new = IsDone {A = Unit {0}} takes file W (Go c ∷ []) (Ok tt) marks before now × FeedsChain file W c old new
+Turns takes file W c before chain (Ok None) marks now old new =
+    IsDone {A = Unit {0}} takes file W (Go c ∷ []) (Ok tt) marks before now × FeedsChain file W c old new
 Turns takes file W c before chain (Err e) marks now old new = IsDone {A = Unit {0}} takes file W (Go c ∷ []) (Err e) marks before now

@@ -18,14 +18,16 @@ use Rattle.dbsurvey.specs.InOrder.{IsPast}
 
 -- At Ok the marks are those of W and of all that is visited below the errands. What is reported below them was given to the
 -- sink: all of it at Ok, a beginning after an error.
-pub record IsDone {S A : Type 0} (takes : S → Finding → S → Type 0) (file : List ℕ) (W : List Reference) (errands : List (Errand Way Event)) (r : Result A RunError) (marks : List Mark) (before after : S) : Type 0 where
+pub record IsDone {S A : Type 0} (takes : S → Finding → S → Type 0) (file : List ℕ) (W : List Reference) (errands : List (Errand Way Event))
+    (r : Result A RunError) (marks : List Mark) (before after : S) : Type 0 where
   pub marked : OnOk r (AreMarksOf file (W ++ visited_below file W errands) marks)
   pub told : Tells takes r before (told_below file W errands) after
 
 -- What the walk over a whole tree leaves. At Ok the marks are those of W and of all that is visited below the root. The items of
 -- the walk (`IsFold` says what they are) were handed to sink and taker: all of them at Ok, after an error a beginning. So in a
 -- tree that is not the schema's, which has no rows, all that is found below the root was reported.
-pub record IsTreeDone {S T : Type 0} (takes : S → Finding → S → Type 0) (keeps : T → SchemaRow → Taken → T → Type 0) (refuses : T → SchemaRow → T → Type 0) (file : List ℕ) (W : List Reference) (c : Reference) (r : Result (Unit {0}) RunError)
+pub record IsTreeDone {S T : Type 0} (takes : S → Finding → S → Type 0) (keeps : T → SchemaRow → Taken → T → Type 0)
+    (refuses : T → SchemaRow → T → Type 0) (file : List ℕ) (W : List Reference) (c : Reference) (r : Result (Unit {0}) RunError)
     (marks : List Mark) (before after : S × T) : Type 0 where
   pub marked : OnOk r (AreMarksOf file (W ++ visited_below file W (Go c ∷ [])) marks)
   pub handed : Handed (watches takes keeps) (fails refuses) r before (tree_walk file W c).items after
@@ -33,7 +35,8 @@ pub record IsTreeDone {S T : Type 0} (takes : S → Finding → S → Type 0) (k
 
 -- Of all that is below the errands, after the visits of W, what is below the errands `left`, after those of U, is still to be
 -- done. The rest was reported, and the marks are those of U.
-pub record IsLeft {S : Type 0} (takes : S → Finding → S → Type 0) (file : List ℕ) (W : List Reference) (errands : List (Errand Way Event)) (before : S) (U : List Reference) (left : List (Errand Way Event)) (now : List Mark × S) : Type 0 where
+pub record IsLeft {S : Type 0} (takes : S → Finding → S → Type 0) (file : List ℕ) (W : List Reference) (errands : List (Errand Way Event)) (before : S)
+    (U : List Reference) (left : List (Errand Way Event)) (now : List Mark × S) : Type 0 where
   pub marked : AreMarksOf file U now.0
   pub past : IsPast U left
   pub apart : AreErrandsApart left

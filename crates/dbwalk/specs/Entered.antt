@@ -28,5 +28,6 @@ pub record IsStepOf (step : Step) (c : Reference) : Type 0 where
 -- it was followed, and marked; or refused, which was reported; or the sink was found shut
 abbrev pub Enters : {S : Type 0} → (S → Finding → S → Type 0) → List ℕ → List Reference → Reference → Result Bool RunError → List Mark → S → S → Type 0
 Enters takes file W c (Ok true) marks s t = (is_followed (rules_of file) W c ≡ true) × AreMarksOf file (W ++ (c ∷ [])) marks × (s ≡ t)
-Enters takes file W c (Ok false) marks s t = (is_followed (rules_of file) W c ≡ false) × AreMarksOf file W marks × Moves takes s (told_at file W (at_refused c)) t
+Enters takes file W c (Ok false) marks s t = (is_followed (rules_of file) W c ≡ false) × AreMarksOf file W marks
+    × Moves takes s (told_at file W (at_refused c)) t
 Enters takes file W c (Err e) marks s t = AreMarksOf file W marks × (s ≡ t)

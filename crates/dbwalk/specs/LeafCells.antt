@@ -1,6 +1,7 @@
 -- What is read of the leaf at a level: its cells; its keys, if the cells have nothing else to look at; and the greatest key so
 -- far.
-use Rattle.std.specs.Prelude.{◌≡◌, ℕ, zero, suc, ◌+◌, ◌-◌, ◌<◌, ◌≤◌, List, Option, Some, None, ℤ, slice_get, Bool, false, int_lt, int_le, if◌then◌else◌, ◌==◌, not, pos, true, [], ◌∷◌, IfSome, option_map, option_and_then}
+use Rattle.std.specs.Prelude.{◌≡◌, ℕ, zero, suc, ◌+◌, ◌-◌, ◌<◌, ◌≤◌, List, Option, Some, None, ℤ, slice_get, Bool, false, int_lt, int_le}
+use Rattle.std.specs.Prelude.{if◌then◌else◌, ◌==◌, not, pos, true, [], ◌∷◌, IfSome, option_map, option_and_then}
 use Rattle.std.specs.Option.{option_or, option_map_or}
 use Rattle.dbformat.specs.Head.{View, undamaged}
 use Rattle.dbformat.specs.Cell.{count, cell, overflow_size}
@@ -78,8 +79,10 @@ pub record HasCells (usable : ℕ) (kind : TreeKind) (levels : List (List ℕ)) 
 -- the first overflow page of cell i, with the number of payload bytes on overflow pages, and its key
 pub record HasCell (usable : ℕ) (kind : TreeKind) (levels : List (List ℕ)) (level page i : ℕ) (overflow : Option (ℕ × ℕ)) (key : Option ℤ) : Type 0 where
   pub most : IfSome overflow (λ o. o.1 ≤ most_payload)
-  pub chain : (bytes : List ℕ) (v : View) → slice_get levels level ≡ Some bytes → undamaged kind page usable bytes ≡ Some v → i < count v → overflow ≡ option_and_then (λ c. option_map (λ p. (p, overflow_size c)) c.overflow) (result_ok (cell v i))
-  pub key_is : (bytes : List ℕ) (v : View) → slice_get levels level ≡ Some bytes → undamaged kind page usable bytes ≡ Some v → i < count v → key ≡ option_and_then (λ c. c.key) (result_ok (cell v i))
+  pub chain : (bytes : List ℕ) (v : View) → slice_get levels level ≡ Some bytes → undamaged kind page usable bytes ≡ Some v → i < count v
+      → overflow ≡ option_and_then (λ c. option_map (λ p. (p, overflow_size c)) c.overflow) (result_ok (cell v i))
+  pub key_is : (bytes : List ℕ) (v : View) → slice_get levels level ≡ Some bytes → undamaged kind page usable bytes ≡ Some v → i < count v
+      → key ≡ option_and_then (λ c. c.key) (result_ok (cell v i))
 
 -- what a cell's first overflow page, with the number of payload bytes on overflow pages, leads to
 abbrev pub overflow_errands : Reference → ℕ → Option (ℕ × ℕ) → List (Errand Way Event)

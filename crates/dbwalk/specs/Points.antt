@@ -35,7 +35,8 @@ AtOverflow file tree levels page i read marks leaves = (U : List Reference) (c :
 
 -- at cell i of an undamaged leaf
 abbrev pub AtCell : {A S K T : Type 0} → List ℕ → List (List ℕ) → ℕ → ℕ → TreeWalk A S K T → (Walk → Reference → View → Type 0) → Type 0
-AtCell file levels page i walk leaves = (from : Walk) (c : Reference) (v : View) → IsLeafAt file walk.tree.kind walk.tree.start walk.tree.path.items c levels page
+AtCell file levels page i walk leaves = (from : Walk) (c : Reference) (v : View)
+    → IsLeafAt file walk.tree.kind walk.tree.start walk.tree.path.items c levels page
     → tree_view file c ≡ Some v → is_interior v.kind ≡ false → i < count v → AreBefore from.visits (then_step c.address (overflow_step i))
     → IsAt file from walk.marks.now walk.tree → leaves from c v
 
@@ -47,30 +48,36 @@ AtLeaf file levels page walk leaves = (from : Walk) (c : Reference) (v : View) �
 
 -- at a page of a tree that was read, as far as what is reported of it requires
 abbrev pub AtRead : Geometry → Tree → List (List ℕ) → ℕ → (List ℕ → Reference → Type 0) → Type 0
-AtRead g tree levels page leaves = (file : List ℕ) (c : Reference) (from item : ℕ) → g ≡ geometry file → IsCandidate tree.kind tree.start tree.path.items page from item c
+AtRead g tree levels page leaves = (file : List ℕ) (c : Reference) (from item : ℕ) → g ≡ geometry file
+    → IsCandidate tree.kind tree.start tree.path.items page from item c
     → HasPageAt levels (length tree.path.items) (page_bytes file page) → leaves file c
 
 -- at a page of a tree that was marked, and then read; `up_to` is the key of the innermost cell whose left child leads to it
 abbrev pub AtPage : {A S K T : Type 0} → List ℕ → List (List ℕ) → ℕ → Option ℤ → TreeWalk A S K T → (Walk → Reference → Type 0) → Type 0
-AtPage file levels page up_to walk leaves = (from : Walk) (c : Reference) (above item : ℕ) → IsCandidate walk.tree.kind walk.tree.start walk.tree.path.items page above item c
+AtPage file levels page up_to walk leaves = (from : Walk) (c : Reference) (above item : ℕ)
+    → IsCandidate walk.tree.kind walk.tree.start walk.tree.path.items page above item c
     → HasPageAt levels (length walk.tree.path.items) (page_bytes file page) → IsNext from.visits c → is_followed (rules_of file) from.visits c ≡ true
     → AreMarksOf file (from.visits ++ (c ∷ [])) walk.marks.now → walk.tree.greatest ≡ from.state.greatest → walk.tree.leaf ≡ from.state.leaf
     → key_up_to file (from.visits ++ (c ∷ [])) c ≡ up_to → leaves from c
 
 -- at a reference to a page of a tree
 abbrev pub AtReference : {A S K T : Type 0} → List ℕ → ℕ → ℕ → ℕ → Option ℤ → TreeWalk A S K T → (Walk → Reference → Type 0) → Type 0
-AtReference file page above item up_to walk leaves = (from : Walk) (c : Reference) → IsCandidate walk.tree.kind walk.tree.start walk.tree.path.items page above item c
+AtReference file page above item up_to walk leaves = (from : Walk) (c : Reference)
+    → IsCandidate walk.tree.kind walk.tree.start walk.tree.path.items page above item c
     → IsNext from.visits c → IsAt file from walk.marks.now walk.tree → key_up_to file (from.visits ++ (c ∷ [])) c ≡ up_to → leaves from c
 
 -- at the next step of the last of some frames, where the sink and the taker were `before` at first
-abbrev pub AtStep : {A S K T : Type 0} → ((K × T) → Item → (K × T) → Type 0) → List ℕ → List (List ℕ) → List StackFrame → TreeWalk A S K T → (List Reference → Reference → (K × T) → Type 0) → Type 0
-AtStep {K = K} {T = T} moves file levels frames walk leaves = (W : List Reference) (c : Reference) (before : K × T) → IsCandidate walk.tree.kind walk.tree.start [] c.page 0 walk.tree.start c
+abbrev pub AtStep : {A S K T : Type 0} → ((K × T) → Item → (K × T) → Type 0) → List ℕ → List (List ℕ) → List StackFrame → TreeWalk A S K T
+    → (List Reference → Reference → (K × T) → Type 0) → Type 0
+AtStep {K = K} {T = T} moves file levels frames walk leaves = (W : List Reference) (c : Reference) (before : K × T)
+    → IsCandidate walk.tree.kind walk.tree.start [] c.page 0 walk.tree.start c
     → IsWalkingOn moves file W c before (frames, levels) (walk.marks.now, walk.tree) (walk.sink.now, walk.taker.now) → leaves W c before
 
 -- at the root of a tree that was marked, and read; no page of the tree was visited before
 abbrev pub AtRoot : {A S K T : Type 0} → List ℕ → List (List ℕ) → ℕ → TreeWalk A S K T → (List Reference → Reference → Type 0) → Type 0
 AtRoot file levels page walk leaves = (W : List Reference) (c : Reference) → IsCandidate walk.tree.kind walk.tree.start [] page 0 walk.tree.start c
-    → HasPageAt levels 0 (page_bytes file page) → is_followed (rules_of file) W c ≡ true → IsNext W c → AreMarksOf file (W ++ (c ∷ [])) walk.marks.now → leaves W c
+    → HasPageAt levels 0 (page_bytes file page) → is_followed (rules_of file) W c ≡ true → IsNext W c → AreMarksOf file (W ++ (c ∷ [])) walk.marks.now
+    → leaves W c
 
 -- only the greatest key of a tree's state may have changed
 abbrev pub IsSameButGreatest : Tree → Tree → Type 0
@@ -81,7 +88,8 @@ abbrev pub IsSameButLeaf : Tree → Tree → Type 0
 IsSameButLeaf old new = (new.start ≡ old.start) × (new.kind ≡ old.kind) × (new.greatest ≡ old.greatest) × (new.path ≡ old.path)
 
 -- A turn begins: a frame was taken from the stack, above these, and this is what its page has at its step.
-pub record IsAtTurn (usable : ℕ) (kind : TreeKind) (levels : List (List ℕ)) (way : List ℕ) (frames : List StackFrame) (frame : StackFrame) (next : Next) : Type 0 where
+pub record IsAtTurn (usable : ℕ) (kind : TreeKind) (levels : List (List ℕ)) (way : List ℕ) (frames : List StackFrame) (frame : StackFrame)
+    (next : Next) : Type 0 where
   pub few : length frames < 20
   pub opened : AreOpen usable kind levels 0 (frames ++ (frame ∷ []))
   pub path : way ≡ path_of frames

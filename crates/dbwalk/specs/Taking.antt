@@ -1,5 +1,6 @@
 -- Rows of the schema: what a sieve has taken of a payload, what is reported of a row, and what the taker answers.
-use Rattle.std.specs.Prelude.{◌≡◌, ℕ, ◌+◌, Bool, true, false, List, [], ◌∷◌, ◌++◌, length, map, take, nat_lt, ◌==◌, if◌then◌else◌, ◌<◌, Option, Some, None, slice_get, Result, Ok, Err, filter_map, MatchResult, is_none, unwrap_or, ℤ, pos}
+use Rattle.std.specs.Prelude.{◌≡◌, ℕ, ◌+◌, Bool, true, false, List, [], ◌∷◌, ◌++◌, length, map, take, nat_lt, ◌==◌, if◌then◌else◌, ◌<◌, Option}
+use Rattle.std.specs.Prelude.{Some, None, slice_get, Result, Ok, Err, filter_map, MatchResult, is_none, unwrap_or, ℤ, pos}
 use Rattle.dbformat.specs.Address.{last_root_start, then_step, overflow_step}
 use Rattle.dbformat.specs.SchemaRow.{SchemaRow}
 use Rattle.dbwalk.specs.declared.taker.Taken.{Taken}
@@ -75,12 +76,14 @@ HoldsCell sieve e (Some x) = HasFed sieve x.size e x.local
 
 -- the sieve of cell i of the leaf at a level
 pub record HasSieve (usable : ℕ) (kind : TreeKind) (levels : List (List ℕ)) (level page i : ℕ) (e : Encoding) (sieve : Option RowSieve) : Type 0 where
-  pub read : (bytes : List ℕ) (v : View) → slice_get levels level ≡ Some bytes → undamaged kind page usable bytes ≡ Some v → i < count v → HoldsCell sieve e (result_ok (cell v i))
+  pub read : (bytes : List ℕ) (v : View) → slice_get levels level ≡ Some bytes → undamaged kind page usable bytes ≡ Some v → i < count v
+      → HoldsCell sieve e (result_ok (cell v i))
 
 -- A sieve that had taken the payload bytes in the cell has taken all of the payload that can be found, when the cell's chain
 -- was visited.
 pub record FeedsPayload (file : List ℕ) (U : List Reference) (c : Reference) (i : ℕ) (overflow : Option (ℕ × ℕ)) (old new : Option RowSieve) : Type 0 where
-  pub fed : (x : Cell) (e : Encoding) → AreBefore U (then_step c.address (overflow_step i)) → HasFed old x.size e x.local → HasFed new x.size e (payload file (U ++ visited_below file U (overflow_errands c i overflow)) c.address i x)
+  pub fed : (x : Cell) (e : Encoding) → AreBefore U (then_step c.address (overflow_step i)) → HasFed old x.size e x.local
+      → HasFed new x.size e (payload file (U ++ visited_below file U (overflow_errands c i overflow)) c.address i x)
 
 -- a row changes a taker, whatever it answers
 abbrev pub gives : {T : Type 0} → (T → SchemaRow → Taken → T → Type 0) → T → SchemaRow → T → Type 0
@@ -107,7 +110,8 @@ taken_faults at row a = told_if (is_none row.name) (fault S02 at.page at.item at
 
 -- The taker gets a row that can be read, and then its faults are reported, S04 exactly if it answered Full. Of another row only
 -- the fault is reported. `tells` says what reporting findings leaves.
-abbrev pub HandsRow : {S T : Type 0} → (S → List Finding → S → Type 0) → (T → SchemaRow → Taken → T → Type 0) → RowPlace × Result SchemaRow RowFault → S × T → S × T → Type 0
+abbrev pub HandsRow : {S T : Type 0} → (S → List Finding → S → Type 0) → (T → SchemaRow → Taken → T → Type 0) → RowPlace × Result SchemaRow RowFault
+    → S × T → S × T → Type 0
 HandsRow tells keeps (at, Err f) before after = tells before.0 (findings (fault_of at f ∷ [])) after.0 × (before.1 ≡ after.1)
 HandsRow tells keeps (at, Ok row) before after = (a : Taken) × keeps before.1 row a after.1 × tells before.0 (findings (taken_faults at row a)) after.0
 
@@ -118,5 +122,6 @@ FailsRow refuses OutOfMemory (at, Ok row) before after = refuses before.1 row af
 FailsRow refuses _ row before after = ⊥
 
 -- what became of a row
-abbrev pub TellsRow : {S T A : Type 0} → (S → Finding → S → Type 0) → (T → SchemaRow → Taken → T → Type 0) → (T → SchemaRow → T → Type 0) → RowPlace × Result SchemaRow RowFault → Result A RunError → S × T → S × T → Type 0
+abbrev pub TellsRow : {S T A : Type 0} → (S → Finding → S → Type 0) → (T → SchemaRow → Taken → T → Type 0) → (T → SchemaRow → T → Type 0)
+    → RowPlace × Result SchemaRow RowFault → Result A RunError → S × T → S × T → Type 0
 TellsRow takes keeps refuses row r before after = MatchResult r (λ _. HandsRow (Moves takes) keeps row before after) (λ e. FailsRow refuses e row before after)

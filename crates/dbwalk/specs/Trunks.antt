@@ -22,7 +22,8 @@ abbrev pub leaves_from : Reference → List ℕ → ℕ → ℕ → List (Errand
 leaves_from d page j n = map (leaf_errand d page) (range_with_len j n)
 
 -- something is left after some visits, or an error stopped it
-abbrev pub LeavesErrands : {S : Type 0} → (S → Finding → S → Type 0) → List ℕ → List Reference → List (Errand Way Event) → S → List (Errand Way Event) → Result (Unit {0}) RunError → List Mark → S → Type 0
+abbrev pub LeavesErrands : {S : Type 0} → (S → Finding → S → Type 0) → List ℕ → List Reference → List (Errand Way Event) → S → List (Errand Way Event)
+    → Result (Unit {0}) RunError → List Mark → S → Type 0
 LeavesErrands takes file W errands before left (Ok u) marks now = (U : List Reference) × IsLeft takes file W errands before U left (marks, now)
 LeavesErrands takes file W errands before left (Err e) marks now = IsDone {A = Unit {0}} takes file W errands (Err e) marks before now
 
@@ -48,7 +49,8 @@ abbrev pub freelist_reference : ℕ → Reference
 freelist_reference first = record { address = freelist_start ∷ []; page = first; role = record { role = trunk; from = 0; item = freelist_start } }
 
 -- On the way along the trunks from c on: this one is left.
-pub record IsOnTrunks {S : Type 0} (takes : S → Finding → S → Type 0) (file : List ℕ) (W : List Reference) (c : Reference) (before : S) (place : Step) (marks : List Mark) (now : S) : Type 0 where
+pub record IsOnTrunks {S : Type 0} (takes : S → Finding → S → Type 0) (file : List ℕ) (W : List Reference) (c : Reference) (before : S) (place : Step)
+    (marks : List Mark) (now : S) : Type 0 where
   pub visited : List Reference
   pub d : Reference
   pub step : IsStepOf place d
@@ -56,12 +58,15 @@ pub record IsOnTrunks {S : Type 0} (takes : S → Finding → S → Type 0) (fil
   pub rest : IsLeft takes file W (Go c ∷ []) before visited (Go d ∷ []) (marks, now)
 
 -- a trunk is open: the next one is left, from this item, or an error stopped it
-abbrev pub OpensTrunk : {S : Type 0} → (S → Finding → S → Type 0) → List ℕ → List Reference → Reference → S → Reference → Result ℕ RunError → List Mark → S → Type 0
-OpensTrunk takes file W c before d (Ok item) marks now = (U : List Reference) × IsLeft takes file W (Go c ∷ []) before U (map (go d) (next_trunk d.page (page_bytes file d.page) item)) (marks, now)
+abbrev pub OpensTrunk : {S : Type 0} → (S → Finding → S → Type 0) → List ℕ → List Reference → Reference → S → Reference → Result ℕ RunError
+    → List Mark → S → Type 0
+OpensTrunk takes file W c before d (Ok item) marks now = (U : List Reference)
+    × IsLeft takes file W (Go c ∷ []) before U (map (go d) (next_trunk d.page (page_bytes file d.page) item)) (marks, now)
 OpensTrunk takes file W c before d (Err e) marks now = IsDone {A = Unit {0}} takes file W (Go c ∷ []) (Err e) marks before now
 
 -- after a turn: at the next trunk, or at the end, or stopped by an error
-abbrev pub TrunkTurns : {S : Type 0} → (S → Finding → S → Type 0) → List ℕ → List Reference → Reference → S → Result (Option Step) RunError → List Mark → S → Type 0
+abbrev pub TrunkTurns : {S : Type 0} → (S → Finding → S → Type 0) → List ℕ → List Reference → Reference → S → Result (Option Step) RunError
+    → List Mark → S → Type 0
 TrunkTurns takes file W c before (Ok (Some step)) marks now = IsOnTrunks takes file W c before step marks now
 TrunkTurns takes file W c before (Ok None) marks now = IsDone {A = Unit {0}} takes file W (Go c ∷ []) (Ok tt) marks before now
 TrunkTurns takes file W c before (Err e) marks now = IsDone {A = Unit {0}} takes file W (Go c ∷ []) (Err e) marks before now

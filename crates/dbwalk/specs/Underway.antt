@@ -30,7 +30,8 @@ done_below file from errands = run_below file (bare from) errands
 
 -- What a call has done, where `done` is the call's own part of the walk. At Ok marks and state are those after it, and all its
 -- items were handed out; after an error, a beginning of them.
-pub record HasDone {P A : Type 0} (moves : P → Item → P → Type 0) (stops : P → Item → P → Type 0) (file : List ℕ) (done : Walk) (r : Result A RunError) (now : List Mark × Tree) (before after : P) : Type 0 where
+pub record HasDone {P A : Type 0} (moves : P → Item → P → Type 0) (stops : P → Item → P → Type 0)
+    (file : List ℕ) (done : Walk) (r : Result A RunError) (now : List Mark × Tree) (before after : P) : Type 0 where
   pub at : OnOk r (IsAt file done now.0 now.1)
   pub handed : Handed moves stops r before done.items after
 
@@ -53,7 +54,8 @@ IsEntered file from c r levels = IfOk r (λ yes. IsTrue yes → IsInterior file 
 
 -- A walk is at a point from which what is left completes it: marks and state are those of the point, and the items so far were
 -- handed out.
-pub record IsUnderway {P : Type 0} (moves : P → Item → P → Type 0) (file : List ℕ) (whole : Walk) (before : P) (now : Walk) (left : List (Errand Way Event)) (state : List Mark × Tree) (w : P) : Type 0 where
+pub record IsUnderway {P : Type 0} (moves : P → Item → P → Type 0) (file : List ℕ) (whole : Walk) (before : P) (now : Walk)
+    (left : List (Errand Way Event)) (state : List Mark × Tree) (w : P) : Type 0 where
   pub rest : run_below file now left ≡ whole
   pub at : IsAt file now state.0 state.1
   pub past : IsPast now.visits left
@@ -66,7 +68,8 @@ tree_walk file W c = run_below file (begin W) (Go c ∷ [])
 
 -- The walk over the tree of a start is under way, and only what the frames still have to do is left. Their pages are at their
 -- levels.
-pub record IsWalkingOn {P : Type 0} (moves : P → Item → P → Type 0) (file : List ℕ) (W : List Reference) (c : Reference) (before : P) (stack : List StackFrame × List (List ℕ)) (state : List Mark × Tree) (w : P) : Type 0 where
+pub record IsWalkingOn {P : Type 0} (moves : P → Item → P → Type 0) (file : List ℕ) (W : List Reference) (c : Reference) (before : P)
+    (stack : List StackFrame × List (List ℕ)) (state : List Mark × Tree) (w : P) : Type 0 where
   pub now : Walk
   pub under : IsUnderway moves file (tree_walk file W c) before now (left_over file state.1.kind c stack.0) state w
   pub root : root_of now.visits c.address ≡ Some c
@@ -75,5 +78,7 @@ pub record IsWalkingOn {P : Type 0} (moves : P → Item → P → Type 0) (file 
   pub read : AreRead file stack.1 0 stack.0
 
 -- What a turn of the loop leaves: the walk is still under way, or an error stopped it.
-abbrev pub HasTurned : {P : Type 0} → (P → Item → P → Type 0) → (P → Item → P → Type 0) → List ℕ → (List Reference × Reference × P) → Result (Unit {0}) RunError → (List StackFrame × List (List ℕ)) → (List Mark × Tree) → P → Type 0
-HasTurned moves stops file of r stack state w = OnOk r (IsWalkingOn moves file of.0 of.1 of.2 stack state w) × IfErr r (λ e. StopsAt moves stops e of.2 (tree_walk file of.0 of.1).items w)
+abbrev pub HasTurned : {P : Type 0} → (P → Item → P → Type 0) → (P → Item → P → Type 0) → List ℕ → (List Reference × Reference × P)
+    → Result (Unit {0}) RunError → (List StackFrame × List (List ℕ)) → (List Mark × Tree) → P → Type 0
+HasTurned moves stops file of r stack state w = OnOk r (IsWalkingOn moves file of.0 of.1 of.2 stack state w)
+    × IfErr r (λ e. StopsAt moves stops e of.2 (tree_walk file of.0 of.1).items w)

@@ -23,7 +23,8 @@ IsTreeError start e = IsReadOrWrite e ⊎ ((e ≡ OutOfMemory) × (start ≡ sch
 
 -- It borrows the same source, marks, taker and sink, of the same tree and file. Each failed call of a source or a taker is counted,
 -- and is the answer's error; a sink that failed is shut. Only the tree of the schema calls the taker.
-pub record Walked {A S K T R : Type 0} (told : S → SourceState) (held : K → SinkState) (refusals : T → ℕ) (r : Result R RunError) (g g' : Geometry) (old new : TreeWalk A S K T) : Type 0 where
+pub record Walked {A S K T R : Type 0} (told : S → SourceState) (held : K → SinkState) (refusals : T → ℕ)
+    (r : Result R RunError) (g g' : Geometry) (old new : TreeWalk A S K T) : Type 0 where
   pub source : new.source.ghost_name ≡ old.source.ghost_name
   pub marks : new.marks.ghost_name ≡ old.marks.ghost_name
   pub taker : new.taker.ghost_name ≡ old.taker.ghost_name
@@ -40,8 +41,10 @@ pub record Walked {A S K T R : Type 0} (told : S → SourceState) (held : K → 
 
 -- There is a log of the reads, each page once, and this holds of each file that agrees with the answers.
 abbrev pub SaysOfFiles : {A S K T : Type 0} → Step → (S → SourceState) → Geometry → TreeWalk A S K T → TreeWalk A S K T → (List ℕ → Type 0) → Type 0
-SaysOfFiles step told g old new says = HasLog step (Reads g.page_size old.marks.now new.marks.now) (λ file. g ≡ geometry file → old.encoding ≡ encoding file → says file) (told old.source.now) (told new.source.now)
+SaysOfFiles step told g old new says = HasLog step (Reads g.page_size old.marks.now new.marks.now) (λ file. g ≡ geometry file
+    → old.encoding ≡ encoding file → says file) (told old.source.now) (told new.source.now)
 
 -- it has done a part of the walk
-abbrev pub Does : {A S K T R : Type 0} → ((K × T) → Item → (K × T) → Type 0) → ((K × T) → Item → (K × T) → Type 0) → List ℕ → Walk → Result R RunError → TreeWalk A S K T → TreeWalk A S K T → Type 0
+abbrev pub Does : {A S K T R : Type 0} → ((K × T) → Item → (K × T) → Type 0) → ((K × T) → Item → (K × T) → Type 0) → List ℕ → Walk → Result R RunError
+    → TreeWalk A S K T → TreeWalk A S K T → Type 0
 Does moves stops file done r old new = HasDone moves stops file done r (new.marks.now, new.tree) (old.sink.now, old.taker.now) (new.sink.now, new.taker.now)
