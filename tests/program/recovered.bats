@@ -40,7 +40,7 @@ END
         # shellcheck disable=SC2086
         dbck $command --recovered "$work/pair.db"
         row "what $command writes of a pair" cmp "$work/out" "$work/wanted"
-        row "the note of $command on a pair" ended 0 '*' "dbck: note: $work/pair.db-wal: * of 1 transaction are read from it"$'\n'
+        row "the note of $command on a pair" ended 0 '*' "dbck: note: $work/pair.db-wal: 1 page of 1 transaction is read from it"$'\n'
     done
     cmp "$work/pair.db" "$work/kept.db"
     cmp "$work/pair.db-wal" "$work/kept.db-wal"
