@@ -1,11 +1,11 @@
 // Who opens a file, and gets it back.
 use crate::lookup::Lookup;
-use dbsource::{FileSource, ReadFailed, RunError, Source};
+use dbsource::{FileSource, NoMemory, ReadFailed, RunError, Source, memory};
 use std::alloc::AllocError;
 use std::fs::{self, File};
-use std::io;
 use std::os::unix::fs::FileTypeExt;
 use std::rt::{Clock, Files};
+use std::{io, str};
 
 /// Opens files by their paths, and gets each back when it was read.
 pub trait Opener {
@@ -94,13 +94,13 @@ impl<'a, R: Files<File = File> + Clock + AllocGlobal> Opener for SystemFiles<'a,
         path: &str,
         suffix: &'static str,
     ) -> Result<Option<FileSource<'a, R>>, RunError> {
-        let Ok(name) = log_name(self.rt, path, suffix) else {
-            return Err(RunError::OutOfMemory);
-        };
-        if !has_log(self.rt, name.as_str()) {
+        let name = log_name(self.rt, path, suffix)?;
+        // Both parts are UTF-8.
+        let name = str::from_utf8(name.as_slice()).unwrap_or("");
+        if !has_log(self.rt, name) {
             return Ok(None);
         }
-        match self.open(name.as_str()) {
+        match self.open(name) {
             Ok(log) => Ok(Some(log)),
             Err(error) => {
                 self.suffix = suffix;
@@ -118,14 +118,13 @@ impl<'a, R: Files<File = File> + Clock + AllocGlobal> Opener for SystemFiles<'a,
 }
 
 // The name of a log of the database at this path.
-fn log_name<R: Files + AllocGlobal>(
-    rt: &R,
-    path: &str,
-    suffix: &str,
-) -> Result<String, AllocError> {
+fn log_name<R: Files + AllocGlobal>(rt: &R, path: &str, suffix: &str) -> Result<Vec<u8>, NoMemory> {
     let target = rt.link_target(path).unwrap_or(None);
     let database = target.as_deref().unwrap_or(path);
-    format!(in rt.alloc(); "{database}{suffix}")
+    let mut name = Vec::new(rt.alloc());
+    memory::extend(&mut name, database.as_bytes())?;
+    memory::extend(&mut name, suffix.as_bytes())?;
+    Ok(name)
 }
 
 // Whether there is something at this path, that is not a file without bytes.
