@@ -50,14 +50,15 @@ if command -v sqlite3 > /dev/null && sqlite3 "$large" "PRAGMA page_size = 512;
     fi
     grep -q '<g><title>pages [0-9]* to [0-9]*: .* in table &lt;b&gt;&amp;&#39;.*<rect class="[to][0-9]*" x="[0-9]*" y="[1-5]" ' "$picture" ||
         bad "$large" 'no square is in bands'
-    # Three leaves of one table become zeros. The first leads: its frame lies above the bands of its square, and the others' below.
-    for page in $("$dbck" stat "$large" | awk -F '\t' '$1 == "plain" && $4 == "leaf" && ++n % 1000 == 0 && n <= 3000 { print $3 }'); do
+    # Thirteen leaves of one table, far from one another, become zeros. The first leads, and the entry keeps ten more runs of pages: the
+    # frames of these eleven lie above the bands of their squares, and those of the other two below.
+    for page in $("$dbck" stat "$large" | awk -F '\t' '$1 == "plain" && $4 == "leaf" && ++n % 300 == 0 && n <= 3900 { print $3 }'); do
         dd if=/dev/zero of="$large" bs=512 count=1 seek=$((page - 1)) conv=notrunc status=none
     done
     look "$large"
     frame='<rect width="6" height="6" stroke="#BE0700" stroke-width="2" x="[0-9]*" fill="none"/>'
     strong=$(grep -c "\"/>$frame</g>" "$picture")
     weak=$(grep -c "</title>$frame<rect" "$picture")
-    [ "$strong $weak" = '1 2' ] || bad "$large" "it has $strong strong frames and $weak weak ones"
+    [ "$strong $weak" = '11 2' ] || bad "$large" "it has $strong strong frames and $weak weak ones"
 fi
 exit $status
