@@ -1,7 +1,7 @@
 -- What a reporter keeps that hears notices, where each fault adds to it, each row is noted, and nothing else changes it.
 use Rattle.std.proofs.Common.{◌≡◌, ℕ, inl, inr, List, [], ◌∷◌, ◌++◌, refl, sym, ap, subst, ◌∙◌, append_assoc, append-nil}
 use Rattle.std.proofs.lemmas.List.Elements.{filter_map-append}
-use Rattle.dbsurvey.specs.Moves.{Moves, MovesBySome, Stops}
+use Rattle.dbsurvey.specs.Moves.{Moves, MovesBySome}
 use Rattle.dbformat.specs.Reference.{Reference}
 use Rattle.dbformat.specs.Rows.{StatRow, stat_rows}
 use Rattle.dbformat.specs.Survey.{Survey}
@@ -20,12 +20,6 @@ some_moves : {S E : Type 0} {move : S → E → S → Type 0} (es : List E) (s t
 some_moves [] s t m = ([], [], refl, m)
 some_moves (e ∷ es) s t (inl m) = ([], e ∷ es, refl, m)
 some_moves (e ∷ es) s t (inr (m, k, n)) = let r = some_moves es m t n in (e ∷ r.0, r.1, ap (λ l. e ∷ l) r.2, (m, k, r.3))
-
--- where no notice is refused, none stops it
-pub never_stops : {S E : Type 0} (move : S → E → S → Type 0) (es : List E) (s t : S) → Stops move (λ s e t. ⊥) s es t → ⊥
-never_stops move [] s t h = h
-never_stops move (e ∷ es) s t (inl h) = h
-never_stops move (e ∷ es) s t (inr (m, k, h)) = never_stops move es m t h
 
 -- By what is so of a reporter that has heard some faults and rows.
 module _ {K : Type 0} (adds : Reported → K → K → Type 0) (notes : StatRow → K → K → Type 0) (Has : List Reported → List StatRow → K → Type 0)

@@ -15,7 +15,6 @@ use Rattle.dbsource.proofs.Beginnings.{begins_nothing}
 use Rattle.dbsource.proofs.Puts.{appends_nothing}
 use Rattle.dbwalk.specs.Telling.{IsReadWriteOrMemory}
 use Rattle.dbscan.specs.Finishes.{Leaves}
-use Rattle.dbscan.specs.Notices.{CutsNever}
 use Rattle.dbreport.specs.Runs.{IsAnswerOf, SaysOk}
 use Rattle.dbreport.proofs.NotBegun.{no_failure}
 use Rattle.dbreport.proofs.RunAnswers.{if_ok, read_answer}
@@ -72,7 +71,7 @@ module _ {A O : Type 0} (held : O → OutState) (limit : ℕ) (file : List ℕ) 
   found (Err e) k = tt
 
   pub explained : (r : Result Verdict RunError) (old : O) → Survey file V → IsEmpty limit (geometry file) first.kept.now → first.out.now ≡ old
-      → Leaves Hears CutsNever (LeavesExplained held) file V r first now → Ends held r now after
+      → Leaves Hears (LeavesExplained held) file V r first now → Ends held r now after
       → WritesReport limit file V r (held old) (held after.out.now) × IfOk r (λ v. (explain_report limit file V).answer ≡ Ok v)
   explained r old survey empty begun left ends =
       let k = is_left held file V survey first now limit empty r left in

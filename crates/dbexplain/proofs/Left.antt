@@ -14,19 +14,17 @@ use Rattle.dbsource.specs.Outs.{Begins, OutState, Writes}
 use Rattle.dbsource.specs.declared.error.RunError.{RunError}
 use Rattle.dbsource.specs.declared.error.RunError.TheVariants.{Refused, ReadFailed, OutOfMemory, WriteFailed}
 use Rattle.dbsource.proofs.Beginnings.{begins_nothing}
-use Rattle.dbscan.specs.Hearing.{StopsBy}
 use Rattle.dbscan.specs.Trees.{AreTrees}
 use Rattle.dbscan.proofs.Trees.{all_noted}
 use Rattle.dbscan.specs.Desks.{DeskView}
 use Rattle.dbscan.specs.Finishes.{HasHeard, IsDeskOf, Leaves}
-use Rattle.dbscan.specs.Notices.{CutsNever, run_notices}
+use Rattle.dbscan.specs.Notices.{run_notices}
 use Rattle.dbscan.specs.Placed.{told_faults}
 use Rattle.dbscan.proofs.AllTold.{all_told}
 use Rattle.dbentries.specs.Bits.{HasPageBit}
 use Rattle.dbentries.specs.Listed.{listed_entries}
 use Rattle.dbentries.specs.Lists.{Held, ListsAll, ListsFirst}
 use Rattle.dbentries.specs.Zeros.{AreZeros}
-use Rattle.dbentries.proofs.Heard.{never_stops}
 use Rattle.dbexplain.specs.Explained.{explain_text}
 use Rattle.dbexplain.specs.Keeping.{HasAll, IsEmpty}
 use Rattle.dbexplain.specs.Reporting.{Hears, IsReportLeft, LeavesExplained}
@@ -106,12 +104,12 @@ module _ {A O : Type 0} (held : O → OutState) (file : List ℕ) (V : List Refe
   nothing_put m = subst (λ o. Begins (held first.out.now).bytes (held o).bytes (explain_text limit file V (listed_entries file V))) (sym (found m).0)
       (begins_nothing (held first.out.now).bytes (explain_text limit file V (listed_entries file V)))
 
-  stopped : (e : RunError) → StopsBy Hears CutsNever e first (run_notices file V) now → IsReportLeft held limit file V (Err e) first now
+  stopped : (e : RunError) → CutOff → IsReportLeft held limit file V (Err e) first now
   stopped ReadFailed m = found m
-  stopped WriteFailed m = absurd (never_stops Hears (run_notices file V) first now m)
+  stopped WriteFailed m = nothing_put m
   stopped OutOfMemory m = nothing_put m
   stopped (Refused r) m = nothing_put m
 
-  pub is_left : (r : Result Verdict RunError) → Leaves Hears CutsNever (LeavesExplained held) file V r first now → IsReportLeft held limit file V r first now
+  pub is_left : (r : Result Verdict RunError) → Leaves Hears (LeavesExplained held) file V r first now → IsReportLeft held limit file V r first now
   is_left r (inl h) = h limit empty
   is_left r (inr (e, is, m)) = subst (λ (r : Result Verdict RunError). IsReportLeft held limit file V r first now) (sym is) (stopped e m)

@@ -1,5 +1,5 @@
 -- The reporter of `explain`: what a notice makes of it, and what a run leaves.
-use Rattle.std.specs.Prelude.{◌≡◌, ℕ, List, Result, Ok, Err}
+use Rattle.std.specs.Prelude.{◌≡◌, ℕ, false, List, Result, Ok, Err}
 use Rattle.std.specs.Io.KnownBytes.{Appends}
 use Rattle.dbformat.specs.File.{geometry}
 use Rattle.dbformat.specs.Reference.{Reference}
@@ -11,7 +11,7 @@ use Rattle.dbsource.specs.Outs.{Begins, OutState, Puts}
 use Rattle.dbsource.specs.declared.error.RunError.{RunError}
 use Rattle.dbsource.specs.declared.error.RunError.TheVariants.{ReadFailed}
 use Rattle.dbsource.specs.declared.out.WriteFailed.{WriteFailed}
-use Rattle.dbscan.specs.Hearing.{ReporterState, one_out}
+use Rattle.dbwalk.specs.Telling.{SinkState, one_out}
 use Rattle.dbscan.specs.Notices.{Notice}
 use Rattle.dbentries.specs.Listed.{listed_entries}
 use Rattle.dbentries.specs.Lists.{ListsFirst, heard}
@@ -42,9 +42,9 @@ module _ {A O : Type 0} where
   Hears = HearsReported Adds Notes
 
   module _ (held : O → OutState) where
-    -- it borrows its Out, whose failures are counted
-    abbrev pub explain_held : ExplainReporter A O → ReporterState
-    explain_held s = one_out s.out.ghost_name (held s.out.now).failures
+    -- it borrows its Out, whose failures are counted; nothing is put before its end
+    abbrev pub explain_held : ExplainReporter A O → SinkState
+    explain_held s = one_out s.out.ghost_name (held s.out.now).failures false
 
     -- By the answer of a run over a file: the report was put, and this was found; after a failed read nothing was put yet, and the first
     -- faults are listed; and at another error a beginning of the report was put.

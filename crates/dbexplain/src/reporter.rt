@@ -9,7 +9,7 @@ use dbentries::Reported;
 use dbformat::Verdict;
 use dblines::put_ok;
 use dbscan::{Desk, Finish, Notice, Reporter};
-use dbsource::{Geometry, Out, RunError, Source, WriteFailed};
+use dbsource::{Geometry, Out, RunError, Source};
 use dbwalk::{Marks, Row};
 use std::alloc::Allocator;
 
@@ -59,30 +59,24 @@ impl<'a, A: Allocator, O: Out> ExplainReporter<'a, A, O> {
 }
 
 impl<A: Allocator, O: Out> Reporter for ExplainReporter<'_, A, O> {
-    ghost use Rattle.dbscan.specs.Notices.{CutsNever};
     ghost use Rattle.dbexplain.specs.Reporting.{Hears, explain_held};
 
     ghost hears = { Hears };
 
-    ghost cuts = { CutsNever };
-
     ghost held = { explain_held O.held };
 
-    fn hear(&mut self, notice: &Notice<'_>) -> Result<(), WriteFailed> {
+    fn hear(&mut self, notice: &Notice<'_>) {
         match notice {
             Notice::Fault(told) => self.add(told),
             Notice::Row(_, row) => self.note(row),
             Notice::Ended(_) => {}
         }
-        Ok(())
     }
 
-    fn walked<B: Allocator>(
-        &mut self,
-        _geometry: Geometry,
-        _marks: &Marks<B>,
-    ) -> Result<(), WriteFailed> {
-        Ok(())
+    fn walked<B: Allocator>(&mut self, _geometry: Geometry, _marks: &Marks<B>) {}
+
+    fn is_shut(&self) -> bool {
+        false
     }
 }
 

@@ -18,15 +18,13 @@ use Rattle.dbsource.proofs.Puts.{keeps_same}
 use Rattle.dbsource.specs.Outs.{OutState}
 use Rattle.dbsource.specs.declared.error.RunError.{RunError}
 use Rattle.dbsource.specs.declared.error.RunError.TheVariants.{OutOfMemory, ReadFailed, Refused, WriteFailed}
-use Rattle.dbscan.specs.Hearing.{StopsBy}
 use Rattle.dbscan.specs.Finishes.{Leaves}
-use Rattle.dbscan.specs.Notices.{CutsNever, run_notices}
+use Rattle.dbscan.specs.Notices.{run_notices}
 use Rattle.dbscan.specs.Placed.{told_faults}
 use Rattle.dbscan.proofs.AllTold.{all_told}
 use Rattle.dbentries.specs.Bits.{HasPageBit}
 use Rattle.dbentries.specs.Lists.{HasListed, Held, ListsAll}
 use Rattle.dbentries.specs.Zeros.{AreZeros}
-use Rattle.dbentries.proofs.Heard.{never_stops}
 use Rattle.dbpicture.specs.Keeping.{AreNoted, HasFaults, HearsNone}
 use Rattle.dbpicture.specs.Faults.{fault_signs}
 use Rattle.dbscan.specs.Trees.{AreTrees}
@@ -78,12 +76,6 @@ module _ {A O : Type 0} (file : List ℕ) (V : List Reference) (survey : Survey 
     pub map_unput : (held : O → OutState) → Keeps (held s.out.now).bytes (held t.out.now).bytes
     map_unput held = subst (λ (o : MutBor O). Keeps (held s.out.now).bytes (held o.now).bytes) (sym all.out) (keeps_same (held s.out.now).bytes)
 
-  stopped : (e : RunError) → StopsBy Hears CutsNever e s (run_notices file V) t → t.out ≡ s.out
-  stopped (Refused r) h = some_untouched file V survey s t empty h
-  stopped ReadFailed h = some_untouched file V survey s t empty h
-  stopped OutOfMemory h = some_untouched file V survey s t empty h
-  stopped WriteFailed h = absurd (never_stops Hears (run_notices file V) s t h)
-
   -- a picture was not begun where nothing was put
   unbegun : (e : RunError) (old new : Option (List ℕ)) → Keeps old new → PutsMap {A = Verdict} (Err e) old new (map_picture file V s.name.now)
   unbegun (Refused r) old new kept = kept
@@ -92,12 +84,13 @@ module _ {A O : Type 0} (file : List ℕ) (V : List Reference) (survey : Survey 
   unbegun WriteFailed old new kept = nothing_begun old new (map_picture file V s.name.now) kept
 
   -- a run that came to its end, or not
-  pub map_left : (held : O → OutState) (r : Result Verdict RunError) → Leaves Hears CutsNever (LeavesMap held) file V r s t
+  pub map_left : (held : O → OutState) (r : Result Verdict RunError) → Leaves Hears (LeavesMap held) file V r s t
       → IfOk r (λ v. v ≡ verdict (faults file V)) × PutsMap r (held s.out.now).bytes (held t.out.now).bytes (map_picture file V s.name.now)
   map_left held r (inl h) = h empty
   map_left held r (inr (e, is, k)) =
       let kept : Keeps (held s.out.now).bytes (held t.out.now).bytes =
-      subst (λ (o : MutBor O). Keeps (held s.out.now).bytes (held o.now).bytes) (sym (stopped e k)) (keeps_same (held s.out.now).bytes) in
+      subst (λ (o : MutBor O). Keeps (held s.out.now).bytes (held o.now).bytes) (sym (some_untouched file V survey s t empty k))
+      (keeps_same (held s.out.now).bytes) in
       subst (λ (r : Result Verdict RunError). IfOk r (λ v. v ≡ verdict (faults file V))
       × PutsMap r (held s.out.now).bytes (held t.out.now).bytes (map_picture file V s.name.now)) (sym is)
       (tt, unbegun e (held s.out.now).bytes (held t.out.now).bytes kept)

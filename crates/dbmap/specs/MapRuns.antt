@@ -1,12 +1,12 @@
 -- The reporter of `map`: what a fault makes of it, and what it answers at the end.
-use Rattle.std.specs.Prelude.{◌≡◌, ℕ, List, Result, IfOk}
+use Rattle.std.specs.Prelude.{◌≡◌, ℕ, false, List, Result, IfOk}
 use Rattle.dbformat.specs.File.{geometry}
 use Rattle.dbformat.specs.Reference.{Reference}
 use Rattle.dbformat.specs.Report.{faults, verdict}
 use Rattle.dbformat.specs.declared.Verdict.{Verdict}
 use Rattle.dbsource.specs.Outs.{OutState}
 use Rattle.dbsource.specs.declared.error.RunError.{RunError}
-use Rattle.dbscan.specs.Hearing.{one_out, ReporterState}
+use Rattle.dbwalk.specs.Telling.{SinkState, one_out}
 use Rattle.dbscan.specs.Notices.{Notice}
 use Rattle.dbentries.specs.Reported.{HearsReported}
 use Rattle.dbpicture.specs.Keeping.{Adds, HearsNone, Notes}
@@ -26,9 +26,9 @@ module _ {A O : Type 0} where
   abbrev pub Hears : MapReporter A O → Notice → MapReporter A O → Type 0
   Hears = HearsReported (λ x. Changes (Adds x)) (λ r. Changes (Notes r))
 
--- it borrows its Out, whose failures are counted
-abbrev pub map_held : {A O : Type 0} → (O → OutState) → MapReporter A O → ReporterState
-map_held held s = one_out s.out.ghost_name (held s.out.now).failures
+-- it borrows its Out, whose failures are counted; nothing is put before its end
+abbrev pub map_held : {A O : Type 0} → (O → OutState) → MapReporter A O → SinkState
+map_held held s = one_out s.out.ghost_name (held s.out.now).failures false
 
 -- What a run leaves that had heard nothing before: the verdict, and a picture.
 abbrev pub LeavesMap : {A O : Type 0} → (O → OutState) → List ℕ → List Reference → Result Verdict RunError → MapReporter A O → MapReporter A O → Type 0

@@ -2,7 +2,7 @@
 use dbformat::Verdict;
 use dbpicture::{KeptFaults, put_map};
 use dbscan::{Desk, Finish, Notice, Reporter};
-use dbsource::{Geometry, Out, RunError, Source, WriteFailed};
+use dbsource::{Geometry, Out, RunError, Source};
 use dbwalk::Marks;
 use std::alloc::Allocator;
 
@@ -16,30 +16,24 @@ pub(crate) struct MapReporter<'n, 'k, 'o, A: Allocator, O> {
 }
 
 impl<A: Allocator, O: Out> Reporter for MapReporter<'_, '_, '_, A, O> {
-    ghost use Rattle.dbscan.specs.Notices.{CutsNever};
     ghost use Rattle.dbmap.specs.MapRuns.{Hears, map_held};
 
     ghost hears = { Hears };
 
-    ghost cuts = { CutsNever };
-
     ghost held = { map_held O.held };
 
-    fn hear(&mut self, notice: &Notice<'_>) -> Result<(), WriteFailed> {
+    fn hear(&mut self, notice: &Notice<'_>) {
         match notice {
             Notice::Fault(told) => self.kept.note(told),
             Notice::Row(_, row) => self.kept.note_row(row),
             Notice::Ended(_) => {}
         }
-        Ok(())
     }
 
-    fn walked<B: Allocator>(
-        &mut self,
-        _geometry: Geometry,
-        _marks: &Marks<B>,
-    ) -> Result<(), WriteFailed> {
-        Ok(())
+    fn walked<B: Allocator>(&mut self, _geometry: Geometry, _marks: &Marks<B>) {}
+
+    fn is_shut(&self) -> bool {
+        false
     }
 }
 

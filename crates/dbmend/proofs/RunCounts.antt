@@ -26,9 +26,9 @@ use Rattle.dbsource.specs.declared.error.RunError.{RunError}
 use Rattle.dbsource.specs.declared.error.RunError.TheVariants.{OutOfMemory, ReadFailed, Refused, WriteFailed}
 use Rattle.dbsource.specs.declared.source.Source.{Ghosts as SourceWords}
 use Rattle.dbwalk.specs.Telling.{IsReadWriteOrMemory}
-use Rattle.dbscan.specs.Hearing.{ReporterAfter}
+use Rattle.dbwalk.specs.Telling.{SinkAfter}
 use Rattle.dbscan.specs.Finishes.{Leaves}
-use Rattle.dbscan.specs.Notices.{CutsNever, HearsFaults}
+use Rattle.dbscan.specs.Notices.{HearsFaults}
 use Rattle.dbscan.proofs.AfterHeader.{after_weaker}
 use Rattle.dbreport.specs.Opening.{IsNotOpened, IsOpened}
 use Rattle.dbreport.specs.Runs.{AsksHeaderAlone, IsAnswerOf}
@@ -81,7 +81,7 @@ module _ {S : Type 0} (source : SourceWords S) (old : S) where
   module _ (h : HeaderBytes) (mid new : S) (is_opened : IsOpened source h old mid) (s t : Counter) (none : s.faults ≡ 0) where
     abbrev HasLeft : Result Verdict RunError → Type 0
     HasLeft r = HasReadAfterHeader source.step (IsPageLog (geometry_of h.bytes h.file_len)) h
-        (λ file. (V : List Reference) → Survey file V → Leaves (HearsFaults CountsFault) CutsNever LeavesCount file V r s t)
+        (λ file. (V : List Reference) → Survey file V → Leaves (HearsFaults CountsFault) LeavesCount file V r s t)
         (source.held mid) (source.held new)
 
     -- an error stopped it
@@ -96,7 +96,7 @@ module _ {S : Type 0} (source : SourceWords S) (old : S) where
     -- all was heard
     whole_count : (v : Verdict) (c : Count) → c.faults ≡ t.faults → c.page_size ≡ (geometry_of h.bytes h.file_len).page_size
         → (file : List ℕ) → IsHeaderOf h file
-        → ((V : List Reference) → Survey file V → Leaves (HearsFaults CountsFault) CutsNever LeavesCount file V (Ok v) s t)
+        → ((V : List Reference) → Survey file V → Leaves (HearsFaults CountsFault) LeavesCount file V (Ok v) s t)
         → IsCountOf file (Ok c)
     whole_count v c same size file is left =
         let V = survey file in
@@ -119,7 +119,7 @@ module _ {S : Type 0} (source : SourceWords S) (old : S) where
         record { read = k.read; reads = k.reads; asked = tt }
 
 -- a reporter without Outs has no failed write
-pub never_written : (e : RunError) (s t : Counter) → ReporterAfter {A = Verdict} is_write_failed (Err e) (borrows_none s) (borrows_none t)
+pub never_written : (e : RunError) (s t : Counter) → SinkAfter {A = Verdict} is_write_failed (Err e) (borrows_none s) (borrows_none t)
     → is_write_failed e ≡ false
 never_written (Refused r) s t h = refl
 never_written ReadFailed s t h = refl

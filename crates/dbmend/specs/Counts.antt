@@ -1,5 +1,5 @@
 -- What a run says of a file: how many faults it has.
-use Rattle.std.specs.Prelude.{◌≡◌, ◌↔◌, ℕ, ◌+◌, List, length, Result, Ok, Err, IfOk}
+use Rattle.std.specs.Prelude.{◌≡◌, ◌↔◌, ℕ, ◌+◌, false, List, length, Result, Ok, Err, IfOk}
 use Rattle.dbformat.specs.File.{geometry}
 use Rattle.dbformat.specs.Lines.{counted}
 use Rattle.dbformat.specs.Reference.{Reference}
@@ -8,7 +8,7 @@ use Rattle.dbformat.specs.Sound.{Sound}
 use Rattle.dbformat.specs.Survey.{Survey, survey}
 use Rattle.dbformat.specs.declared.Verdict.{Verdict}
 use Rattle.dbsource.specs.declared.error.RunError.{RunError}
-use Rattle.dbscan.specs.Hearing.{ReporterState}
+use Rattle.dbwalk.specs.Telling.{SinkState}
 use Rattle.dbreport.specs.Runs.{IsAnswerOf}
 use Rattle.dbmend.specs.declared.count.Count.{Count}
 use Rattle.dbmend.specs.declared.counter.Counter.{Counter}
@@ -29,8 +29,8 @@ abbrev pub Counts : Counter → ℕ → Counter → Type 0
 Counts s n t = t.faults ≡ counted (s.faults + n)
 
 -- it borrows nothing
-abbrev pub borrows_none : Counter → ReporterState
-borrows_none s = record { lent = List.[]; failures = List.[] }
+abbrev pub borrows_none : Counter → SinkState
+borrows_none s = record { lent = List.[]; failures = List.[]; is_shut = false }
 
 -- What a run leaves of it, where it heard nothing before: all faults were counted, and this is the verdict on them.
 abbrev pub LeavesCount : List ℕ → List Reference → Result Verdict RunError → Counter → Counter → Type 0

@@ -4,7 +4,7 @@ ghost use Rattle.dbmend.specs.Counts.{Counts};
 
 use dbformat::{Fault, FaultCode, Verdict};
 use dbscan::{Desk, Finish, Notice, Reporter};
-use dbsource::{Geometry, RunError, Source, WriteFailed};
+use dbsource::{Geometry, RunError, Source};
 use dbwalk::Marks;
 use std::alloc::Allocator;
 
@@ -87,29 +87,24 @@ fn is_of_item(code: FaultCode) -> bool {
 
 // Where a fault is found is nothing to the count.
 impl Reporter for Counter {
-    ghost use Rattle.dbscan.specs.Notices.{CutsNever, HearsFaults};
+    ghost use Rattle.dbscan.specs.Notices.{HearsFaults};
     ghost use Rattle.dbmend.specs.Counts.{Counts, borrows_none};
 
     ghost hears = { HearsFaults (λ s f t. Counts s 1 t) };
 
-    ghost cuts = { CutsNever };
-
     ghost held = { borrows_none };
 
-    fn hear(&mut self, notice: &Notice<'_>) -> Result<(), WriteFailed> {
+    fn hear(&mut self, notice: &Notice<'_>) {
         match notice {
             Notice::Fault(told) => self.add(&told.fault),
             Notice::Row(_, _) | Notice::Ended(_) => {}
         }
-        Ok(())
     }
 
-    fn walked<A: Allocator>(
-        &mut self,
-        _geometry: Geometry,
-        _marks: &Marks<A>,
-    ) -> Result<(), WriteFailed> {
-        Ok(())
+    fn walked<A: Allocator>(&mut self, _geometry: Geometry, _marks: &Marks<A>) {}
+
+    fn is_shut(&self) -> bool {
+        false
     }
 }
 

@@ -1,7 +1,7 @@
 -- What a check has written at each of its ends, and what it found, by the faults of the file.
-use Rattle.std.proofs.Common.{◌≡◌, ◌∙◌, ℕ, List, None, Result, Ok, Err, inl, inr, subst, sym}
+use Rattle.std.proofs.Common.{◌≡◌, ◌∙◌, ℕ, false, List, None, Result, Ok, Err, inl, inr, subst, sym}
 use Rattle.std.specs.Prelude.{IfOk}
-use Rattle.dbsurvey.specs.Moves.{Moves}
+use Rattle.dbsurvey.specs.Moves.{Moves, MovesBySome}
 use Rattle.dbformat.specs.Reference.{Reference}
 use Rattle.dbformat.specs.Report.{check_text, faults, report}
 use Rattle.dbformat.specs.Survey.{Survey}
@@ -11,11 +11,10 @@ use Rattle.dbformat.specs.declared.Verdict.{Verdict}
 use Rattle.dbsource.specs.Outs.{OutState, Puts, Writes}
 use Rattle.dbsource.specs.declared.error.RunError.{RunError}
 use Rattle.dbsource.specs.declared.error.RunError.TheVariants.{WriteFailed}
-use Rattle.dbscan.specs.Hearing.{StopsBy}
 use Rattle.dbscan.specs.Finishes.{Leaves}
-use Rattle.dbscan.specs.Notices.{CutsFaults, HearsFaults, run_notices}
+use Rattle.dbscan.specs.Notices.{HearsFaults, run_notices}
 use Rattle.dbscan.proofs.FaultsHeard.{faults_heard_by}
-use Rattle.dbreport.specs.CheckReporter.{CutsFault, LeavesCheck, ShowsFault, end_text, found_verdict}
+use Rattle.dbreport.specs.CheckReporter.{LeavesCheck, ShowsFault, end_text, found_verdict}
 use Rattle.dbreport.specs.declared.checking.CheckReporter.{CheckReporter}
 use Rattle.dbreport.proofs.RunAnswers.{if_ok}
 use Rattle.dbreport.proofs.RunReports.{check_answer, check_out}
@@ -23,40 +22,41 @@ use Rattle.dbreport.proofs.Checks.{check_writes, check_finds, check_begins}
 
 module _ {O : Type 0} (held : O → OutState) (file : List ℕ) (V : List Reference) (survey : Survey file V) where
   -- it stopped within what is reported
-  check_stopped : (e : RunError) (s t : CheckReporter O) → StopsBy (HearsFaults (ShowsFault held)) (CutsFaults (CutsFault held)) e s (run_notices file V) t
+  check_stopped : (e : RunError) (s t : CheckReporter O) → MovesBySome (HearsFaults (ShowsFault held)) s (run_notices file V) t
       → LeavesCheck held file V (Err e) s t
-  check_stopped e s t k none no_more =
-      (check_begins held (faults file V) s t none no_more e (faults_heard_by (ShowsFault held) (CutsFault held) {A = Verdict} file V survey (Err e) s t k), tt)
+  check_stopped e s t k fresh none no_more =
+      (check_begins held (faults file V) s t fresh none no_more (faults_heard_by (ShowsFault held) {A = Verdict} file V survey (Err e) s t k), tt)
 
   -- all was reported, and then the last line was put, or a beginning of it
-  module _ (s t u : CheckReporter O) (told : Moves (HearsFaults (ShowsFault held)) s (run_notices file V) t) where
+  module _ (s t u : CheckReporter O) (open_last : t.has_failed ≡ false) (told : Moves (HearsFaults (ShowsFault held)) s (run_notices file V) t) where
     all : Moves (ShowsFault held) s (faults file V) t
-    all = faults_heard_by (ShowsFault held) (CutsFault held) {A = Unit {0}} file V survey (Ok tt) s t told
+    all = faults_heard_by (ShowsFault held) {A = Unit {0}} file V survey (Ok tt) s t told
 
     pub check_cut : {X : Type 0} (x : X) → Puts {A = Verdict} (Err x) (held t.out.now) (held u.out.now) (end_text t.shown t.more)
         → LeavesCheck held file V (Err WriteFailed) s u
-    check_cut x puts none no_more = ((check_writes held (faults file V) s t none no_more all (Err x) (held u.out.now) puts).held, tt)
+    check_cut x puts fresh none no_more =
+        ((check_writes held (faults file V) s t fresh none no_more open_last all (Err x) (held u.out.now) puts).held, tt)
 
     pub check_ended : {X : Type 0} (v : Verdict) → Puts {E = X} (Ok v) (held t.out.now) (held u.out.now) (end_text t.shown t.more) → v
         ≡ found_verdict t.shown t.more → LeavesCheck held file V (Ok v) s u
-    check_ended v puts found none no_more = (
-      (check_writes held (faults file V) s t none no_more all (Ok v) (held u.out.now) puts).held,
-      found
-          ∙ check_finds held (faults file V) s t none no_more all,
+    check_ended v puts found fresh none no_more = (
+      (check_writes held (faults file V) s t fresh none no_more open_last all (Ok v) (held u.out.now) puts).held,
+      found ∙ check_finds held (faults file V) s t fresh none no_more open_last all,
     )
 
-  check_left : (r : Result Verdict RunError) (s t : CheckReporter O)
-      → Leaves (HearsFaults (ShowsFault held)) (CutsFaults (CutsFault held)) (LeavesCheck held) file V r s t → LeavesCheck held file V r s t
+  check_left : (r : Result Verdict RunError) (s t : CheckReporter O) → Leaves (HearsFaults (ShowsFault held)) (LeavesCheck held) file V r s t
+      → LeavesCheck held file V r s t
   check_left r s t (inl h) = h
   check_left r s t (inr (e, is, k)) = subst (λ (r : Result Verdict RunError). LeavesCheck held file V r s t) (sym is) (check_stopped e s t k)
 
   -- the report of a check, on the Out that it was given
-  pub check_reported : (r : Result Verdict RunError) (s t : CheckReporter O) (out after : O) (limit : ℕ) → s.out.now ≡ out → s.limit ≡ limit → s.shown ≡ 0
+  pub check_reported : (r : Result Verdict RunError) (s t : CheckReporter O) (out after : O) (limit : ℕ) → s.out.now ≡ out → s.has_failed ≡ false
+      → s.limit ≡ limit → s.shown ≡ 0
       → s.more ≡ 0 → after ≡ t.out.now → refusal file ≡ None
-      → Leaves (HearsFaults (ShowsFault held)) (CutsFaults (CutsFault held)) (LeavesCheck held) file V r s t
+      → Leaves (HearsFaults (ShowsFault held)) (LeavesCheck held) file V r s t
       → Writes r (held out).bytes (held after).bytes (report (Check limit) file V).out × IfOk r (λ v. (report (Check limit) file V).answer ≡ Ok v)
-  check_reported r s t out after limit same most none no_more end read h =
-      let k = check_left r s t h none no_more in (
+  check_reported r s t out after limit same fresh most none no_more end read h =
+      let k = check_left r s t h fresh none no_more in (
         check_out limit file V read r (held out).bytes (held after).bytes
             (subst (λ o. Writes r (held o).bytes (held after).bytes (check_text limit (faults file V))) same
             (subst (λ n. Writes r (held s.out.now).bytes (held after).bytes (check_text n (faults file V))) most

@@ -1,25 +1,25 @@
 -- What a check has written and found, by the findings that its reporter heard.
-use Rattle.std.proofs.Common.{◌≡◌, ℕ, zero, suc, ◌+◌, ◌-◌, ◌^◌, ◌<◌, ◌≤◌, true, false, cond, inl, inr, List, [], ◌∷◌, ◌++◌, length, take, drop, Result, Ok}
-use Rattle.std.proofs.Common.{refl, sym, ap, ap₂, ◌∙◌, subst, arith, length-drop}
+use Rattle.std.proofs.Common.{◌≡◌, ℕ, zero, suc, ◌+◌, ◌-◌, ◌^◌, ◌<◌, ◌≤◌, true, false, cond, inl, inr, List, [], ◌∷◌, ◌++◌, length, take, drop, Result, Ok, Err}
+use Rattle.std.proofs.Common.{refl, sym, ap, ap₂, ◌∙◌, subst, arith, append_assoc, length-drop}
 use Rattle.std.specs.Prelude.{flat_map, ◌==◌, nat_lt}
 use Rattle.std.proofs.Math.Seq.{take-nil}
 use Rattle.std.proofs.lemmas.Grind.{common_steps}
 use Rattle.std.proofs.lemmas.Bool.{cases_Bool}
 use Rattle.std.proofs.lemmas.Bool.Decides.{nat_tests}
-use Rattle.dbsurvey.specs.Moves.{Moves, Stops, MovesBySome}
+use Rattle.dbsurvey.specs.Moves.{Moves, MovesBySome}
 use Rattle.dbformat.specs.Lines.{counted, fault_line, more_line, ok_line}
 use Rattle.dbformat.specs.Report.{check_text, more_text, verdict, verdict_of}
 use Rattle.dbformat.specs.declared.Fault.{Fault}
 use Rattle.dbformat.specs.declared.Verdict.{Verdict}
 use Rattle.dbformat.proofs.Verdicts.{verdict_counted}
 use Rattle.dbsource.specs.Outs.{Begins, OutState, Puts}
-use Rattle.dbsource.specs.declared.error.RunError.{RunError}
-use Rattle.dbsource.specs.declared.error.RunError.TheVariants.{ReadFailed, WriteFailed, OutOfMemory, Refused}
-use Rattle.dbsource.proofs.Puts.{appends_nothing, puts_then}
-use Rattle.dbscan.specs.Hearing.{StopsBy}
-use Rattle.dbreport.specs.CheckReporter.{CutsFault, PutsAll, ShowsFault, end_text, found_verdict}
+use Rattle.dbsource.proofs.Beginnings.{begins_more}
+use Rattle.dbsource.proofs.Puts.{puts_then}
+use Rattle.dblines.specs.Writing.{Wrote, failure_answer}
+use Rattle.dblines.specs.declared.writer.Writer.{Writer}
+use Rattle.dblines.proofs.Writing.{put_written, wrote_as, wrote_nothing, wrote_then}
+use Rattle.dbreport.specs.CheckReporter.{PutsAll, ShowsFault, end_text, found_verdict, writer_of}
 use Rattle.dbreport.specs.declared.checking.CheckReporter.{CheckReporter}
-use Rattle.dbsource.proofs.Beginnings.{begins_nothing, begins_more, begins_after}
 
 pub counted_is : (n : ℕ) → n ≤ 2 ^ 64 - 1 → n ≡ counted (n + 0)
 counted_is n h = omega arith
@@ -63,28 +63,48 @@ verdict_is limit fs =
     let e : counted (length (take limit fs) + counted (length (drop limit fs))) ≡ counted (length fs) = omega arith in
     ap verdict_of e ∙ verdict_counted fs
 
+-- ---- a beginning
+
+-- some moves are all of the first events
+record IsPart {S E : Type 0} (move : S → E → S → Type 0) (s : S) (items : List E) (t : S) : Type 0 where
+  first : List E
+  rest : List E
+  all : first ++ rest ≡ items
+  moved : Moves move s first t
+
+some_part : {S E : Type 0} (move : S → E → S → Type 0) (items : List E) (s t : S) → MovesBySome move s items t → IsPart move s items t
+some_part move [] s t h = record { first = []; rest = []; all = refl; moved = h }
+some_part move (i ∷ items) s t (inl h) = record { first = []; rest = i ∷ items; all = refl; moved = h }
+some_part move (i ∷ items) s t (inr h) =
+    let k = some_part move items h.0 t h.2 in
+    record { first = i ∷ k.first; rest = k.rest; all = ap (λ l. i ∷ l) k.all; moved = (h.0, h.1, k.moved) }
+
+lines_begin : (n : ℕ) (a b : List Fault) → (rest : List ℕ) × (lines n a ++ rest ≡ lines n (a ++ b))
+lines_begin n [] b = (lines n b, ap (λ (l : List Fault). flat_map fault_line l ++ lines n b) (take-nil n))
+lines_begin zero (f ∷ a) b = ([], refl)
+lines_begin (suc n) (f ∷ a) b =
+    let k = lines_begin n a b in
+    (k.0, append_assoc (fault_line f) (lines n a) k.0 ∙ ap (λ l. fault_line f ++ l) k.1)
+
 -- ---- fault after fault
 
 module _ {O : Type 0} (held : O → OutState) where
   -- the state of the reporter after some faults
   record Saw (s : CheckReporter O) (fs : List Fault) (t : CheckReporter O) : Type 0 where
-    same_out : t.out.ghost_name ≡ s.out.ghost_name
     limit : t.limit ≡ s.limit
     shown : t.shown ≡ s.shown + length (take (s.limit - s.shown) fs)
     more : t.more ≡ counted (s.more + length (drop (s.limit - s.shown) fs))
-    puts : PutsAll (held s.out.now) (held t.out.now) (lines (s.limit - s.shown) fs)
+    wrote : Wrote held (writer_of s) (lines (s.limit - s.shown) fs) (writer_of t)
 
   saw_none : (s : CheckReporter O) → s.more ≤ 2 ^ 64 - 1 → Saw s [] s
   saw_none s m =
       let t : ◌≡◌ {A = List Fault} (take (s.limit - s.shown) []) [] = take-nil (s.limit - s.shown) in
       let n : length (take {A = Fault} (s.limit - s.shown) []) ≡ 0 = ap length t in
       let d : length (drop {A = Fault} (s.limit - s.shown) []) ≡ 0 = length-drop (s.limit - s.shown) [] ∙ omega arith in record {
-        same_out = refl;
         limit = refl;
         shown = omega arith;
         more = counted_is s.more m ∙ ap (λ k. counted (s.more + k)) (sym d);
-        puts = subst (λ l. PutsAll (held s.out.now) (held s.out.now) (flat_map fault_line l)) (sym t)
-            (record { held = appends_nothing (held s.out.now).bytes; count = refl });
+        wrote = wrote_as (ap (flat_map fault_line) (sym t)) (wrote_nothing (writer_of s));
       }
 
   module _ (s m : CheckReporter O) (f : Fault) (shows : ShowsFault held s f m) where
@@ -99,16 +119,14 @@ module _ {O : Type 0} (held : O → OutState) where
     saw_shown fs t e k =
         let shown : m.shown ≡ s.shown + 1 = rw e at shows.shown in
         let more : m.more ≡ s.more = rw e at shows.more in
-        let put : PutsAll (held s.out.now) (held m.out.now) (fault_line f) = rw e at shows.puts in
+        let wrote : Wrote held (writer_of s) (fault_line f) (writer_of m) = rw e at shows.wrote in
         let first : take (s.limit - s.shown) (f ∷ fs) ≡ f ∷ take (m.limit - m.shown) fs = ap (λ n. take n (f ∷ fs)) (room_less e) in
         let rest : drop (s.limit - s.shown) (f ∷ fs) ≡ drop (m.limit - m.shown) fs = ap (λ n. drop n (f ∷ fs)) (room_less e) in record {
-          same_out = k.same_out ∙ shows.same_out;
           limit = k.limit ∙ shows.limit;
           shown = let n : length (take (s.limit - s.shown) (f ∷ fs)) ≡ suc (length (take (m.limit - m.shown) fs)) = ap length first in let e =
               k.shown in omega arith;
           more = k.more ∙ ap₂ (λ x l. counted (x + length l)) more (sym rest);
-          puts = subst (λ l. PutsAll (held s.out.now) (held t.out.now) (flat_map fault_line l)) (sym first)
-              (puts_then (Ok tt) (fault_line f) (lines (m.limit - m.shown) fs) refl put k.puts);
+          wrote = wrote_as (ap (flat_map fault_line) (sym first)) (wrote_then wrote k.wrote);
         }
 
     -- there is none: it is counted
@@ -122,18 +140,16 @@ module _ {O : Type 0} (held : O → OutState) where
     saw_counted fs t e le k =
         let shown : m.shown ≡ s.shown = rw e at shows.shown in
         let more : m.more ≡ counted (s.more + 1) = rw e at shows.more in
-        let put : PutsAll (held s.out.now) (held m.out.now) [] = rw e at shows.puts in
+        let wrote : Wrote held (writer_of s) [] (writer_of m) = rw e at shows.wrote in
         let none = room_none e le in
         let a : length (take (m.limit - m.shown) fs) ≡ 0 = ap (λ n. length (take n fs)) none.1 in
         let b : length (take (s.limit - s.shown) (f ∷ fs)) ≡ 0 = ap (λ n. length (take n (f ∷ fs))) none.0 in
         let c : length (drop (m.limit - m.shown) fs) ≡ length fs = ap (λ n. length (drop n fs)) none.1 in
         let d : length (drop (s.limit - s.shown) (f ∷ fs)) ≡ suc (length fs) = ap (λ n. length (drop n (f ∷ fs))) none.0 in record {
-          same_out = k.same_out ∙ shows.same_out;
           limit = k.limit ∙ shows.limit;
           shown = let e = k.shown in omega arith;
           more = k.more ∙ ap₂ (λ x l. counted (x + l)) more c ∙ counted_twice s.more (length fs) ∙ ap (λ l. counted (s.more + l)) (sym d);
-          puts = subst (λ n. PutsAll (held s.out.now) (held t.out.now) (flat_map fault_line (take n (f ∷ fs)))) (sym none.0)
-              (puts_then (Ok tt) [] [] refl put (subst (λ n. PutsAll (held m.out.now) (held t.out.now) (flat_map fault_line (take n fs))) none.1 k.puts));
+          wrote = wrote_as (ap (λ n. lines n fs) none.1 ∙ ap (λ n. lines n (f ∷ fs)) (sym none.0)) (wrote_then wrote k.wrote);
         }
 
     -- the bounds of the next one
@@ -153,90 +169,49 @@ module _ {O : Type 0} (held : O → OutState) where
     saw_fault : (fs : List Fault) (t : CheckReporter O) → s.shown ≤ s.limit → Saw m fs t → Saw s (f ∷ fs) t
     saw_fault fs t l k = elim (cases_Bool (nat_lt s.shown s.limit)) [ inl e ↦ saw_shown fs t e k | inr e ↦ saw_counted fs t e l k ]
 
-    begins_fault : (fs : List Fault) (t : CheckReporter O) → s.shown ≤ s.limit
-        → Begins (held m.out.now).bytes (held t.out.now).bytes (lines (m.limit - m.shown) fs)
-        → Begins (held s.out.now).bytes (held t.out.now).bytes (lines (s.limit - s.shown) (f ∷ fs))
-    begins_fault fs t l k = elim (cases_Bool (nat_lt s.shown s.limit)) [
-      | inl e ↦
-          let put : PutsAll (held s.out.now) (held m.out.now) (fault_line f) = rw e at shows.puts in
-          begins_after (held s.out.now).bytes (held m.out.now).bytes (held t.out.now).bytes (fault_line f) (lines (m.limit - m.shown) fs)
-          (lines (s.limit - s.shown) (f ∷ fs))
-          (ap (λ n. lines n (f ∷ fs)) (sym (room_less e))) put.held k
-      | inr e ↦
-          let put : PutsAll (held s.out.now) (held m.out.now) [] = rw e at shows.puts in
-          let none = room_none e l in
-          begins_after (held s.out.now).bytes (held m.out.now).bytes (held t.out.now).bytes [] (lines (m.limit - m.shown) fs)
-          (lines (s.limit - s.shown) (f ∷ fs))
-          (ap (λ n. lines n fs) none.1 ∙ ap (λ n. lines n (f ∷ fs)) (sym none.0)) put.held k
-    ]
-
-  -- ---- fault after fault
-
   saw_all : (fs : List Fault) (s t : CheckReporter O) → s.shown ≤ s.limit → s.more ≤ 2 ^ 64 - 1 → Moves (ShowsFault held) s fs t → Saw s fs t
   saw_all [] s t l m h = subst (λ u. Saw s [] u) h (saw_none s m)
   saw_all (f ∷ fs) s t l m h =
       let b = bounds_kept s h.0 f h.1 l m in
       saw_fault s h.0 f h.1 fs t l (saw_all fs h.0 t b.0 b.1 h.2)
 
-  -- What is known if not all was reported: what is held has grown by a beginning of the lines, on the same Out.
-  abbrev Breaks : CheckReporter O → List Fault → CheckReporter O → Type 0
-  Breaks s fs t = (t.out.ghost_name ≡ s.out.ghost_name) × Begins (held s.out.now).bytes (held t.out.now).bytes (lines (s.limit - s.shown) fs)
+  -- ---- what was put of what was written, from an Out that had not failed
 
-  breaks_here : (s t : CheckReporter O) (fs : List Fault) → s ≡ t → Breaks s fs t
-  breaks_here s t fs e = subst (λ u. Breaks s fs u) e (refl, begins_nothing (held s.out.now).bytes (lines (s.limit - s.shown) fs))
+  module _ (s t : Writer O) (text : List ℕ) (fresh : s.has_failed ≡ false) (wrote : Wrote held s text t) where
+    put_whole : t.has_failed ≡ false → PutsAll (held s.out.now) (held t.out.now) text
+    put_whole e = put_written (Ok tt) s.has_failed t.has_failed _ _ text fresh (sym e) wrote.written
 
-  breaks_some : (fs : List Fault) (s t : CheckReporter O) → s.shown ≤ s.limit → s.more ≤ 2 ^ 64 - 1 → MovesBySome (ShowsFault held) s fs t → Breaks s fs t
-  breaks_some [] s t l m h = breaks_here s t [] h
-  breaks_some (f ∷ fs) s t l m (inl h) = breaks_here s t (f ∷ fs) h
-  breaks_some (f ∷ fs) s t l m (inr h) =
-      let b = bounds_kept s h.0 f h.1 l m in
-      let k = breaks_some fs h.0 t b.0 b.1 h.2 in
-      (k.0 ∙ h.1.same_out, begins_fault s h.0 f h.1 fs t l k.1)
-
-  breaks_stop : (fs : List Fault) (s t : CheckReporter O) → s.shown ≤ s.limit → s.more ≤ 2 ^ 64 - 1 → Stops (ShowsFault held) (CutsFault held) s fs t
-      → Breaks s fs t
-  breaks_stop [] s t l m h = absurd h
-  breaks_stop (f ∷ fs) s t l m (inl h) =
-      let room : s.limit - s.shown ≡ suc (s.limit - s.shown - 1) = let e = h.room in let less : s.shown < s.limit = grind (arith, nat_tests) in omega arith in (
-        h.same_out,
-        begins_more (held s.out.now).bytes (held t.out.now).bytes (fault_line f) (lines (s.limit - s.shown - 1) fs) (lines (s.limit - s.shown) (f ∷ fs))
-            (ap (λ n. lines n (f ∷ fs)) (sym room)) h.puts.held,
-      )
-  breaks_stop (f ∷ fs) s t l m (inr h) =
-      let b = bounds_kept s h.0 f h.1 l m in
-      let k = breaks_stop fs h.0 t b.0 b.1 h.2 in
-      (k.0 ∙ h.1.same_out, begins_fault s h.0 f h.1 fs t l k.1)
-
-  breaks_by : (e : RunError) (fs : List Fault) (s t : CheckReporter O) → s.shown ≤ s.limit → s.more ≤ 2 ^ 64 - 1
-      → StopsBy (ShowsFault held) (CutsFault held) e s fs t → Breaks s fs t
-  breaks_by WriteFailed fs s t l m h = breaks_stop fs s t l m h
-  breaks_by ReadFailed fs s t l m h = breaks_some fs s t l m h
-  breaks_by OutOfMemory fs s t l m h = breaks_some fs s t l m h
-  breaks_by (Refused r) fs s t l m h = breaks_some fs s t l m h
+    put_some : (rest all : List ℕ) → text ++ rest ≡ all → Begins (held s.out.now).bytes (held t.out.now).bytes all
+    put_some rest all e = elim (cases_Bool t.has_failed) [
+      | inl f ↦ begins_more (held s.out.now).bytes (held t.out.now).bytes text rest all e
+          (put_written {A = Unit {0}} {E = Unit {0}} (Err tt) s.has_failed t.has_failed _ _ text fresh (sym f) wrote.written).held
+      | inr f ↦ record { part = text; rest = rest; whole = e; added = (put_whole f).held }
+    ]
 
   -- ---- the whole check, from a reporter that has heard nothing
 
-  module _ (found : List Fault) (s t : CheckReporter O) (none : s.shown ≡ 0) (no_more : s.more ≡ 0) where
+  module _ (found : List Fault) (s t : CheckReporter O) (fresh : s.has_failed ≡ false) (none : s.shown ≡ 0) (no_more : s.more ≡ 0) where
     room : s.limit - s.shown ≡ s.limit
     room = omega arith
 
-    -- all was reported, and then the last line was put
-    module _ (moved : Moves (ShowsFault held) s found t) where
-      saw : Saw s found t
-      saw = saw_all found s t (omega arith) (omega arith) moved
+    saw : (fs : List Fault) → Moves (ShowsFault held) s fs t → Saw s fs t
+    saw fs moved = saw_all fs s t (omega arith) (omega arith) moved
 
+    -- all was reported, and then the last line was put
+    module _ (open_last : t.has_failed ≡ false) (moved : Moves (ShowsFault held) s found t) where
       shown_is : t.shown ≡ length (take s.limit found)
-      shown_is = let z : 0 + length (take s.limit found) ≡ length (take s.limit found) = omega arith in saw.shown
+      shown_is = let z : 0 + length (take s.limit found) ≡ length (take s.limit found) = omega arith in (saw found moved).shown
           ∙ ap₂ (λ a b. a + length (take b found)) none room ∙ z
 
       more_is : t.more ≡ counted (length (drop s.limit found))
-      more_is = let z : 0 + length (drop s.limit found) ≡ length (drop s.limit found) = omega arith in saw.more
+      more_is = let z : 0 + length (drop s.limit found) ≡ length (drop s.limit found) = omega arith in (saw found moved).more
           ∙ ap₂ (λ a b. counted (a + length (drop b found))) no_more room ∙ ap counted z
 
       pub check_writes : {E : Type 0} (r : Result Verdict E) (u : OutState) → Puts r (held t.out.now) u (end_text t.shown t.more)
           → Puts r (held s.out.now) u (check_text s.limit found)
       check_writes r u h =
-          let first = subst (λ k. PutsAll (held s.out.now) (held t.out.now) (lines k found)) room saw.puts in
+          let first = put_whole (writer_of s) (writer_of t) (lines s.limit found) fresh
+          (wrote_as (ap (λ k. lines k found) room) (saw found moved).wrote) open_last in
           let end : end_text t.shown t.more ≡ end_text (length (take s.limit found)) (counted (length (drop s.limit found))) = ap₂ end_text shown_is more_is in
           subst (λ l. Puts r (held s.out.now) u l) (ap (λ l. lines s.limit found ++ l) end ∙ text_is s.limit found)
           (puts_then r (lines s.limit found) (end_text t.shown t.more) refl first h)
@@ -245,11 +220,12 @@ module _ {O : Type 0} (held : O → OutState) where
       check_finds = ap₂ found_verdict shown_is more_is ∙ verdict_is s.limit found
 
     -- a beginning was reported
-    module _ (e : RunError) (stopped : StopsBy (ShowsFault held) (CutsFault held) e s found t) where
-      breaks : Breaks s found t
-      breaks = breaks_by e found s t (omega arith) (omega arith) stopped
-
-      pub check_begins : Begins (held s.out.now).bytes (held t.out.now).bytes (check_text s.limit found)
-      check_begins = begins_more (held s.out.now).bytes (held t.out.now).bytes (lines s.limit found)
-          (end_text (length (take s.limit found)) (counted (length (drop s.limit found)))) (check_text s.limit found)
-          (text_is s.limit found) (subst (λ n. Begins (held s.out.now).bytes (held t.out.now).bytes (lines n found)) room breaks.1)
+    pub check_begins : MovesBySome (ShowsFault held) s found t → Begins (held s.out.now).bytes (held t.out.now).bytes (check_text s.limit found)
+    check_begins stopped =
+        let k = some_part (ShowsFault held) found s t stopped in
+        let more = lines_begin s.limit k.first k.rest in
+        let end = end_text (length (take s.limit found)) (counted (length (drop s.limit found))) in
+        put_some (writer_of s) (writer_of t) (lines s.limit k.first) fresh (wrote_as (ap (λ n. lines n k.first) room) (saw k.first k.moved).wrote)
+        (more.0 ++ end)
+        (check_text s.limit found)
+        (sym (append_assoc (lines s.limit k.first) more.0 end) ∙ ap (λ l. l ++ end) (more.1 ∙ ap (lines s.limit) k.all) ∙ text_is s.limit found)

@@ -13,6 +13,7 @@ pub mod RunReports
 pub mod StatNotices
 pub mod StatPieces
 pub mod StatReports
+pub mod StatShut
 pub mod StatStarts
 pub mod StatTexts
 pub mod StatTrees

@@ -1,5 +1,6 @@
 -- What the reporter of the statistics writes of what it hears, notice after notice.
-use Rattle.std.proofs.Common.{◌≡◌, ℕ, ◌+◌, ◌⊎◌, inl, inr, Bool, not, List, [], ◌∷◌, ◌++◌, Result, Ok, Err, refl, sym, ap, ◌∙◌, subst, arith, append-nil}
+use Rattle.std.proofs.Common.{◌≡◌, ℕ, ◌+◌, ◌⊎◌, inl, inr, Bool, false, not, List, [], ◌∷◌, ◌++◌, Result, Ok, Err, refl, sym, ap, ◌∙◌, subst, arith, append-nil}
+use Rattle.std.specs.Prelude.{OnOk}
 use Rattle.std.specs.Io.KnownBytes.{Appends}
 use Rattle.dbsurvey.specs.Moves.{Moves, Stops, MovesBySome}
 use Rattle.dbformat.specs.Lines.{counted, fault_line}
@@ -8,19 +9,19 @@ use Rattle.dbformat.specs.declared.Encoding.{Encoding}
 use Rattle.dbformat.specs.declared.Fault.{Fault}
 use Rattle.dbsource.specs.Outs.{Begins, OutState}
 use Rattle.dbsource.specs.declared.error.RunError.{RunError}
-use Rattle.dbsource.specs.declared.error.RunError.TheVariants.{ReadFailed, WriteFailed, OutOfMemory, Refused}
 use Rattle.dbsource.proofs.Beginnings.{begins_more}
 use Rattle.dbsource.proofs.Puts.{appends_nothing, kept_appends}
-use Rattle.dbscan.specs.Hearing.{Tells}
+use Rattle.dbwalk.specs.Telling.{Tells}
 use Rattle.dbscan.specs.Notices.{Notice, heard_fault, heard_row, ended, walked, faults_heard}
 use Rattle.dbscan.specs.Starts.{At}
-use Rattle.dbreport.specs.StatReporter.{tree_end_text, other_lines, pages_text, CutsStatFault, CutsStat, HasBegun, HasWritten, HearsStat, IsFlushedIf}
-use Rattle.dbreport.specs.StatReporter.{IsSameReporter, TakesFault, WritesBoth}
+use Rattle.dbreport.specs.StatReporter.{tree_end_text, other_lines, pages_text, CutsStatFault, CutsStat, HasBegun, HasWritten, HearsOpen, HearsStat}
+use Rattle.dbreport.specs.StatReporter.{IsFlushedIf, IsSameReporter, TakesFault, WritesBoth}
 use Rattle.dbreport.specs.Sums.{sums_of}
 use Rattle.dbreport.specs.TreeNames.{name_at}
 use Rattle.dbreport.specs.declared.statistics.Form.{Form}
 use Rattle.dbreport.specs.declared.statistics.reporter.StatReporter.{StatReporter}
 use Rattle.dbreport.proofs.Flushed.{keeps_begins, kept_if}
+use Rattle.dbreport.proofs.StatShut.{all_open, some_open}
 use Rattle.dbreport.proofs.StatWrites.{begun_first, begun_none, begun_then, written_none, written_then}
 
 counted_more : (n : ℕ) → counted (counted n + 1) ≡ counted (n + 1)
@@ -32,13 +33,6 @@ nothing_more n = omega arith
 -- it stopped, by an error or at one
 abbrev Cut : {S I : Type 0} → (S → I → S → Type 0) → (S → I → S → Type 0) → S → List I → S → Type 0
 Cut move fail s items t = MovesBySome move s items t ⊎ Stops move fail s items t
-
-cut_of : {S I : Type 0} (move fail : S → I → S → Type 0) (e : RunError) (s : S) (items : List I) (t : S) → Tells {A = Unit {0}} move fail (Err e) s items t
-    → Cut move fail s items t
-cut_of move fail (Refused r) s items t h = inl h
-cut_of move fail ReadFailed s items t h = inl h
-cut_of move fail OutOfMemory s items t h = inl h
-cut_of move fail WriteFailed s items t h = inr h
 
 cut_none : {S I : Type 0} (move fail : S → I → S → Type 0) (s t : S) → Cut move fail s [] t → s ≡ t
 cut_none move fail s t (inl e) = e
@@ -207,7 +201,8 @@ module _ {O E : Type 0} (held : O → OutState) (held' : E → OutState) where
             (some_written (next p n) ns k.0 t one.1 k.2))
       ])
 
-  pub notices_written : {A : Type 0} (r : Result A RunError) (p : Sheet) (ns : List Notice) (s t : StatReporter O E) → IsOn p s → Tells all part r s ns t
-      → WritesBoth held held' r s t (all_lines p ns) (faults_of ns)
-  notices_written (Ok a) p ns s t on h = all_written p ns s t on h
-  notices_written (Err e) p ns s t on h = some_written p ns s t on (cut_of all part e s ns t h)
+  -- the reporter was open before them; and after them, if nothing stopped the run
+  pub notices_written : {A : Type 0} (r : Result A RunError) (p : Sheet) (ns : List Notice) (s t : StatReporter O E) → IsOn p s → s.is_shut ≡ false
+      → OnOk r (t.is_shut ≡ false) → Tells (HearsOpen held held') r s ns t → WritesBoth held held' r s t (all_lines p ns) (faults_of ns)
+  notices_written (Ok a) p ns s t on first last h = all_written p ns s t on (all_open held held' ns s t first last h)
+  notices_written (Err e) p ns s t on first last h = some_written p ns s t on (some_open held held' ns s t first h)

@@ -1,8 +1,8 @@
 -- What the statistics have written of a file in the end, and what they found: its report.
-use Rattle.std.proofs.Common.{◌≡◌, ℕ, None, ◌+◌, List, [], ◌++◌, length, Result, Ok, Err, inl, inr, sym, ap, ◌∙◌, subst, arith}
+use Rattle.std.proofs.Common.{◌≡◌, ℕ, false, None, ◌+◌, List, [], ◌++◌, length, Result, Ok, Err, inl, inr, sym, ap, ◌∙◌, subst, arith}
 use Rattle.std.specs.Prelude.{flat_map, if◌then◌else◌}
 use Rattle.std.proofs.lemmas.Grind.{flat_map-append}
-use Rattle.dbsurvey.specs.Moves.{Moves}
+use Rattle.dbsurvey.specs.Moves.{Moves, MovesBySome}
 use Rattle.dbformat.specs.File.{geometry, refusal}
 use Rattle.dbformat.specs.declared.Command.TheVariants.{Stat}
 use Rattle.dbformat.specs.Header.{encoding as encoding_of}
@@ -19,11 +19,10 @@ use Rattle.dbsource.specs.HeaderBytes.{HeaderBytes}
 use Rattle.dbsource.specs.Headers.{IsHeaderOf}
 use Rattle.dbsource.specs.Outs.{OutState, Writes}
 use Rattle.dbsource.specs.declared.error.RunError.{RunError}
-use Rattle.dbscan.specs.Hearing.{StopsBy}
 use Rattle.dbscan.specs.Finishes.{Leaves}
 use Rattle.dbscan.specs.Notices.{run_notices}
 use Rattle.dbreport.specs.Runs.{IsReported}
-use Rattle.dbreport.specs.StatReporter.{CutsStat, HasBegun, HasWritten, HearsStat}
+use Rattle.dbreport.specs.StatReporter.{HasBegun, HasWritten, HearsOpen}
 use Rattle.dbreport.specs.StatStarts.{IsForFile, LeavesStat, rows_text}
 use Rattle.dbreport.specs.Statistics.{form_of}
 use Rattle.dbreport.specs.Sums.{sums_of}
@@ -49,36 +48,36 @@ module _ {O E : Type 0} (held : O → OutState) (held' : E → OutState) (file :
   -- it was cut off
   begun : (e : RunError) (s t : StatReporter O E) → HasBegun held held' s t (rows_text s.form.aggregate s.form.all file V) (faults file V)
       → LeavesStat held held' file V (Err e) s t
-  begun e s t h for none = ((subst (λ l. HasBegun held held' s t l (faults file V)) (form_text s.form file V survey) h).out, h.err, tt)
+  begun e s t h for none first = ((subst (λ l. HasBegun held held' s t l (faults file V)) (form_text s.form file V survey) h).out, h.err, tt)
 
   -- all was written
   whole : (v : Verdict) (s t : StatReporter O E) → HasWritten held held' s t (rows_text s.form.aggregate s.form.all file V) (faults file V) → v
       ≡ verdict_of t.found
       → LeavesStat held held' file V (Ok v) s t
-  whole v s t h found for none = (
+  whole v s t h found for none first = (
     (subst (λ l. HasWritten held held' s t l (faults file V)) (form_text s.form file V survey) h).out,
     h.err,
     found ∙ ap verdict_of (h.found 0 none ∙ ap counted (from_none (length (faults file V)))) ∙ verdict_counted (faults file V),
   )
 
   -- a beginning of what is reported was heard
-  stat_stopped : (e : RunError) (s t : StatReporter O E) → StopsBy (HearsStat held held') (CutsStat held held') e s (run_notices file V) t
+  stat_stopped : (e : RunError) (s t : StatReporter O E) → MovesBySome (HearsOpen held held') s (run_notices file V) t
       → LeavesStat held held' file V (Err e) s t
-  stat_stopped e s t k for none = begun e s t (run_written {A = Verdict} held held' file V survey s t for (Err e) k) for none
+  stat_stopped e s t k for none first = begun e s t (run_written {A = Verdict} held held' file V survey s t for first (Err e) tt k) for none first
 
-  stat_left : (r : Result Verdict RunError) (s t : StatReporter O E) → Leaves (HearsStat held held') (CutsStat held held') (LeavesStat held held') file V r s t
+  stat_left : (r : Result Verdict RunError) (s t : StatReporter O E) → Leaves (HearsOpen held held') (LeavesStat held held') file V r s t
       → LeavesStat held held' file V r s t
   stat_left r s t (inl h) = h
   stat_left r s t (inr (e, is, k)) = subst (λ (r : Result Verdict RunError). LeavesStat held held' file V r s t) (sym is) (stat_stopped e s t k)
 
   -- the report of the statistics, on the Outs that they were given
   pub stat_reported : (r : Result Verdict RunError) (s t : StatReporter O E) (out after : O) (err behind : E) (form : Form) → s.out.now ≡ out → s.err.now ≡ err
-      → s.form ≡ form → s.found ≡ 0 → IsForFile file s
+      → s.form ≡ form → s.found ≡ 0 → s.is_shut ≡ false → IsForFile file s
       → after ≡ t.out.now → behind ≡ t.err.now → refusal file ≡ None
-      → Leaves (HearsStat held held') (CutsStat held held') (LeavesStat held held') file V r s t
+      → Leaves (HearsOpen held held') (LeavesStat held held') file V r s t
       → IsReported (Stat form.aggregate form.all) file V r (held out).bytes (held after).bytes (held' err).bytes (held' behind).bytes
-  stat_reported r s t out after err behind form same same' form_is none for end end' read h =
-      let k = stat_left r s t h for none in record {
+  stat_reported r s t out after err behind form same same' form_is none first for end end' read h =
+      let k = stat_left r s t h for none first in record {
         out = stat_out form file V read r (held out).bytes (held after).bytes
             (subst (λ o. Writes r (held o).bytes (held after).bytes (flat_map (form_line file V) (form_rows (form_of form) file V))) same
             (subst (λ f. Writes r (held s.out.now).bytes (held after).bytes (flat_map (form_line file V) (form_rows (form_of f) file V))) form_is
@@ -90,9 +89,10 @@ module _ {O E : Type 0} (held : O → OutState) (held' : E → OutState) (file :
       }
 
   -- all was heard
-  pub stat_ended : (s t : StatReporter O E) → Moves (HearsStat held held') s (run_notices file V) t → (v : Verdict) → v ≡ verdict_of t.found
+  pub stat_ended : (s t : StatReporter O E) → t.is_shut ≡ false → Moves (HearsOpen held held') s (run_notices file V) t → (v : Verdict) → v ≡ verdict_of t.found
       → LeavesStat held held' file V (Ok v) s t
-  stat_ended s t told v found for none = whole v s t (run_written {A = Unit {0}} held held' file V survey s t for (Ok tt) told) found for none
+  stat_ended s t last told v found for none first =
+      whole v s t (run_written {A = Unit {0}} held held' file V survey s t for first (Ok tt) last told) found for none first
 
 -- a reporter by the header of a file is as the file asks for
 pub for_file : {O E : Type 0} (file : List ℕ) (h : HeaderBytes) (g : Geometry) (s : StatReporter O E) → IsHeaderOf h file → g ≡ geometry file

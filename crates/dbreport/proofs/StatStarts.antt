@@ -1,7 +1,7 @@
 -- What the statistics write of the starts of a file, by what is reported of them.
 use Rattle.std.proofs.Common.{◌≡◌, ℕ, suc, ◌+◌, Bool, true, false, cond, List, [], ◌∷◌, ◌++◌, length, map, Some, Result, refl, sym, ap, ap₂, ◌∙◌, subst, arith}
 use Rattle.std.proofs.Common.{append_assoc, append-nil}
-use Rattle.std.specs.Prelude.{flat_map, slice_get, codes, ◌==◌, if◌then◌else◌}
+use Rattle.std.specs.Prelude.{OnOk, flat_map, slice_get, codes, ◌==◌, if◌then◌else◌}
 use Rattle.std.specs.List.{enumerate_from}
 use Rattle.dbsurvey.specs.Story.{Errand, Go, Follow, errands_at}
 use Rattle.dbformat.specs.Address.{freelist_start}
@@ -25,7 +25,7 @@ use Rattle.dbmarks.specs.Marking.{marks_of}
 use Rattle.dbmarks.specs.declared.marks.Mark.{Mark}
 use Rattle.dbtrace.specs.Finding.{Finding, told_row, told_fault, told_below, visited_below}
 use Rattle.dbwalk.specs.Trunks.{freelist_reference}
-use Rattle.dbscan.specs.Hearing.{Tells}
+use Rattle.dbwalk.specs.Telling.{Tells}
 use Rattle.dbwalk.proofs.Telling.Belows.{told_none}
 use Rattle.dbtrace.specs.declared.Part.{Part}
 use Rattle.dbtrace.specs.declared.Part.TheVariants as part
@@ -36,7 +36,7 @@ use Rattle.dbscan.specs.Starts.{At, at_freelist, at_row, at_schema, schema_refer
 use Rattle.dbscan.specs.Findings.{found_rows}
 use Rattle.dbreport.specs.StatLines.{tree_rows_text, starts_text}
 use Rattle.dbreport.specs.TreeNames.{name_at}
-use Rattle.dbreport.specs.StatReporter.{CutsStat, HearsStat, tree_end_text, other_lines, pages_text, WritesBoth}
+use Rattle.dbreport.specs.StatReporter.{HearsOpen, tree_end_text, other_lines, pages_text, WritesBoth}
 use Rattle.dbreport.specs.StatStarts.{IsForFile, rows_text}
 use Rattle.dbreport.specs.declared.statistics.reporter.StatReporter.{StatReporter}
 use Rattle.dbreport.specs.declared.statistics.Form.{Form}
@@ -204,11 +204,12 @@ module _ (file : List ℕ) (V : List Reference) (form all : Bool) where
 
 -- All of a file was reported, or a beginning: its rows and faults were written accordingly.
 pub run_written : {A O E : Type 0} (held : O → OutState) (held' : E → OutState) (file : List ℕ) (V : List Reference) → Survey file V → (s t : StatReporter O E)
-    → IsForFile file s
-    → (r : Result A RunError) → Tells (HearsStat held held') (CutsStat held held') r s (run_notices file V) t
+    → IsForFile file s → s.is_shut ≡ false
+    → (r : Result A RunError) → OnOk r (t.is_shut ≡ false) → Tells (HearsOpen held held') r s (run_notices file V) t
     → WritesBoth held held' r s t (rows_text s.form.aggregate s.form.all file V) (faults file V)
-run_written held held' file V survey s t is r told =
+run_written held held' file V survey s t is first r last told =
     let p = sheet file V s.form.aggregate s.form.all in
     subst (λ x. WritesBoth held held' r s t x (faults file V)) (run_lines file V s.form.aggregate s.form.all survey)
     (subst (λ fs. WritesBoth held held' r s t (all_lines p (run_notices file V)) fs) (faults_are_heard file V survey)
-    (notices_written held held' r p (run_notices file V) s t (record { form = refl; encoding = is.encoding; size = is.page_size; summed = is.summed }) told))
+    (notices_written held held' r p (run_notices file V) s t (record { form = refl; encoding = is.encoding; size = is.page_size; summed = is.summed })
+    first last told))

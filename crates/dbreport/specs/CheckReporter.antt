@@ -1,5 +1,5 @@
 -- The reporter of a check: what a finding makes of it, and what it writes and answers at the end.
-use Rattle.std.specs.Prelude.{◌≡◌, ℕ, ◌+◌, true, ◌==◌, nat_lt, List, [], Result, Ok, Err, IfOk, if◌then◌else◌}
+use Rattle.std.specs.Prelude.{◌≡◌, ℕ, ◌+◌, false, ◌==◌, nat_lt, List, [], Result, Ok, IfOk, if◌then◌else◌}
 use Rattle.dbformat.specs.Lines.{counted, fault_line, ok_line}
 use Rattle.dbformat.specs.Reference.{Reference}
 use Rattle.dbformat.specs.Report.{check_text, faults, more_text, verdict, verdict_of}
@@ -7,31 +7,25 @@ use Rattle.dbformat.specs.declared.Fault.{Fault}
 use Rattle.dbformat.specs.declared.Verdict.{Verdict}
 use Rattle.dbsource.specs.Outs.{OutState, Puts, Writes}
 use Rattle.dbsource.specs.declared.error.RunError.{RunError}
-use Rattle.dbscan.specs.Hearing.{ReporterState, one_out}
+use Rattle.dblines.specs.Writing.{Wrote}
+use Rattle.dblines.specs.declared.writer.Writer.{Writer}
+use Rattle.dbwalk.specs.Telling.{SinkState, one_out}
 use Rattle.dbreport.specs.declared.checking.CheckReporter.{CheckReporter}
 
 -- these bytes were put whole
 abbrev pub PutsAll : OutState → OutState → List ℕ → Type 0
 PutsAll old new bytes = Puts {A = Unit {0}} {E = Unit {0}} (Ok tt) old new bytes
 
--- they were not
-abbrev pub PutsPart : OutState → OutState → List ℕ → Type 0
-PutsPart old new bytes = Puts {A = Unit {0}} {E = Unit {0}} (Err tt) old new bytes
+-- its Out, as a writer's
+abbrev pub writer_of : {O : Type 0} → CheckReporter O → Writer O
+writer_of s = record { out = s.out; has_failed = s.has_failed }
 
 -- a fault was shown, where it is one of the first, or else counted
 pub record ShowsFault {O : Type 0} (held : O → OutState) (s : CheckReporter O) (f : Fault) (t : CheckReporter O) : Type 0 where
-  pub same_out : t.out.ghost_name ≡ s.out.ghost_name
   pub limit : t.limit ≡ s.limit
   pub shown : t.shown ≡ (if nat_lt s.shown s.limit then s.shown + 1 else s.shown)
   pub more : t.more ≡ (if nat_lt s.shown s.limit then s.more else counted (s.more + 1))
-  pub puts : PutsAll (held s.out.now) (held t.out.now) (if nat_lt s.shown s.limit then fault_line f else [])
-
--- the line of a fault was not put whole
-pub record CutsFault {O : Type 0} (held : O → OutState) (s : CheckReporter O) (f : Fault) (t : CheckReporter O) : Type 0 where
-  pub same_out : t.out.ghost_name ≡ s.out.ghost_name
-  pub limit : t.limit ≡ s.limit
-  pub room : nat_lt s.shown s.limit ≡ true
-  pub puts : PutsPart (held s.out.now) (held t.out.now) (fault_line f)
+  pub wrote : Wrote held (writer_of s) (if nat_lt s.shown s.limit then fault_line f else []) (writer_of t)
 
 -- the last line, by the number of faults that were shown, and of those that were not
 abbrev pub end_text : ℕ → ℕ → List ℕ
@@ -41,11 +35,11 @@ end_text shown more = if shown + more == 0 then ok_line else more_text more
 abbrev pub found_verdict : ℕ → ℕ → Verdict
 found_verdict shown more = verdict_of (counted (shown + more))
 
--- it borrows its Out, whose failures are counted
-abbrev pub check_held : {O : Type 0} → (O → OutState) → CheckReporter O → ReporterState
-check_held held s = one_out s.out.ghost_name (held s.out.now).failures
+-- it borrows its Out, whose failures are counted, and is shut after one
+abbrev pub check_held : {O : Type 0} → (O → OutState) → CheckReporter O → SinkState
+check_held held s = one_out s.out.ghost_name (held s.out.now).failures s.has_failed
 
 -- What a check leaves of its reporter, where it heard nothing before: its text, or after an error a beginning of it; and the verdict.
 abbrev pub LeavesCheck : {O : Type 0} → (O → OutState) → List ℕ → List Reference → Result Verdict RunError → CheckReporter O → CheckReporter O → Type 0
-LeavesCheck held file V r s t = s.shown ≡ 0 → s.more ≡ 0
+LeavesCheck held file V r s t = s.has_failed ≡ false → s.shown ≡ 0 → s.more ≡ 0
     → Writes r (held s.out.now).bytes (held t.out.now).bytes (check_text s.limit (faults file V)) × IfOk r (λ v. v ≡ verdict (faults file V))

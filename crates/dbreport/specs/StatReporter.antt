@@ -9,7 +9,7 @@ use Rattle.dbsource.specs.Outs.{Begins, Flushes, OutState}
 use Rattle.dbmarks.specs.declared.marks.Mark.{Mark}
 use Rattle.dbscan.specs.Notices.{Notice, heard_fault, heard_row, ended, walked}
 use Rattle.dbscan.specs.Starts.{At}
-use Rattle.dbscan.specs.Hearing.{ReporterState}
+use Rattle.dbwalk.specs.Telling.{SinkState}
 use Rattle.dbreport.specs.CheckReporter.{PutsAll}
 use Rattle.dbreport.specs.TreeNames.{name_at}
 use Rattle.dbreport.specs.OtherMarks.{marked_lines}
@@ -36,9 +36,9 @@ other_lines false g marks = []
 abbrev pub reporter_rows_text : {O E : Type 0} → StatReporter O E → At → List StatRow → List ℕ
 reporter_rows_text s at rows = pages_text s.form.aggregate (name_at s.encoding at) s.page_size rows
 
--- it writes to the same Outs as before
+-- it writes to the same Outs as before, and has noted no failure
 abbrev pub AreSameOuts : {O E : Type 0} → StatReporter O E → StatReporter O E → Type 0
-AreSameOuts s t = (t.out.ghost_name ≡ s.out.ghost_name) × (t.err.ghost_name ≡ s.err.ghost_name)
+AreSameOuts s t = (t.out.ghost_name ≡ s.out.ghost_name) × (t.err.ghost_name ≡ s.err.ghost_name) × (t.is_shut ≡ s.is_shut)
 
 -- it writes to the same Outs as before, and in the same way
 pub record IsSameReporter {O E : Type 0} (s t : StatReporter O E) : Type 0 where
@@ -92,8 +92,12 @@ abbrev pub failures_of_each : OutState → OutState → List ℕ
 failures_of_each out err = out.failures ∷ err.failures ∷ []
 
 -- it borrows both Outs, whose failures are counted
-abbrev pub stat_held : {O E : Type 0} → (O → OutState) → (E → OutState) → StatReporter O E → ReporterState
-stat_held held held' s = record { lent = s.out.ghost_name ∷ s.err.ghost_name ∷ []; failures = failures_of_each (held s.out.now) (held' s.err.now) }
+abbrev pub stat_held : {O E : Type 0} → (O → OutState) → (E → OutState) → StatReporter O E → SinkState
+stat_held held held' s = record {
+  lent = s.out.ghost_name ∷ s.err.ghost_name ∷ [];
+  failures = failures_of_each (held s.out.now) (held' s.err.now);
+  is_shut = s.is_shut;
+}
 
 -- From one reporter to the other these bytes were written to the first Out, and the lines of these faults to the second.
 pub record HasWritten {O E : Type 0} (held : O → OutState) (held' : E → OutState) (s t : StatReporter O E) (text : List ℕ) (faults : List Fault) : Type 0 where
@@ -157,3 +161,14 @@ CutsStat out err s (heard_fault x) t = CutsStatFault out err s x.fault t
 CutsStat out err s (heard_row at r) t = CutsRow out err s at r t
 CutsStat out err s (ended at) t = CutsEnd out err s at t
 CutsStat out err s (walked g marks) t = CutsOthers out err s g marks t
+
+-- What a notice makes of a reporter, by whether it was shut before it, and is after it: an open one takes it, and is shut if it was not
+-- taken whole; a shut one takes nothing.
+abbrev pub HearsBy : {O E : Type 0} → (O → OutState) → (E → OutState) → Bool → Bool → StatReporter O E → Notice → StatReporter O E → Type 0
+HearsBy out err false false s n t = HearsStat out err s n t
+HearsBy out err false true s n t = CutsStat out err s n t
+HearsBy out err true true s n t = s ≡ t
+HearsBy out err true false s n t = ⊥
+
+abbrev pub HearsOpen : {O E : Type 0} → (O → OutState) → (E → OutState) → StatReporter O E → Notice → StatReporter O E → Type 0
+HearsOpen out err s n t = HearsBy out err s.is_shut t.is_shut s n t

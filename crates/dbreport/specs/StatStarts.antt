@@ -1,5 +1,5 @@
 -- What the statistics have written of the starts of a file, one after another.
-use Rattle.std.specs.Prelude.{◌≡◌, ℕ, Bool, List, [], ◌++◌, Result, IfOk, flat_map, if◌then◌else◌}
+use Rattle.std.specs.Prelude.{◌≡◌, ℕ, Bool, false, List, [], ◌++◌, Result, IfOk, flat_map, if◌then◌else◌}
 use Rattle.dbformat.specs.Header.{encoding, page_size}
 use Rattle.dbformat.specs.Reference.{Reference}
 use Rattle.dbformat.specs.Report.{faults, verdict}
@@ -28,6 +28,6 @@ rows_text aggregate all file V = starts_text aggregate file V [] (start_errands 
 -- report, at an error a beginning of it; and the verdict.
 abbrev pub LeavesStat : {O E : Type 0} → (O → OutState) → (E → OutState) → List ℕ → List Reference → Result Verdict RunError → StatReporter O E
     → StatReporter O E → Type 0
-LeavesStat held held' file V r s t = IsForFile file s → s.found ≡ 0
+LeavesStat held held' file V r s t = IsForFile file s → s.found ≡ 0 → s.is_shut ≡ false
     → Writes r (held s.out.now).bytes (held t.out.now).bytes (flat_map (form_line file V) (form_rows (form_of s.form) file V))
     × Writes r (held' s.err.now).bytes (held' t.err.now).bytes (flat_map fault_line (faults file V)) × IfOk r (λ v. v ≡ verdict (faults file V))

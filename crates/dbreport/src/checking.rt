@@ -1,8 +1,10 @@
 // A check of a file: what it writes of the notices that it hears.
-ghost use Rattle.std.specs.Prelude.{◌≡◌, IfOk, MatchResult};
-ghost use Rattle.dbsource.specs.Failures.{failures_after, is_any};
+ghost use Rattle.std.specs.Prelude.{◌≡◌, IfOk, false};
+ghost use Rattle.dblines.specs.Writing.{Wrote};
+ghost use Rattle.dbformat.specs.Lines.{fault_line};
 ghost use Rattle.dbsource.specs.Outs.{Puts};
-ghost use Rattle.dbreport.specs.CheckReporter.{CutsFault, ShowsFault, end_text, found_verdict};
+ghost use Rattle.dbwalk.specs.Telling.{SinkMoves};
+ghost use Rattle.dbreport.specs.CheckReporter.{ShowsFault, check_held, end_text, found_verdict, writer_of};
 
 use dbformat::Verdict;
 use dblines::{put_fault, put_ok, put_rest};
@@ -11,10 +13,12 @@ use dbsource::{Geometry, Out, RunError, Source, WriteFailed};
 use dbwalk::{Fault, Marks};
 use std::alloc::Allocator;
 
-// Writes the lines of the first faults as they come, and counts the others. It holds no list.
+// Writes the lines of the first faults as they come, and counts the others. It holds no list. Its Out is a writer's: nothing is put to
+// it after it failed. A `Writer` in a field would hide from contracts what the Out holds in the end.
 #[derive(Drop)]
 pub(crate) struct CheckReporter<'a, O> {
     out: &'a mut O,
+    has_failed: bool,
     limit: u32,
     shown: u32,
     more: u64,
@@ -25,36 +29,50 @@ impl<'a, O: Out> CheckReporter<'a, O> {
     pub(crate) fn new(out: &'a mut O, limit: u32) -> CheckReporter<'a, O>
         ensures same_out { result.out.ghost_name ≡ out.entry.ghost_name }
         ensures out { result.out.now ≡ out.old }
+        ensures open { result.has_failed ≡ false }
         ensures limit { result.limit ≡ limit }
         ensures shown { result.shown ≡ 0 }
         ensures more { result.more ≡ 0 }
     {
         CheckReporter {
             out,
+            has_failed: false,
             limit,
             shown: 0,
             more: 0,
         }
     }
 
+    // Puts the line of a fault, unless the Out failed before.
+    fn put(&mut self, fault: &Fault)
+        ensures limit { self.new.limit ≡ self.old.limit }
+        ensures counts { (self.new.shown ≡ self.old.shown) × (self.new.more ≡ self.old.more) }
+        ensures wrote { Wrote O.held (writer_of self.old) (fault_line fault.now) (writer_of self.new) }
+    {
+        if !self.has_failed {
+            self.has_failed = put_fault(self.out, fault).is_err();
+        }
+    }
+
     // Puts the line of a fault, or counts it.
-    fn show(&mut self, fault: &Fault) -> Result<(), WriteFailed>
-        ensures item { MatchResult result (λ _. ShowsFault O.held self.old fault.now self.new) (λ _. CutsFault O.held self.old fault.now self.new) }
-        ensures count { (O.held self.new.out.now).failures ≡ failures_after is_any result (O.held self.old.out.now).failures }
+    #[tactic(auto, using(dblines::proofs::Writing::wrote_nothing))]
+    fn show(&mut self, fault: &Fault)
+        ensures item { ShowsFault O.held self.old fault.now self.new }
+        ensures count { SinkMoves (check_held O.held self.old) (check_held O.held self.new) }
     {
         if self.shown < self.limit {
-            put_fault(self.out, fault)?;
+            self.put(fault);
             self.shown += 1;
         } else {
             self.more = self.more.saturating_add(1);
         }
-        Ok(())
     }
 
     // Puts the last line, that there is no fault or how many there are beside those shown, and answers what was found.
     fn end(&mut self) -> Result<Verdict, WriteFailed>
         ensures same_out { self.new.out.ghost_name ≡ self.old.out.ghost_name }
         ensures text { Puts result (O.held self.old.out.now) (O.held self.new.out.now) (end_text self.old.shown self.old.more) }
+        ensures failed { self.new.has_failed ≡ self.old.has_failed }
         ensures verdict { IfOk result (λ v. v ≡ found_verdict self.old.shown self.old.more) }
     {
         let count = u64::from(self.shown).saturating_add(self.more);
@@ -69,28 +87,24 @@ impl<'a, O: Out> CheckReporter<'a, O> {
 
 // Where a fault is found is nothing to a check.
 impl<O: Out> Reporter for CheckReporter<'_, O> {
-    ghost use Rattle.dbscan.specs.Notices.{CutsFaults, HearsFaults};
-    ghost use Rattle.dbreport.specs.CheckReporter.{check_held};
+    ghost use Rattle.dbscan.specs.Notices.{HearsFaults};
+    ghost use Rattle.dbreport.specs.CheckReporter.{ShowsFault, check_held};
 
     ghost hears = { HearsFaults (ShowsFault O.held) };
 
-    ghost cuts = { CutsFaults (CutsFault O.held) };
-
     ghost held = { check_held O.held };
 
-    fn hear(&mut self, notice: &Notice<'_>) -> Result<(), WriteFailed> {
+    fn hear(&mut self, notice: &Notice<'_>) {
         match notice {
             Notice::Fault(told) => self.show(&told.fault),
-            Notice::Row(_, _) | Notice::Ended(_) => Ok(()),
+            Notice::Row(_, _) | Notice::Ended(_) => {}
         }
     }
 
-    fn walked<A: Allocator>(
-        &mut self,
-        _geometry: Geometry,
-        _marks: &Marks<A>,
-    ) -> Result<(), WriteFailed> {
-        Ok(())
+    fn walked<A: Allocator>(&mut self, _geometry: Geometry, _marks: &Marks<A>) {}
+
+    fn is_shut(&self) -> bool {
+        self.has_failed
     }
 }
 

@@ -6,7 +6,7 @@
 #![tactic(auto)]
 
 use anyhow::{Context, Result};
-use dbbytes::{WriteFailed, name_text};
+use dbbytes::name_text;
 use dbscan::{
     Desk, Header, Marks, Notice, PageKind, PageType, Reporter, RowKind, StartTable, scan,
 };
@@ -21,15 +21,13 @@ struct RowCounts {
 }
 
 impl Reporter for RowCounts {
-    ghost use Rattle.std.specs.Prelude.{[], ⊤};
+    ghost use Rattle.std.specs.Prelude.{[], false, ⊤};
 
     ghost hears = { λ _ _ _. ⊤ };
 
-    ghost cuts = { λ _ _ _. ⊤ };
+    ghost held = { λ _. record { lent = []; failures = []; is_shut = false } };
 
-    ghost held = { λ _. record { lent = []; failures = [] } };
-
-    fn hear(&mut self, notice: &Notice<'_>) -> Result<(), WriteFailed> {
+    fn hear(&mut self, notice: &Notice<'_>) {
         if let Notice::Row(start, page) = notice {
             let rows = match page.pagetype {
                 PageType::Tree(PageKind::InteriorTable) => 0,
@@ -39,15 +37,12 @@ impl Reporter for RowCounts {
             let count = self.starts.get(start.number()).unwrap_or(0);
             self.starts.set(start.number(), count.saturating_add(rows));
         }
-        Ok(())
     }
 
-    fn walked<A: Allocator>(
-        &mut self,
-        _geometry: Geometry,
-        _marks: &Marks<A>,
-    ) -> Result<(), WriteFailed> {
-        Ok(())
+    fn walked<A: Allocator>(&mut self, _geometry: Geometry, _marks: &Marks<A>) {}
+
+    fn is_shut(&self) -> bool {
+        false
     }
 }
 

@@ -8,7 +8,6 @@ use Rattle.std.proofs.lemmas.Grind.{flat_map-append}
 use Rattle.std.proofs.lemmas.List.{append-nil, map-append}
 use Rattle.dbsurvey.specs.Moves.{Moves}
 use Rattle.dbsurvey.proofs.Lists.{flat_map-same, map-flat_map}
-use Rattle.dbsurvey.proofs.Moving.{Moves-append, Moves-one}
 use Rattle.dbformat.proofs.Looping.{range-parts}
 use Rattle.dbformat.specs.EndFaults.{visit_of, end_faults, sum_faults, page_end_faults, page_numbers, has_rows}
 use Rattle.dbformat.specs.Faults.{fault}
@@ -29,11 +28,11 @@ use Rattle.dbmarks.specs.EndMarks.{is_free_mark, greatest_root_marked, least_oth
 use Rattle.dbtrace.specs.declared.Part.TheVariants as part
 use Rattle.dbscan.specs.Notices.{Notice, whole, walked, end_notices}
 use Rattle.dbmarks.specs.Marking.{is_none, mark_of, marks_of, role_mark, visit_mark, AreMarksOf}
-use Rattle.dbscan.specs.Hearing.{Tells}
+use Rattle.dbwalk.specs.Telling.{Tells}
 use Rattle.dbmarks.specs.declared.marks.Mark.{Mark}
 use Rattle.dbmarks.specs.declared.marks.Mark.TheVariants.{Unmarked, Fixed, Root, Trunk, FreeLeaf, FirstOverflow, LaterOverflow, Child}
 use Rattle.dbmarks.proofs.LateRoots.{marks_tell_the_end}
-use Rattle.dbscan.proofs.Hearings.{stops_by_after}
+use Rattle.dbsurvey.proofs.Moving.{Moves-append, Moves-one, some_after}
 use Rattle.dbscan.specs.EndPass.{counted_faults, is_fixed_mark, page_notices, pages_items}
 use Rattle.dbscan.specs.Telling.{items_of}
 use Rattle.dbscan.proofs.CountedMarks.{numbers_more}
@@ -164,17 +163,17 @@ module _ (file : List ℕ) (V : List Reference) (s : Survey file V) where
       ∙ sym (map-append (whole part.End) (sum_faults file V) (flat_map (page_end_faults file V) (page_numbers (geometry file))))
 
 -- some items, and then others
-pub tells_then : {S I A : Type 0} (takes drops : S → I → S → Type 0) (r : Result A RunError) (s m t : S) (L M : List I) → Moves takes s L m
-    → Tells takes drops r m M t → Tells takes drops r s (L ++ M) t
-tells_then takes drops (Ok a) s m t L M h k = Moves-append takes s m t L M h k
-tells_then takes drops (Err e) s m t L M h k = stops_by_after takes drops e s m t L M h k
+pub tells_then : {S I A : Type 0} (takes : S → I → S → Type 0) (r : Result A RunError) (s m t : S) (L M : List I) → Moves takes s L m
+    → Tells takes r m M t → Tells takes r s (L ++ M) t
+tells_then takes (Ok a) s m t L M h k = Moves-append takes s m t L M h k
+tells_then takes (Err e) s m t L M h k = some_after takes s m t L M h k
 
 -- the marks, and then the faults at the end
-pub walked_then : {S A : Type 0} (hears cuts : S → Notice → S → Type 0) (file : List ℕ) (V : List Reference) (r : Result A RunError) (s m t : S) (g : Geometry)
+pub walked_then : {S A : Type 0} (hears : S → Notice → S → Type 0) (file : List ℕ) (V : List Reference) (r : Result A RunError) (s m t : S) (g : Geometry)
     (marks : List Mark)
-    → g ≡ geometry file → AreMarksOf file V marks → hears s (walked g marks) m → Tells hears cuts r m (map (whole part.End) (end_faults file V)) t
-    → Tells hears cuts r s (end_notices file V) t
-walked_then hears cuts file V r s m t g marks same marked told k =
+    → g ≡ geometry file → AreMarksOf file V marks → hears s (walked g marks) m → Tells hears r m (map (whole part.End) (end_faults file V)) t
+    → Tells hears r s (end_notices file V) t
+walked_then hears file V r s m t g marks same marked told k =
     let n = walked (geometry file) (marks_of (geometry file) V) in
-    tells_then hears cuts r s m t (n ∷ []) (map (whole part.End) (end_faults file V))
+    tells_then hears r s m t (n ∷ []) (map (whole part.End) (end_faults file V))
     (Moves-one hears s m n (subst (λ n. hears s n m) (ap₂ walked same marked) told)) k

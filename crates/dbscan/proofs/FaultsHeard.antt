@@ -1,18 +1,17 @@
 -- What a run makes of a reporter on which only faults have an effect: it takes the faults of the file.
 use Rattle.std.proofs.Common.{inl, inr, ℕ, List, [], ◌∷◌, Result, Ok, Err, subst}
-use Rattle.dbsurvey.specs.Moves.{Moves, Stops, MovesBySome}
+use Rattle.dbsurvey.specs.Moves.{Moves, MovesBySome}
 use Rattle.dbsurvey.proofs.Moving.{some_none}
 use Rattle.dbformat.specs.Reference.{Reference}
 use Rattle.dbformat.specs.Report.{faults}
 use Rattle.dbformat.specs.Survey.{Survey}
 use Rattle.dbformat.specs.declared.Fault.{Fault}
 use Rattle.dbsource.specs.declared.error.RunError.{RunError}
-use Rattle.dbsource.specs.declared.error.RunError.TheVariants.{ReadFailed, WriteFailed, OutOfMemory, Refused}
-use Rattle.dbscan.specs.Hearing.{Tells}
-use Rattle.dbscan.specs.Notices.{CutsFaults, HearsFaults, Notice, heard_fault, heard_row, ended, walked, faults_heard, run_notices}
+use Rattle.dbwalk.specs.Telling.{Tells}
+use Rattle.dbscan.specs.Notices.{HearsFaults, Notice, heard_fault, heard_row, ended, walked, faults_heard, run_notices}
 use Rattle.dbscan.proofs.HeardFaults.{faults_are_heard}
 
-module _ {S : Type 0} (takes cuts : S → Fault → S → Type 0) where
+module _ {S : Type 0} (takes : S → Fault → S → Type 0) where
   all_heard : (ns : List Notice) (s t : S) → Moves (HearsFaults takes) s ns t → Moves takes s (faults_heard ns) t
   all_heard [] s t h = h
   all_heard (heard_fault x ∷ ns) s t h = (h.0, h.1, all_heard ns h.0 t h.2)
@@ -28,25 +27,10 @@ module _ {S : Type 0} (takes cuts : S → Fault → S → Type 0) where
   some_heard (ended at ∷ ns) s t (inr h) = subst (λ m. MovesBySome takes m (faults_heard ns) t) h.1 (some_heard ns h.0 t h.2)
   some_heard (walked g marks ∷ ns) s t (inr h) = subst (λ m. MovesBySome takes m (faults_heard ns) t) h.1 (some_heard ns h.0 t h.2)
 
-  stops_heard : (ns : List Notice) (s t : S) → Stops (HearsFaults takes) (CutsFaults cuts) s ns t → Stops takes cuts s (faults_heard ns) t
-  stops_heard [] s t h = absurd h
-  stops_heard (heard_fault x ∷ ns) s t (inl h) = inl h
-  stops_heard (heard_row at r ∷ ns) s t (inl h) = absurd h
-  stops_heard (ended at ∷ ns) s t (inl h) = absurd h
-  stops_heard (walked g marks ∷ ns) s t (inl h) = absurd h
-  stops_heard (heard_fault x ∷ ns) s t (inr h) = inr (h.0, h.1, stops_heard ns h.0 t h.2)
-  stops_heard (heard_row at r ∷ ns) s t (inr h) = subst (λ m. Stops takes cuts m (faults_heard ns) t) h.1 (stops_heard ns h.0 t h.2)
-  stops_heard (ended at ∷ ns) s t (inr h) = subst (λ m. Stops takes cuts m (faults_heard ns) t) h.1 (stops_heard ns h.0 t h.2)
-  stops_heard (walked g marks ∷ ns) s t (inr h) = subst (λ m. Stops takes cuts m (faults_heard ns) t) h.1 (stops_heard ns h.0 t h.2)
-
-  heard_by : {A : Type 0} (r : Result A RunError) (ns : List Notice) (s t : S) → Tells (HearsFaults takes) (CutsFaults cuts) r s ns t
-      → Tells takes cuts r s (faults_heard ns) t
+  heard_by : {A : Type 0} (r : Result A RunError) (ns : List Notice) (s t : S) → Tells (HearsFaults takes) r s ns t → Tells takes r s (faults_heard ns) t
   heard_by (Ok a) ns s t h = all_heard ns s t h
-  heard_by (Err (Refused r)) ns s t h = some_heard ns s t h
-  heard_by (Err ReadFailed) ns s t h = some_heard ns s t h
-  heard_by (Err OutOfMemory) ns s t h = some_heard ns s t h
-  heard_by (Err WriteFailed) ns s t h = stops_heard ns s t h
+  heard_by (Err e) ns s t h = some_heard ns s t h
 
   pub faults_heard_by : {A : Type 0} (file : List ℕ) (V : List Reference) → Survey file V → (r : Result A RunError) (s t : S)
-      → Tells (HearsFaults takes) (CutsFaults cuts) r s (run_notices file V) t → Tells takes cuts r s (faults file V) t
-  faults_heard_by file V survey r s t h = subst (λ fs. Tells takes cuts r s fs t) (faults_are_heard file V survey) (heard_by r (run_notices file V) s t h)
+      → Tells (HearsFaults takes) r s (run_notices file V) t → Tells takes r s (faults file V) t
+  faults_heard_by file V survey r s t h = subst (λ fs. Tells takes r s fs t) (faults_are_heard file V survey) (heard_by r (run_notices file V) s t h)

@@ -8,7 +8,7 @@ use Rattle.dbsource.specs.declared.error.RunError.{RunError}
 use Rattle.dbsource.specs.declared.error.RunError.TheVariants.{WriteFailed}
 use Rattle.dbsource.specs.declared.source.Source.{Ghosts as SourceWords}
 use Rattle.dbwalk.specs.Telling.{IsReadOrWrite}
-use Rattle.dbscan.specs.Hearing.{ReporterAfter, ReporterState}
+use Rattle.dbwalk.specs.Telling.{SinkAfter, SinkState}
 use Rattle.dbscan.specs.Desks.{DeskView, shape_of}
 use Rattle.dbscan.specs.Finishes.{HasFinished, HasHeard}
 use Rattle.dbscan.specs.Looks.{IsUnmarked}
@@ -19,9 +19,9 @@ of_write : {A : Type 0} (r : Result A RunError) → IfErr r (λ e. e ≡ WriteFa
 of_write (Ok a) h = tt
 of_write (Err e) h = inr h
 
-pub finished : {S K : Type 0} (source : SourceWords S) (hears : K → Notice → K → Type 0) (held : K → ReporterState)
+pub finished : {S K : Type 0} (source : SourceWords S) (hears : K → Notice → K → Type 0) (held : K → SinkState)
     (leaves : List ℕ → List Reference → Result Verdict RunError → K → K → Type 0)
-    (r : Result Verdict RunError) (d : DeskView) (s : S) (old new : K) → IfErr r (λ e. e ≡ WriteFailed) → ReporterAfter is_write_failed r (held old) (held new)
+    (r : Result Verdict RunError) (d : DeskView) (s : S) (old new : K) → IfErr r (λ e. e ≡ WriteFailed) → SinkAfter is_write_failed r (held old) (held new)
     → ((file : List ℕ) (V : List Reference) (first : K) → HasHeard hears d file V first old → leaves file V r first new)
     → HasFinished source hears held leaves r d d (s, old) (s, new)
 finished source hears held leaves r d s old new only writes left = record {

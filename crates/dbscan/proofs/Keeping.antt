@@ -4,7 +4,7 @@ use Rattle.std.specs.Prelude.{IfErr}
 use Rattle.dbsource.specs.Errors.{is_write_failed}
 use Rattle.dbsource.specs.declared.error.RunError.{RunError}
 use Rattle.dbwalk.specs.Telling.{IsReadOrWrite, IsReadWriteOrMemory}
-use Rattle.dbscan.specs.Hearing.{ReporterAfter, ReporterState}
+use Rattle.dbwalk.specs.Telling.{SinkAfter, SinkState}
 use Rattle.dbwalk.proofs.Underway.Walks.{none_refused}
 use Rattle.dbscan.specs.Desks.{DeskView}
 use Rattle.dbscan.specs.Kept.{KeepsHeader, KeepsRoots}
@@ -15,7 +15,7 @@ read_or_write : {A : Type 0} (r : Result A RunError) → IfErr r IsReadOrWrite �
 read_or_write (Ok u) only = tt
 read_or_write (Err e) only = inl only
 
-pub keeps_then : {A B : Type 0} {a : A} {r : Result B RunError} {before mid after : DeskView} {old now new : ReporterState}
+pub keeps_then : {A B : Type 0} {a : A} {r : Result B RunError} {before mid after : DeskView} {old now new : SinkState}
     → KeepsHeader (Ok a) before mid old now
     → KeepsRoots r mid after now new → KeepsHeader r before after old new
 keeps_then {r = r} {before = before} {new = new} h k = record {
@@ -24,5 +24,5 @@ keeps_then {r = r} {before = before} {new = new} h k = record {
     memory = ap (λ (l : Listed). l.refusals) k.roots ∙ h.desk.memory ∙ none_refused r before.roots.refusals k.only;
     only = read_or_write r k.only;
   };
-  writes = subst (λ s. ReporterAfter is_write_failed r s new) h.writes k.writes;
+  writes = subst (λ s. SinkAfter is_write_failed r s new) h.writes k.writes;
 }

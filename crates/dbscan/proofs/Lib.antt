@@ -8,7 +8,6 @@ pub mod FaultsHeard
 pub mod Finished
 pub mod HeardFaults
 pub mod HeardRows
-pub mod Hearings
 pub mod Keeping
 pub mod MapLogs
 pub mod MapPlaces

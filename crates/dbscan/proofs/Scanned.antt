@@ -1,7 +1,7 @@
 -- What a reporter hears in a scan, part by part: the faults of the header, what is found at the starts, and what is reported
 -- after the walks.
 use Rattle.std.proofs.Common.{◌≡◌, ℕ, Bool, List, ◌++◌, length, map, Result, Ok, Err, sym, ap, ap₂, subst, ◌∙◌}
-use Rattle.dbsurvey.specs.Moves.{Moves}
+use Rattle.dbsurvey.specs.Moves.{Moves, MovesBySome}
 use Rattle.dbformat.specs.HeaderFaults.{header_faults}
 use Rattle.dbformat.specs.Reference.{Reference}
 use Rattle.dbformat.proofs.HeaderPrefix.{header_faults_within}
@@ -10,8 +10,8 @@ use Rattle.dbsource.specs.Headers.{IsHeaderOf}
 use Rattle.dbsource.specs.declared.error.RunError.{RunError}
 use Rattle.dbmarks.specs.Marking.{AreMarksOf}
 use Rattle.dbscan.specs.Roots.{AreListed}
-use Rattle.dbscan.specs.Hearing.{StopsBy, Tells}
-use Rattle.dbscan.proofs.Hearings.{stops_by_first, stops_by_after}
+use Rattle.dbwalk.specs.Telling.{Tells}
+use Rattle.dbsurvey.proofs.Moving.{some_first, some_after}
 use Rattle.dbscan.specs.Desks.{DeskView}
 use Rattle.dbtrace.specs.declared.Part.TheVariants as part
 use Rattle.dbscan.specs.Notices.{Notice, whole, start_notices, end_notices, run_notices}
@@ -24,7 +24,7 @@ header_items : (file : List ℕ) (h : HeaderBytes) → IsHeaderOf h file
     → map (whole part.Header) (header_faults h.bytes h.file_len) ≡ map (whole part.Header) (header_faults file (length file))
 header_items file h is = ap (map (whole part.Header)) (ap₂ header_faults is.begins is.whole ∙ header_faults_within file (length file))
 
-module _ {S : Type 0} (hears cuts : S → Notice → S → Type 0) (file : List ℕ) (V : List Reference) (h : HeaderBytes) (is : IsHeaderOf h file) (s : S) where
+module _ {S : Type 0} (hears : S → Notice → S → Type 0) (file : List ℕ) (V : List Reference) (h : HeaderBytes) (is : IsHeaderOf h file) (s : S) where
   abbrev first : List Notice
   first = map (whole part.Header) (header_faults file (length file))
 
@@ -32,30 +32,30 @@ module _ {S : Type 0} (hears cuts : S → Notice → S → Type 0) (file : List 
   last = end_notices file V
 
   -- it stopped within the header's faults
-  pub header_stopped : (e : RunError) (t : S) → StopsBy hears cuts e s (map (whole part.Header) (header_faults h.bytes h.file_len)) t
-      → StopsBy hears cuts e s (run_notices file V) t
-  header_stopped e t k = stops_by_first hears cuts e s t first (start_notices file V ++ last)
-      (subst (λ items. StopsBy hears cuts e s items t) (header_items file h is) k)
+  pub header_stopped : (e : RunError) (t : S) → MovesBySome hears s (map (whole part.Header) (header_faults h.bytes h.file_len)) t
+      → MovesBySome hears s (run_notices file V) t
+  header_stopped e t k = some_first hears s t first (start_notices file V ++ last)
+      (subst (λ items. MovesBySome hears s items t) (header_items file h is) k)
 
   module _ (a : S) (told : Moves hears s (map (whole part.Header) (header_faults h.bytes h.file_len)) a) where
     header_told : Moves hears s first a
     header_told = subst (λ items. Moves hears s items a) (header_items file h is) told
 
     -- within what is found at the starts
-    pub starts_stopped : (e : RunError) (t : S) → StopsBy hears cuts e a (start_notices file V) t → StopsBy hears cuts e s (run_notices file V) t
-    starts_stopped e t k = stops_by_after hears cuts e s a t first (start_notices file V ++ last) header_told
-        (stops_by_first hears cuts e a t (start_notices file V) last k)
+    pub starts_stopped : (e : RunError) (t : S) → MovesBySome hears a (start_notices file V) t → MovesBySome hears s (run_notices file V) t
+    starts_stopped e t k = some_after hears s a t first (start_notices file V ++ last) header_told
+        (some_first hears a t (start_notices file V) last k)
 
     -- or not before what is reported after the walks
-    all_told : {A : Type 0} (r : Result A RunError) (b t : S) → Moves hears a (start_notices file V) b → Tells hears cuts r b last t
-        → Tells hears cuts r s (run_notices file V) t
-    all_told r b t walked k = tells_then hears cuts r s a t first (start_notices file V ++ last) header_told
-        (tells_then hears cuts r a b t (start_notices file V) last walked k)
+    all_told : {A : Type 0} (r : Result A RunError) (b t : S) → Moves hears a (start_notices file V) b → Tells hears r b last t
+        → Tells hears r s (run_notices file V) t
+    all_told r b t walked k = tells_then hears r s a t first (start_notices file V ++ last) header_told
+        (tells_then hears r a b t (start_notices file V) last walked k)
 
     -- after the walks all is known of the file, and the report of the end does not change it
     pub scan_ended : (r : Result (Unit {0}) RunError) (any : Bool) (b t : S) (walked ended : DeskView)
-        → AreWalked hears cuts file V (Ok any) walked.marks walked.roots.rows a b → ended ≡ record walked { pages = ended.pages }
-        → Tells hears cuts r b last t → IsScanned hears cuts file V r ended.marks ended.roots.rows s t
+        → AreWalked hears file V (Ok any) walked.marks walked.roots.rows a b → ended ≡ record walked { pages = ended.pages }
+        → Tells hears r b last t → IsScanned hears file V r ended.marks ended.roots.rows s t
     scan_ended (Ok u) any b t walked ended w same k = record {
       told = all_told (Ok u) b t w.all.told k;
       marked = subst (AreMarksOf file V) (sym (ap (λ (d : DeskView). d.marks) same)) w.all.marked;

@@ -41,20 +41,20 @@ schema_first file encoding marks h = record {
 }
 
 -- The walk over the schema's tree with a teller to which nothing was reported before, and what it has found.
-module _ {S : Type 0} (hears cuts : S → Notice → S → Type 0) (file : List ℕ) (marks : List Mark) (w t : Teller S) (old new : Listed)
+module _ {S : Type 0} (hears : S → Notice → S → Type 0) (file : List ℕ) (marks : List Mark) (w t : Teller S) (old new : Listed)
     (start : w.start.now ≡ at_schema) (unseen : w.has_rows ≡ false) (empty : old.rows ≡ []) where
-  by_result : (r : Result (Unit {0}) RunError) → IsWalkedOver {A = Unit {0}} hears cuts TakesRow file [] schema_reference r marks w t old new
-      → IsTreeWalked {A = Unit {0}} hears cuts at_schema file [] schema_reference r marks w.reporter.now t.reporter.now
+  by_result : (r : Result (Unit {0}) RunError) → IsWalkedOver {A = Unit {0}} hears TakesRow file [] schema_reference r marks w t old new
+      → IsTreeWalked {A = Unit {0}} hears at_schema file [] schema_reference r marks w.reporter.now t.reporter.now
       × ((V : List Reference) → Survey file V → OnOk r (IsSchemaOf file V new.rows t.has_rows))
   by_result (Err e) d = (
-    subst (λ at. IsTreeWalked {A = Unit {0}} hears cuts at file [] schema_reference (Err e) marks w.reporter.now t.reporter.now) start
+    subst (λ at. IsTreeWalked {A = Unit {0}} hears at file [] schema_reference (Err e) marks w.reporter.now t.reporter.now) start
         d.tree,
     λ V s. tt,
   )
   by_result (Ok u) d =
       let items = told_below file [] (Go schema_reference ∷ []) in
       let P = schema_part file in (
-        subst (λ at. IsTreeWalked {A = Unit {0}} hears cuts at file [] schema_reference (Ok u) marks w.reporter.now t.reporter.now) start d.tree,
+        subst (λ at. IsTreeWalked {A = Unit {0}} hears at file [] schema_reference (Ok u) marks w.reporter.now t.reporter.now) start d.tree,
         λ V s.
             let same : schema file V ≡ schema file P = (by_starts file V s).1 in
             let rows = schema_roots file P old new empty (d.given refl) ∙ ap (λ cs. take last_root_start (rooted_rows cs)) (sym same) in
@@ -71,21 +71,21 @@ module _ {S : Type 0} (hears cuts : S → Notice → S → Type 0) (file : List 
     abbrev IsWalked : Result (Unit {0}) RunError → Type 0
     IsWalked r = named.encoding ≡ encoding_of file → (W : List Reference) (c : Reference) → IsRootAfter file named W c first → (held : Listed → ℕ)
         → (named.kind ≡ Schema → StartsEmpty TakesRow held old)
-        → IsWalkedOver hears cuts TakesRow file W c r marks w t old new
+        → IsWalkedOver hears TakesRow file W c r marks w t old new
 
     from_schema : (r : Result (Unit {0}) RunError) → IsWalked r
-        → IsTreeWalked hears cuts at_schema file [] schema_reference r marks w.reporter.now t.reporter.now
+        → IsTreeWalked hears at_schema file [] schema_reference r marks w.reporter.now t.reporter.now
         × ((V : List Reference) → Survey file V → OnOk r (IsSchemaOf file V new.rows t.has_rows))
     from_schema r walked =
         by_result r (walked (ap (λ (r : Root). r.encoding) root ∙ coded ∙ ap encoding_of is.begins ∙ encoding_within file) [] schema_reference
         (subst (λ r. IsRootAfter file r [] schema_reference first) (sym root) (schema_first file code first fresh)) (λ l. length l.rows)
         (λ k. roots_start_empty old empty))
 
-    pub schema_stopped : (e : RunError) → IsWalked (Err e) → IsSchemaWalked hears cuts file (Err e) marks new.rows w.reporter.now t.reporter.now
+    pub schema_stopped : (e : RunError) → IsWalked (Err e) → IsSchemaWalked hears file (Err e) marks new.rows w.reporter.now t.reporter.now
     schema_stopped e walked = let d = from_schema (Err e) walked in record { tree = record { marked = tt; told = d.0.told }; schema = λ V s. tt }
 
     pub schema_walked : (any : Bool) → any ≡ t.has_rows → IsWalked (Ok tt)
-        → IsSchemaWalked hears cuts file (Ok any) marks new.rows w.reporter.now t.reporter.now
+        → IsSchemaWalked hears file (Ok any) marks new.rows w.reporter.now t.reporter.now
     schema_walked any e walked =
         let d = from_schema (Ok tt) walked in
         record { tree = record { marked = d.0.marked; told = d.0.told }; schema = λ V s. subst (IsSchemaOf file V new.rows) (sym e) (d.1 V s) }

@@ -1,11 +1,11 @@
 -- The walks from the starts, one after another: what a walk over the next tree leaves to be reported.
-use Rattle.std.proofs.Common.{◌≡◌, ◌↔◌, ℕ, suc, ◌+◌, ◌-◌, ◌<◌, Bool, false, cond, inl, List, [], ◌∷◌, ◌++◌, drop, length, map, Some, Result, Ok, Err, refl, sym}
+use Rattle.std.proofs.Common.{◌≡◌, ◌↔◌, ℕ, suc, ◌+◌, ◌-◌, ◌<◌, Bool, false, cond, List, [], ◌∷◌, ◌++◌, drop, length, map, Some, Result, Ok, Err, refl, sym}
 use Rattle.std.proofs.Common.{ap, subst, ◌∙◌, arith, append_assoc, append-nil}
 use Rattle.std.specs.Prelude.{OnOk, slice_get, ◌==◌}
 use Rattle.std.specs.List.{enumerate_from}
 use Rattle.dbsurvey.specs.Moves.{Moves, MovesBySome}
 use Rattle.dbsurvey.specs.Story.{Errand, Go, Follow, errands_at}
-use Rattle.dbsurvey.proofs.Moving.{Moves-append}
+use Rattle.dbsurvey.proofs.Moving.{Moves-append, some_first, some_after}
 use Rattle.dbformat.specs.Address.{freelist_start, schema_start, start_of}
 use Rattle.dbformat.specs.Header.{encoding, first_trunk}
 use Rattle.dbformat.specs.Reference.{trunk, Way, Reference}
@@ -13,15 +13,12 @@ use Rattle.dbformat.specs.Schema.{start as start_at}
 use Rattle.dbformat.specs.SchemaRow.{SchemaRow}
 use Rattle.dbformat.specs.Story.{Event, start_errands}
 use Rattle.dbformat.specs.Survey.{Survey}
-use Rattle.dbsource.specs.Errors.{is_write_failed}
 use Rattle.dbsource.specs.declared.error.RunError.{RunError}
-use Rattle.dbsource.specs.declared.error.RunError.TheVariants.{WriteFailed}
 use Rattle.dbtrace.specs.Finding.{Finding, told_below, visited_below}
 use Rattle.dbwalk.specs.Done.{IsDone, IsTreeDone}
 use Rattle.dbwalk.specs.Entered.{IsNext}
 use Rattle.dbmarks.specs.Marking.{AreMarksOf}
 use Rattle.dbwalk.specs.Taking.{StartsEmpty, gives, readable_rows}
-use Rattle.dbscan.specs.Hearing.{StopsBy}
 use Rattle.dbwalk.specs.Roots.{IsRootAfter}
 use Rattle.dbwalk.specs.Trunks.{IsFirstTrunk, freelist_reference}
 use Rattle.dbmarks.specs.declared.marks.Mark.{Mark}
@@ -30,7 +27,7 @@ use Rattle.dbwalk.specs.declared.root.RootKind.TheVariants.{Schema}
 use Rattle.dbwalk.specs.declared.taker.Taken.{Taken}
 use Rattle.dbwalk.proofs.RootTakings.{tree_given, tree_told}
 use Rattle.dbwalk.proofs.Telling.Belows.{told_none}
-use Rattle.dbscan.proofs.Hearings.{stops_by_first, stops_by_after}
+use Rattle.dbwalk.proofs.Telling.Sinks.{moves_some}
 use Rattle.dbwalk.proofs.Telling.Lefts.{left_call, left_none}
 use Rattle.dbwalk.proofs.Trees.Bounds.{root_address}
 use Rattle.dbscan.specs.Notices.{Notice, found, ended, errands_left, root_reference, tree_notices, later_notices, start_notices}
@@ -40,7 +37,7 @@ use Rattle.dbscan.specs.Walks.{Any, IsAtStarts, IsTreeWalked, IsWalkedOver, IsSc
 use Rattle.dbscan.specs.declared.teller.Teller.{Teller}
 use Rattle.dbscan.proofs.RunItems.{all_visited, starts_left, survey_below_starts}
 use Rattle.dbscan.proofs.Starts.{drop_more, quiet_go, root_next, row_there}
-use Rattle.dbscan.proofs.Tellers.{IsShutBy, teller_moves, teller_stops}
+use Rattle.dbscan.proofs.Tellers.{teller_moves, teller_some}
 
 any_moves : (items : List Finding) → Moves Any tt items tt
 any_moves [] = refl
@@ -60,80 +57,60 @@ at_end : (file : List ℕ) (V : List Reference) (survey : Survey file V) (U : Li
 at_end file V survey U marks h =
     subst (λ W. AreMarksOf file W marks) (all_visited file V survey) (left_none Any file [] (start_errands file V) tt U marks tt {A = Unit {0}} tt h).marked
 
-module _ {S : Type 0} (hears cuts : S → Notice → S → Type 0) where
-  -- ---- what is reported to a teller, as what its reporter hears
-
-  module _ (items : List Finding) (w t : Teller S) (open_first : w.is_shut ≡ false) where
-    moved : t.is_shut ≡ false → Moves (HandsOn hears cuts) w items t → Moves hears w.reporter.now (map (found w.start.now) items) t.reporter.now
-    moved o h = (teller_moves hears cuts items w t open_first o h).0
-
-    stopped : (e : RunError) → t.is_shut ≡ is_write_failed e → MovesBySome (HandsOn hears cuts) w items t
-        → StopsBy hears cuts e w.reporter.now (map (found w.start.now) items) t.reporter.now
-    stopped e o h = teller_stops hears cuts e items w t open_first o h
-
+module _ {S : Type 0} (hears : S → Notice → S → Type 0) where
   -- ---- one tree
 
   module _ {T : Type 0} (keeps : T → SchemaRow → Taken → T → Type 0) (refuses : T → SchemaRow → T → Type 0) (file : List ℕ) (W : List Reference) (c : Reference)
-      (marks : List Mark) (w m : Teller S) (first u : T) (open_first : w.is_shut ≡ false) where
+      (marks : List Mark) (w m : Teller S) (first u : T) where
     abbrev items : List Finding
     items = told_below file W (Go c ∷ [])
 
     -- what is below its root is marked and was reported, and the taker was given the rows of the schema
     abbrev IsDoneBy : Result (Unit {0}) RunError → Type 0
-    IsDoneBy r = IsDone (HandsOn hears cuts) file W (Go c ∷ []) r marks w m
+    IsDoneBy r = IsDone (HandsOn hears) file W (Go c ∷ []) r marks w m
         × (start_of c.address ≡ schema_start → OnOk r (Moves (gives keeps) first (readable_rows file (W ++ visited_below file W (Go c ∷ []))) u))
 
     -- with a taker that starts empty, if the tree is the schema's
     pub root_done : (r : Result (Unit {0}) RunError) (root : Root) (old : List Mark) → IsRootAfter file root W c old
         → ((root.kind ≡ Schema) ↔ (root.start ≡ schema_start)) → (held : T → ℕ) → (root.kind ≡ Schema → StartsEmpty keeps held first)
-        → IsTreeDone (HandsOn hears cuts) keeps refuses file W c r marks (w, first) (m, u) → IsDoneBy r
+        → IsTreeDone (HandsOn hears) keeps refuses file W c r marks (w, first) (m, u) → IsDoneBy r
     root_done r root old after schema held empty done =
         let at = root_address c.address root.start after.candidate.depth after.candidate.start in
         let first_empty : start_of c.address ≡ schema_start → StartsEmpty keeps held first = λ z. empty (schema.1 (sym after.candidate.start ∙ z)) in (
-          tree_told (HandsOn hears cuts) keeps refuses file root.start W c at after.early r marks (w, first) (m, u) done held first_empty,
-          tree_given (HandsOn hears cuts) keeps refuses file root.start W c at after.early r marks (w, first) (m, u) done held first_empty,
+          tree_told (HandsOn hears) keeps refuses file root.start W c at after.early r marks (w, first) (m, u) done held first_empty,
+          tree_given (HandsOn hears) keeps refuses file root.start W c at after.early r marks (w, first) (m, u) done held first_empty,
         )
 
     -- an error stopped the walk
-    pub tree_stopped : (e : RunError) → m.is_shut ≡ is_write_failed e → IsDoneBy (Err e)
-        → IsWalkedOver {A = Unit {0}} hears cuts keeps file W c (Err e) marks w m first u
-    tree_stopped e o d = record {
+    pub tree_stopped : (e : RunError) → IsDoneBy (Err e)
+        → IsWalkedOver {A = Unit {0}} hears keeps file W c (Err e) marks w m first u
+    tree_stopped e d = record {
       tree = record {
         marked = tt;
-        told = stops_by_first hears cuts e w.reporter.now m.reporter.now (map (found w.start.now) items) (ended w.start.now ∷ [])
-            (stopped items w m open_first e o d.0.told);
+        told = some_first hears w.reporter.now m.reporter.now (map (found w.start.now) items) (ended w.start.now ∷ [])
+            (teller_some hears items w m d.0.told);
       };
       has_rows = tt;
       given = λ k. tt;
     }
 
-    module _ (t : Teller S) (o : m.is_shut ≡ false) (d : IsDoneBy (Ok tt)) where
-      start_kept : m.start.now ≡ w.start.now
-      start_kept = (teller_moves hears cuts items w m open_first o d.0.told).1
+    -- all was reported, and then that the tree ended
+    module _ (t : Teller S) (d : IsDoneBy (Ok tt)) (e : hears m.reporter.now (ended m.start.now) t.reporter.now) where
+      all_told : Moves hears w.reporter.now (tree_notices w.start.now file W c) t.reporter.now
+      all_told =
+          let k = teller_moves hears items w m d.0.told in
+          Moves-append hears w.reporter.now m.reporter.now t.reporter.now (map (found w.start.now) items) (ended w.start.now ∷ []) k.0
+          (t.reporter.now, subst (λ at. hears m.reporter.now (ended at) t.reporter.now) k.1 e, refl)
 
-      -- all was reported, and then the tree ended
-      pub tree_ended : hears m.reporter.now (ended m.start.now) t.reporter.now → t.has_rows ≡ m.has_rows
-          → IsWalkedOver {A = Unit {0}} hears cuts keeps file W c (Ok tt) marks w t first u
-      tree_ended e rows = record {
-        tree = record {
-          marked = d.0.marked;
-          told = Moves-append hears w.reporter.now m.reporter.now t.reporter.now (map (found w.start.now) items) (ended w.start.now ∷ [])
-              (moved items w m open_first o d.0.told)
-              (t.reporter.now, subst (λ at. hears m.reporter.now (ended at) t.reporter.now) start_kept e, refl);
-        };
-        has_rows = rows ∙ (teller_moves hears cuts items w m open_first o d.0.told).2;
+      -- of which all was taken, or not
+      pub tree_ended : t.has_rows ≡ m.has_rows → (r : Result (Unit {0}) RunError) → IsWalkedOver hears keeps file W c r marks w t first u
+      tree_ended rows (Ok x) = record {
+        tree = record { marked = d.0.marked; told = all_told };
+        has_rows = rows ∙ (teller_moves hears items w m d.0.told).2;
         given = d.1;
       }
-
-      pub tree_cut : cuts m.reporter.now (ended m.start.now) t.reporter.now
-          → IsWalkedOver {A = Unit {0}} hears cuts keeps file W c (Err WriteFailed) marks w t first u
-      tree_cut e = record {
-        tree = record {
-          marked = tt;
-          told = stops_by_after hears cuts WriteFailed w.reporter.now m.reporter.now t.reporter.now (map (found w.start.now) items) (ended w.start.now ∷ [])
-              (moved items w m open_first o d.0.told)
-              (inl (subst (λ at. cuts m.reporter.now (ended at) t.reporter.now) start_kept e));
-        };
+      tree_ended rows (Err x) = record {
+        tree = record { marked = tt; told = moves_some hears w.reporter.now t.reporter.now (tree_notices w.start.now file W c) all_told };
         has_rows = tt;
         given = λ k. tt;
       }
@@ -143,8 +120,8 @@ module _ {S : Type 0} (hears cuts : S → Notice → S → Type 0) where
 
     -- it is done, and the trees of its rows are left
     pub schema_told : (marks marks' : List Mark) (rows : List SchemaRow) (any : Bool) (t : S) → AreMarksOf file [] marks
-        → IsSchemaWalked hears cuts file (Ok any) marks' rows before t
-        → IsBetweenStarts hears cuts file V before (enumerate_from 1 rows) marks' t
+        → IsSchemaWalked hears file (Ok any) marks' rows before t
+        → IsBetweenStarts hears file V before (enumerate_from 1 rows) marks' t
     schema_told marks marks' rows any t fresh d =
         let U = [] ++ visited_below file [] (Go schema_reference ∷ []) in
         let of = d.schema V survey in
@@ -160,9 +137,9 @@ module _ {S : Type 0} (hears cuts : S → Notice → S → Type 0) where
     -- ---- the tree of the next row
 
     module _ (marks marks' : List Mark) (s t : S) where
-      next_told : (k : ℕ) (row : SchemaRow) (left : List (ℕ × SchemaRow)) (h : IsBetweenStarts hears cuts file V before ((k, row) ∷ left) marks s)
-          → (r : Result (Unit {0}) RunError) → IsTreeWalked hears cuts (at_row k row) file h.visits (root_reference file k row) r marks' s t
-          → StopsTelling hears cuts file V before left r marks' t
+      next_told : (k : ℕ) (row : SchemaRow) (left : List (ℕ × SchemaRow)) (h : IsBetweenStarts hears file V before ((k, row) ∷ left) marks s)
+          → (r : Result (Unit {0}) RunError) → IsTreeWalked hears (at_row k row) file h.visits (root_reference file k row) r marks' s t
+          → StopsTelling hears file V before left r marks' t
       next_told k row left h (Ok u) d =
           let c = root_reference file k row in
           let its = tree_notices (at_row k row) file h.visits c in
@@ -177,36 +154,36 @@ module _ {S : Type 0} (hears cuts : S → Notice → S → Type 0) where
           let c = root_reference file k row in
           let its = tree_notices (at_row k row) file h.visits c in
           let others = later_notices file (h.visits ++ visited_below file h.visits (Go c ∷ [])) left in
-          subst (λ L. StopsBy hears cuts e before L t) (append_assoc h.notices its others ∙ h.rest)
-          (stops_by_first hears cuts e before t (h.notices ++ its) others (stops_by_after hears cuts e before s t h.notices its h.told d.told))
+          subst (λ L. MovesBySome hears before L t) (append_assoc h.notices its others ∙ h.rest)
+          (some_first hears before t (h.notices ++ its) others (some_after hears before s t h.notices its h.told d.told))
 
       pub root_told : (rows : List SchemaRow) (i : ℕ) (r : Result (Unit {0}) RunError) → i < length rows
-          → IsBetweenStarts hears cuts file V before (enumerate_from (i + 1) (drop i rows)) marks s
+          → IsBetweenStarts hears file V before (enumerate_from (i + 1) (drop i rows)) marks s
           → ((row : SchemaRow) → slice_get rows (i + 1 - 1) ≡ Some row → (U : List Reference) (d : Reference)
           → IsRootAfter file (root_of (encoding file) (i + 1) row) U d marks
-          → IsTreeWalked hears cuts (at_row (i + 1) row) file U d r marks' s t)
-          → StopsTelling hears cuts file V before (enumerate_from (i + 1 + 1) (drop (i + 1) rows)) r marks' t
+          → IsTreeWalked hears (at_row (i + 1) row) file U d r marks' s t)
+          → StopsTelling hears file V before (enumerate_from (i + 1 + 1) (drop (i + 1) rows)) r marks' t
       root_told rows i r l h walked =
           let n : i + 1 - 1 ≡ i = omega arith in
           let k : suc i ≡ i + 1 = omega arith in
           let there = row_there rows i l in
           let here : drop i rows ≡ there.0 ∷ drop (i + 1) rows = drop_more rows i there.0 there.1 ∙ ap (λ j. there.0 ∷ drop j rows) k in
           let rest = enumerate_from (i + 1 + 1) (drop (i + 1) rows) in
-          let left : IsBetweenStarts hears cuts file V before ((i + 1, there.0) ∷ rest) marks s =
-          subst (λ l. IsBetweenStarts hears cuts file V before (enumerate_from (i + 1) l) marks s) here h in
+          let left : IsBetweenStarts hears file V before ((i + 1, there.0) ∷ rest) marks s =
+          subst (λ l. IsBetweenStarts hears file V before (enumerate_from (i + 1) l) marks s) here h in
           let next = root_next file V left.visits marks (encoding file) (i + 1) there.0 (errands_left file rest) (survey_below_starts file V survey) left.at in
           next_told (i + 1) there.0 rest left r (walked there.0 (ap (slice_get rows) n ∙ there.1) left.visits (root_reference file (i + 1) there.0) next)
 
     -- ---- the freelist, which is the last
 
-    pub freelist_told : (marks marks' : List Mark) (w t : Teller S) (first : ℕ) (r : Result (Unit {0}) RunError) → w.is_shut ≡ false → IsShutBy r t.is_shut
-        → w.start.now ≡ at_freelist → (first == 0) ≡ false → first ≡ first_trunk file
-        → IsBetweenStarts hears cuts file V before [] marks w.reporter.now
+    pub freelist_told : (marks marks' : List Mark) (w t : Teller S) (first : ℕ) (r : Result (Unit {0}) RunError) → w.start.now ≡ at_freelist
+        → (first == 0) ≡ false → first ≡ first_trunk file
+        → IsBetweenStarts hears file V before [] marks w.reporter.now
         → ((U : List Reference) (d : Reference) → IsFirstTrunk first d → IsNext U d → AreMarksOf file U marks
-        → IsDone (HandsOn hears cuts) file U (Go d ∷ []) r marks' w t)
-        → AreTold hears cuts file V r marks' before t.reporter.now
-    freelist_told marks marks' w t first r open_first shut start some e h walked =
-        by_result r shut (walked h.visits d (record { page = refl; role = refl; from = refl; item = refl }) at.past at.marked)
+        → IsDone (HandsOn hears) file U (Go d ∷ []) r marks' w t)
+        → AreTold hears file V r marks' before t.reporter.now
+    freelist_told marks marks' w t first r start some e h walked =
+        by_result r (walked h.visits d (record { page = refl; role = refl; from = refl; item = refl }) at.past at.marked)
       where
         d : Reference
         d = freelist_reference first
@@ -225,23 +202,24 @@ module _ {S : Type 0} (hears cuts : S → Notice → S → Type 0) where
         all = ap (λ at. h.notices ++ map (found at) items) start ∙ ap (λ es. h.notices ++ map (found at_freelist) (told_below file h.visits es)) (sym one)
             ∙ h.rest
 
-        by_result : (r : Result (Unit {0}) RunError) → IsShutBy r t.is_shut → IsDone (HandsOn hears cuts) file h.visits (Go d ∷ []) r marks' w t
-            → AreTold hears cuts file V r marks' before t.reporter.now
-        by_result (Ok u) o k = record {
+        by_result : (r : Result (Unit {0}) RunError) → IsDone (HandsOn hears) file h.visits (Go d ∷ []) r marks' w t
+            → AreTold hears file V r marks' before t.reporter.now
+        by_result (Ok u) k = record {
           marked = at_end file V survey _ marks' (at_next file V h.visits d [] marks marks' at k.marked);
           told = subst (λ L. Moves hears before L t.reporter.now) all
-              (Moves-append hears before w.reporter.now t.reporter.now h.notices (map (found w.start.now) items) h.told (moved items w t open_first o k.told));
+              (Moves-append hears before w.reporter.now t.reporter.now h.notices (map (found w.start.now) items) h.told
+              (teller_moves hears items w t k.told).0);
         }
-        by_result (Err x) o k = record {
+        by_result (Err x) k = record {
           marked = tt;
-          told = subst (λ L. StopsBy hears cuts x before L t.reporter.now) all
-              (stops_by_after hears cuts x before w.reporter.now t.reporter.now h.notices (map (found w.start.now) items) h.told
-              (stopped items w t open_first x o k.told));
+          told = subst (λ L. MovesBySome hears before L t.reporter.now) all
+              (some_after hears before w.reporter.now t.reporter.now h.notices (map (found w.start.now) items) h.told
+              (teller_some hears items w t k.told));
         }
 
     -- there is none
-    pub no_freelist_told : (marks : List Mark) (s : S) → first_trunk file ≡ 0 → IsBetweenStarts hears cuts file V before [] marks s
-        → AreTold {A = Unit {0}} hears cuts file V (Ok tt) marks before s
+    pub no_freelist_told : (marks : List Mark) (s : S) → first_trunk file ≡ 0 → IsBetweenStarts hears file V before [] marks s
+        → AreTold {A = Unit {0}} hears file V (Ok tt) marks before s
     no_freelist_told marks s e h = record {
       marked = at_end file V survey h.visits marks (subst (λ es. IsAtStarts file V h.visits es marks) none h.at);
       told = subst (λ L. Moves hears before L s) all h.told;
@@ -258,18 +236,18 @@ module _ {S : Type 0} (hears cuts : S → Notice → S → Type 0) where
 
   module _ (file : List ℕ) (V : List Reference) (marks : List Mark) (rows : List SchemaRow) (s t : S) where
     -- an error stopped the walk over the schema's tree, or those after it
-    pub schema_stopped : (e : RunError) → IsTreeWalked {A = Bool} hears cuts at_schema file [] schema_reference (Err e) marks s t
-        → AreWalked hears cuts file V (Err e) marks rows s t
+    pub schema_stopped : (e : RunError) → IsTreeWalked {A = Bool} hears at_schema file [] schema_reference (Err e) marks s t
+        → AreWalked hears file V (Err e) marks rows s t
     schema_stopped e d = record {
-      all = record { marked = tt; told = stops_by_first hears cuts e s t (tree_notices at_schema file [] schema_reference) _ d.told };
+      all = record { marked = tt; told = some_first hears s t (tree_notices at_schema file [] schema_reference) _ d.told };
       has_rows = tt;
       listed = tt;
     }
 
-    pub later_stopped : (e : RunError) → AreTold {A = Unit {0}} hears cuts file V (Err e) marks s t → AreWalked hears cuts file V (Err e) marks rows s t
+    pub later_stopped : (e : RunError) → AreTold {A = Unit {0}} hears file V (Err e) marks s t → AreWalked hears file V (Err e) marks rows s t
     later_stopped e d = record { all = record { marked = tt; told = d.told }; has_rows = tt; listed = tt }
 
     -- all was walked over
-    pub all_walked : (any : Bool) → IsSchemaOf file V rows any → AreTold {A = Unit {0}} hears cuts file V (Ok tt) marks s t
-        → AreWalked hears cuts file V (Ok any) marks rows s t
+    pub all_walked : (any : Bool) → IsSchemaOf file V rows any → AreTold {A = Unit {0}} hears file V (Ok tt) marks s t
+        → AreWalked hears file V (Ok any) marks rows s t
     all_walked any of d = record { all = record { marked = d.marked; told = d.told }; has_rows = of.has_rows; listed = of.listed }

@@ -1,6 +1,6 @@
 -- What a reporter has heard when its report is to end, and what a run makes of it.
 use Rattle.std.specs.Prelude.{◌≡◌, ◌⊎◌, ℕ, List, Result, Err}
-use Rattle.dbsurvey.specs.Moves.{Moves}
+use Rattle.dbsurvey.specs.Moves.{Moves, MovesBySome}
 use Rattle.dbformat.specs.Log.{IsPageLog}
 use Rattle.dbformat.specs.Reference.{Reference}
 use Rattle.dbformat.specs.Survey.{Survey}
@@ -14,7 +14,7 @@ use Rattle.dbsource.specs.declared.error.RunError.{RunError}
 use Rattle.dbsource.specs.declared.source.Source.{Ghosts as SourceWords}
 use Rattle.dbmarks.specs.Marking.{AreMarksOf}
 use Rattle.dbscan.specs.Roots.{AreListed}
-use Rattle.dbscan.specs.Hearing.{ReporterState, StopsBy}
+use Rattle.dbwalk.specs.Telling.{SinkState}
 use Rattle.dbscan.specs.Desks.{DeskView, shape_of}
 use Rattle.dbscan.specs.Kept.{KeepsHeader, KeepsRoots}
 use Rattle.dbscan.specs.Looks.{IsUnmarked, ReadsRising}
@@ -35,7 +35,7 @@ pub record HasHeard {K : Type 0} (hears : K → Notice → K → Type 0) (d : De
 -- What the end of a report makes of a reporter, whatever the source answered. Pages that were not visited may be read, each
 -- once. Of each file that agrees with what was read, and whose notices were all that the reporter had heard, this is what a run
 -- leaves. The answer says who failed.
-pub record HasFinished {S K : Type 0} (source : SourceWords S) (hears : K → Notice → K → Type 0) (held : K → ReporterState)
+pub record HasFinished {S K : Type 0} (source : SourceWords S) (hears : K → Notice → K → Type 0) (held : K → SinkState)
     (leaves : List ℕ → List Reference → Result Verdict RunError → K → K → Type 0)
     (r : Result Verdict RunError) (before after : DeskView) (old new : S × K) : Type 0 where
   pub asks : Asks source.step (ReadsRising (shape_of before).page_size (IsUnmarked before.marks))
@@ -45,13 +45,13 @@ pub record HasFinished {S K : Type 0} (source : SourceWords S) (hears : K → No
 
 -- What a run leaves of a reporter: what a reporter leaves at the end of the file; or, if an error stopped it before, what it is
 -- after a beginning of the notices.
-abbrev pub Leaves : {K : Type 0} → (K → Notice → K → Type 0) → (K → Notice → K → Type 0) → (List ℕ → List Reference → Result Verdict RunError → K → K → Type 0)
+abbrev pub Leaves : {K : Type 0} → (K → Notice → K → Type 0) → (List ℕ → List Reference → Result Verdict RunError → K → K → Type 0)
     → List ℕ → List Reference → Result Verdict RunError → K → K → Type 0
-Leaves hears cuts leaves file V r s t = leaves file V r s t ⊎ ((e : RunError) × (r ≡ Err e) × StopsBy hears cuts e s (run_notices file V) t)
+Leaves hears leaves file V r s t = leaves file V r s t ⊎ ((e : RunError) × (r ≡ Err e) × MovesBySome hears s (run_notices file V) t)
 
 -- What a run over a desk makes of a reporter, whatever the source answered: there is a file of the desk's header that agrees
 -- with all that was read after it, and of each such file, by any survey, this is what a run leaves. The answer says who failed.
-pub record HasReported {S K : Type 0} (source : SourceWords S) (held : K → ReporterState)
+pub record HasReported {S K : Type 0} (source : SourceWords S) (held : K → SinkState)
     (leaves : List ℕ → List Reference → Result Verdict RunError → K → K → Type 0)
     (r : Result Verdict RunError) (before after : DeskView) (old new : S × K) : Type 0 where
   pub read : HasReadAfterHeader source.step (IsPageLog (shape_of before)) before.header (λ file. (V : List Reference) → Survey file V

@@ -4,7 +4,7 @@ use Rattle.dbsource.specs.Errors.{is_out_of_memory, is_write_failed}
 use Rattle.dbsource.specs.Failures.{failures_after}
 use Rattle.dbsource.specs.declared.error.RunError.{RunError}
 use Rattle.dbwalk.specs.Telling.{IsReadOrWrite, IsReadWriteOrMemory}
-use Rattle.dbscan.specs.Hearing.{ReporterAfter, ReporterState}
+use Rattle.dbwalk.specs.Telling.{SinkAfter, SinkState}
 use Rattle.dbscan.specs.Desks.{DeskView}
 
 -- A run over a desk, or a part of one, which keeps its header. Its list of roots was refused memory, once, exactly where that is
@@ -15,13 +15,13 @@ pub record HasUsed {A : Type 0} (r : Result A RunError) (old new : DeskView) : T
   pub only : IfErr r IsReadWriteOrMemory
 
 -- The reporter also borrows the same as before, and one of its Outs failed, once, exactly where that is answered.
-pub record KeepsHeader {A : Type 0} (r : Result A RunError) (before after : DeskView) (old new : ReporterState) : Type 0 where
+pub record KeepsHeader {A : Type 0} (r : Result A RunError) (before after : DeskView) (old new : SinkState) : Type 0 where
   pub desk : HasUsed r before after
-  pub writes : ReporterAfter is_write_failed r old new
+  pub writes : SinkAfter is_write_failed r old new
 
 -- The same of a call that adds no root to the list, and so takes no memory.
-pub record KeepsRoots {A : Type 0} (r : Result A RunError) (before after : DeskView) (old new : ReporterState) : Type 0 where
+pub record KeepsRoots {A : Type 0} (r : Result A RunError) (before after : DeskView) (old new : SinkState) : Type 0 where
   pub header : after.header ≡ before.header
   pub roots : after.roots ≡ before.roots
-  pub writes : ReporterAfter is_write_failed r old new
+  pub writes : SinkAfter is_write_failed r old new
   pub only : IfErr r IsReadOrWrite

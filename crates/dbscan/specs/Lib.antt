@@ -4,7 +4,6 @@ pub mod EndPass
 pub mod Findings
 pub mod Finishes
 pub mod HeardRows
-pub mod Hearing
 pub mod Kept
 pub mod Looks
 pub mod MapReads

@@ -68,22 +68,12 @@ notice_fault (walked g marks) = None
 abbrev pub faults_heard : List Notice → List Fault
 faults_heard notices = filter_map notice_fault notices
 
--- A reporter on which only faults have an effect: its state after a fault that it takes whole, and after one that it does not.
+-- a reporter on which only faults have an effect
 abbrev pub HearsFaults : {S : Type 0} → (S → Fault → S → Type 0) → S → Notice → S → Type 0
 HearsFaults takes s (heard_fault x) t = takes s x.fault t
 HearsFaults takes s (heard_row at r) t = t ≡ s
 HearsFaults takes s (ended at) t = t ≡ s
 HearsFaults takes s (walked g marks) t = t ≡ s
-
-abbrev pub CutsFaults : {S : Type 0} → (S → Fault → S → Type 0) → S → Notice → S → Type 0
-CutsFaults cuts s (heard_fault x) t = cuts s x.fault t
-CutsFaults cuts s (heard_row at r) t = ⊥
-CutsFaults cuts s (ended at) t = ⊥
-CutsFaults cuts s (walked g marks) t = ⊥
-
--- one that takes every notice
-abbrev pub CutsNever : {S : Type 0} → S → Notice → S → Type 0
-CutsNever s notice t = ⊥
 
 -- the reference to the root of a row, as that of start k
 abbrev pub root_reference : List ℕ → ℕ → SchemaRow → Reference

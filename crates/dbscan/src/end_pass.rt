@@ -1,5 +1,5 @@
 // What is reported after the walks: the marks, and then the faults at the end, of the whole and of each page.
-ghost use Rattle.std.specs.Prelude.{◌≡◌, ◌↔◌, ℕ, ◌+◌, List, ◌≤◌, true, Some, None, length, option_map, IfErr, OnOk};
+ghost use Rattle.std.specs.Prelude.{◌≡◌, ◌↔◌, ℕ, ◌+◌, List, ◌≤◌, true, false, Some, None, length, option_map, IfErr, OnOk};
 ghost use Rattle.dbformat.specs.EndFaults.{has_rows};
 ghost use Rattle.dbformat.specs.File.{geometry, map_entry, refusal};
 ghost use Rattle.dbformat.specs.FixedPages.{IsInRange, is_fixed};
@@ -11,7 +11,7 @@ ghost use Rattle.dbsource.specs.Sources.{Asks};
 ghost use Rattle.dbmarks.specs.EndMarks.{entry_value};
 ghost use Rattle.dbmarks.specs.Marking.{AreMarksOf, is_none, page_mark};
 ghost use Rattle.dbwalk.specs.Telling.{IsReadOrWrite};
-ghost use Rattle.dbscan.specs.Hearing.{Tells, ReporterAfter};
+ghost use Rattle.dbwalk.specs.Telling.{Tells, SinkAfter};
 ghost use Rattle.dbmarks.specs.declared.marks.Mark as marking;
 ghost use Rattle.dbscan.specs.Desks.{shape_of};
 ghost use Rattle.dbscan.specs.EndPass.{is_fixed_mark, page_notices, pages_items};
@@ -22,7 +22,7 @@ use crate::Desk;
 use crate::counts::count_marks;
 use crate::end_faults::{counted_faults, late_fault, use_fault};
 use crate::map_entry::stored_entry;
-use crate::reporter::Reporter;
+use crate::reporter::{Reporter, ask};
 use crate::tell::tell_all;
 use dbmarks::MapEntry;
 use dbsource::{Bench, Fixed, Geometry, RunError, Source};
@@ -74,14 +74,15 @@ fn end_page<S: Source, K: Reporter, A: Allocator, B: Allocator>(
     reporter: &mut K,
 ) -> Result<(), RunError>
     requires page { (1 ≤ page) × (page ≤ length marks.now) }
+    requires open { (K.held reporter.old).is_shut ≡ false }
     // The bytes are those of the map page that the next page asks for, where they were those of the one that this page asks for.
     ensures asks { Asks S.step (IsMapTurn bench.old.geometry page)
         (λ file. (mark : marking.Mark) → page_mark marks.now page ≡ Some mark → bench.old.geometry ≡ geometry file → refusal file ≡ None
         → is_fixed_mark mark ≡ is_fixed (geometry file) page → HasMapFor file (geometry file) page bench.old.chain
-        → Tells K.hears K.cuts result reporter.old (page_notices file least_other page mark) reporter.new
+        → Tells K.hears result reporter.old (page_notices file least_other page mark) reporter.new
         × OnOk result (HasMapFor file (geometry file) (page + 1) bench.new.chain))
         is_read_failed result (S.held source.old) (S.held source.new) }
-    ensures writes { ReporterAfter is_write_failed result (K.held reporter.old) (K.held reporter.new) }
+    ensures writes { SinkAfter is_write_failed result (K.held reporter.old) (K.held reporter.new) }
     ensures only { IfErr result IsReadOrWrite }
     ensures bench { bench.new ≡ record bench.old { chain = bench.new.chain } }
 {
@@ -113,11 +114,12 @@ fn end_pages<S: Source, K: Reporter, A: Allocator, B: Allocator>(
     least_other: Option<u32>,
     reporter: &mut K,
 ) -> Result<(), RunError>
+    requires { (K.held reporter.old).is_shut ≡ false }
     ensures asks { Asks S.step (MapReads bench.old.geometry) (λ file. bench.old.geometry ≡ geometry file → refusal file ≡ None
         → (V : List Reference) → AreMarksOf file V marks.now
-        → Tells K.hears K.cuts result reporter.old (pages_items file V least_other (geometry file).pages) reporter.new)
+        → Tells K.hears result reporter.old (pages_items file V least_other (geometry file).pages) reporter.new)
         is_read_failed result (S.held source.old) (S.held source.new) }
-    ensures writes { ReporterAfter is_write_failed result (K.held reporter.old) (K.held reporter.new) }
+    ensures writes { SinkAfter is_write_failed result (K.held reporter.old) (K.held reporter.new) }
     ensures only { IfErr result IsReadOrWrite }
     ensures bench { bench.new ≡ record bench.old { chain = bench.new.chain } }
 {
@@ -141,15 +143,17 @@ pub fn tell_end<S: Source, K: Reporter, A: Allocator>(
     any_rows: bool,
     reporter: &mut K,
 ) -> Result<(), RunError>
+    requires { (K.held reporter.old).is_shut ≡ false }
     ensures desk { desk.new ≡ record desk.old { pages = desk.new.pages } }
     ensures asks { Asks S.step (MapReads (shape_of desk.old)) (λ file. IsHeaderOf desk.old.header file
         → (V : List Reference) → Survey file V → AreMarksOf file V desk.old.marks → any_rows ≡ has_rows file V
-        → Tells K.hears K.cuts result reporter.old (end_notices file V) reporter.new)
+        → Tells K.hears result reporter.old (end_notices file V) reporter.new)
         is_read_failed result (S.held source.old) (S.held source.new) }
-    ensures writes { ReporterAfter is_write_failed result (K.held reporter.old) (K.held reporter.new) }
+    ensures writes { SinkAfter is_write_failed result (K.held reporter.old) (K.held reporter.new) }
     ensures only { IfErr result IsReadOrWrite }
 {
-    reporter.walked(desk.header.geometry(), &desk.marks)?;
+    reporter.walked(desk.header.geometry(), &desk.marks);
+    ask(reporter)?;
     let counts = count_marks(&desk.marks);
     let faults = counted_faults(&desk.header, any_rows, counts);
     tell_all(Part::End, &faults, reporter)?;

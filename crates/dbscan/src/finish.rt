@@ -1,5 +1,5 @@
 // A run over a desk: a reporter hears all of a file, and ends its report.
-ghost use Rattle.std.specs.Prelude.{List};
+ghost use Rattle.std.specs.Prelude.{◌≡◌, List, false};
 ghost use Rattle.dbformat.specs.Log.{IsPageLog};
 ghost use Rattle.dbformat.specs.Reference.{Reference};
 ghost use Rattle.dbformat.specs.Survey.{Survey};
@@ -46,6 +46,7 @@ pub trait Finish<D: Viewed>: Reporter {
     ///
     /// [`RunError::ReadFailed`] exactly where the source failed, and [`RunError::WriteFailed`] exactly where an Out failed.
     fn finish<S: Source>(&mut self, desk: &mut D, source: &mut S) -> Result<Verdict, RunError>
+        requires { (Self.held self.old).is_shut ≡ false }
         ensures { HasFinished S.Source Self.hears Self.held leaves result (D.desk_view desk.old) (D.desk_view desk.new)
             (source.old, self.old) (source.new, self.new) };
 }
@@ -57,8 +58,9 @@ fn report<A: Allocator, S: Source, K: Finish<Desk<A>>>(
     reporter: &mut K,
 ) -> Result<Verdict, RunError>
     requires fresh { IsFresh desk.old }
+    requires open { (K.held reporter.old).is_shut ≡ false }
     ensures asks { Asks S.step (IsPageLog (shape_of desk.old)) (λ file. IsHeaderOf desk.old.header file → (V : List Reference) → Survey file V
-        → Leaves K.hears K.cuts K.leaves file V result reporter.old reporter.new)
+        → Leaves K.hears K.leaves file V result reporter.old reporter.new)
         is_read_failed result (S.held source.old) (S.held source.new) }
     ensures keeps { KeepsHeader result desk.old desk.new (K.held reporter.old) (K.held reporter.new) }
 {
@@ -78,7 +80,8 @@ pub fn run_over<A: Allocator, S: Source, K: Finish<Desk<A>>>(
     source: &mut S,
     reporter: &mut K,
 ) -> Result<Verdict, RunError>
-    ensures { HasReported S.Source K.held (Leaves K.hears K.cuts K.leaves) result desk.old desk.new (source.old, reporter.old) (source.new, reporter.new) }
+    requires { (K.held reporter.old).is_shut ≡ false }
+    ensures { HasReported S.Source K.held (Leaves K.hears K.leaves) result desk.old desk.new (source.old, reporter.old) (source.new, reporter.new) }
 {
     desk.renew();
     let header = *desk.header();

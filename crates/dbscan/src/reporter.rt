@@ -1,20 +1,21 @@
 // Who hears what is found in a file.
-ghost use Rattle.std.specs.Prelude.{MatchResult};
+ghost use Rattle.std.specs.Prelude.{◌≡◌, if◌then◌else◌, Ok, Err};
 ghost use Rattle.dbformat.specs.FixedPages.{IsInRange};
-ghost use Rattle.dbsource.specs.Failures.{is_any};
-ghost use Rattle.dbscan.specs.Hearing.{ReporterAfter};
+ghost use Rattle.dbsource.specs.declared.error.RunError.TheVariants as run_error;
+ghost use Rattle.dbwalk.specs.Telling.{SinkMoves};
 ghost use Rattle.dbscan.specs.Notices.{notice_of, walked};
 
 use crate::notice::Notice;
-use dbsource::{Geometry, WriteFailed};
+use dbsource::{Geometry, RunError};
 use dbwalk::Marks;
 use std::alloc::Allocator;
 
-/// Hears what is found in a file, one notice after another.
+/// Hears what is found in a file, one notice after another. Once a notice was not taken whole it is shut, for good: it takes
+/// nothing after that. A run asks for this before it goes on to a further page.
 ///
 /// # A quiet reporter
 ///
-/// A reporter of which nothing is claimed, and which takes every notice. It proves with any body that answers `Ok`:
+/// A reporter of which nothing is claimed, and which takes every notice. It proves with any bodies of `hear` and `walked`:
 ///
 /// ```
 /// #[derive(Drop)]
@@ -23,56 +24,60 @@ use std::alloc::Allocator;
 /// }
 ///
 /// impl Reporter for Quiet {
-///     ghost use Rattle.std.specs.Prelude.{[], ⊤};
+///     ghost use Rattle.std.specs.Prelude.{[], false, ⊤};
 ///
 ///     ghost hears = { λ _ _ _. ⊤ };
 ///
-///     ghost cuts = { λ _ _ _. ⊤ };
+///     ghost held = { λ _. record { lent = []; failures = []; is_shut = false } };
 ///
-///     ghost held = { λ _. record { lent = []; failures = [] } };
-///
-///     fn hear(&mut self, _notice: &Notice<'_>) -> Result<(), WriteFailed> {
+///     fn hear(&mut self, _notice: &Notice<'_>) {
 ///         self.heard = self.heard.saturating_add(1);
-///         Ok(())
 ///     }
 ///
-///     fn walked<A: Allocator>(&mut self, _geometry: Geometry, _marks: &Marks<A>) -> Result<(), WriteFailed> {
-///         Ok(())
+///     fn walked<A: Allocator>(&mut self, _geometry: Geometry, _marks: &Marks<A>) {}
+///
+///     fn is_shut(&self) -> bool {
+///         false
 ///     }
 /// }
 /// ```
+///
+/// One that writes has a `Writer` (of `dblines`) for its Out, which fails once and for all, and is shut where that has failed.
 pub trait Reporter {
+    ghost use Rattle.dbwalk.specs.Telling.{SinkState};
     ghost use Rattle.dbscan.specs.Notices.{Notice as Heard};
-    ghost use Rattle.dbscan.specs.Hearing.{ReporterState};
 
-    // What a notice that is taken makes of it.
+    // The state after a notice: it was taken, or not whole, or it came to a reporter that was shut.
     ghost hears: { Self → Heard → Self → Type 0 };
-    // What one that is not taken, or not whole, makes of it.
-    ghost cuts: { Self → Heard → Self → Type 0 };
-    // What it borrows, and how many calls of each Out failed.
-    ghost held: { Self → ReporterState };
+    // What it borrows, how many calls of each Out failed, in 64 bits, and whether it is shut.
+    ghost held: { Self → SinkState };
 
-    /// Takes a notice.
-    ///
-    /// # Errors
-    ///
-    /// [`WriteFailed`] where it was not taken whole; one failure is counted then.
-    fn hear(&mut self, notice: &Notice<'_>) -> Result<(), WriteFailed>
-        ensures notice { MatchResult result (λ _. hears self.old (notice_of notice.now) self.new) (λ _. cuts self.old (notice_of notice.now) self.new) }
-        ensures count { ReporterAfter is_any result (held self.old) (held self.new) };
+    /// Takes a notice. A reporter that is shut takes nothing. Where the notice is not taken whole, this counts as one failure, and the
+    /// reporter is shut.
+    fn hear(&mut self, notice: &Notice<'_>)
+        ensures notice { hears self.old (notice_of notice.now) self.new }
+        ensures count { SinkMoves (held self.old) (held self.new) };
 
-    /// All starts have been walked from, and the marks say as what each page is used. Only the faults at the end are left to hear.
-    ///
-    /// # Errors
-    ///
-    /// [`WriteFailed`] where it was not taken whole; one failure is counted then.
-    fn walked<A: Allocator>(
-        &mut self,
-        geometry: Geometry,
-        marks: &Marks<A>,
-    ) -> Result<(), WriteFailed>
+    /// All starts have been walked from, and the marks say as what each page is used. Only the faults at the end are left to hear. A
+    /// reporter that is shut takes nothing.
+    fn walked<A: Allocator>(&mut self, geometry: Geometry, marks: &Marks<A>)
         requires { IsInRange geometry }
-        ensures notice { MatchResult result (λ _. hears self.old (walked geometry marks.now) self.new)
-            (λ _. cuts self.old (walked geometry marks.now) self.new) }
-        ensures count { ReporterAfter is_any result (held self.old) (held self.new) };
+        ensures notice { hears self.old (walked geometry marks.now) self.new }
+        ensures count { SinkMoves (held self.old) (held self.new) };
+
+    /// Whether a notice was not taken whole. It stays so.
+    fn is_shut(&self) -> bool
+        ensures { result ≡ (held self.now).is_shut };
+}
+
+// Whether a run may go on: the reporter is open.
+#[inline(always)]
+pub(crate) fn ask<K: Reporter>(reporter: &K) -> Result<(), RunError>
+    ensures { result ≡ (if (K.held reporter.now).is_shut then Err run_error.WriteFailed else Ok tt) }
+{
+    if reporter.is_shut() {
+        Err(RunError::WriteFailed)
+    } else {
+        Ok(())
+    }
 }

@@ -1,5 +1,5 @@
 // A scan: all that is found in a file.
-ghost use Rattle.std.specs.Prelude.{List};
+ghost use Rattle.std.specs.Prelude.{◌≡◌, List, false};
 ghost use Rattle.dbformat.specs.Reference.{Reference};
 ghost use Rattle.dbformat.specs.Survey.{Survey};
 ghost use Rattle.dbsource.specs.Errors.{is_read_failed};
@@ -30,9 +30,10 @@ pub fn scan<A: Allocator, S: Source, K: Reporter>(
     reporter: &mut K,
 ) -> Result<(), RunError>
     requires fresh { IsFresh desk.old }
+    requires open { (K.held reporter.old).is_shut ≡ false }
     ensures asks { Asks S.step (ReadsMarked (shape_of desk.old) desk.new.marks) (λ file. IsHeaderOf desk.old.header file
         → (V : List Reference) → Survey file V
-        → IsScanned K.hears K.cuts file V result desk.new.marks desk.new.roots.rows reporter.old reporter.new)
+        → IsScanned K.hears file V result desk.new.marks desk.new.roots.rows reporter.old reporter.new)
         is_read_failed result (S.held source.old) (S.held source.new) }
     ensures keeps { KeepsHeader result desk.old desk.new (K.held reporter.old) (K.held reporter.new) }
 {

@@ -12,7 +12,7 @@ ghost use Rattle.dbsource.specs.Failures.{failures_after};
 ghost use Rattle.dbsource.specs.Sources.{Asks};
 ghost use Rattle.dbmarks.specs.Reads.{Reads};
 ghost use Rattle.dbwalk.specs.Telling.{IsReadOrWrite, IsReadWriteOrMemory};
-ghost use Rattle.dbscan.specs.Hearing.{ReporterAfter};
+ghost use Rattle.dbwalk.specs.Telling.{SinkAfter};
 ghost use Rattle.dbwalk.specs.Roots.{IsRootAfter};
 ghost use Rattle.dbwalk.specs.Rows.{schema_row_of};
 ghost use Rattle.dbwalk.specs.Taking.{StartsEmpty};
@@ -81,21 +81,21 @@ fn walk_over<A: Allocator, S: Source, T: Taker, K: Reporter>(
     teller: &mut Teller<'_, K>,
 ) -> Result<(), RunError>
     requires schema { (root.kind ≡ root_kind.Schema) ↔ (root.start ≡ schema_start) }
-    requires open { teller.old.is_shut ≡ false }
+    requires open { (K.held teller.old.reporter.now).is_shut ≡ false }
     ensures same_reporter { teller.new.reporter.ghost_name ≡ teller.old.reporter.ghost_name }
     ensures shape { bench.new.geometry ≡ bench.old.geometry }
     ensures asks { Asks S.step (Reads bench.old.geometry.page_size marks.old marks.new) (λ file. bench.old.geometry ≡ geometry file
         → root.encoding ≡ encoding_of file → (W : List Reference) (c : Reference) → IsRootAfter file root W c marks.old
         → (held : T → ℕ) → (root.kind ≡ root_kind.Schema → StartsEmpty T.takes held taker.old)
-        → IsWalkedOver K.hears K.cuts T.takes file W c result marks.new teller.old teller.new taker.old taker.new)
+        → IsWalkedOver K.hears T.takes file W c result marks.new teller.old teller.new taker.old taker.new)
         is_read_failed result (S.held source.old) (S.held source.new) }
-    ensures writes { ReporterAfter is_write_failed result (K.held teller.old.reporter.now) (K.held teller.new.reporter.now) }
+    ensures writes { SinkAfter is_write_failed result (K.held teller.old.reporter.now) (K.held teller.new.reporter.now) }
     ensures refusals { T.refusals taker.new ≡ failures_after is_out_of_memory result (T.refusals taker.old) }
     ensures only { IfErr result IsReadWriteOrMemory }
     ensures later { 1 ≤ root.start → IfErr result IsReadOrWrite }
 {
     walk_tree(source, bench, marks, root, taker, teller)?;
-    Ok(teller.end()?)
+    teller.end()
 }
 
 // Walks over the schema's tree, to its end. The list takes its rows. It answers whether there are any.
@@ -105,8 +105,9 @@ fn walk_schema<A: Allocator, S: Source, K: Reporter>(
     reporter: &mut K,
 ) -> Result<bool, RunError>
     requires fresh { IsFresh desk.old }
+    requires open { (K.held reporter.old).is_shut ≡ false }
     ensures asks { AsksOver S.step desk.old desk.new (λ file.
-        IsSchemaWalked K.hears K.cuts file result desk.new.marks desk.new.roots.rows reporter.old reporter.new)
+        IsSchemaWalked K.hears file result desk.new.marks desk.new.roots.rows reporter.old reporter.new)
         result (S.held source.old) (S.held source.new) }
     ensures keeps { KeepsHeader result desk.old desk.new (K.held reporter.old) (K.held reporter.new) }
 {
@@ -136,13 +137,14 @@ fn walk_row<A: Allocator, S: Source, K: Reporter>(
 ) -> Result<(), RunError>
     requires within { (1 ≤ number) × (number ≤ length roots.now.rows) }
     requires most { number ≤ 65536 }
+    requires open { (K.held reporter.old).is_shut ≡ false }
     ensures shape { bench.new.geometry ≡ bench.old.geometry }
     ensures asks { Asks S.step (Reads bench.old.geometry.page_size marks.old marks.new) (λ file. bench.old.geometry ≡ geometry file
         → encoding ≡ encoding_of file → (row : NamingRow) → slice_get roots.now.rows (number - 1) ≡ Some row
         → (W : List Reference) (c : Reference) → IsRootAfter file (root_of encoding number row) W c marks.old
-        → IsTreeWalked K.hears K.cuts (at_row number row) file W c result marks.new reporter.old reporter.new)
+        → IsTreeWalked K.hears (at_row number row) file W c result marks.new reporter.old reporter.new)
         is_read_failed result (S.held source.old) (S.held source.new) }
-    ensures writes { ReporterAfter is_write_failed result (K.held reporter.old) (K.held reporter.new) }
+    ensures writes { SinkAfter is_write_failed result (K.held reporter.old) (K.held reporter.new) }
     ensures only { IfErr result IsReadOrWrite }
 {
     let Some(row) = roots.get(number) else {
@@ -160,9 +162,10 @@ fn walk_roots<A: Allocator, S: Source, K: Reporter>(
     source: &mut S,
     reporter: &mut K,
 ) -> Result<(), RunError>
+    requires { (K.held reporter.old).is_shut ≡ false }
     ensures asks { AsksOver S.step desk.old desk.new (λ file. (V : List Reference) → Survey file V → (before : K)
-        → IsBetweenStarts K.hears K.cuts file V before (enumerate_from 1 desk.old.roots.rows) desk.old.marks reporter.old
-        → StopsTelling K.hears K.cuts file V before [] result desk.new.marks reporter.new)
+        → IsBetweenStarts K.hears file V before (enumerate_from 1 desk.old.roots.rows) desk.old.marks reporter.old
+        → StopsTelling K.hears file V before [] result desk.new.marks reporter.new)
         result (S.held source.old) (S.held source.new) }
     ensures keeps { KeepsRoots result desk.old desk.new (K.held reporter.old) (K.held reporter.new) }
 {
@@ -188,11 +191,11 @@ fn walk_trunks<A: Allocator, S: Source, K: Reporter>(
     teller: &mut Teller<'_, K>,
 ) -> Result<(), RunError>
     requires start { teller.old.start.now ≡ at_freelist }
-    requires open { teller.old.is_shut ≡ false }
+    requires open { (K.held teller.old.reporter.now).is_shut ≡ false }
     ensures same_reporter { teller.new.reporter.ghost_name ≡ teller.old.reporter.ghost_name }
     ensures asks { AsksOver S.step desk.old desk.new (λ file. (V : List Reference) → Survey file V → (before : K)
-        → IsBetweenStarts K.hears K.cuts file V before [] desk.old.marks teller.old.reporter.now
-        → AreTold K.hears K.cuts file V result desk.new.marks before teller.new.reporter.now)
+        → IsBetweenStarts K.hears file V before [] desk.old.marks teller.old.reporter.now
+        → AreTold K.hears file V result desk.new.marks before teller.new.reporter.now)
         result (S.held source.old) (S.held source.new) }
     ensures keeps { KeepsRoots result desk.old desk.new (K.held teller.old.reporter.now) (K.held teller.new.reporter.now) }
 {
@@ -209,9 +212,10 @@ fn walk_later<A: Allocator, S: Source, K: Reporter>(
     source: &mut S,
     reporter: &mut K,
 ) -> Result<(), RunError>
+    requires { (K.held reporter.old).is_shut ≡ false }
     ensures asks { AsksOver S.step desk.old desk.new (λ file. (V : List Reference) → Survey file V → (before : K)
-        → IsBetweenStarts K.hears K.cuts file V before (enumerate_from 1 desk.old.roots.rows) desk.old.marks reporter.old
-        → AreTold K.hears K.cuts file V result desk.new.marks before reporter.new)
+        → IsBetweenStarts K.hears file V before (enumerate_from 1 desk.old.roots.rows) desk.old.marks reporter.old
+        → AreTold K.hears file V result desk.new.marks before reporter.new)
         result (S.held source.old) (S.held source.new) }
     ensures keeps { KeepsRoots result desk.old desk.new (K.held reporter.old) (K.held reporter.new) }
 {
@@ -234,8 +238,9 @@ pub fn walk_starts<A: Allocator, S: Source, K: Reporter>(
     reporter: &mut K,
 ) -> Result<bool, RunError>
     requires fresh { IsFresh desk.old }
+    requires open { (K.held reporter.old).is_shut ≡ false }
     ensures asks { AsksOver S.step desk.old desk.new (λ file. (V : List Reference) → Survey file V
-        → AreWalked K.hears K.cuts file V result desk.new.marks desk.new.roots.rows reporter.old reporter.new)
+        → AreWalked K.hears file V result desk.new.marks desk.new.roots.rows reporter.old reporter.new)
         result (S.held source.old) (S.held source.new) }
     ensures keeps { KeepsHeader result desk.old desk.new (K.held reporter.old) (K.held reporter.new) }
 {

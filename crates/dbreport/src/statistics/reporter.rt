@@ -1,13 +1,14 @@
 // What the statistics write of the notices that they hear.
-ghost use Rattle.std.specs.Prelude.{◌≡◌, [], List, true, MatchResult};
+ghost use Rattle.std.specs.Prelude.{◌≡◌, [], List, true, false, MatchResult};
 ghost use Rattle.dbformat.specs.FixedPages.{IsInRange};
 ghost use Rattle.dbformat.specs.Report.{verdict_of};
 ghost use Rattle.dbformat.specs.Rows.{StatRow};
 ghost use Rattle.dbsource.specs.Failures.{CountsAfter, failures_after, is_any};
 ghost use Rattle.dbsource.specs.Outs.{Puts};
 ghost use Rattle.dbwalk.specs.Rows.{row_of};
-ghost use Rattle.dbreport.specs.StatReporter.{AreSameOuts, CutsEnd, CutsStatFault, CutsOthers, CutsRow, EndsTree, PutsOthers, TakesFault, TakesStatRow};
-ghost use Rattle.dbreport.specs.StatReporter.{tree_end_text, failures_of_each};
+ghost use Rattle.dbscan.specs.Notices.{notice_of};
+ghost use Rattle.dbreport.specs.StatReporter.{AreSameOuts, CutsEnd, CutsStatFault, CutsOthers, CutsRow, CutsStat, EndsTree, HearsStat, PutsOthers, TakesFault};
+ghost use Rattle.dbreport.specs.StatReporter.{TakesStatRow, tree_end_text, failures_of_each};
 ghost use Rattle.dbreport.specs.Sums.{sums_of};
 ghost use Rattle.dbreport.specs.TreeNames.{tree_label_text};
 
@@ -25,7 +26,7 @@ use std::alloc::Allocator;
 
 // Writes rows to the one Out and the lines of faults to the other, as they come. In the aggregate form it adds up the rows
 // of a tree, and writes their sums when it has ended. Before it puts to one Out it flushes the other, so that both come in
-// the order of the report where both lead to one place.
+// the order of the report where both lead to one place. Once an Out has failed nothing is put to either.
 #[derive(Drop)]
 pub(crate) struct StatReporter<'a, O, E> {
     out: &'a mut O,
@@ -35,6 +36,7 @@ pub(crate) struct StatReporter<'a, O, E> {
     form: Form,
     sums: Sums,
     found: u64,
+    is_shut: bool,
 }
 
 impl<'a, O: Out, E: Out> StatReporter<'a, O, E> {
@@ -55,6 +57,7 @@ impl<'a, O: Out, E: Out> StatReporter<'a, O, E> {
         ensures form { result.form ≡ form }
         ensures sums { result.sums ≡ sums_of [] }
         ensures found { result.found ≡ 0 }
+        ensures open { result.is_shut ≡ false }
     {
         StatReporter {
             out,
@@ -64,6 +67,7 @@ impl<'a, O: Out, E: Out> StatReporter<'a, O, E> {
             form,
             sums: Sums::new(),
             found: 0,
+            is_shut: false,
         }
     }
 
@@ -147,6 +151,21 @@ impl<'a, O: Out, E: Out> StatReporter<'a, O, E> {
         Ok(())
     }
 
+    // Takes a notice.
+    fn take(&mut self, notice: &Notice<'_>) -> Result<(), WriteFailed>
+        ensures item { MatchResult result (λ _. HearsStat O.held E.held self.old (notice_of notice.now) self.new)
+            (λ _. CutsStat O.held E.held self.old (notice_of notice.now) self.new) }
+        ensures same { AreSameOuts self.old self.new }
+        ensures count { CountsAfter is_any result (failures_of_each (O.held self.old.out.now) (E.held self.old.err.now))
+            (failures_of_each (O.held self.new.out.now) (E.held self.new.err.now)) }
+    {
+        match notice {
+            Notice::Fault(told) => self.fault(&told.fault),
+            Notice::Row(start, row) => self.row(start, row),
+            Notice::Ended(start) => self.end_tree(start),
+        }
+    }
+
     // What was found.
     pub(crate) fn verdict(&self) -> Verdict
         ensures { result ≡ verdict_of self.now.found }
@@ -156,28 +175,26 @@ impl<'a, O: Out, E: Out> StatReporter<'a, O, E> {
 }
 
 impl<O: Out, E: Out> Reporter for StatReporter<'_, O, E> {
-    ghost use Rattle.dbreport.specs.StatReporter.{CutsStat, HearsStat, stat_held};
+    ghost use Rattle.dbreport.specs.StatReporter.{HearsOpen, stat_held};
 
-    ghost hears = { HearsStat O.held E.held };
-
-    ghost cuts = { CutsStat O.held E.held };
+    ghost hears = { HearsOpen O.held E.held };
 
     ghost held = { stat_held O.held E.held };
 
-    fn hear(&mut self, notice: &Notice<'_>) -> Result<(), WriteFailed> {
-        match notice {
-            Notice::Fault(told) => self.fault(&told.fault),
-            Notice::Row(start, row) => self.row(start, row),
-            Notice::Ended(start) => self.end_tree(start),
+    fn hear(&mut self, notice: &Notice<'_>) {
+        if !self.is_shut {
+            self.is_shut = self.take(notice).is_err();
         }
     }
 
-    fn walked<A: Allocator>(
-        &mut self,
-        geometry: Geometry,
-        marks: &Marks<A>,
-    ) -> Result<(), WriteFailed> {
-        self.put_others(geometry, marks)
+    fn walked<A: Allocator>(&mut self, geometry: Geometry, marks: &Marks<A>) {
+        if !self.is_shut {
+            self.is_shut = self.put_others(geometry, marks).is_err();
+        }
+    }
+
+    fn is_shut(&self) -> bool {
+        self.is_shut
     }
 }
 

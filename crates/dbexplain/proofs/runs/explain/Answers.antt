@@ -96,7 +96,7 @@ returns-clause-failed g c =
     let ran = c.run_over-answer.ensures in
     let same = c.end.ensures.same_out ∙ ap first (lent_same r _ _ ran.keeps.writes) in
     let k : c.out-1.given.0 ≡ c.end.new.self.out.now = search (rules, same) in
-    let failed = one_failed r _ _ _ _ ran.keeps.writes ∙ ap (λ o. failures_after is_write_failed r (held o).failures) c.new-reporter.ensures.out in
+    let failed = one_failed r _ _ _ _ _ _ ran.keeps.writes ∙ ap (λ o. failures_after is_write_failed r (held o).failures) c.new-reporter.ensures.out in
     rw k (record {
       reads = (opened g.S.Source c.args.source.now c.in_ok-desk.desk.header c.open_in.new.source c.run_over-answer.new.source c.in_ok-desk.ensures r
           ran.read ran.reads ran.keeps.desk.only).reads;

@@ -82,7 +82,7 @@ returns-clause-failed g c =
     rw k (record {
       reads = (opened g.S.Source c.args.source.now c.in_ok-desk.desk.header c.open_in.new.source c.run_over.new.source c.in_ok-desk.ensures r
           ran.read ran.reads ran.keeps.desk.only).reads;
-      writes = one_failed r _ _ _ _ ran.keeps.writes;
+      writes = one_failed r _ _ _ _ _ _ ran.keeps.writes;
     })
 
 pub returns-clause-refused : goal.returns-clause-refused

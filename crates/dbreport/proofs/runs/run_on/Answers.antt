@@ -27,8 +27,8 @@ returns-in-Check-clause-read g c =
     rw c.in-Check.is (after_weaker _ _ ran.read (λ file is told.
     run_of (Check limit) file r (g.O.Out.held c.args.out.now).bytes (g.O.Out.held c.out-1.given.0).bytes
     (g.E.Out.held c.args.err.now).bytes (g.E.Out.held c.args.err.now).bytes ran.keeps.desk.only is.is_read (λ V s.
-    let by = check_reported g.O.Out.held file V s r c.new-reporter.result c.run_over.new.reporter c.args.out.now c.out-1.given.0 limit new.out new.limit
-    new.shown new.more k is.is_read (told V s) in record {
+    let by = check_reported g.O.Out.held file V s r c.new-reporter.result c.run_over.new.reporter c.args.out.now c.out-1.given.0 limit new.out
+    new.«open» new.limit new.shown new.more k is.is_read (told V s) in record {
       out = by.0;
       err = check_err limit file V is.is_read r (g.E.Out.held c.args.err.now).bytes;
       verdict = by.1;
@@ -49,7 +49,7 @@ returns-in-Check-clause-failed g c =
     let same = ap first (lent_same r _ _ c.run_over.ensures.keeps.writes) in
     let k : c.out-1.given.0 ≡ c.run_over.new.reporter.out.now = search (rules, same) in
     let out : (g.O.Out.held c.out-1.given.0).failures ≡ failures_after is_write_failed r (g.O.Out.held c.args.out.now).failures =
-    ap (λ o. (g.O.Out.held o).failures) k ∙ one_failed r _ _ _ _ c.run_over.ensures.keeps.writes
+    ap (λ o. (g.O.Out.held o).failures) k ∙ one_failed r _ _ _ _ _ _ c.run_over.ensures.keeps.writes
     ∙ ap (λ o. failures_after is_write_failed r (g.O.Out.held o).failures) c.new-reporter.ensures.out in record {
       reads = c.run_over.ensures.reads;
       writes = first_failures r (g.O.Out.held c.args.out.now).failures (g.O.Out.held c.out-1.given.0).failures (g.E.Out.held c.args.err.now).failures out;
@@ -74,7 +74,7 @@ returns-in-Stat-clause-read g c =
     let for = for_file file c.args.desk.now.header c.geometry-page_size.result s is (c.geometry-page_size.ensures.shape ∙ is.shape)
     (new.encoding ∙ c.encoding-encoding.ensures ∙ ap (λ (h : HeaderBytes). encoding_of h.bytes) c.header.ensures.value) new.page_size new.sums in
     stat_reported g.O.Out.held g.E.Out.held file V v r s c.run_over-in-Stat.new.reporter c.args.out.now c.out-in-Stat-1.given.0 c.args.err.now c.err-1.given.0
-    (record { aggregate = c.in-Stat.aggregate; all = c.in-Stat.all }) new.out new.err new.form new.found for k k' is.is_read (told V v))))
+    (record { aggregate = c.in-Stat.aggregate; all = c.in-Stat.all }) new.out new.err new.form new.found new.«open» for k k' is.is_read (told V v))))
 
 pub returns-in-Stat-clause-sound : goal.returns-in-Stat-clause-sound
 returns-in-Stat-clause-sound g c = after_weaker _ _ (returns-in-Stat-clause-read g c) (λ file is t. t.run.sound)

@@ -11,7 +11,7 @@ use Rattle.dbsource.specs.Bench.{Pages}
 use Rattle.dbsource.proofs.Logs.{has_weaker}
 use Rattle.dbmarks.specs.EndMarks.{mark_fault, late_fault}
 use Rattle.dbmarks.specs.Marking.{is_none}
-use Rattle.dbscan.specs.Hearing.{Tells}
+use Rattle.dbwalk.specs.Telling.{Tells}
 use Rattle.dbscan.specs.EndPass.{is_fixed_mark, page_notices}
 use Rattle.dbmarks.specs.EndMarks.{entry_value}
 use Rattle.dbscan.specs.MapReads.{HasMapFor, IsMapInUse}
@@ -93,7 +93,7 @@ returns-clause-asks g c = asks_nothing g.S.Source.step _ c.tell_all.result _ c.t
     (ap (λ (g : Geometry). g.has_map) (c.geometry-geometry.ensures.value ∙ e))
     (c.use_fault.ensures ∙ ap (λ m. mark_fault c.args.page (option_map entry_value c.entry_of-entry.result) m) (sym k))
     (c.late_fault.ensures ∙ ap (λ m. late_fault c.geometry-geometry.result.has_map c.args.page m c.args.least_other) (sym k)) in (
-      subst (λ l. Tells g.K.Reporter.hears g.K.Reporter.cuts c.tell_all.result c.args.reporter.now l c.tell_all.new.reporter) items c.tell_all.ensures.told,
+      subst (λ l. Tells g.K.Reporter.hears c.tell_all.result c.args.reporter.now l c.tell_all.new.reporter) items c.tell_all.ensures.told,
       on_ok c.tell_all.result (next_kept file c.args.bench.now.chain c.args.page ok c.requires.page.0 (λ z. absurd (not_map (geometry file) c.args.page free z))
           chain),
     ))

@@ -1,15 +1,13 @@
 use Rattle.std.proofs.Common.{◌≡◌, ◌+◌, length, Ok, Err, refl, sym, ap, ◌∙◌, subst, arith}
 use Rattle.std.proofs.lemmas.Result.{err_from_is_err_and}
-use Rattle.dbsurvey.specs.Moves.{Moves}
-use Rattle.dbsurvey.proofs.Moving.{Moves-append}
+use Rattle.dbsurvey.specs.Moves.{Moves, MovesBySome}
+use Rattle.dbsurvey.proofs.Moving.{Moves-append, some_first, some_after}
 use Rattle.dbformat.specs.File.{geometry}
 use Rattle.dbformat.specs.declared.Geometry.{Geometry}
 use Rattle.dbsource.specs.Bench.{Pages}
 use Rattle.dbsource.proofs.Logs.{asks_then, asks_weaker, has_none}
-use Rattle.dbscan.specs.Hearing.{StopsBy}
 use Rattle.dbmarks.specs.Marking.{mark_of, page_mark}
 use Rattle.dbmarks.proofs.Markings.{page_mark-in, marks_of-length}
-use Rattle.dbscan.proofs.Hearings.{stops_by_first, stops_by_after}
 use Rattle.dbscan.specs.EndPass.{page_notices, pages_items}
 use Rattle.dbscan.specs.MapReads.{IsMapInUse, IsMapTurn, MapReadsBefore}
 use Rattle.dbscan.proofs.EndItems.{items_one_more, items_begin, fixed_by_mark}
@@ -45,13 +43,13 @@ returns-in_err-end_page-clause-asks g c =
     let mark = mark_of (geometry file) V (i + 1) in
     let at = ap (λ l. page_mark l (i + 1)) m ∙ page_mark-in (geometry file) V (i + 1) (omega arith) (omega arith) in
     let t = turn mark at (same ∙ e) ok (fixed_by_mark (geometry file) V (i + 1)) k.1 in
-    let some = stops_by_after g.K.Reporter.hears g.K.Reporter.cuts c.in_err-end_page.field-0.0 c.args.reporter.now c.loop-index.reporter c.end_page.new.reporter
+    let some = some_after g.K.Reporter.hears c.args.reporter.now c.loop-index.reporter c.end_page.new.reporter
     (pages_items file V c.args.least_other i) (page_notices file c.args.least_other (i + 1) mark) k.0 t.0 in
-    let more = subst (λ l. StopsBy g.K.Reporter.hears g.K.Reporter.cuts c.in_err-end_page.field-0.0 c.args.reporter.now l c.end_page.new.reporter)
+    let more = subst (λ l. MovesBySome g.K.Reporter.hears c.args.reporter.now l c.end_page.new.reporter)
     (sym (items_one_more file V c.args.least_other i)) some in
     let rest = items_begin file V c.args.least_other (i + 1) (geometry file).pages (omega arith) in
-    subst (λ l. StopsBy g.K.Reporter.hears g.K.Reporter.cuts c.in_err-end_page.field-0.0 c.args.reporter.now l c.end_page.new.reporter) rest.1
-    (stops_by_first g.K.Reporter.hears g.K.Reporter.cuts c.in_err-end_page.field-0.0 c.args.reporter.now c.end_page.new.reporter
+    subst (λ l. MovesBySome g.K.Reporter.hears c.args.reporter.now l c.end_page.new.reporter) rest.1
+    (some_first g.K.Reporter.hears c.args.reporter.now c.end_page.new.reporter
     (pages_items file V c.args.least_other (i + 1)) rest.0 more))))
 
 pub loop-index-preserved : goal.loop-index-preserved

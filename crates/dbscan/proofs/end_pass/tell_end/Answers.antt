@@ -1,38 +1,46 @@
-use Rattle.std.proofs.Common.{◌≡◌, List, Err, inl, refl, sym, ap, ap₂, ◌∙◌, subst}
+use Rattle.std.proofs.Common.{rules, ◌≡◌, List, Err, inr, map, refl, sym, ap, ap₂, ◌∙◌, subst}
 use Rattle.std.proofs.lemmas.Result.{err_from_is_err_and}
-use Rattle.dbformat.specs.EndFaults.{has_rows}
+use Rattle.dbformat.specs.EndFaults.{end_faults, has_rows}
 use Rattle.dbformat.specs.File.{geometry}
 use Rattle.dbformat.specs.FixedPages.{geometry_of}
 use Rattle.dbformat.specs.Reference.{Reference}
 use Rattle.dbformat.specs.Survey.{Survey}
-use Rattle.dbsource.specs.Errors.{is_read_failed}
+use Rattle.dbsource.specs.Errors.{is_read_failed, is_write_failed}
 use Rattle.dbsource.specs.Headers.{IsHeaderOf}
 use Rattle.dbsource.specs.Sources.{Asks}
-use Rattle.dbsource.specs.declared.error.RunError.TheVariants.{WriteFailed}
 use Rattle.dbsource.proofs.Logs.{asks_weaker}
 use Rattle.dbmarks.specs.EndMarks.{least_other_marked}
 use Rattle.dbmarks.specs.Marking.{AreMarksOf, marks_of}
-use Rattle.dbscan.specs.Hearing.{Tells, StopsBy}
-use Rattle.dbscan.proofs.Hearings.{stops_by_first}
+use Rattle.dbwalk.specs.Telling.{SinkAfter, SinkState, Tells}
+use Rattle.dbwalk.proofs.Telling.Sinks.{moves_open}
+use Rattle.dbsurvey.specs.Moves.{MovesBySome}
+use Rattle.dbsurvey.proofs.Moving.{some_first, some_none}
 use Rattle.dbscan.specs.Desks.{DeskView}
 use Rattle.dbscan.specs.EndPass.{pages_items}
 use Rattle.dbscan.specs.MapReads.{IsMapInUse, MapReads}
-use Rattle.dbscan.specs.Notices.{end_notices, walked}
+use Rattle.dbscan.specs.Notices.{end_notices, walked, whole}
 use Rattle.dbtrace.specs.declared.Part.TheVariants as part
 use Rattle.dbscan.specs.Telling.{items_of}
 use Rattle.dbscan.proofs.EndItems.{all_items, tells_then, walked_then}
 use Rattle.dbscan.proofs.MapLogs.{asks_nothing, reads_none}
+use Rattle.dbscan.proofs.Tellers.{asked_after, asked_error, asked_ok}
 use Rattle.dbscan.proofs.end_pass.tell_end.Goals as goal
 
-pub returns-in_err-walked-clause-asks : goal.returns-in_err-walked-clause-asks
-returns-in_err-walked-clause-asks g c =
+pub returns-in_err-ask-clause-asks : goal.returns-in_err-ask-clause-asks
+returns-in_err-ask-clause-asks g c =
     let q = err_from_is_err_and c.from_residual.result c.from_residual.ensures.1 in
     let shape = geometry_of c.args.desk.now.header.bytes c.args.desk.now.header.file_len in
     let header = ap (λ (d : DeskView). d.header) c.desk.view_is in
     let marks = ap (λ (d : DeskView). d.marks) c.desk.view_is in
-    rw q.1 (rw q.2 (asks_nothing g.S.Source.step _ (Err WriteFailed) _ refl (reads_none shape.page_size (IsMapInUse shape) 1).reads (λ file is V s m rows.
-    inl (subst (λ n. g.K.Reporter.cuts c.args.reporter.now n c.walked.new.self)
-    (ap₂ walked (c.geometry.ensures.shape ∙ (subst (λ h. IsHeaderOf h file) (sym header) is).shape) (marks ∙ m)) c.in_err-walked.ensures.notice))))
+    let e = c.in_err-ask.field-0.0 in
+    let is = asked_error (g.K.Reporter.held c.walked.new.self).is_shut c.in_err-ask.ensures in
+    rw q.1 (rw q.2 (asks_nothing g.S.Source.step _ (Err e) _ is (reads_none shape.page_size (IsMapInUse shape) 1).reads (λ file of V s m rows.
+    inr (
+      c.walked.new.self,
+      subst (λ n. g.K.Reporter.hears c.args.reporter.now n c.walked.new.self)
+          (ap₂ walked (c.geometry.ensures.shape ∙ (subst (λ h. IsHeaderOf h file) (sym header) of).shape) (marks ∙ m)) c.walked.ensures.notice,
+      some_none g.K.Reporter.hears c.walked.new.self (map (whole part.End) (end_faults file V)),
+    ))))
 
 pub returns-in_err-tell_all-clause-asks : goal.returns-in_err-tell_all-clause-asks
 returns-in_err-tell_all-clause-asks g c =
@@ -48,18 +56,18 @@ returns-in_err-tell_all-clause-asks g c =
     let items = all_items file V s c.desk.inside.header c.args.any_rows c.desk.inside.marks counts.greatest_root counts.free_pages
     c.counted_faults-faults.result its (marks ∙ m) rows
     c.count_marks-counts.ensures.greatest c.count_marks-counts.ensures.free c.counted_faults-faults.ensures in
-    walked_then {A = Unit {0}} g.K.Reporter.hears g.K.Reporter.cuts file V (Err c.in_err-tell_all.field-0.0) c.args.reporter.now c.walked.new.self
+    walked_then {A = Unit {0}} g.K.Reporter.hears file V (Err c.in_err-tell_all.field-0.0) c.args.reporter.now c.walked.new.self
     c.tell_all.new.reporter c.geometry.result c.desk.inside.marks
-    (c.geometry.ensures.shape ∙ its.shape) (marks ∙ m) c.in_ok-walked.ensures.notice
-    (subst (λ l. StopsBy g.K.Reporter.hears g.K.Reporter.cuts c.in_err-tell_all.field-0.0 c.walked.new.self l c.tell_all.new.reporter) items
-    (stops_by_first g.K.Reporter.hears g.K.Reporter.cuts c.in_err-tell_all.field-0.0 c.walked.new.self c.tell_all.new.reporter
+    (c.geometry.ensures.shape ∙ its.shape) (marks ∙ m) c.walked.ensures.notice
+    (subst (λ l. MovesBySome g.K.Reporter.hears c.walked.new.self l c.tell_all.new.reporter) items
+    (some_first g.K.Reporter.hears c.walked.new.self c.tell_all.new.reporter
     (items_of part.End c.counted_faults-faults.result) pages c.in_err-tell_all.ensures.told)))))
 
 pub returns-clause-asks : goal.returns-clause-asks
 returns-clause-asks g c =
     subst (λ (d : DeskView). Asks g.S.Source.step (MapReads (geometry_of d.header.bytes d.header.file_len))
     (λ file. IsHeaderOf d.header file → (V : List Reference) → Survey file V → AreMarksOf file V d.marks
-    → c.args.any_rows ≡ has_rows file V → Tells g.K.Reporter.hears g.K.Reporter.cuts c.end_pages.result c.args.reporter.now (end_notices file V)
+    → c.args.any_rows ≡ has_rows file V → Tells g.K.Reporter.hears c.end_pages.result c.args.reporter.now (end_notices file V)
     c.end_pages.new.reporter)
     is_read_failed c.end_pages.result (g.S.Source.held c.args.source.now) (g.S.Source.held c.end_pages.new.source)) c.desk.view_is
     (asks_weaker _ _ c.end_pages.result (λ n. refl) c.end_pages.ensures.asks (λ log r. subst (λ g. MapReads g log) c.desk.invariant.shape r)
@@ -69,12 +77,29 @@ returns-clause-asks g c =
     c.counted_faults-faults.result is m rows
     c.count_marks-counts.ensures.greatest c.count_marks-counts.ensures.free c.counted_faults-faults.ensures in
     let least = c.count_marks-counts.ensures.least ∙ ap least_other_marked m in
-    let rest = subst (λ o. Tells g.K.Reporter.hears g.K.Reporter.cuts c.end_pages.result c.tell_all.new.reporter (pages_items file V o (geometry file).pages)
+    let rest = subst (λ o. Tells g.K.Reporter.hears c.end_pages.result c.tell_all.new.reporter (pages_items file V o (geometry file).pages)
     c.end_pages.new.reporter) least (ended (c.desk.invariant.shape ∙ is.shape) is.is_read V m) in
-    walked_then g.K.Reporter.hears g.K.Reporter.cuts file V c.end_pages.result c.args.reporter.now c.walked.new.self c.end_pages.new.reporter c.geometry.result
+    walked_then g.K.Reporter.hears file V c.end_pages.result c.args.reporter.now c.walked.new.self c.end_pages.new.reporter c.geometry.result
     c.desk.inside.marks
-    (c.geometry.ensures.shape ∙ is.shape) m c.in_ok-walked.ensures.notice
-    (subst (λ l. Tells g.K.Reporter.hears g.K.Reporter.cuts c.end_pages.result c.walked.new.self l c.end_pages.new.reporter) items
-    (tells_then g.K.Reporter.hears g.K.Reporter.cuts c.end_pages.result c.walked.new.self c.tell_all.new.reporter c.end_pages.new.reporter
+    (c.geometry.ensures.shape ∙ is.shape) m c.walked.ensures.notice
+    (subst (λ l. Tells g.K.Reporter.hears c.end_pages.result c.walked.new.self l c.end_pages.new.reporter) items
+    (tells_then g.K.Reporter.hears c.end_pages.result c.walked.new.self c.tell_all.new.reporter c.end_pages.new.reporter
     (items_of part.End c.counted_faults-faults.result) (pages_items file V (least_other_marked (marks_of (geometry file) V)) (geometry file).pages)
     c.in_ok-tell_all.ensures.told rest))))
+
+pub returns-in_err-ask-clause-writes : goal.returns-in_err-ask-clause-writes
+returns-in_err-ask-clause-writes g c =
+    let q = err_from_is_err_and c.from_residual.result c.from_residual.ensures.1 in
+    rw q.1 (rw q.2 (asked_after c.in_err-ask.ensures c.walked.ensures.count c.requires))
+
+pub end_pages-requires : goal.end_pages-requires
+end_pages-requires g c = (
+  search rules,
+  ap (λ (s : SinkState). s.is_shut) c.in_ok-tell_all.ensures.writes ∙ asked_ok (g.K.Reporter.held c.walked.new.self).is_shut c.in_ok-ask.ensures,
+)
+
+pub returns-clause-writes : goal.returns-clause-writes
+returns-clause-writes g c =
+    let shut = (g.K.Reporter.held c.walked.new.self).is_shut in
+    subst (λ s. SinkAfter is_write_failed c.end_pages.result s (g.K.Reporter.held c.end_pages.new.reporter))
+    (c.in_ok-tell_all.ensures.writes ∙ moves_open c.walked.ensures.count (asked_ok shut c.in_ok-ask.ensures)) c.end_pages.ensures.writes

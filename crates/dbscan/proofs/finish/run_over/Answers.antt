@@ -20,7 +20,7 @@ returns g c =
     let same = (same_front g.S.Source.step _ _ _ _ _ _ _ _ c.report.ensures.asks.log).0 in
     let k : c.source-1.given.0 ≡ c.report.new.source.source.now = search (rules, same) in
     let T = λ (file : List ℕ). (V : List Reference) → Survey file V
-    → Leaves g.K.Reporter.hears g.K.Reporter.cuts g.K.Finish.leaves file V r c.args.reporter.now c.report.new.reporter in
+    → Leaves g.K.Reporter.hears g.K.Finish.leaves file V r c.args.reporter.now c.report.new.reporter in
     record {
       read = subst (λ (x : HeaderBytes). HasReadAfterHeader g.S.Source.step (IsPageLog (geometry_of x.bytes x.file_len)) x T (g.S.Source.held c.args.source.now)
           (g.S.Source.held c.source-1.given.0)) c.renew.ensures.header

@@ -22,7 +22,7 @@ returns-in_err-tell_header-clause-asks g c =
     let geo = geometry_of c.args.desk.now.header.bytes c.args.desk.now.header.file_len in
     rw q.1 (rw q.2 (asks_nothing g.S.Source.step _ (Err e) _ c.in_err-tell_header.ensures.only
     (no_log geo c.args.desk.now.marks (fresh_marks geo c.args.desk.now.marks c.requires.fresh.marks)) (λ file is V s. record {
-      told = header_stopped g.K.Reporter.hears g.K.Reporter.cuts file V c.header.result.now
+      told = header_stopped g.K.Reporter.hears file V c.header.result.now
           (subst (λ (h : HeaderBytes). IsHeaderOf h file) (sym c.header.ensures.value) is) c.args.reporter.now e c.tell_header.new.reporter
           c.in_err-tell_header.ensures.told;
       marked = tt;
@@ -38,7 +38,7 @@ returns-in_err-any_rows-clause-asks g c =
     let new = c.walk_starts.new.desk.marks in
     rw q.1 (rw q.2 (asks_weaker (Reads geo.page_size old new) _ (Err e) (λ n. refl) c.in_err-any_rows.ensures.asks
     (λ log r. walk_log geo old new log (fresh_marks geo old c.requires.fresh.marks) r) (λ file walked is V s. record {
-      told = starts_stopped g.K.Reporter.hears g.K.Reporter.cuts file V c.header.result.now
+      told = starts_stopped g.K.Reporter.hears file V c.header.result.now
           (subst (λ (h : HeaderBytes). IsHeaderOf h file) (sym c.header.ensures.value) is) c.args.reporter.now c.tell_header.new.reporter
           c.in_ok-tell_header.ensures.told e c.walk_starts.new.reporter (walked is V s).all.told;
       marked = tt;
@@ -57,7 +57,7 @@ returns-clause-asks g c =
     (λ l m r k. subst (λ (d : DeskView). ReadsMarked geo d.marks (l ++ m)) (sym c.tell_end.ensures.desk)
     (walk_then_map_log geo old new l m (fresh_marks geo old c.requires.fresh.marks) r (subst (λ g. MapReads g m) (ap shape_of same) k)))
     (λ file walked ended is V s.
-    scan_ended g.K.Reporter.hears g.K.Reporter.cuts file V c.header.result.now (subst (λ (h : HeaderBytes). IsHeaderOf h file) (sym c.header.ensures.value) is)
+    scan_ended g.K.Reporter.hears file V c.header.result.now (subst (λ (h : HeaderBytes). IsHeaderOf h file) (sym c.header.ensures.value) is)
     c.args.reporter.now c.tell_header.new.reporter
     c.in_ok-tell_header.ensures.told c.tell_end.result c.in_ok-any_rows.any_rows c.walk_starts.new.reporter c.tell_end.new.reporter c.walk_starts.new.desk
     c.tell_end.new.desk (walked is V s) c.tell_end.ensures.desk

@@ -1,51 +1,52 @@
-use Rattle.std.proofs.Common.{◌+◌, [], ◌∷◌, ◌++◌, take, drop, Err, Some, None, sym, ap, subst, ◌∙◌}
-use Rattle.std.proofs.lemmas.Result.{err_from_is_err_and}
-use Rattle.dbsurvey.specs.Moves.{Moves, Stops}
-use Rattle.dbsurvey.proofs.Moving.{Moves-append, Moves-one, stops_after, stops_here, stops_first}
+use Rattle.std.proofs.Common.{arith, [], ◌∷◌, ◌++◌, take, Some, None, sym, subst, ◌∙◌}
+use Rattle.std.proofs.lemmas.List.{append-nil, take_all}
+use Rattle.dbsurvey.specs.Moves.{Moves}
+use Rattle.dbsurvey.proofs.Moving.{Moves-append, Moves-one}
+use Rattle.dbwalk.specs.Telling.{SinkMoves, Tells}
+use Rattle.dbwalk.proofs.Telling.Sinks.{asked_both, moves_some, moves_then}
 use Rattle.dbscan.specs.Notices.{whole}
-use Rattle.dbscan.specs.Hearing.{Tells}
 use Rattle.dbscan.specs.Telling.{items_of}
-use Rattle.dbscan.proofs.ToldFaults.{items_more, items_around}
-use Rattle.dbscan.proofs.tell.tell_all.Goals.{in-Some+in_ok-hear, in_default}
+use Rattle.dbscan.proofs.Tellers.{asked_after}
+use Rattle.dbscan.proofs.ToldFaults.{items_more}
+use Rattle.dbscan.proofs.tell.tell_all.Goals.{in-Some, in_default}
 use Rattle.dbscan.proofs.tell.tell_all.Goals as goal
-use Rattle.std.proofs.lemmas.List.{append-nil}
-
-pub returns-in_err-hear-clause-told : goal.returns-in_err-hear-clause-told
-returns-in_err-hear-clause-told g c =
-    let p = err_from_is_err_and c.from_residual.result c.from_residual.ensures.1 in
-    let faults = c.args.faults.now in
-    let i = c.loop-fault.fault-index in
-    let before = items_of c.args.part (take i faults) in
-    let one = stops_after g.K.Reporter.hears g.K.Reporter.cuts c.args.reporter.now c.loop-fault.reporter c.hear.new.self before
-    (whole c.args.part c.in-Some.fault ∷ []) c.loop-fault.invariant.told
-    (stops_here g.K.Reporter.hears g.K.Reporter.cuts c.loop-fault.reporter c.hear.new.self (whole c.args.part c.in-Some.fault) [] c.in_err-hear.ensures.notice)
-    in
-    let all = stops_first g.K.Reporter.hears g.K.Reporter.cuts c.args.reporter.now c.hear.new.self (before ++ (whole c.args.part c.in-Some.fault ∷ []))
-    (items_of c.args.part (drop (i + 1) faults)) one in
-    subst (λ r. Tells g.K.Reporter.hears g.K.Reporter.cuts r c.args.reporter.now (items_of c.args.part faults) c.hear.new.self) (sym (p.1 ∙ ap Err p.2))
-    (subst (λ l. Stops g.K.Reporter.hears g.K.Reporter.cuts c.args.reporter.now l c.hear.new.self)
-    (items_around c.args.part faults i c.in-Some.fault c.loop-fault-test.true c.in-Some.is) all)
 
 pub loop-fault-preserved : goal.loop-fault-preserved
 loop-fault-preserved g c =
     let faults = c.args.faults.now in
     let i = c.loop-fault.fault-index in
+    let hears = g.K.Reporter.hears in
+    let held = g.K.Reporter.held in
     elim c.match-fault.branch [
-      | in-Some+in_ok-hear w ↦ record {
-        told = subst (λ l. Moves g.K.Reporter.hears c.args.reporter.now l c.match-fault.reporter)
+      | in-Some w ↦ record {
+        told = subst (λ l. Moves hears c.args.reporter.now l c.match-fault.reporter)
             (sym (items_more c.args.part faults i (Some w.in-Some.fault) c.loop-fault-test.true w.in-Some.is))
-            (subst (λ s. Moves g.K.Reporter.hears c.args.reporter.now (items_of c.args.part (take i faults) ++ (whole c.args.part w.in-Some.fault ∷ [])) s)
+            (subst (λ s. Moves hears c.args.reporter.now (items_of c.args.part (take i faults) ++ (whole c.args.part w.in-Some.fault ∷ [])) s)
             (sym w.reporter-is)
-            (Moves-append g.K.Reporter.hears c.args.reporter.now c.loop-fault.reporter w.hear.new.self (items_of c.args.part (take i faults))
+            (Moves-append hears c.args.reporter.now c.loop-fault.reporter w.hear.new.self (items_of c.args.part (take i faults))
             (whole c.args.part w.in-Some.fault ∷ []) c.loop-fault.invariant.told
-            (Moves-one g.K.Reporter.hears c.loop-fault.reporter w.hear.new.self (whole c.args.part w.in-Some.fault) w.in_ok-hear.ensures.notice)));
-        writes = ap g.K.Reporter.held w.reporter-is ∙ w.in_ok-hear.ensures.count ∙ c.loop-fault.invariant.writes;
+            (Moves-one hears c.loop-fault.reporter w.hear.new.self (whole c.args.part w.in-Some.fault) w.hear.ensures.notice)));
+        writes = subst (λ s. SinkMoves (held c.args.reporter.now) (held s)) (sym w.reporter-is)
+            (moves_then c.loop-fault.invariant.writes w.hear.ensures.count);
       }
       | in_default w ↦ record {
-        told = subst (λ l. Moves g.K.Reporter.hears c.args.reporter.now l c.match-fault.reporter)
+        told = subst (λ l. Moves hears c.args.reporter.now l c.match-fault.reporter)
             (sym (items_more c.args.part faults i None c.loop-fault-test.true w.in_default.is ∙ append-nil (items_of c.args.part (take i faults))))
-            (subst (λ s. Moves g.K.Reporter.hears c.args.reporter.now (items_of c.args.part (take i faults)) s) (sym w.reporter-is)
-            c.loop-fault.invariant.told);
-        writes = ap g.K.Reporter.held w.reporter-is ∙ c.loop-fault.invariant.writes;
+            (subst (λ s. Moves hears c.args.reporter.now (items_of c.args.part (take i faults)) s) (sym w.reporter-is) c.loop-fault.invariant.told);
+        writes = subst (λ s. SinkMoves (held c.args.reporter.now) (held s)) (sym w.reporter-is) c.loop-fault.invariant.writes;
       }
     ]
+
+pub returns-clause-told : goal.returns-clause-told
+returns-clause-told g c =
+    let hears = g.K.Reporter.hears in
+    let start = c.args.reporter.now in
+    let end = c.loop-fault.reporter in
+    let items = items_of c.args.part c.args.faults.now in
+    let faults = c.args.faults.now in
+    let all = subst (λ l. Moves hears start (items_of c.args.part l) end) (take_all c.loop-fault.fault-index faults (omega arith))
+    c.loop-fault.invariant.told in
+    asked_both (λ r. Tells hears r start items end) (g.K.Reporter.held end).is_shut c.ask.ensures all (moves_some hears start end items all)
+
+pub returns-clause-writes : goal.returns-clause-writes
+returns-clause-writes g c = asked_after c.ask.ensures c.loop-fault.invariant.writes c.requires

@@ -6,7 +6,7 @@ use Rattle.dbsource.specs.Errors.{is_write_failed}
 use Rattle.dbsource.specs.HeaderBytes.{HeaderBytes}
 use Rattle.dbsource.specs.Headers.{IsHeaderOf}
 use Rattle.dbmarks.proofs.Readings.{asks_then}
-use Rattle.dbscan.specs.Hearing.{ReporterAfter}
+use Rattle.dbwalk.specs.Telling.{SinkAfter}
 use Rattle.dbscan.specs.Walks.{AreTold, IsBetweenStarts}
 use Rattle.dbscan.proofs.walks.walk_later.Goals as goal
 
@@ -21,9 +21,9 @@ returns-clause-asks g c =
     let same = c.in_ok-walk_roots.ensures.keeps.header in
     asks_then _ _ (ap (λ (h : HeaderBytes). (geometry_of h.bytes h.file_len).page_size) same) c.in_ok-walk_roots.ensures.asks c.walk_trunks.ensures.asks
     (λ file done walked is V s before h.
-    let left = subst (λ x. IsBetweenStarts g.K.Reporter.hears g.K.Reporter.cuts file V before [] c.walk_roots.new.desk.marks x) (sym c.new.ensures.reporter)
+    let left = subst (λ x. IsBetweenStarts g.K.Reporter.hears file V before [] c.walk_roots.new.desk.marks x) (sym c.new.ensures.reporter)
     (done is V s before h) in
-    subst (λ x. AreTold g.K.Reporter.hears g.K.Reporter.cuts file V c.walk_trunks.result c.walk_trunks.new.desk.marks before x) (search rules)
+    subst (λ x. AreTold g.K.Reporter.hears file V c.walk_trunks.result c.walk_trunks.new.desk.marks before x) (search rules)
     (walked (subst (λ (h : HeaderBytes). IsHeaderOf h file) (sym same) is) V s before left))
 
 pub returns-clause-keeps : goal.returns-clause-keeps
@@ -33,8 +33,8 @@ returns-clause-keeps g c =
     let held = g.K.Reporter.held in record {
       header = then.header ∙ first.header;
       roots = then.roots ∙ first.roots;
-      writes = subst (λ t. ReporterAfter is_write_failed c.walk_trunks.result (held c.args.reporter.now) (held t)) (search rules)
-          (subst (λ s. ReporterAfter is_write_failed c.walk_trunks.result s (held c.walk_trunks.new.teller.reporter.now))
+      writes = subst (λ t. SinkAfter is_write_failed c.walk_trunks.result (held c.args.reporter.now) (held t)) (search rules)
+          (subst (λ s. SinkAfter is_write_failed c.walk_trunks.result s (held c.walk_trunks.new.teller.reporter.now))
           (ap held c.new.ensures.reporter ∙ first.writes) then.writes);
       only = then.only;
     }

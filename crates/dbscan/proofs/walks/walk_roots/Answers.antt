@@ -41,13 +41,13 @@ returns-in_err-walk_row-clause-asks g c =
     let marks = c.walk_row.new.marks in
     let e = c.in_err-walk_row.field-0.0 in
     let stops = λ (o : DeskView) (file : List ℕ). (V : List Reference) → Survey file V → (before : g.row.K.Denot)
-    → IsBetweenStarts g.K.Reporter.hears g.K.Reporter.cuts file V before (enumerate_from 1 o.roots.rows) o.marks c.args.reporter.now
-    → StopsTelling g.K.Reporter.hears g.K.Reporter.cuts file V before [] (Err e) marks c.walk_row.new.reporter in
+    → IsBetweenStarts g.K.Reporter.hears file V before (enumerate_from 1 o.roots.rows) o.marks c.args.reporter.now
+    → StopsTelling g.K.Reporter.hears file V before [] (Err e) marks c.walk_row.new.reporter in
     rw q.1 (rw q.2 (desk_asks g.S.Source.step d c.args.desk.now marks (λ file. c.encoding-encoding.result ≡ encoding file → stops (desk_view d) file) stops
     (Err e) c.desk.invariant c.desk.view_is (λ n. refl)
     (asks_then _ _ (ap (λ (s : Geometry). s.page_size) at.invariant.shape) at.invariant.asks c.in_err-walk_row.ensures.asks
     (λ file left walked same code V s before h.
-    root_told g.K.Reporter.hears g.K.Reporter.cuts file V s before at.desk-inside.marks marks at.reporter c.walk_row.new.reporter d.roots.rows at.index (Err e)
+    root_told g.K.Reporter.hears file V s before at.desk-inside.marks marks at.reporter c.walk_row.new.reporter d.roots.rows at.index (Err e)
     (omega arith) (left same code V s before h)
     (λ row is W r after. walked (at.invariant.shape ∙ same) code row (ap (λ (l : Listed). slice_get l.rows (at.index + 1 - 1)) at.invariant.roots ∙ is) W r
     (subst (λ (x : Encoding). IsRootAfter file (root_of x (at.index + 1) row) W r at.desk-inside.marks) (sym code) after))))
@@ -63,7 +63,7 @@ loop-index-preserved g c =
       marks = search rules;
       asks = asks_then _ _ (ap (λ (s : Geometry). s.page_size) at.invariant.shape) at.invariant.asks c.in_ok-walk_row.ensures.asks
           (λ file left walked same code V s before h.
-          root_told g.K.Reporter.hears g.K.Reporter.cuts file V s before at.desk-inside.marks marks at.reporter c.walk_row.new.reporter c.desk.inside.roots.rows
+          root_told g.K.Reporter.hears file V s before at.desk-inside.marks marks at.reporter c.walk_row.new.reporter c.desk.inside.roots.rows
           at.index (Ok tt) (omega arith) (left same code V s before h)
           (λ row is W r after. walked (at.invariant.shape ∙ same) code row (ap (λ (l : Listed). slice_get l.rows (at.index + 1 - 1)) at.invariant.roots ∙ is) W
           r
@@ -76,12 +76,12 @@ returns-clause-asks g c =
     let at = c.loop-index in
     desk_asks g.S.Source.step c.desk.inside c.args.desk.now at.desk-inside.marks _
     (λ o file. (V : List Reference) → Survey file V → (before : g.row.K.Denot)
-    → IsBetweenStarts g.K.Reporter.hears g.K.Reporter.cuts file V before (enumerate_from 1 o.roots.rows) o.marks c.args.reporter.now
-    → IsBetweenStarts g.K.Reporter.hears g.K.Reporter.cuts file V before [] at.desk-inside.marks at.reporter)
+    → IsBetweenStarts g.K.Reporter.hears file V before (enumerate_from 1 o.roots.rows) o.marks c.args.reporter.now
+    → IsBetweenStarts g.K.Reporter.hears file V before [] at.desk-inside.marks at.reporter)
     (Ok tt) c.desk.invariant c.desk.view_is (λ n. refl) at.invariant.asks
     (λ file is left V s before h.
     let rows = c.desk.inside.roots.rows in
     let count : at.index ≡ length rows = omega arith in
     let none : drop at.index rows ≡ [] = drop_none rows at.index (omega (arith, count)) in
-    subst (λ l. IsBetweenStarts g.K.Reporter.hears g.K.Reporter.cuts file V before (enumerate_from (at.index + 1) l) at.desk-inside.marks at.reporter) none
+    subst (λ l. IsBetweenStarts g.K.Reporter.hears file V before (enumerate_from (at.index + 1) l) at.desk-inside.marks at.reporter) none
     (left (c.encoding-encoding.ensures ∙ ap encoding is.begins ∙ encoding_within file) V s before h))

@@ -20,11 +20,11 @@ returns-clause-asks g c = asks_weaker _ _ c.walk_over.result (λ n. refl) c.walk
     let w = walked shape (ap (λ (r : Root). r.encoding) root ∙ code) W d (subst (λ r. IsRootAfter file r W d c.args.marks.now) (sym root) after) (λ l. 0)
     (λ k. absurd (no_schema_kind c.in-Some.row.kind (ap (λ (r : Root). r.kind) (sym c.root_of-root.ensures.root) ∙ k))) in
     let end = c.walk_over.new.teller.reporter.now in
-    subst (λ t. IsTreeWalked g.K.Reporter.hears g.K.Reporter.cuts (at_row c.args.number row) file W d c.walk_over.result c.walk_over.new.marks
+    subst (λ t. IsTreeWalked g.K.Reporter.hears (at_row c.args.number row) file W d c.walk_over.result c.walk_over.new.marks
     c.args.reporter.now t) (search rules)
-    (subst (λ s. IsTreeWalked g.K.Reporter.hears g.K.Reporter.cuts (at_row c.args.number row) file W d c.walk_over.result c.walk_over.new.marks s end)
+    (subst (λ s. IsTreeWalked g.K.Reporter.hears (at_row c.args.number row) file W d c.walk_over.result c.walk_over.new.marks s end)
     c.new-teller.ensures.reporter
-    (subst (λ at. IsTreeWalked g.K.Reporter.hears g.K.Reporter.cuts at file W d c.walk_over.result c.walk_over.new.marks c.new-teller.result.reporter.now end)
+    (subst (λ at. IsTreeWalked g.K.Reporter.hears at file W d c.walk_over.result c.walk_over.new.marks c.new-teller.result.reporter.now end)
     at w.tree)))
 
 pub unreachable-requires : goal.unreachable-requires

@@ -13,44 +13,42 @@ pub returns-in_err-walk_over-clause-asks : goal.returns-in_err-walk_over-clause-
 returns-in_err-walk_over-clause-asks g c =
     let q = err_from_is_err_and c.from_residual.result c.from_residual.ensures.1 in
     let hears = g.K.Reporter.hears in
-    let cuts = g.K.Reporter.cuts in
     let e = c.in_err-walk_over.field-0.0 in
     let d = c.args.desk.now in
     let marks = c.walk_over.new.marks in
     let rows = c.walk_over.new.taker.rows in
     let end = c.walk_over.new.teller.reporter.now in
     rw q.1 (rw q.2 (asks_weaker {A = Unit {0}} _ _ (Err e) (λ n. refl)
-    (desk_asks g.S.Source.step c.desk.inside d marks _ (λ o file. IsSchemaWalked hears cuts file (Err e) marks rows c.args.reporter.now end) (Err e)
+    (desk_asks g.S.Source.step c.desk.inside d marks _ (λ o file. IsSchemaWalked hears file (Err e) marks rows c.args.reporter.now end) (Err e)
     c.desk.invariant c.desk.view_is (λ n. refl) c.in_err-walk_over.ensures.asks
     (λ file is walked.
     let fresh = ap (λ (d : DeskView). d.marks) c.desk.view_is ∙ c.requires.fresh.marks
     ∙ ap (λ g. marks_of g []) (subst (λ (d : DeskView). IsHeaderOf d.header file) c.desk.view_is is).shape in
     let empty = ap (λ (d : DeskView). d.roots.rows) c.desk.view_is ∙ c.requires.fresh.roots in
-    subst (λ x. IsSchemaWalked hears cuts file (Err e) marks rows x end) c.new-teller.ensures.reporter
-    (schema_stopped hears cuts file marks c.new-teller.result c.walk_over.new.teller c.desk.inside.roots c.walk_over.new.taker
+    subst (λ x. IsSchemaWalked hears file (Err e) marks rows x end) c.new-teller.ensures.reporter
+    (schema_stopped hears file marks c.new-teller.result c.walk_over.new.teller c.desk.inside.roots c.walk_over.new.taker
     (c.new-teller.ensures.start ∙ c.schema-start.ensures) c.new-teller.ensures.none empty
     c.desk.inside.header is c.encoding.result c.encoding.ensures c.schema_root-root.result c.schema_root-root.ensures c.desk.inside.marks fresh e walked)))
-    (λ log r. r) (λ file done is. subst (λ x. IsSchemaWalked hears cuts file (Err e) marks rows c.args.reporter.now x) (search rules) (done is))))
+    (λ log r. r) (λ file done is. subst (λ x. IsSchemaWalked hears file (Err e) marks rows c.args.reporter.now x) (search rules) (done is))))
 
 pub returns-clause-asks : goal.returns-clause-asks
 returns-clause-asks g c =
     let hears = g.K.Reporter.hears in
-    let cuts = g.K.Reporter.cuts in
     let any = c.has_rows.result in
     let d = c.args.desk.now in
     let marks = c.walk_over.new.marks in
     let rows = c.walk_over.new.taker.rows in
     let end = c.walk_over.new.teller.reporter.now in
     asks_weaker _ _ (Ok any) (λ n. refl)
-    (desk_asks g.S.Source.step c.desk.inside d marks _ (λ o file. IsSchemaWalked hears cuts file (Ok any) marks rows c.args.reporter.now end) (Ok any)
+    (desk_asks g.S.Source.step c.desk.inside d marks _ (λ o file. IsSchemaWalked hears file (Ok any) marks rows c.args.reporter.now end) (Ok any)
     c.desk.invariant c.desk.view_is (λ n. refl) c.in_ok-walk_over.ensures.asks
     (λ file is walked.
     let fresh = ap (λ (d : DeskView). d.marks) c.desk.view_is ∙ c.requires.fresh.marks
     ∙ ap (λ g. marks_of g []) (subst (λ (d : DeskView). IsHeaderOf d.header file) c.desk.view_is is).shape in
     let empty = ap (λ (d : DeskView). d.roots.rows) c.desk.view_is ∙ c.requires.fresh.roots in
-    subst (λ x. IsSchemaWalked hears cuts file (Ok any) marks rows x end) c.new-teller.ensures.reporter
-    (schema_walked hears cuts file marks c.new-teller.result c.walk_over.new.teller c.desk.inside.roots c.walk_over.new.taker
+    subst (λ x. IsSchemaWalked hears file (Ok any) marks rows x end) c.new-teller.ensures.reporter
+    (schema_walked hears file marks c.new-teller.result c.walk_over.new.teller c.desk.inside.roots c.walk_over.new.taker
     (c.new-teller.ensures.start ∙ c.schema-start.ensures) c.new-teller.ensures.none empty
     c.desk.inside.header is c.encoding.result c.encoding.ensures c.schema_root-root.result c.schema_root-root.ensures c.desk.inside.marks fresh any
     c.has_rows.ensures walked)))
-    (λ log r. r) (λ file done is. subst (λ x. IsSchemaWalked hears cuts file (Ok any) marks rows c.args.reporter.now x) (search rules) (done is))
+    (λ log r. r) (λ file done is. subst (λ x. IsSchemaWalked hears file (Ok any) marks rows c.args.reporter.now x) (search rules) (done is))

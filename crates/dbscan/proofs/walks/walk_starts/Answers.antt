@@ -15,7 +15,7 @@ pub returns-in_err-any_rows-clause-asks : goal.returns-in_err-any_rows-clause-as
 returns-in_err-any_rows-clause-asks g c =
     let q = err_from_is_err_and c.from_residual.result c.from_residual.ensures.1 in
     rw q.1 (rw q.2 (asks_weaker _ _ (Err c.in_err-any_rows.field-0.0) (λ n. refl) c.in_err-any_rows.ensures.asks (λ log reads. reads) (λ file walked is V s.
-    schema_stopped g.K.Reporter.hears g.K.Reporter.cuts file V c.walk_schema.new.desk.marks c.walk_schema.new.desk.roots.rows c.args.reporter.now
+    schema_stopped g.K.Reporter.hears file V c.walk_schema.new.desk.marks c.walk_schema.new.desk.roots.rows c.args.reporter.now
     c.walk_schema.new.reporter c.in_err-any_rows.field-0.0 (walked is).tree)))
 
 pub returns-in_err-walk_later-clause-asks : goal.returns-in_err-walk_later-clause-asks
@@ -28,10 +28,10 @@ returns-in_err-walk_later-clause-asks g c =
     c.in_err-walk_later.ensures.asks
     (λ file walked later is V s.
     let first = walked is in
-    later_stopped g.K.Reporter.hears g.K.Reporter.cuts file V c.walk_later.new.desk.marks c.walk_later.new.desk.roots.rows c.args.reporter.now
+    later_stopped g.K.Reporter.hears file V c.walk_later.new.desk.marks c.walk_later.new.desk.roots.rows c.args.reporter.now
     c.walk_later.new.reporter e
     (later (subst (λ (h : HeaderBytes). IsHeaderOf h file) (sym same) is) V s c.args.reporter.now
-    (schema_told g.K.Reporter.hears g.K.Reporter.cuts file V s c.args.reporter.now c.args.desk.now.marks c.walk_schema.new.desk.marks
+    (schema_told g.K.Reporter.hears file V s c.args.reporter.now c.args.desk.now.marks c.walk_schema.new.desk.marks
     c.walk_schema.new.desk.roots.rows c.in_ok-any_rows.any_rows c.walk_schema.new.reporter
     (c.requires.fresh.marks ∙ ap (λ g. marks_of g []) is.shape) first)))) (λ log reads. reads) (λ file done. done)))
 
@@ -44,9 +44,9 @@ returns-clause-asks g c =
     (λ file walked later is V s.
     let first = walked is in
     let of = subst (λ (l : Listed). IsSchemaOf file V l.rows any) (sym c.in_ok-walk_later.ensures.keeps.roots) (first.schema V s) in
-    all_walked g.K.Reporter.hears g.K.Reporter.cuts file V c.walk_later.new.desk.marks c.walk_later.new.desk.roots.rows c.args.reporter.now
+    all_walked g.K.Reporter.hears file V c.walk_later.new.desk.marks c.walk_later.new.desk.roots.rows c.args.reporter.now
     c.walk_later.new.reporter any of
     (later (subst (λ (h : HeaderBytes). IsHeaderOf h file) (sym same) is) V s c.args.reporter.now
-    (schema_told g.K.Reporter.hears g.K.Reporter.cuts file V s c.args.reporter.now c.args.desk.now.marks c.walk_schema.new.desk.marks
+    (schema_told g.K.Reporter.hears file V s c.args.reporter.now c.args.desk.now.marks c.walk_schema.new.desk.marks
     c.walk_schema.new.desk.roots.rows any c.walk_schema.new.reporter
     (c.requires.fresh.marks ∙ ap (λ g. marks_of g []) is.shape) first)))) (λ log reads. reads) (λ file done. done)

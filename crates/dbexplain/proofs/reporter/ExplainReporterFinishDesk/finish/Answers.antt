@@ -1,11 +1,11 @@
-use Rattle.std.proofs.Common.{◌≢◌, Ok, Err, Result, inl, inr, refl, sym, ap, ◌∙◌}
+use Rattle.std.proofs.Common.{◌≢◌, false, Ok, Err, Result, inl, inr, refl, sym, ap, ◌∙◌}
 use Rattle.std.proofs.lemmas.Result.{err_from_is_err_and}
 use Rattle.dbformat.specs.Report.{faults}
 use Rattle.dbsource.specs.declared.error.RunError.TheVariants as error
 use Rattle.dbsource.specs.declared.error.RunError.TheVariants.{ReadFailed}
 use Rattle.dbsource.specs.declared.out.WriteFailed.{WriteFailed}
 use Rattle.dbsource.proofs.Logs.{asks_weaker}
-use Rattle.dbscan.specs.Hearing.{one_out}
+use Rattle.dbwalk.specs.Telling.{one_out}
 use Rattle.dbscan.proofs.Finished.{finished}
 use Rattle.dbexplain.specs.Reporting.{Hears, LeavesExplained, explain_held}
 use Rattle.dbentries.proofs.Desks.{desk_kept, looked_keeps}
@@ -37,7 +37,7 @@ returns-then-faults-eq0 g c =
     let held = g.O.Out.held in
     let none = sym c.all-faults.ensures ∙ c.if-faults-eq0.true in
     finished g.S.Source Hears (explain_held held) (LeavesExplained held) (Ok _) c.args.desk.now c.args.source.now c.args.self.now _ tt
-    (ap (one_out c.args.self.now.out.ghost_name) c.in_ok-put_ok.ensures.count)
+    (ap (λ n. one_out c.args.self.now.out.ghost_name n false) c.in_ok-put_ok.ensures.count)
     (λ file V first heard limit empty.
     let k = file_heard heard empty in (
       clean_put held k none done c.put_ok.new.out c.in_ok-put_ok.ensures.held,
@@ -89,5 +89,5 @@ returns g c =
                 ∙ ap (λ n. explain_text n file V (listed_entries file V)) listed.0.room) put.puts.held,
             c.of-verdict.ensures.faults (faults file V) (c.all-faults.ensures ∙ all_counted held k),
           ));
-      keeps = looked_keeps look.desk (ap (one_out c.args.self.now.out.ghost_name) put.puts.count) tt;
+      keeps = looked_keeps look.desk (ap (λ n. one_out c.args.self.now.out.ghost_name n false) put.puts.count) tt;
     }

@@ -4,7 +4,7 @@ use Rattle.std.specs.Io.KnownBytes.{Appends}
 use Rattle.dbsource.specs.Outs.{Begins}
 use Rattle.dbsource.specs.declared.error.RunError.TheVariants.{ReadFailed, WriteFailed}
 use Rattle.dbsource.proofs.Logs.{asks_weaker}
-use Rattle.dbscan.specs.Hearing.{one_out}
+use Rattle.dbwalk.specs.Telling.{one_out}
 use Rattle.dbentries.proofs.Desks.{desk_kept, looked_keeps}
 use Rattle.dbmap.proofs.Counting.{map_counts, map_finds, map_keeps, map_hears, map_put, map_unput}
 use Rattle.dbmap.proofs.map_reporter.MapReporterFinishDesk.finish.Goals as goal
@@ -58,5 +58,5 @@ returns g c =
                   count = map_counts file V s first c.args.self.now empty heard.heard;
                 })) put.puts.held,
           ));
-      keeps = looked_keeps look.desk (ap (one_out c.args.self.now.out.ghost_name) put.puts.count) tt;
+      keeps = looked_keeps look.desk (ap (λ n. one_out c.args.self.now.out.ghost_name n false) put.puts.count) tt;
     }

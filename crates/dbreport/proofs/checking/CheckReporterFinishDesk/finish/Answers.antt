@@ -1,11 +1,12 @@
-use Rattle.std.proofs.Common.{Ok, Err, [], ◌∷◌, ap, ap₂, inl, refl}
+use Rattle.std.proofs.Common.{false, Ok, Err, [], ◌∷◌, ap, inl, refl, sym, ◌∙◌, subst}
 use Rattle.std.proofs.lemmas.Result.{err_from_is_err_and}
 use Rattle.dbsource.specs.declared.error.RunError.TheVariants.{WriteFailed}
-use Rattle.dbscan.specs.Hearing.{one_out}
+use Rattle.dbwalk.specs.Telling.{one_out}
 use Rattle.dbscan.specs.Notices.{HearsFaults}
 use Rattle.dbscan.proofs.Finished.{finished}
 use Rattle.dbreport.specs.CheckReporter.{LeavesCheck, ShowsFault, check_held}
 use Rattle.dbreport.proofs.Checked.{check_cut, check_ended}
+use Rattle.dbreport.proofs.ReporterStates.{one_same}
 use Rattle.dbreport.proofs.checking.CheckReporterFinishDesk.finish.Goals as goal
 
 pub returns-in_err-end : goal.returns-in_err-end
@@ -16,7 +17,8 @@ returns-in_err-end g c =
     rw q.1 (rw q.2 (finished g.S.Source (HearsFaults (ShowsFault held)) (check_held held) (LeavesCheck held) (Err WriteFailed) c.args._desk.now
     c.args._source.now c.args.self.now c.end.new.self refl
     (record { lent = ap (λ n. n ∷ []) put.same_out; failures = inl (put.text.count, refl) })
-    (λ file V first heard. check_cut held file V heard.desk.survey first c.args.self.now c.end.new.self heard.heard c.in_err-end.field-0.0 put.text)))
+    (λ file V first heard. check_cut held file V heard.desk.survey first c.args.self.now c.end.new.self c.requires heard.heard c.in_err-end.field-0.0
+    put.text)))
 
 pub returns : goal.returns
 returns g c =
@@ -24,5 +26,6 @@ returns g c =
     let held = g.O.Out.held in
     finished g.S.Source (HearsFaults (ShowsFault held)) (check_held held) (LeavesCheck held) (Ok c.in_ok-end.field-0) c.args._desk.now c.args._source.now
     c.args.self.now c.end.new.self tt
-    (ap₂ one_out put.same_out put.text.count)
-    (λ file V first heard. check_ended held file V heard.desk.survey first c.args.self.now c.end.new.self heard.heard c.in_ok-end.field-0 put.text put.verdict)
+    (one_same put.same_out put.text.count put.failed)
+    (λ file V first heard. check_ended held file V heard.desk.survey first c.args.self.now c.end.new.self c.requires heard.heard c.in_ok-end.field-0 put.text
+    put.verdict)
