@@ -89,8 +89,9 @@ look_text (look.Other bytes) named = first_bytes_text bytes
 -- what a fault goes back to, if that is not its own place
 abbrev pub cause_text : Cause → List ℕ
 cause_text cause.Itself = []
-cause_text (cause.Key k) = key_text k
-cause_text (cause.Leaf page) = leaf_text page
+cause_text (cause.Rows rowids) = []
+cause_text (cause.Key k left) = key_text k
+cause_text (cause.Leaf page rowids) = leaf_text page
 cause_text (cause.Chain c) = broken_chain_text c
 cause_text (cause.Page page facts) = []
 cause_text (cause.Look l facts) = look_text l facts.named

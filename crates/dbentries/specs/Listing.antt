@@ -40,8 +40,8 @@ same_look _ _ = false
 
 -- whether two causes are the same: the same cell or page, or pages that look alike
 abbrev pub same_cause : Cause → Cause → Bool
-same_cause (cause.Key a) (cause.Key b) = (a.page == b.page) && (a.item == b.item)
-same_cause (cause.Leaf a) (cause.Leaf b) = a == b
+same_cause (cause.Key a _) (cause.Key b _) = (a.page == b.page) && (a.item == b.item)
+same_cause (cause.Leaf a _) (cause.Leaf b _) = a == b
 same_cause (cause.Page a _) (cause.Page b _) = a == b
 same_cause (cause.Look a _) (cause.Look b _) = same_look a b
 same_cause _ _ = false

@@ -11,8 +11,8 @@ pub(crate) fn same_cause(one: Cause, other: Cause) -> bool
     ensures { result ≡ same_cause one other }
 {
     match (one, other) {
-        (Cause::Key(a), Cause::Key(b)) => a.page == b.page && a.item == b.item,
-        (Cause::Leaf(a), Cause::Leaf(b)) => a == b,
+        (Cause::Key(a, _), Cause::Key(b, _)) => a.page == b.page && a.item == b.item,
+        (Cause::Leaf(a, _), Cause::Leaf(b, _)) => a == b,
         (Cause::Page(a, _), Cause::Page(b, _)) => a == b,
         (Cause::Look(a, _), Cause::Look(b, _)) => same_look(a, b),
         _ => false,

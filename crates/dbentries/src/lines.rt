@@ -205,9 +205,9 @@ pub fn put_cause<O: Out>(writer: &mut Writer<'_, O>, cause: &Cause)
     ensures { Wrote O.held writer.old (cause_text cause.now) writer.new }
 {
     match *cause {
-        Cause::Itself | Cause::Page(_, _) => {}
-        Cause::Key(key) => writer.put(key_text(key).as_slice()),
-        Cause::Leaf(page) => writer.put(leaf_text(page).as_slice()),
+        Cause::Itself | Cause::Rows(_) | Cause::Page(_, _) => {}
+        Cause::Key(key, _) => writer.put(key_text(key).as_slice()),
+        Cause::Leaf(page, _) => writer.put(leaf_text(page).as_slice()),
         Cause::Chain(chain) => writer.put(chain_text(chain).as_slice()),
         Cause::Look(look, facts) => put_look(writer, look, facts.named),
     }

@@ -14,7 +14,9 @@ use Rattle.dbentries.specs.Lists.{HasListed, ListsFirst, heard}
 use Rattle.dbentries.proofs.Heard.{file_begun, file_heard}
 use Rattle.dbentries.proofs.ListedFaults.{heard_first}
 use Rattle.dbscan.specs.Trees.{row_noted}
+use Rattle.dbexplain.specs.Indexes.{index_noted}
 use Rattle.dbexplain.specs.Keeping.{IsEmpty}
+use Rattle.dbexplain.specs.KeptRanges.{range_told}
 use Rattle.dbexplain.specs.Reporting.{Adds, Hears, Notes}
 use Rattle.dbexplain.specs.Tallies.{fault_told}
 use Rattle.dbexplain.specs.declared.reporter.ExplainReporter.{ExplainReporter}
@@ -25,6 +27,8 @@ module _ {A O : Type 0} (first : ExplainReporter A O) where
     pub tally : now.kept.now.tally ≡ fold fault_told first.kept.now.tally ts
     pub listing : HasListed first.kept.now.listing ts now.kept.now.listing
     pub trees : now.kept.now.trees.known ≡ fold row_noted first.kept.now.trees.known rs
+    pub ranges : now.kept.now.ranges ≡ fold range_told first.kept.now.ranges ts
+    pub indexes : now.kept.now.indexes ≡ fold index_noted first.kept.now.indexes rs
     pub out : now.out.now ≡ first.out.now
 
   one_heard : (x : Reported) (ts : List Reported) (rs : List StatRow) (s t : ExplainReporter A O) → HasHeardFaults ts rs s → Adds x s t
@@ -33,6 +37,8 @@ module _ {A O : Type 0} (first : ExplainReporter A O) where
     tally = a.tally ∙ ap (λ t. fault_told t x) h.tally ∙ sym (fold-append fault_told first.kept.now.tally ts (x ∷ []));
     listing = a.listing ∙ ap (λ l. heard l x) h.listing ∙ sym (fold-append heard first.kept.now.listing ts (x ∷ []));
     trees = a.trees ∙ h.trees;
+    ranges = a.ranges ∙ ap (λ k. range_told k x) h.ranges ∙ sym (fold-append range_told first.kept.now.ranges ts (x ∷ []));
+    indexes = a.indexes ∙ h.indexes;
     out = a.out ∙ h.out;
   }
 
@@ -42,12 +48,14 @@ module _ {A O : Type 0} (first : ExplainReporter A O) where
     tally = a.tally ∙ h.tally;
     listing = a.listing ∙ h.listing;
     trees = a.trees ∙ ap (λ k. row_noted k r) h.trees ∙ sym (fold-append row_noted first.kept.now.trees.known rs (r ∷ []));
+    ranges = a.ranges ∙ h.ranges;
+    indexes = a.indexes ∙ ap (λ k. index_noted k r) h.indexes ∙ sym (fold-append index_noted first.kept.now.indexes rs (r ∷ []));
     out = a.out ∙ h.out;
   }
 
   module _ (file : List ℕ) (V : List Reference) (survey : Survey file V) (now : ExplainReporter A O) where
     nothing_heard : HasHeardFaults [] [] first
-    nothing_heard = record { tally = refl; listing = refl; trees = refl; out = refl }
+    nothing_heard = record { tally = refl; listing = refl; trees = refl; ranges = refl; indexes = refl; out = refl }
 
     -- all of it
     pub all_heard : Moves Hears first (run_notices file V) now → HasHeardFaults (told_faults file V) (stat_rows file V) now

@@ -26,10 +26,14 @@ use Rattle.dbentries.specs.Listed.{listed_entries}
 use Rattle.dbentries.specs.Lists.{Held, ListsAll, ListsFirst}
 use Rattle.dbentries.specs.Zeros.{AreZeros}
 use Rattle.dbexplain.specs.Explained.{explain_text}
+use Rattle.dbexplain.specs.Indexes.{AreIndexes}
 use Rattle.dbexplain.specs.Keeping.{HasAll, IsEmpty}
+use Rattle.dbexplain.specs.KeptRanges.{AreRangesOf}
 use Rattle.dbexplain.specs.Reporting.{Hears, IsReportLeft, LeavesExplained}
 use Rattle.dbexplain.specs.declared.reporter.ExplainReporter.{ExplainReporter}
 use Rattle.dbexplain.specs.Tallies.{IsTallyOf}
+use Rattle.dbexplain.proofs.IndexesNoted.{all_indexes}
+use Rattle.dbexplain.proofs.RangesKept.{all_ranges_told}
 use Rattle.dbexplain.proofs.Heard.{HasHeardFaults, all_heard, found_first}
 use Rattle.dbexplain.proofs.Reports.{ok_text}
 use Rattle.dbexplain.proofs.Tallies as tallies
@@ -87,6 +91,10 @@ module _ {A O : Type 0} (held : O → OutState) {limit : ℕ} {file : List ℕ} 
     listing = subst (λ n. ListsAll n file V l) (sym listed.0.room) listed.0;
     tally = heard.tally;
     zeros = listed.1 heard.empty.zeros;
+    ranges = subst (AreRangesOf (told_faults file V)) (sym heard.all.ranges)
+        (all_ranges_told (told_faults file V) first.kept.now.ranges heard.empty.ranges);
+    indexes = subst (AreIndexes (stat_rows file V)) (sym heard.all.indexes)
+        (all_indexes (stat_rows file V) first.kept.now.indexes heard.empty.indexes);
     trees = subst (AreTrees V) (sym heard.all.trees) (all_noted file V first.kept.now.trees.known heard.survey heard.empty.room);
   }
 

@@ -3,7 +3,11 @@ pub mod Desks
 pub mod Explained
 pub mod Heard
 pub mod KeptEntries
+pub mod IndexesNoted
 pub mod Left
+pub mod RangesKept
+pub mod RowLines
+pub mod RowLoops
 pub mod PagePieces
 pub mod ReachedPages
 pub mod ReadReports

@@ -1,8 +1,8 @@
 -- The summary by the counts of a tally is that of a file.
-use Rattle.std.proofs.Common.{◌≡◌, ℕ, zero, suc, ◌+◌, ◌-◌, ◌<◌, ◌≤◌, inl, inr, Bool, true, false, cond, ◌&&◌, List, [], ◌∷◌, ◌++◌, length, map, take}
+use Rattle.std.proofs.Common.{◌≡◌, ℕ, zero, suc, ◌+◌, ◌-◌, ◌<◌, ◌≤◌, inl, inr, Bool, true, false, cond, not, ◌&&◌, ◌||◌, Option, List, [], ◌∷◌, ◌++◌, length, map, take}
 use Rattle.std.proofs.Common.{refl, sym, ap, ap₂, subst, ◌∙◌, arith, append-nil, append_assoc}
-use Rattle.std.specs.Prelude.{codes, decimal, count_by, filter, fold, min, nat_le, ◌==◌}
-use Rattle.std.specs.List.{enumerate_from, flat_map, range_with_len}
+use Rattle.std.specs.Prelude.{codes, decimal, unwrap_or, count_by, filter, fold, min, nat_le, ◌==◌}
+use Rattle.std.specs.List.{enumerate_from, flat_map, list_any, range_with_len}
 use Rattle.std.proofs.lemmas.Bool.{eqb-true}
 use Rattle.std.proofs.lemmas.Bool.Decides.{nat_tests}
 use Rattle.std.proofs.lemmas.Grind.{flat_map-append}
@@ -45,9 +45,15 @@ use Rattle.dbentries.specs.Zeros.{AreZeros, zero_pages}
 use Rattle.dbentries.specs.declared.runs.Runs.{Runs}
 use Rattle.dbentries.proofs.Belonging.{runs_kept}
 use Rattle.dbexplain.specs.Summary.{aligned, code_count, code_line, count_text, faulty_pages, is_of_kind, is_part_of_start}
+use Rattle.dbexplain.specs.Summary.{has_rowids, is_index_start, rows_below}
 use Rattle.dbexplain.specs.Summary.{faulty_pages_text, reached_pages, start_count, start_sum_line, start_name, sum_line, summary, trees_text}
 use Rattle.dbexplain.specs.Summary.{whole_count, whole_line, whole_trees, zero_runs_text, zeros_text}
-use Rattle.dbexplain.specs.Sums.{code_sum, numbered_sum, start_sum, last_sum, summary_by, trees_by, zeros_sum}
+use Rattle.dbexplain.specs.Indexes.{AreIndexes, is_index_page}
+use Rattle.dbexplain.specs.KeptLines.{kept_text}
+use Rattle.dbexplain.specs.KeptRanges.{AreAllKept, KeptRanges}
+use Rattle.dbexplain.proofs.RowLines.{kept_lines}
+use Rattle.dbformat.specs.Rows.{stat_rows}
+use Rattle.dbexplain.specs.Sums.{code_sum, numbered_sum, rows_sum, start_sum, last_sum, summary_by, trees_by, zeros_sum}
 use Rattle.dbexplain.specs.Tallies.{Tallied, IsTallyTo, count_at, counted_start, no_count}
 use Rattle.dbexplain.specs.declared.tally.StartCount.{StartCount}
 
@@ -102,8 +108,11 @@ module _ (file : List ℕ) (V : List Reference) (s : Survey file V) where
   abbrev name : ℕ → List ℕ
   name = start_name (encoding file) (listed_rows file V)
 
-  line_same : (k : ℕ) → start_sum (counted (length ts)) (name k) (counted_start V ts n k) ≡ start_sum_line file V ts k
-  line_same k = sum_same (length ts) (start_count ts k) (codes "in " ++ name k ++ faulty_pages_text (faulty_pages file V ts k) (reached_pages file V k))
+  line_same : (k : ℕ) (below : List ℕ) → below ≡ rows_below file V ts k
+      → start_sum (counted (length ts)) (name k) (counted_start V ts n k) ++ cond (counted (start_count ts k) == 0) [] below ≡ start_sum_line file V ts k
+  line_same k below e = ap₂ (λ a b. a ++ b)
+      (sum_same (length ts) (start_count ts k) (codes "in " ++ name k ++ faulty_pages_text (faulty_pages file V ts k) (reached_pages file V k)))
+      (ap₂ (λ b w. cond b [] w) (is_zero (start_count ts k)) e)
 
   rows_lines : (k : ℕ) (rows : List SchemaRow)
       → flat_map (λ (l : Link Way). start_sum_line file V ts l.step) (map (root_start file) (enumerate_from k rows))
@@ -151,7 +160,8 @@ module _ (file : List ℕ) (V : List Reference) (s : Survey file V) where
           → start_sum_line file V ts freelist_start ≡ flat_map (λ (l : Link Way). start_sum_line file V ts l.step)
           (cond b [] (start freelist_start trunk (first_trunk file) ∷ []))
       by_case true h = ap (λ m. sum_line (length ts) m (codes "in " ++ name freelist_start
-          ++ faulty_pages_text (faulty_pages file V ts freelist_start) (reached_pages file V freelist_start))) (h refl)
+          ++ faulty_pages_text (faulty_pages file V ts freelist_start) (reached_pages file V freelist_start))
+          ++ cond (m == 0) [] (rows_below file V ts freelist_start)) (h refl)
       by_case false h = sym (append-nil (start_sum_line file V ts freelist_start))
 
   start_lines : start_sum_line file V ts 0 ++ (flat_map (start_sum_line file V ts) (range_with_len 1 (length rows)) ++ start_sum_line file V ts freelist_start)
@@ -163,7 +173,7 @@ module _ (file : List ℕ) (V : List Reference) (s : Survey file V) where
       ∙ ap (λ w. start_sum_line file V ts 0 ++ w) (sym (flat_map-append f M (freelist_starts file)))
       ∙ ap (flat_map f) (sym starts_are)
 
-  module _ (t : Tallied) (is : IsTallyTo n V ts n t) where
+  module _ (t : Tallied) (is : IsTallyTo n V ts n t) (below : ℕ → List ℕ) (rows_are : (k : ℕ) → k ≤ freelist_start → below k ≡ rows_below file V ts k) where
     codes_same : (cs : List FaultCode) → flat_map (code_sum t) cs ≡ flat_map (code_line ts) cs
     codes_same [] = refl
     codes_same (c ∷ cs) =
@@ -174,11 +184,12 @@ module _ (file : List ℕ) (V : List Reference) (s : Survey file V) where
     count_is : (k : ℕ) → k ≤ freelist_start → count_at t k ≡ counted_start V ts n k
     count_is k l = get_or_from_slice_get t.starts k (counted_start V ts n k) no_count (is.starts k l)
 
-    line_is : (k : ℕ) → k ≤ freelist_start → numbered_sum t name k ≡ start_sum_line file V ts k
-    line_is k l = ap₂ (λ n c. start_sum n (name k) c) is.all (count_is k l) ∙ line_same k
+    line_is : (k : ℕ) → k ≤ freelist_start → numbered_sum t name below k ≡ start_sum_line file V ts k
+    line_is k l = ap₂ (λ n (c : StartCount). start_sum n (name k) c ++ cond (c.faults == 0) [] (below k)) is.all (count_is k l)
+        ∙ line_same k (below k) (rows_are k l)
 
     lines_are : (m k : ℕ) → k + m ≤ freelist_start
-        → flat_map (numbered_sum t name) (range_with_len k m) ≡ flat_map (start_sum_line file V ts) (range_with_len k m)
+        → flat_map (numbered_sum t name below) (range_with_len k m) ≡ flat_map (start_sum_line file V ts) (range_with_len k m)
     lines_are zero k l = refl
     lines_are (suc m) k l = ap₂ (λ a b. a ++ b) (line_is k (omega (arith, l))) (lines_are m (k + 1) (omega (arith, l)))
 
@@ -202,7 +213,7 @@ module _ (file : List ℕ) (V : List Reference) (s : Survey file V) where
     whole_part = ap₂ (λ n k. sum_line n k (codes "in the whole file")) is.all is.whole ∙ sum_same (length ts) (whole_count ts) (codes "in the whole file")
 
     summary_same : (size : ℕ) (r : Runs) → zeros_sum size r ≡ zeros_text (geometry file).page_size (zero_pages file V)
-        → summary_by size r (encoding file) rows t ≡ summary file V ts
+        → summary_by size r (encoding file) rows below t ≡ summary file V ts
     summary_same size r zeros =
         joined
         (ap count_text is.all ∙ count_same (length ts))
@@ -223,11 +234,28 @@ module _ (file : List ℕ) (V : List Reference) (s : Survey file V) where
 
 -- so it is of what is put by the list of roots, and by the runs of the pages that are zeros
 pub known_summary : (file : List ℕ) (V : List Reference) → Survey file V
-    → (h : HeaderBytes) (rows : List SchemaRow) (e : Encoding) (t : Tallied) (size : ℕ) (r : Runs)
+    → (h : HeaderBytes) (rows : List SchemaRow) (e : Encoding) (t : Tallied) (size : ℕ) (r : Runs) (below : ℕ → List ℕ)
     → IsHeaderOf h file → AreListed file V rows → e ≡ encoding h.bytes → IsTallyTo (geometry file).pages V (told_faults file V) (geometry file).pages t
-    → zeros_sum size r ≡ zeros_text (geometry file).page_size (zero_pages file V) → summary_by size r e rows t ≡ summary file V (told_faults file V)
-known_summary file V s h given e t size r header listed texts is zeros =
-    ap₂ (λ e rows. summary_by size r e rows t) (texts ∙ ap encoding header.begins ∙ encoding_within file) listed ∙ summary_same file V s t is size r zeros
+    → zeros_sum size r ≡ zeros_text (geometry file).page_size (zero_pages file V)
+    → ((k : ℕ) → k ≤ freelist_start → below k ≡ rows_below file V (told_faults file V) k)
+    → summary_by size r e rows below t ≡ summary file V (told_faults file V)
+known_summary file V s h given e t size r below header listed texts is zeros rows_are =
+    ap₂ (λ e rows. summary_by size r e rows below t) (texts ∙ ap encoding header.begins ∙ encoding_within file) listed
+    ∙ summary_same file V s t is below rows_are size r zeros
+
+-- the lines of the rows of start k, by what is kept of them
+pub known_rows : (file : List ℕ) (V : List Reference) (rows : List SchemaRow) (ranges : KeptRanges) (indexes : List Bool) → AreListed file V rows
+    → AreAllKept (told_faults file V) ranges → AreIndexes (stat_rows file V) indexes → (k : ℕ) → k ≤ freelist_start
+    → rows_sum ranges indexes rows k ≡ rows_below file V (told_faults file V) k
+known_rows file V given ranges indexes listed kept noted k l =
+    ap₂ (λ rows (o : Option Bool). cond (is_index_start rows k || unwrap_or o false) [] (kept_text ranges k)) listed (noted k l)
+    ∙ by_tests (is_index_start (listed_rows file V) k) (list_any (is_index_page k) (stat_rows file V))
+    ∙ ap (λ w. cond (has_rowids file V k) w []) (kept_lines (told_faults file V) ranges kept k l)
+  where
+    by_tests : (a b : Bool) → cond (a || b) [] (kept_text ranges k) ≡ cond (not a && not b) (kept_text ranges k) []
+    by_tests true b = refl
+    by_tests false true = refl
+    by_tests false false = refl
 
 -- as many as there are, of ten
 min_taken : {X : Type 0} (n : ℕ) (xs : List X) → length xs ≡ 10 → take (min n 10) xs ≡ take n xs

@@ -123,7 +123,7 @@ all_told pages (x ∷ xs) ts t is =
     subst (λ l. IsTallyOf pages l (fold fault_told (fault_told t x) xs)) (append_assoc ts (x ∷ []) xs)
     (all_told pages xs (ts ++ x ∷ []) (fault_told t x) (told_more pages ts x.fault x.cause t is x.part))
 
-none_told : {X : Type 0} (n k : ℕ) (c : X) → k < n → slice_get (replicate n c) k ≡ Some c
+pub none_told : {X : Type 0} (n k : ℕ) (c : X) → k < n → slice_get (replicate n c) k ≡ Some c
 none_told (suc n) zero c l = refl
 none_told (suc n) (suc k) c l = none_told n k c (omega arith)
 none_told zero k c l = absurd (let f : ⊥ = omega arith in f)

@@ -22,6 +22,7 @@ use Rattle.dbformat.specs.Payload.{local_len}
 use Rattle.dbformat.specs.Record.{record_values, serial_len}
 use Rattle.dbformat.specs.Reference.{tree_view}
 use Rattle.dbformat.specs.Report.{faults, walk_faults}
+use Rattle.dbformat.specs.Rows.{stat_rows}
 use Rattle.dbformat.specs.Schema.{later_starts, payload, schema}
 use Rattle.dbformat.specs.SchemaRow.{schema_row}
 use Rattle.dbformat.specs.Survey.{refused, rules_of}
@@ -48,11 +49,11 @@ unowned_page = refl
 -- two rows of the schema with one root page: none is reached from the start of the second
 pub shared_root : summary same_root same_root_survey (told_faults same_root same_root_survey)
     ≡ codes "1 fault\n    1 R03 page is already in use\n    1 in table t (root page 2), of which no page was reached\n"
-    ++ codes "    1 of 2 tables and 0 of 0 indexes without a fault\n"
+    ++ codes "        rows not reached: all rows\n    1 of 2 tables and 0 of 0 indexes without a fault\n"
 unfolding cell cell_count cell_pointer cells change_counter content_start coverage depth_fault encoding encoding_number fault_line faults first_freeblock
     first_trunk fixed_use fragmented_bytes freeblocks freelist_count greatest_root has_pointer_map header_faults incremental_vacuum is_size_valid items
     key_faults keys late_root_fault later_starts local_len look_of map_entry map_page_of more_line own_kind page_bytes page_count page_faults page_size payload
     record_values refusal_of refused reserved_bytes right_number row_faults rules_of schema schema_format schema_row serial_len plain_name stated_pages story_of
     sum_faults telling tree_name tree_page_faults tree_view type_byte unused usable_size use_fault varint version_valid_for view walk_faults whole_pages is_utf8
-    chars utf16_chars encode digits
+    chars utf16_chars encode digits stat_rows
 shared_root = refl

@@ -32,8 +32,8 @@ missing_line file _ = []
 
 -- what comes after the line of a cause of a fault of page p: of a key and a leaf where its page is, and of a page what is known of it
 abbrev pub after_cause : List ℕ → List Reference → ℕ → Cause → List ℕ
-after_cause file V p (cause.Key k) = place_line file V k.page
-after_cause file V p (cause.Leaf page) = place_line file V page
+after_cause file V p (cause.Key k left) = place_line file V k.page
+after_cause file V p (cause.Leaf page rowids) = place_line file V page
 after_cause file V p (cause.Page page facts) = facts_text (geometry file).page_size page facts
 after_cause file V p (cause.Look l facts) = facts_text (geometry file).page_size p facts
 after_cause file V p c = []

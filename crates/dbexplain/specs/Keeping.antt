@@ -3,6 +3,7 @@ use Rattle.std.specs.Prelude.{◌≡◌, ℕ, ◌<◌, List, [], ◌++◌, flat_
 use Rattle.dbformat.specs.File.{geometry}
 use Rattle.dbformat.specs.Lines.{fault_line}
 use Rattle.dbformat.specs.Reference.{Reference}
+use Rattle.dbformat.specs.Rows.{stat_rows}
 use Rattle.dbformat.specs.declared.Geometry.{Geometry}
 use Rattle.dbentries.specs.Lines.{cause_text}
 use Rattle.dbentries.specs.Others.{kept_others_text}
@@ -14,11 +15,14 @@ use Rattle.dbscan.specs.Placed.{told_faults}
 use Rattle.dbentries.specs.Bits.{HasPageBit}
 use Rattle.dbscan.specs.Trees.{AreTrees}
 use Rattle.dbexplain.specs.Explained.{after_cause, front_text}
+use Rattle.dbexplain.specs.Indexes.{AreIndexes}
+use Rattle.dbexplain.specs.KeptRanges.{AreAllKept, AreRangesOf}
 use Rattle.dbexplain.specs.Notes.{AreOwnersOf}
 use Rattle.dbexplain.specs.Tallies.{IsTallyOf, Tallied}
 use Rattle.dbentries.specs.Zeros.{AreZeros}
 use Rattle.dbexplain.specs.declared.kept.Kept.{Kept}
 use Rattle.dbexplain.specs.declared.owners.Owners.{Owners}
+use Rattle.dbexplain.specs.declared.starts.RowNotes.{RowNotes}
 
 -- what is written of an entry, by what is kept of it
 abbrev pub kept_entry_text : List ℕ → List Reference → Entry → List ℕ
@@ -34,6 +38,8 @@ pub record IsEmpty {A : Type 0} (limit : ℕ) (g : Geometry) (k : Kept A) : Type
   pub listing : IsUnused limit k.listing
   pub tally : IsTallyOf g.pages [] k.tally
   pub zeros : HasPageBit k.listing.zeros g.pages
+  pub ranges : AreRangesOf [] k.ranges
+  pub indexes : AreIndexes [] k.indexes
   pub room : g.pages < length k.trees.known
 
 -- Faults were found in the file of a desk. All of them were counted, and are listed, and the start of each page was noted.
@@ -43,10 +49,14 @@ pub record HasAll {A : Type 0} (d : DeskView) (k : Kept A) (file : List ℕ) (V 
   pub listing : ListsAll k.listing.entries.limit file V k.listing
   pub tally : IsTallyOf (geometry file).pages (told_faults file V) k.tally
   pub zeros : AreZeros file V k.listing.zeros
+  pub ranges : AreRangesOf (told_faults file V) k.ranges
+  pub indexes : AreIndexes (stat_rows file V) k.indexes
   pub trees : AreTrees V k.trees.known
 
--- All faults of a file were counted by a tally, and these bits are of the pages that are zeros.
-pub record IsCounted {A : Type 0} (o : Owners A) (t : Tallied) (words : List ℕ) (file : List ℕ) (V : List Reference) : Type 0 where
+-- All faults of a file were counted by a tally, these bits are of the pages that are zeros, and this is known of the rows.
+pub record IsCounted {A : Type 0} (o : Owners A) (t : Tallied) (words : List ℕ) (rows : RowNotes A) (file : List ℕ) (V : List Reference) : Type 0 where
   pub owners : AreOwnersOf o file V
   pub tally : IsTallyOf (geometry file).pages (told_faults file V) t
   pub zeros : AreZeros file V words
+  pub ranges : AreAllKept (told_faults file V) rows.ranges.now
+  pub indexes : AreIndexes (stat_rows file V) rows.indexes.now

@@ -1,9 +1,14 @@
 pub mod Below
 pub mod Explained
 pub mod Facts
+pub mod Indexes
 pub mod Keeping
+pub mod KeptLines
+pub mod KeptRanges
 pub mod Notes
+pub mod Ranges
 pub mod Reporting
+pub mod RowLines
 pub mod Runs
 pub mod Summary
 pub mod Sums

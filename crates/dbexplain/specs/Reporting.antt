@@ -18,23 +18,29 @@ use Rattle.dbentries.specs.Lists.{ListsFirst, heard}
 use Rattle.dbentries.specs.Reported.{HearsReported}
 use Rattle.dbscan.specs.Trees.{row_noted}
 use Rattle.dbexplain.specs.Explained.{explain_text}
+use Rattle.dbexplain.specs.Indexes.{index_noted}
 use Rattle.dbexplain.specs.Keeping.{IsEmpty, lines_of}
+use Rattle.dbexplain.specs.KeptRanges.{range_told}
 use Rattle.dbexplain.specs.Tallies.{fault_told}
 use Rattle.dbexplain.specs.declared.reporter.ExplainReporter.{ExplainReporter}
 
 module _ {A O : Type 0} where
-  -- A fault was counted, and listed.
+  -- A fault was counted, and listed, and its rows noted.
   pub record Adds (x : Reported) (s t : ExplainReporter A O) : Type 0 where
     pub tally : t.kept.now.tally ≡ fault_told s.kept.now.tally x
     pub listing : t.kept.now.listing ≡ heard s.kept.now.listing x
+    pub ranges : t.kept.now.ranges ≡ range_told s.kept.now.ranges x
+    pub indexes : t.kept.now.indexes ≡ s.kept.now.indexes
     pub trees : t.kept.now.trees.known ≡ s.kept.now.trees.known
     pub out : t.out.now ≡ s.out.now
 
-  -- The start of the page of a row was noted.
+  -- The start of the page of a row was noted, and whether this is one of an index.
   pub record Notes (r : StatRow) (s t : ExplainReporter A O) : Type 0 where
     pub trees : t.kept.now.trees.known ≡ row_noted s.kept.now.trees.known r
+    pub indexes : t.kept.now.indexes ≡ index_noted s.kept.now.indexes r
     pub tally : t.kept.now.tally ≡ s.kept.now.tally
     pub listing : t.kept.now.listing ≡ s.kept.now.listing
+    pub ranges : t.kept.now.ranges ≡ s.kept.now.ranges
     pub out : t.out.now ≡ s.out.now
 
   -- a notice was taken: a fault was added, or a row noted, and nothing else changes it

@@ -4,13 +4,14 @@ use Rattle.std.specs.Prelude.{◌≡◌, ℕ, ◌+◌, ◌-◌, ◌*◌, not, Bo
 use Rattle.std.specs.Prelude.{slice_get, sum_by, take, codes, decimal, ◌==◌, if◌then◌else◌}
 use Rattle.std.specs.List.{list_any, range_with_len}
 use Rattle.std.specs.Option.{option_map_or}
-use Rattle.dbformat.specs.Address.{freelist_start}
+use Rattle.dbformat.specs.Address.{freelist_start, schema_start}
 use Rattle.dbformat.specs.Codes.{all_codes, is_code}
 use Rattle.dbformat.specs.EndFaults.{page_numbers}
 use Rattle.dbformat.specs.File.{geometry}
 use Rattle.dbformat.specs.Header.{encoding}
 use Rattle.dbformat.specs.Lines.{line_feed, code_text, code_words, counted}
 use Rattle.dbformat.specs.Reference.{Reference}
+use Rattle.dbformat.specs.Rows.{stat_rows}
 use Rattle.dbformat.specs.Schema.{starts}
 use Rattle.dbformat.specs.SchemaRow.{SchemaRow}
 use Rattle.dbformat.specs.declared.Encoding.{Encoding}
@@ -22,6 +23,8 @@ use Rattle.dbentries.specs.Others.{runs}
 use Rattle.dbentries.specs.Zeros.{zero_pages}
 use Rattle.dbentries.specs.declared.runs.Run.{Run}
 use Rattle.dbexplain.specs.Facts.{bytes_text, page_begin}
+use Rattle.dbexplain.specs.Indexes.{is_index_page}
+use Rattle.dbexplain.specs.RowLines.{rows_text}
 use Rattle.dbtrace.specs.declared.Part.{Part}
 use Rattle.dbtrace.specs.declared.Part.TheVariants as part
 use Rattle.dbtrace.specs.declared.Reported.{Reported}
@@ -123,10 +126,23 @@ faulty_pages_text faulty n =
     if n == 0 then codes ", of which no page was reached"
     else codes ", on " ++ decimal faulty ++ codes " of its " ++ decimal n ++ (if n == 1 then codes " page" else codes " pages")
 
--- how many were reported at start k
+-- whether the tree of start k has rowids: no row names it as an index, and no page of it is one of an index, as those of a table without
+-- rowids are
+abbrev pub is_index_start : List SchemaRow → ℕ → Bool
+is_index_start rows k = not (k == schema_start) && is_of_kind true rows k
+
+abbrev pub has_rowids : List ℕ → List Reference → ℕ → Bool
+has_rowids file V k = not (is_index_start (listed_rows file V) k) && not (list_any (is_index_page k) (stat_rows file V))
+
+-- which rows of it the faults are of, where there are any
+abbrev pub rows_below : List ℕ → List Reference → List Reported → ℕ → List ℕ
+rows_below file V ts k = if has_rowids file V k then rows_text ts k else []
+
+-- how many were reported at start k, and of which rows
 abbrev pub start_sum_line : List ℕ → List Reference → List Reported → ℕ → List ℕ
 start_sum_line file V ts k = sum_line (length ts) (start_count ts k)
     (codes "in " ++ start_name (encoding file) (listed_rows file V) k ++ faulty_pages_text (faulty_pages file V ts k) (reached_pages file V k))
+    ++ (if start_count ts k == 0 then [] else rows_below file V ts k)
 
 -- how many of the whole file
 abbrev pub whole_line : List Reported → List ℕ

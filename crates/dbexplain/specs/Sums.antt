@@ -1,5 +1,5 @@
 -- The summary by the counts of a tally.
-use Rattle.std.specs.Prelude.{ℕ, suc, ◌-◌, Bool, true, false, ◌&&◌, List, ◌++◌, take, length, min, count_by, codes, ◌==◌}
+use Rattle.std.specs.Prelude.{ℕ, suc, ◌-◌, Bool, true, false, ◌&&◌, ◌||◌, List, [], ◌++◌, slice_get, unwrap_or, if◌then◌else◌, take, length, min, count_by, codes, ◌==◌}
 use Rattle.std.specs.List.{flat_map, range_with_len}
 use Rattle.dbformat.specs.Address.{freelist_start}
 use Rattle.dbformat.specs.Codes.{all_codes}
@@ -8,7 +8,9 @@ use Rattle.dbformat.specs.SchemaRow.{SchemaRow}
 use Rattle.dbformat.specs.declared.Encoding.{Encoding}
 use Rattle.dbformat.specs.declared.FaultCode.{FaultCode}
 use Rattle.dbentries.specs.declared.runs.Runs.{Runs}
-use Rattle.dbexplain.specs.Summary.{aligned, count_text, faulty_pages_text, is_of_kind, start_name, sum_line, trees_text, zero_runs_text}
+use Rattle.dbexplain.specs.KeptLines.{kept_text}
+use Rattle.dbexplain.specs.KeptRanges.{KeptRanges}
+use Rattle.dbexplain.specs.Summary.{aligned, count_text, faulty_pages_text, is_index_start, is_of_kind, start_name, sum_line, trees_text, zero_runs_text}
 use Rattle.dbexplain.specs.Tallies.{Tallied, count_at, count_of}
 use Rattle.dbexplain.specs.declared.tally.StartCount.{StartCount}
 use Rattle.dbexplain.specs.declared.trees.TreeSum.{TreeSum}
@@ -25,13 +27,17 @@ code_sum t code = sum_line t.all (count_of t code) (code_text code ++ codes " " 
 abbrev pub start_sum : ℕ → List ℕ → StartCount → List ℕ
 start_sum all name c = sum_line all c.faults (codes "in " ++ name ++ faulty_pages_text c.faulty c.reached)
 
--- the same of a start by its number
-abbrev pub numbered_sum : Tallied → (ℕ → List ℕ) → ℕ → List ℕ
-numbered_sum t name k = start_sum t.all (name k) (count_at t k)
+-- the lines of its rows, by what is kept of them, where its tree has rowids
+abbrev pub rows_sum : KeptRanges → List Bool → List SchemaRow → ℕ → List ℕ
+rows_sum ranges indexes rows k = if is_index_start rows k || unwrap_or (slice_get indexes k) false then [] else kept_text ranges k
+
+-- all lines of a start by its number, where these are the lines of the rows of each
+abbrev pub numbered_sum : Tallied → (ℕ → List ℕ) → (ℕ → List ℕ) → ℕ → List ℕ
+numbered_sum t name below k = start_sum t.all (name k) (count_at t k) ++ (if (count_at t k).faults == 0 then [] else below k)
 
 -- those of the trees, the schema's and one for each row
-abbrev pub tree_sums : Tallied → (ℕ → List ℕ) → List SchemaRow → List ℕ
-tree_sums t name rows = flat_map (numbered_sum t name) (range_with_len 0 (suc (length rows)))
+abbrev pub tree_sums : Tallied → (ℕ → List ℕ) → (ℕ → List ℕ) → List SchemaRow → List ℕ
+tree_sums t name below rows = flat_map (numbered_sum t name below) (range_with_len 0 (suc (length rows)))
 
 -- how many of the trees of this kind have no fault
 abbrev pub trees_by : Bool → List SchemaRow → Tallied → TreeSum
@@ -52,8 +58,8 @@ abbrev pub last_sum : ℕ → Runs → List SchemaRow → Tallied → List ℕ
 last_sum page_size r rows t = zeros_sum page_size r ++ trees_sum rows t
 
 -- the summary
-abbrev pub summary_by : ℕ → Runs → Encoding → List SchemaRow → Tallied → List ℕ
-summary_by page_size r e rows t =
-    count_text t.all ++ (flat_map (code_sum t) all_codes ++ (tree_sums t (start_name e rows) rows
-    ++ (numbered_sum t (start_name e rows) freelist_start ++ (sum_line t.all t.whole (codes "in the whole file")
+abbrev pub summary_by : ℕ → Runs → Encoding → List SchemaRow → (ℕ → List ℕ) → Tallied → List ℕ
+summary_by page_size r e rows below t =
+    count_text t.all ++ (flat_map (code_sum t) all_codes ++ (tree_sums t (start_name e rows) below rows
+    ++ (numbered_sum t (start_name e rows) below freelist_start ++ (sum_line t.all t.whole (codes "in the whole file")
     ++ last_sum page_size r rows t))))

@@ -23,8 +23,8 @@ fn put_after_cause<A: Allocator, O: Out>(
     ensures { WroteOf O.held writer.old (AreOwnersOf owners.now) (λ file V. after_cause file V page cause.now) writer.new }
 {
     match cause {
-        Cause::Key(key) => owners.put_page(writer, key.page),
-        Cause::Leaf(leaf) => owners.put_page(writer, *leaf),
+        Cause::Key(key, _) => owners.put_page(writer, key.page),
+        Cause::Leaf(leaf, _) => owners.put_page(writer, *leaf),
         Cause::Page(page, facts) => put_facts(writer, owners.header.geometry(), *page, facts),
         Cause::Look(_, facts) => put_facts(writer, owners.header.geometry(), page, facts),
         _ => {}

@@ -12,14 +12,17 @@
 
 mod entry_lines;
 mod facts;
+mod indexes;
 mod kept;
 mod laws;
 mod missing;
 mod owners;
 mod page_lines;
+mod ranges;
 mod reached;
 mod report;
 mod reporter;
+mod row_lines;
 mod runs;
 mod starts;
 mod summary;

@@ -9,6 +9,7 @@ ghost use Rattle.dbexplain.specs.Keeping.{HasAll, lines_of};
 use crate::entry_lines::{put_entries, put_fault_lines};
 use crate::kept::Kept;
 use crate::owners::Owners;
+use crate::starts::RowNotes;
 use crate::summary::put_summary;
 use dblines::Writer;
 use dbscan::Desk;
@@ -38,7 +39,12 @@ pub(crate) fn put_report<A: Allocator, O: Out>(
     };
     put_entries(&mut writer, &owners, kept.listing.listed());
     writer.put_rest(kept.listing.rest());
-    put_summary(&mut writer, &owners, &mut kept.tally, &kept.listing);
+    kept.ranges.close();
+    let rows = RowNotes {
+        ranges: &kept.ranges,
+        indexes: &kept.indexes,
+    };
+    put_summary(&mut writer, &owners, &mut kept.tally, &kept.listing, &rows);
     writer.end()
 }
 

@@ -3,6 +3,7 @@ ghost use Rattle.std.specs.Prelude.{◌≡◌};
 ghost use Rattle.dbwalk.specs.Rows.{row_of};
 ghost use Rattle.dbexplain.specs.Reporting.{Adds, Ends, Notes, explain_held};
 
+use crate::indexes::note_index;
 use crate::kept::Kept;
 use crate::report::{put_found, put_report};
 use dbentries::Reported;
@@ -30,21 +31,23 @@ impl<'a, A: Allocator, O: Out> ExplainReporter<'a, A, O> {
         ExplainReporter { kept, out }
     }
 
-    // Counts a fault, and lists it.
+    // Counts a fault, lists it, and notes its rows.
     fn add(&mut self, told: &Reported)
         ensures added { Adds told.now self.old self.new }
         ensures held { explain_held O.held self.new ≡ explain_held O.held self.old }
     {
         self.kept.tally.add(told);
         self.kept.listing.hear(told);
+        self.kept.ranges.hear(told);
     }
 
-    // Notes the start of the page of a row.
+    // Notes the start of the page of a row, and whether it is one of an index.
     fn note(&mut self, row: &Row<'_>)
         ensures noted { Notes (row_of row.now) self.old self.new }
         ensures held { explain_held O.held self.new ≡ explain_held O.held self.old }
     {
         self.kept.trees.note(row);
+        note_index(&mut self.kept.indexes, row);
     }
 
     /// After a failed read, puts the lines of the entries found so far. That the Out fails then too is not reported.

@@ -6,7 +6,7 @@ ghost use Rattle.dbexplain.specs.Summary.{summary};
 
 use crate::owners::Owners;
 use crate::reached::count_pages;
-use crate::starts::{put_start_sum, put_start_sums};
+use crate::starts::{RowNotes, put_start_sum, put_start_sums};
 use crate::sums::{count_text, put_code_sums, put_sum};
 use crate::tally::Tally;
 use crate::trees::put_trees;
@@ -18,16 +18,17 @@ use dbsource::Out;
 use std::alloc::Allocator;
 
 /// Writes the summary of all faults of a file: how many there are, with each code, at each start and of the whole file, on how many
-/// of the pages that were reached from a start, which pages are zeros, and how many of the tables and indexes have none. Each page
+/// of the pages that were reached from a start and of which rows, which pages are zeros, and how many of the tables and indexes have none. Each page
 /// is counted here, in one pass over the marks.
 pub(crate) fn put_summary<A: Allocator, O: Out>(
     writer: &mut Writer<'_, O>,
     owners: &Owners<'_, A>,
     tally: &mut Tally<A>,
     listing: &Listing<A>,
+    rows: &RowNotes<'_, A>,
 )
     // Where all faults of the file were added.
-    ensures { WroteOf O.held writer.old (IsCounted owners.now tally.old listing.now.zeros) (λ file V. summary file V (told_faults file V)) writer.new }
+    ensures { WroteOf O.held writer.old (IsCounted owners.now tally.old listing.now.zeros rows.now) (λ file V. summary file V (told_faults file V)) writer.new }
 {
     count_pages(tally, owners);
     let shape = owners.header.geometry();
@@ -35,8 +36,8 @@ pub(crate) fn put_summary<A: Allocator, O: Out>(
     let all = tally.all();
     writer.put(count_text(all).as_slice());
     put_code_sums(writer, tally, &FaultCode::all());
-    put_start_sums(writer, &names, tally);
-    put_start_sum(writer, &names, tally, FREELIST_START);
+    put_start_sums(writer, &names, tally, rows);
+    put_start_sum(writer, &names, tally, rows, FREELIST_START);
     put_sum(writer, all, tally.whole(), "in the whole file");
     put_zeros(writer, shape, &listing.zero_runs(shape.pages));
     put_trees(writer, names.roots, tally);

@@ -22,7 +22,7 @@ pub struct TreeSum {
 }
 
 // Whether a start is of a row of this kind: of an index, or of a table.
-fn is_of_kind<A: Allocator>(roots: &RootList<A>, start: u32, index: bool) -> bool
+pub(crate) fn is_of_kind<A: Allocator>(roots: &RootList<A>, start: u32, index: bool) -> bool
     requires { 1 ≤ start }
     ensures { result ≡ is_of_kind index roots.now.rows start }
 {

@@ -43,8 +43,8 @@ value_page _ value = 0
 
 -- the page of a cause, or 0: that of the key, of the first leaf, or of the cell that has the chain
 abbrev pub cause_page : Cause → ℕ
-cause_page (cause.Key k) = k.page
-cause_page (cause.Leaf page) = page
+cause_page (cause.Key k left) = k.page
+cause_page (cause.Leaf page rowids) = page
 cause_page (cause.Chain c) = c.page
 cause_page _ = 0
 

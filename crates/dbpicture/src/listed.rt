@@ -40,10 +40,10 @@ fn cause_page(cause: Cause) -> u32
     ensures { result ≡ cause_page cause }
 {
     match cause {
-        Cause::Key(key) => key.page,
-        Cause::Leaf(page) => page,
+        Cause::Key(key, _) => key.page,
+        Cause::Leaf(page, _) => page,
         Cause::Chain(chain) => chain.page,
-        Cause::Itself | Cause::Page(_, _) | Cause::Look(_, _) => 0,
+        Cause::Itself | Cause::Rows(_) | Cause::Page(_, _) | Cause::Look(_, _) => 0,
     }
 }
 

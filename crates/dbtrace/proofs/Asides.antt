@@ -6,7 +6,7 @@ use Rattle.std.proofs.lemmas.List.{append-nil, length-append, map-append}
 use Rattle.dbsurvey.specs.Address.{IsIn, Address}
 use Rattle.dbsurvey.specs.Run.{run, up_to}
 use Rattle.dbsurvey.specs.Story.{Told}
-use Rattle.dbsurvey.specs.Survey.{children}
+use Rattle.dbsurvey.specs.Survey.{IsNamed, children}
 use Rattle.dbsurvey.specs.InOrder.{read_back}
 use Rattle.dbsurvey.proofs.Composing.{named_at-step}
 use Rattle.dbformat.proofs.Visited.{kind_of_view}
@@ -15,23 +15,25 @@ use Rattle.dbformat.specs.Faults.{fault}
 use Rattle.dbformat.specs.Address.{start_of, depth}
 use Rattle.dbformat.specs.Reference.{Reference, role_of, tree_kind, tree_view}
 use Rattle.dbformat.specs.PageFaults.{page_faults}
+use Rattle.dbformat.specs.ReferenceFaults.{reference_faults}
 use Rattle.dbformat.specs.Report.{event_faults}
 use Rattle.dbformat.specs.Laws.{event_row}
 use Rattle.dbformat.specs.Story.{Event, at_page, at_key, at_refused, own_visit}
 use Rattle.dbformat.specs.Survey.{rules_of}
+use Rattle.dbformat.specs.declared.FaultCode.{FaultCode}
 use Rattle.dbformat.specs.declared.FaultCode.TheVariants.{T05}
 use Rattle.dbformat.specs.declared.TreeKind.{TreeKind}
-use Rattle.dbtrace.specs.Causes.{leaf_at, cause_of}
+use Rattle.dbtrace.specs.Causes.{leaf_at, key_up_to, refusal_of, rowids_of, cause_of}
 use Rattle.dbtrace.specs.Finding.{told_row, told_by, told_at}
 use Rattle.dbtrace.specs.declared.TreeLeaf.{TreeLeaf}
 use Rattle.dbtrace.specs.Item.{found, given, rows_at_event, faults_at, items_at}
-use Rattle.dbtrace.specs.Progress.{Progress, cause_by, leaf_after, depth_of, depth_faults, step}
+use Rattle.dbtrace.specs.Progress.{Progress, cause_by, rowids_by, leaf_after, depth_of, depth_faults, step}
 use Rattle.dbtrace.specs.Steps.{AreAside}
 use Rattle.dbtrace.specs.Walk.{Walk, machine, advance}
 use Rattle.dbtrace.proofs.Depths.{page_parts, not_leaf, no_leaf}
 use Rattle.dbtrace.proofs.Causing.{AgreeOn, page_codes, page_same}
 use Rattle.dbtrace.proofs.SchemaOrder.{parent_inside}
-use Rattle.dbtrace.proofs.Told.{visited, trace, part, tells, IsOf, told_as}
+use Rattle.dbtrace.proofs.Told.{visited, trace, part, tells, IsOf, IsToldBelow, refused_as, told_as}
 
 module _ (file : List ℕ) where
   no_view : (r : Reference) → tree_kind (role_of r) ≡ None → tree_view file r ≡ None
@@ -42,7 +44,7 @@ module _ (file : List ℕ) where
   abbrev IsOff : Event → Type 0
   IsOff (at_page r) = tree_kind (role_of r) ≡ None
   IsOff (at_key r v x) = ⊥
-  IsOff (at_refused r) = Unit {0}
+  IsOff (at_refused r) = tree_kind (role_of r) ≡ None
 
   step_off : (U : List Reference) (p : Progress) (e : Event) → IsOff e → step file U p e ≡ p
   step_off U p (at_page r) h = ap (λ leaf. record { greatest = p.greatest; leaf = leaf }) (kept p.leaf)
@@ -68,7 +70,11 @@ module _ (file : List ℕ) where
       in_tree : (kind : TreeKind) → tree_kind (role_of r) ≡ Some kind → AgreeOn page_codes (cause_by file U p (at_page r)) (cause_of file U (at_page r))
       in_tree kind e = let f = sym h ∙ e in cc
   faults_off U p (at_key r v x) h = absurd h
-  faults_off U p (at_refused r) h = refl
+  faults_off U p (at_refused r) h = ap (λ why. told_by why (reference_faults file U r)) same
+    where
+      same : cause_by file U p (at_refused r) ≡ cause_of file U (at_refused r)
+      same = ap (λ kind. λ (code : FaultCode). refusal_of file U r (rowids_by p (key_up_to file U r)) kind) h
+          ∙ sym (ap (λ kind. λ (code : FaultCode). refusal_of file U r (rowids_of file U r) kind) h)
 
   rows_off : (U : List Reference) (e : Event) → IsOff e → rows_at_event file U e ≡ []
   rows_off U (at_page r) h = refl
@@ -97,6 +103,14 @@ module _ (file : List ℕ) where
       ∙ ap (λ l. now.items ++ l) (sym (map-append found (told_at file U t.event) (read_back own_visit (told_at file) U L)))
 
 module _ (file : List ℕ) (W : List Reference) (c : Reference) (none : tree_kind (role_of c) ≡ None) where
+  -- a page that is in no tree has no reference to one that is
+  none_of : (p r : Reference) → IsIn r (children (rules_of file) p) → tree_kind (role_of p) ≡ None → tree_kind (role_of r) ≡ None
+  none_of p r h f = by_kind (tree_kind (role_of r)) refl
+    where
+      by_kind : (o : Option TreeKind) → tree_kind (role_of r) ≡ o → tree_kind (role_of r) ≡ None
+      by_kind None e = e
+      by_kind (Some kind) e = let v = parent_inside file p r kind h e in let k = kind_of_view file p v.0 v.1 in let g = sym f ∙ k.1 in cc
+
   no_tree_below : (r : Reference) → IsIn r (visited file W c) → tree_kind (role_of r) ≡ None
   no_tree_below r i = go (suc (length r.address)) r i (omega arith)
     where
@@ -106,21 +120,25 @@ module _ (file : List ℕ) (W : List Reference) (c : Reference) (none : tree_kin
         | inl m ↦ (elim m [ inl e ↦ ap (λ c. tree_kind (role_of c)) e ∙ none | inr f ↦ absurd f ])
         | inr m ↦ (let s = named_at-step m.0.address ((rules_of file).links m.0.page m.0.role) r m.2 in
             let z = ap length s.1 ∙ length-append m.0.address (s.0 ∷ []) in
-            by_kind m.0 m.2 (tree_kind (role_of r)) refl (go n m.0 m.1 (omega arith)))
+            none_of m.0 r m.2 (go n m.0 m.1 (omega arith)))
       ]
-        where
-          by_kind : (p : Reference) → IsIn r (children (rules_of file) p) → (o : Option TreeKind) → tree_kind (role_of r) ≡ o → tree_kind (role_of p) ≡ None
-              → tree_kind (role_of r) ≡ None
-          by_kind p h None e f = e
-          by_kind p h (Some kind) e f = let v = parent_inside file p r kind h e in let k = kind_of_view file p v.0 v.1 in let g = sym f ∙ k.1 in cc
+
+  no_tree_named : (r : Reference) → IsNamed (rules_of file) (c ∷ []) (visited file W c) r → tree_kind (role_of r) ≡ None
+  no_tree_named r n = elim n [
+    | inl m ↦ (elim m [ inl e ↦ ap (λ c. tree_kind (role_of c)) e ∙ none | inr f ↦ absurd f ])
+    | inr m ↦ none_of m.0 r m.2 (no_tree_below m.0 m.1)
+  ]
 
   off : (t : Told Event) → IsIn t (trace file W c) → IsOff file t.event
-  off t i = by_event t.key t.event (told_as file W c t (((tells file W c).exact t).0 i))
+  off t i = by_event t.key t.event refl (told_as file W c t told)
     where
-      by_event : (place : Address) (e : Event) → IsOf file (visited file W c) place e → IsOff file e
-      by_event place (at_page r) h = no_tree_below r h.0
-      by_event place (at_key r v x) h = let e = sym (no_view file r (no_tree_below r h.0)) ∙ h.1 in cc
-      by_event place (at_refused r) h = tt
+      told : IsToldBelow file W c t
+      told = ((tells file W c).exact t).0 i
+
+      by_event : (place : Address) (e : Event) → t.event ≡ e → IsOf file (visited file W c) place e → IsOff file e
+      by_event place (at_page r) f h = no_tree_below r h.0
+      by_event place (at_key r v x) f h = let e = sym (no_view file r (no_tree_below r h.0)) ∙ h.1 in cc
+      by_event place (at_refused r) f h = no_tree_named r (refused_as file W c t told r f)
 
 pub are_aside : (file : List ℕ) → AreAside file
 are_aside file now c none = record {

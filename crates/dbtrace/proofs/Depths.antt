@@ -20,6 +20,7 @@ use Rattle.dbtrace.specs.Causes.{leaf_at, first_leaf}
 use Rattle.dbtrace.specs.Finding.{told_fault, told_by}
 use Rattle.dbtrace.specs.Progress.{leaf_after, depth_of, depth_faults}
 use Rattle.dbtrace.specs.declared.Cause.{Cause}
+use Rattle.dbtrace.specs.declared.RowidBounds.{RowidBounds}
 use Rattle.dbtrace.specs.declared.Cause.TheVariants as cause
 use Rattle.dbtrace.specs.declared.TreeLeaf.{TreeLeaf}
 use Rattle.dbtrace.specs.Starts.{IsOfEarlierStart, AreOfEarlierStarts}
@@ -78,11 +79,12 @@ module _ (file : List ℕ) (k : ℕ) where
     first_found = ap (λ s. find (is_leaf_of file s) U) at ∙ past_earlier W (X ++ r ∷ []) early ∙ find-append (is_leaf_of file k) X (r ∷ [])
 
     -- the depth and the cause, by the first leaf so far
-    pub depth_told : (why : FaultCode → Cause) → why T05 ≡ option_map_or (λ l. cause.Leaf l.page) (first_leaf file U r) cause.Itself
-        → (why' : FaultCode → Cause) → why' T05 ≡ option_map_or (λ l. cause.Leaf l.page) (leaf_from file None X) cause.Itself
+    pub depth_told : (rowids : RowidBounds) (why : FaultCode → Cause)
+        → why T05 ≡ option_map_or (λ l. cause.Leaf l.page rowids) (first_leaf file U r) cause.Itself
+        → (why' : FaultCode → Cause) → why' T05 ≡ option_map_or (λ l. cause.Leaf l.page rowids) (leaf_from file None X) cause.Itself
         → told_by why' (depth_faults file (leaf_from file None X) r) ≡ told_by why (depth_fault file U r)
     unfolding depth_fault
-    depth_told why e why' e' = by_leaf (is_leaf_of file (start_of r.address) r) refl (find (is_leaf_of file k) X) refl
+    depth_told rowids why e why' e' = by_leaf (is_leaf_of file (start_of r.address) r) refl (find (is_leaf_of file k) X) refl
       where
         d : ℕ
         d = depth r.address
@@ -97,8 +99,8 @@ module _ (file : List ℕ) (k : ℕ) where
         by_leaf true f (Some u) g =
             let first : find (is_leaf_of file (start_of r.address)) U ≡ Some u = first_found ∙ ap (λ o. option_or o (find (is_leaf_of file k) (r ∷ []))) g in
             let kept : leaf_from file None X ≡ Some (leaf_at u) = sym (found_is X same) ∙ ap (option_map leaf_at) g in
-            let causes : why' T05 ≡ why T05 = e' ∙ ap (λ l. option_map_or (λ l. cause.Leaf l.page) l cause.Itself) kept
-            ∙ sym (e ∙ ap (λ o. option_map_or (λ l. cause.Leaf l.page) (option_map_or (λ u. Some (leaf_at u)) o None) cause.Itself) first) in
+            let causes : why' T05 ≡ why T05 = e' ∙ ap (λ l. option_map_or (λ l. cause.Leaf l.page rowids) l cause.Itself) kept
+            ∙ sym (e ∙ ap (λ o. option_map_or (λ l. cause.Leaf l.page rowids) (option_map_or (λ u. Some (leaf_at u)) o None) cause.Itself) first) in
             subst (λ l. Same (is_leaf_of file (start_of r.address) r) l (find (is_leaf_of file (start_of r.address)) U)) (sym kept)
             (subst (λ o. Same (is_leaf_of file (start_of r.address) r) (Some (leaf_at u)) o) (sym first)
             (told_same why' why (is_leaf_of file (start_of r.address) r && not (d == depth u.address)) (fault T05 r.page 0 (pos d)) causes))

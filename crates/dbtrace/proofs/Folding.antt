@@ -1,5 +1,5 @@
 -- What is reported of a start follows from the progress of its walk.
-use Rattle.std.proofs.Common.{◌≡◌, ℕ, ◌+◌, inl, inr, Bool, true, false, cond, not, ◌&&◌, List, [], ◌∷◌, ◌++◌, map, length, ℤ, Option, Some, None, refl, sym, ap}
+use Rattle.std.proofs.Common.{◌≡◌, ℕ, ◌+◌, inl, inr, Bool, true, false, cond, not, ◌&&◌, List, [], ◌∷◌, ◌++◌, map, length, ℤ, Option, Some, None, refl, sym, ap, ap₂}
 use Rattle.std.proofs.Common.{subst, arith, ◌∙◌, append_assoc}
 use Rattle.std.specs.Prelude.{flat_map, option_map, option_to_list, nat_le, ◌==◌}
 use Rattle.std.specs.Option.{option_map_or}
@@ -10,6 +10,7 @@ use Rattle.dbsurvey.specs.Address.{IsIn, Address}
 use Rattle.dbsurvey.specs.Run.{run, up_to}
 use Rattle.dbsurvey.specs.Story.{Told, Go}
 use Rattle.dbsurvey.specs.InOrder.{visits_in, read_back}
+use Rattle.dbsurvey.proofs.Composing.{named_at-step}
 use Rattle.dbsurvey.proofs.Advancing.{run_visits, run_below_visits}
 use Rattle.dbsurvey.proofs.Lists.{flat_map-same, flat_map-none}
 use Rattle.dbsurvey.proofs.Order.{IsIn-right}
@@ -18,12 +19,13 @@ use Rattle.dbformat.specs.File.{geometry}
 use Rattle.dbformat.specs.Address.{start_of, then_step, key_step, schema_start, last_root_start}
 use Rattle.dbformat.specs.Head.{View, is_interior}
 use Rattle.dbformat.specs.Cell.{Cell}
-use Rattle.dbformat.specs.Reference.{Reference}
+use Rattle.dbformat.specs.Reference.{Reference, role_of, tree_kind}
 use Rattle.dbformat.specs.Schema.{SchemaCell, schema_cell, schema, rooted, rooted_rows}
 use Rattle.dbformat.specs.Survey.{rules_of}
 use Rattle.dbformat.specs.PageFaults.{page_faults, depth_fault}
 use Rattle.dbformat.specs.KeyFaults.{Key, earlier_roots, key_of, key_faults, row_faults_if, row_faults, row_faults_at, cell_place_faults}
 use Rattle.dbformat.specs.Story.{Event, at_page, at_key, at_refused, own_visit, story_of}
+use Rattle.dbformat.specs.ReferenceFaults.{reference_faults}
 use Rattle.dbformat.specs.Report.{event_faults}
 use Rattle.dbformat.specs.Laws.{event_row}
 use Rattle.dbformat.proofs.Places.{key_place}
@@ -31,7 +33,7 @@ use Rattle.dbformat.proofs.Theory.{are_rules, is_story, shows_visits}
 use Rattle.dbformat.specs.declared.Fault.{Fault}
 use Rattle.dbformat.specs.declared.FaultCode.{FaultCode}
 use Rattle.dbformat.specs.declared.FaultCode.TheVariants.{T06}
-use Rattle.dbtrace.specs.Causes.{cell_key, first_leaf, key_above, key_up_to, top_before, visit_cause, cause_of}
+use Rattle.dbtrace.specs.Causes.{cell_key, first_leaf, key_above, key_up_to, left_rows, refusal_of, rowids_of, top_before, visit_cause, cause_of}
 use Rattle.dbtrace.specs.Finding.{Finding, told_row, told_alone, told_by, told_at, visited_below}
 use Rattle.dbtrace.specs.declared.Cause.{Cause}
 use Rattle.dbtrace.specs.declared.Cause.TheVariants as cause
@@ -45,7 +47,7 @@ use Rattle.dbtrace.proofs.Causing.{AgreeOn, alone, page_codes, row_codes, told_b
 use Rattle.dbtrace.proofs.Depths.{leaf_from, told_same, depth_told, page_parts}
 use Rattle.dbtrace.proofs.Keys.{greatest_is, started, top_is, above_itself, above_told, late_is}
 use Rattle.dbtrace.proofs.RowsTold.{rows_told, schema_told, rows_before}
-use Rattle.dbtrace.proofs.Told.{visited, trace, tells, IsOf, told_as, below_start, visited_before}
+use Rattle.dbtrace.proofs.Told.{visited, trace, tells, IsOf, IsToldBelow, refused_as, told_as, below_start, visited_before}
 
 -- which codes have a cause at an event
 
@@ -211,6 +213,35 @@ module _ (file : List ℕ) (k : ℕ) (W : List Reference) (c : Reference) (at : 
         ∙ sym (above_itself file (W ++ X) r)
         ∙ ap (λ U. key_above file (U ++ r ∷ []) r.address) (sym visits_so_far)
 
+    -- and before a reference that is refused
+    refused_start : (r : Reference) → t.event ≡ at_refused r → start_of r.address ≡ k
+    refused_start r f = elim (refused_as file W c t told_here r f) [
+      | inl i ↦ (elim i [ inl e ↦ ap (λ r. start_of r.address) e ∙ ap start_of at | inr n ↦ absurd n ])
+      | inr m ↦ (let s = named_at-step m.0.address ((rules_of file).links m.0.page m.0.role) r m.2 in
+          ap start_of s.1 ∙ started file k W c at early m.0 s.0 m.1)
+    ]
+      where
+        told_here : IsToldBelow file W c t
+        told_here = ((tells file W c).exact t).0 (subst (IsIn t) (sym split) (IsIn-right t A (t ∷ B) (inl refl)))
+
+    refused_above : (r : Reference) → t.event ≡ at_refused r → t.key ≡ r.address
+        → key_value (after A).state.greatest ≡ key_above file (at_event (at_refused r)) r.address
+    refused_above r f place =
+        ap key_value (greatest_is file (begin W) A)
+        ∙ sym (above_told file k W c at early A B t split r place (refused_start r f))
+        ∙ ap (λ U. key_above file U r.address) (sym (append-nil (after A).visits ∙ visits_so_far))
+
+    -- such a reference
+    refused : (r : Reference) → t.event ≡ at_refused r → t.key ≡ r.address
+        → by_progress (at_refused r) (reference_faults file (at_event (at_refused r)) r)
+        ≡ by_visits (at_refused r) (reference_faults file (at_event (at_refused r)) r)
+    refused r f place =
+        ap (λ above. told_by (λ code. refusal_of file (at_event (at_refused r)) r (bounds above) (tree_kind (role_of r)))
+        (reference_faults file (at_event (at_refused r)) r)) (refused_above r f place)
+      where
+        bounds : Option ℤ → RowidBounds
+        bounds above = record { above = above; up_to = key_up_to file (at_event (at_refused r)) r }
+
     -- a page: by the first leaf
     page : (r : Reference) → IsIn r (visited file W c) → t.key ≡ r.address → by_progress (at_page r) (faults_at file (at_event (at_page r)) (after A).state
         (at_page r))
@@ -236,8 +267,11 @@ module _ (file : List ℕ) (k : ℕ) (W : List Reference) (c : Reference) (at : 
         depths : by_progress (at_page r) (depth_faults file (after A).state.leaf r) ≡ by_visits (at_page r) (depth_fault file (at_event (at_page r)) r)
         depths = ap (λ l. by_progress (at_page r) (depth_faults file l r)) leaf
             ∙ depth_told file k W X r early (λ u j. at_start u ((visited_before file W c A B t split u).0 j).0) (at_start r i)
-            (cause_of file (at_event (at_page r)) (at_page r)) (ap (λ U. option_map_or (λ l. cause.Leaf l.page) (first_leaf file U r) cause.Itself) all)
-            (cause_by file (at_event (at_page r)) (after A).state (at_page r)) (ap (λ l. option_map_or (λ l. cause.Leaf l.page) l cause.Itself) leaf)
+            (rowids_of file (at_event (at_page r)) r)
+            (cause_of file (at_event (at_page r)) (at_page r))
+            (ap (λ U. option_map_or (λ l. cause.Leaf l.page (rowids_of file (at_event (at_page r)) r)) (first_leaf file U r) cause.Itself) all)
+            (cause_by file (at_event (at_page r)) (after A).state (at_page r))
+            (ap₂ (λ l above. option_map_or (λ l. cause.Leaf l.page (bounds above)) l cause.Itself) leaf (above_is r i place))
             ∙ ap (λ U. by_visits (at_page r) (depth_fault file U r)) (sym all)
 
     -- a key: by the greatest
@@ -315,11 +349,11 @@ module _ (file : List ℕ) (k : ℕ) (W : List Reference) (c : Reference) (at : 
             ∙ sym (rows_alone why (row_of_visits file (W ++ X) r v x) (nat_le last_root_start (roots_in (after A).items)) (rows_of file (W ++ X) r v x))
 
         causes : (key : Key) → key_of r v x ≡ key ∷ [] → why' T06 ≡ why T06
-        causes key e = ap (λ top. option_map_or cause.Key top cause.Itself) (sym (key_cause r v x i place key e))
+        causes key e = ap (λ top. option_map_or (λ k. cause.Key k (left_rows v x)) top cause.Itself) (sym (key_cause r v x i place key e))
             ∙ mapped (top_before file (W ++ X) (key_of r v x))
           where
-            mapped : (o : Option Key) → option_map_or cause.Key (option_map cell_key o) cause.Itself
-                ≡ option_map_or (λ k. cause.Key (cell_key k)) o cause.Itself
+            mapped : (o : Option Key) → option_map_or (λ k. cause.Key k (left_rows v x)) (option_map cell_key o) cause.Itself
+                ≡ option_map_or (λ k. cause.Key (cell_key k) (left_rows v x)) o cause.Itself
             mapped None = refl
             mapped (Some k) = refl
 
@@ -335,7 +369,7 @@ module _ (file : List ℕ) (k : ℕ) (W : List Reference) (c : Reference) (at : 
     faults : (e : Event) → t.event ≡ e → IsOf file (visited file W c) t.key e
         → by_progress e (counted_faults file (roots_in (after A).items) (at_event e) (after A).state e) ≡ by_visits e (event_faults file (at_event e) e)
     faults (at_page r) f h = page r h.0 h.1
-    faults (at_refused r) f h = refl
+    faults (at_refused r) f h = refused r f h
     faults (at_key r v x) f h = subst (λ U. told_by (cause_by file U (after A).state (at_key r v x))
         (flat_map (row_faults_if (nat_le last_root_start (roots_in (after A).items))) (rows_of file U r v x)
         ++ flat_map (late_faults (after A).state.greatest) (key_of r v x))

@@ -14,19 +14,20 @@ use Rattle.dbformat.specs.Head.{View}
 use Rattle.dbformat.specs.KeyFaults.{Key, key_of}
 use Rattle.dbformat.specs.Laws.{event_row}
 use Rattle.dbformat.specs.PageFaults.{is_leaf_of, depth_fault, page_faults}
-use Rattle.dbformat.specs.Reference.{Reference, role_of, bytes_left}
+use Rattle.dbformat.specs.Reference.{Reference, role_of, bytes_left, tree_kind}
 use Rattle.dbformat.specs.Report.{event_faults}
 use Rattle.dbformat.specs.Story.{Event, at_page, at_key, at_refused, own_visit, start_errands, telling}
 use Rattle.dbformat.specs.Survey.{Survey}
 use Rattle.dbformat.specs.declared.Fault.{Fault}
 use Rattle.dbformat.specs.declared.FaultCode.{FaultCode}
 use Rattle.dbformat.specs.declared.FaultCode.TheVariants.{T06}
+use Rattle.dbformat.specs.declared.TreeKind.{TreeKind}
 use Rattle.dbformat.proofs.LookBack.{find_front, keys_front, tells, all_of, later, here, listed, one_of, visits-append}
 use Rattle.dbformat.proofs.Places.{key_place}
 use Rattle.dbformat.proofs.Theory.{no_tell, told_in_order}
 use Rattle.dbformat.specs.Schema.{starts}
 use Rattle.dbtrace.specs.Causes.{cell_key, leaf_at, top_key, top_before, first_leaf, chain_number, head_address, is_same, chain_head, chain_of, chain_cause}
-use Rattle.dbtrace.specs.Causes.{is_from_zeros, key_from, rowids_of, visit_cause, cause_of}
+use Rattle.dbtrace.specs.Causes.{is_from_zeros, key_from, left_rows, refusal_of, refusal_cause, rowids_of, visit_cause, cause_of}
 use Rattle.dbtrace.specs.Finding.{Finding, told_row, told_fault, told_by, told_at}
 use Rattle.dbtrace.specs.LookBack.{visits_up_to, CausesLookBack, FindingsLookBack}
 use Rattle.dbtrace.specs.declared.Cause.{Cause}
@@ -116,6 +117,13 @@ module _ (file : List ℕ) (U T : List Reference) (place : Address) (after : (t 
       ap (λ head. option_map_or (λ head. cause.Chain (chain_of file head (chain_number r.address) left (chain_number r.address + more) in_zeros)) head
       cause.Itself) (head_front r e)
 
+  refusal_front : (r : Reference) → r.address ≡ place → refusal_cause file (U ++ T) r ≡ refusal_cause file U r
+  refusal_front r e = by_kind (tree_kind (role_of r))
+    where
+      by_kind : (kind : Option TreeKind) → refusal_of file (U ++ T) r (rowids_of file (U ++ T) r) kind ≡ refusal_of file U r (rowids_of file U r) kind
+      by_kind (Some kind) = ap cause.Rows (rowids_front r e)
+      by_kind None = chain_front r e (bytes_left (role_of r)) 0 (is_from_zeros file r)
+
   abbrev by_all : Event → FaultCode → Cause
   by_all e = cause_of file (U ++ T) e
 
@@ -123,14 +131,14 @@ module _ (file : List ℕ) (U T : List Reference) (place : Address) (after : (t 
   by_front e = cause_of file U e
 
   -- a page has the fault of its depth only where it is a leaf
-  depth_front : (r : Reference) → IsIn r U → told_by (by_all (at_page r)) (depth_fault file U r) ≡ told_by (by_front (at_page r)) (depth_fault file U r)
+  depth_front : (r : Reference) → r.address ≡ place → IsIn r U → told_by (by_all (at_page r)) (depth_fault file U r) ≡ told_by (by_front (at_page r)) (depth_fault file U r)
   unfolding depth_fault
-  depth_front r i = by_leaf (is_leaf_of file (start_of r.address) r) refl
+  depth_front r at i = by_leaf (is_leaf_of file (start_of r.address) r) refl
     where
       by_leaf : (b : Bool) → is_leaf_of file (start_of r.address) r ≡ b → told_by (by_all (at_page r)) (depth_fault file U r)
           ≡ told_by (by_front (at_page r)) (depth_fault file U r)
       by_leaf true e = told_same (by_all (at_page r)) (by_front (at_page r)) _ _
-          (ap (λ l. option_map_or (λ l. cause.Leaf l.page) l cause.Itself) (leaf_front r i e))
+          (ap₂ (λ l rowids. option_map_or (λ l. cause.Leaf l.page rowids) l cause.Itself) (leaf_front r i e) (rowids_front r at))
       by_leaf false e = rw e refl
 
   page_front : (r : Reference) → r.address ≡ place → IsIn r U → told_by (by_all (at_page r)) (page_faults file U r)
@@ -141,12 +149,12 @@ module _ (file : List ℕ) (U T : List Reference) (place : Address) (after : (t 
       ∙ ap₂ (λ a b. a ++ b)
       (page_same (by_all (at_page r)) (by_front (at_page r)) file (chain_front r e (bytes_left (role_of r)) 1 false) refl r
       (λ kind in_tree. ap (λ rowids. map (visit_cause rowids file r) page_codes) (rowids_front r e)))
-      (depth_front r i)
+      (depth_front r e i)
       ∙ sym (ap (told_by (by_front (at_page r))) (page_parts file U r) ∙ told_by-append (by_front (at_page r)) (page_faults file [] r) (depth_fault file U r))
 
   key_front : (r : Reference) (v : View) (x : ℕ × Cell) → then_step r.address (key_step x.0) ≡ place → (code : FaultCode) → by_all (at_key r v x) code
       ≡ by_front (at_key r v x) code
-  key_front r v x e T06 = ap (λ k. option_map_or (λ k. cause.Key (cell_key k)) k cause.Itself) (top_front (key_of r v x) (λ k i. key_place r v x k i ∙ e))
+  key_front r v x e T06 = ap (λ k. option_map_or (λ k. cause.Key (cell_key k) (left_rows v x)) k cause.Itself) (top_front (key_of r v x) (λ k i. key_place r v x k i ∙ e))
   key_front r v x e _ = refl
 
   event_front : (V : List Reference) (e : Event) → IsOf file V place e → ((r : Reference) → own_visit e ≡ Some r → IsIn r U)
@@ -155,7 +163,7 @@ module _ (file : List ℕ) (U T : List Reference) (place : Address) (after : (t 
   event_front V (at_key r v x) h own = same_by (by_all (at_key r v x)) (by_front (at_key r v x)) (key_front r v x (sym h.3))
       (event_faults file U (at_key r v x))
   event_front V (at_refused r) h own = same_by (by_all (at_refused r)) (by_front (at_refused r))
-      (λ code. chain_front r (sym h) (bytes_left (role_of r)) 0 (is_from_zeros file r)) (event_faults file U (at_refused r))
+      (λ code. refusal_front r (sym h)) (event_faults file U (at_refused r))
 
 -- at an event of all that is reported
 

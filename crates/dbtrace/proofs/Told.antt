@@ -2,9 +2,9 @@
 use Rattle.std.proofs.Common.{◌≡◌, ℕ, ◌↔◌, inl, inr, List, [], ◌∷◌, ◌++◌, map, Option, Some, None, refl, sym, ap, subst, ◌∙◌}
 use Rattle.std.specs.Prelude.{flat_map}
 use Rattle.dbsurvey.specs.Address.{IsIn, Address, IsBefore, IsAscending}
-use Rattle.dbsurvey.specs.Survey.{IsPart}
+use Rattle.dbsurvey.specs.Survey.{IsNamed, IsPart}
 use Rattle.dbsurvey.specs.Traverse.{part_of}
-use Rattle.dbsurvey.specs.Story.{Told, PageStep, Follow, Place, Errand, Go, Tell, told_own, IsTold, of_errand, of_page, of_place, of_refused, IsTelling}
+use Rattle.dbsurvey.specs.Story.{Told, PageStep, Follow, Place, Errand, Go, Tell, goes, told_own, IsTold, of_errand, of_page, of_place, of_refused, IsTelling}
 use Rattle.dbsurvey.specs.Story.{telling_of}
 use Rattle.dbsurvey.specs.InOrder.{visits_in}
 use Rattle.dbsurvey.proofs.Order.{IsIn-cases, IsIn-right, EachPair-right, IsBefore-trans, IsBefore-beginning}
@@ -92,6 +92,22 @@ module _ (file : List ℕ) where
       subst (λ a. IsOf V a e.event) (sym m.2) (of_place_at V u m.0 e.event i (of_items u m.0 e.event m.1))
   told_of errands V none e (of_refused r n out f) = subst (λ e. IsOf V e.key e.event) (sym f) refl
 
+  -- a reference that is refused is one of them, or a page that was visited has it
+  pub refused_of : (errands : List (Errand Way Event)) (V : List Reference) → ((e : Told Event) → IsIn (Tell e) errands → ⊥) → (e : Told Event)
+      → IsTold (rules_of file) (story_of file) errands V e → (r : Reference) → e.event ≡ at_refused r → IsNamed (rules_of file) (goes errands) V r
+  unfolding story_of
+  refused_of errands V none e (of_errand i) r k = absurd (none e i)
+  refused_of errands V none e (of_page u i f) r k = let g = sym (ap (λ e. e.event) f) ∙ k in cc
+  refused_of errands V none e (of_place u i j) r k =
+      let m = key_at u.address ((story_of file).items u) e j in
+      absurd (subst (λ event. IsOfPage u (Place m.0 event)) k (of_items u m.0 e.event m.1))
+  refused_of errands V none e (of_refused u n out f) r k =
+      subst (λ r. IsNamed (rules_of file) (goes errands) V r) (ap refused_in (sym (ap (λ e. e.event) f) ∙ k)) n
+    where
+      refused_in : Event → Reference
+      refused_in (at_refused r) = r
+      refused_in _ = u
+
 -- the tree of a start, after W
 module _ (file : List ℕ) (W : List Reference) (c : Reference) where
   abbrev pub visited : List Reference
@@ -118,6 +134,10 @@ module _ (file : List ℕ) (W : List Reference) (c : Reference) where
 
   pub told_as : (e : Told Event) → IsToldBelow e → IsOf file visited e.key e.event
   told_as e t = told_of file (Go c ∷ []) visited (λ e j. elim j [ inl f ↦ cc | inr n ↦ n ]) e t
+
+  -- a reference that is refused there is the root, or one of a page that was visited there
+  pub refused_as : (e : Told Event) → IsToldBelow e → (r : Reference) → e.event ≡ at_refused r → IsNamed (rules_of file) (c ∷ []) visited r
+  refused_as e t r k = refused_of file (Go c ∷ []) visited (λ e j. elim j [ inl f ↦ cc | inr n ↦ n ]) e t r k
 
   pub key_told : (r : Reference) (v : View) (x : ℕ × Cell) → IsIn r visited → tree_view file r ≡ Some v → IsIn x (cells v)
       → IsToldBelow (record { key = then_step r.address (key_step x.0); event = at_key r v x })

@@ -1,7 +1,7 @@
 -- What a fault goes back to (own), by the pages that are visited up to it: a key out of order to the first cell with the greatest
 -- key before it, a leaf at another depth to the first leaf, a fault along an overflow chain to the cell of the chain, a page
 -- of an unknown type to what it looks like, and any other fault within a page to the page.
-use Rattle.std.specs.Prelude.{ℕ, ◌+◌, ◌-◌, ◌/◌, not, option_and_then, Bool, false, ℤ, ◌&&◌, ◌||◌, List, [], ◌∷◌, find, filter, drop, length, take}
+use Rattle.std.specs.Prelude.{ℕ, zero, suc, ◌+◌, ◌-◌, ◌/◌, not, option_and_then, Bool, false, ℤ, ◌&&◌, ◌||◌, List, [], ◌∷◌, find, filter, drop, length, take}
 use Rattle.std.specs.Prelude.{Option, Some, None, is_some, option_map, count_by, int_lt, unwrap_or, if◌then◌else◌, ◌==◌}
 use Rattle.std.specs.List.{list_any, range_with_len}
 use Rattle.std.specs.Option.{option_map_or, option_or}
@@ -11,11 +11,11 @@ use Rattle.dbsurvey.specs.InOrder.{is_before}
 use Rattle.dbformat.specs.Options.{◌>>=◌}
 use Rattle.dbformat.specs.File.{geometry, page_bytes}
 use Rattle.dbformat.specs.Head.{View, is_interior, view}
-use Rattle.dbformat.specs.Cell.{cell, child_number, count}
+use Rattle.dbformat.specs.Cell.{Cell, cell, child_number, count}
 use Rattle.dbformat.specs.NamedPages.{named_page}
 use Rattle.dbformat.specs.Header.{usable_size}
 use Rattle.dbformat.specs.Address.{cell_of_step, start_of, depth, chain_place}
-use Rattle.dbformat.specs.Reference.{Role, later_overflow, Reference, role_of, from_of, item_of, bytes_left, tree_view}
+use Rattle.dbformat.specs.Reference.{Role, later_overflow, Reference, role_of, from_of, item_of, bytes_left, tree_kind, tree_view}
 use Rattle.dbformat.specs.Looks.{is_zeros, look_of}
 use Rattle.dbformat.specs.Runs.{content_run, usable_run}
 use Rattle.dbformat.specs.PageFaults.{is_leaf_of}
@@ -23,9 +23,10 @@ use Rattle.dbformat.specs.KeyFaults.{Key, key_of, keys, earlier_keys}
 use Rattle.dbformat.specs.Story.{Event, at_page, at_key, at_refused}
 use Rattle.dbformat.specs.declared.ByteRun.{ByteRun}
 use Rattle.dbformat.specs.declared.FaultCode.{FaultCode}
-use Rattle.dbformat.specs.declared.FaultCode.TheVariants.{P01, P02, P03, P04, P05, P06, P07, P08, P09, T05, T06, O01}
+use Rattle.dbformat.specs.declared.FaultCode.TheVariants.{P01, P02, P03, P04, P05, P06, P07, P08, P09, P10, T05, T06, O01}
 use Rattle.dbformat.specs.declared.Look.{Look}
 use Rattle.dbformat.specs.declared.Look.TheVariants as look
+use Rattle.dbformat.specs.declared.TreeKind.{TreeKind}
 use Rattle.dbtrace.specs.declared.CellKey.{CellKey}
 use Rattle.dbtrace.specs.declared.TreeLeaf.{TreeLeaf}
 use Rattle.dbtrace.specs.declared.CellChain.{CellChain}
@@ -119,10 +120,6 @@ is_from_zeros file r = of_role (role_of r)
     of_role (later_overflow left) = is_zeros (usable_size file) (page_bytes file (from_of r))
     of_role _ = false
 
--- the cause of the fault of a reference that is refused
-abbrev pub refusal_cause : List ℕ → List Reference → Reference → Cause
-refusal_cause file V r = chain_cause file V r (bytes_left (role_of r)) 0 (is_from_zeros file r)
-
 -- Rowids.
 
 -- the keys at smaller places of the tree
@@ -160,12 +157,34 @@ root_of V a = find (λ u. is_same u.address (take 1 a)) V
 abbrev pub key_up_to : List ℕ → List Reference → Reference → Option ℤ
 key_up_to file V r = option_and_then (λ root. key_from file root r) (root_of V r.address)
 
--- between which rowids the rows of a visited page are: no cell of an index has a rowid
+-- between which rowids the rows of a visited page are, or of one that a reference leads to: no cell of an index has a rowid
 abbrev pub rowids_of : List ℕ → List Reference → Reference → RowidBounds
 rowids_of file V r = record { above = key_above file V r.address; up_to = key_up_to file V r }
 
 abbrev pub no_rowids : RowidBounds
 no_rowids = record { above = None; up_to = None }
+
+-- References that are refused.
+
+-- the cause of the fault of one of this kind of tree: to a page of a tree its rows, and else the chain that it breaks
+abbrev pub refusal_of : List ℕ → List Reference → Reference → RowidBounds → Option TreeKind → Cause
+refusal_of file V r rowids (Some kind) = cause.Rows rowids
+refusal_of file V r rowids None = chain_cause file V r (bytes_left (role_of r)) 0 (is_from_zeros file r)
+
+-- by the visits so far
+abbrev pub refusal_cause : List ℕ → List Reference → Reference → Cause
+refusal_cause file V r = refusal_of file V r (rowids_of file V r) (tree_kind (role_of r))
+
+-- Keys out of order.
+
+-- the key of the cell before one
+abbrev pub key_before : View → ℕ → Option ℤ
+key_before v zero = None
+key_before v (suc i) = option_and_then (λ x. x.key) (result_ok (cell v i))
+
+-- of a key of an interior page, between which rowids the rows of its left child are, by the cell before it and its own key
+abbrev pub left_rows : View → ℕ × Cell → Option RowidBounds
+left_rows v x = if is_interior v.kind then Some (record { above = key_before v x.0; up_to = x.1.key }) else None
 
 -- Pages.
 
@@ -189,6 +208,7 @@ page_cause rowids p usable page v P06 = cause.Page p (page_facts rowids (option_
 page_cause rowids p usable page v P07 = cause.Page p (page_facts rowids (option_and_then content_run v))
 page_cause rowids p usable page v P08 = cause.Page p (page_facts rowids (option_and_then content_run v))
 page_cause rowids p usable page v P09 = cause.Page p (page_facts rowids (option_and_then content_run v))
+page_cause rowids p usable page v P10 = cause.Rows rowids
 page_cause rowids p usable page v _ = cause.Itself
 
 -- that of a visited page
@@ -219,9 +239,9 @@ lost_cause_at is_lost file p = lost_cause is_lost p (geometry file).usable (page
 
 -- The cause of a fault of this code that is reported at an event.
 abbrev pub cause_of : List ℕ → List Reference → Event → FaultCode → Cause
-cause_of file V (at_page r) T05 = option_map_or (λ l. cause.Leaf l.page) (first_leaf file V r) cause.Itself
+cause_of file V (at_page r) T05 = option_map_or (λ l. cause.Leaf l.page (rowids_of file V r)) (first_leaf file V r) cause.Itself
 cause_of file V (at_page r) O01 = chain_cause file V r (bytes_left (role_of r)) 1 false
 cause_of file V (at_page r) code = visit_cause (rowids_of file V r) file r code
-cause_of file V (at_key r v cell) T06 = option_map_or (λ k. cause.Key (cell_key k)) (top_before file V (key_of r v cell)) cause.Itself
-cause_of file V (at_key r v cell) _ = cause.Itself
+cause_of file V (at_key r v x) T06 = option_map_or (λ k. cause.Key (cell_key k) (left_rows v x)) (top_before file V (key_of r v x)) cause.Itself
+cause_of file V (at_key r v x) _ = cause.Itself
 cause_of file V (at_refused r) _ = refusal_cause file V r

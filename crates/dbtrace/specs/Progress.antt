@@ -7,7 +7,7 @@ use Rattle.dbformat.specs.Faults.{fault}
 use Rattle.dbformat.specs.Address.{start_of, depth, schema_start}
 use Rattle.dbformat.specs.Head.{View, is_interior}
 use Rattle.dbformat.specs.Cell.{Cell}
-use Rattle.dbformat.specs.Reference.{Reference}
+use Rattle.dbformat.specs.Reference.{Reference, role_of, tree_kind}
 use Rattle.dbformat.specs.Schema.{SchemaCell, schema_cell}
 use Rattle.dbformat.specs.PageFaults.{is_leaf_of}
 use Rattle.dbformat.specs.KeyFaults.{Key, key_of}
@@ -15,7 +15,7 @@ use Rattle.dbformat.specs.Story.{Event, at_page, at_key, at_refused}
 use Rattle.dbformat.specs.declared.Fault.{Fault}
 use Rattle.dbformat.specs.declared.FaultCode.{FaultCode}
 use Rattle.dbformat.specs.declared.FaultCode.TheVariants.{T05, T06, O01}
-use Rattle.dbtrace.specs.Causes.{cell_key, leaf_at, key_up_to, visit_cause, cause_of}
+use Rattle.dbtrace.specs.Causes.{cell_key, leaf_at, key_up_to, left_rows, refusal_of, visit_cause, cause_of}
 use Rattle.dbtrace.specs.declared.CellKey.{CellKey}
 use Rattle.dbtrace.specs.declared.RowidBounds.{RowidBounds}
 use Rattle.dbtrace.specs.declared.TreeLeaf.{TreeLeaf}
@@ -67,18 +67,18 @@ abbrev pub depth_faults : List ℕ → Option TreeLeaf → Reference → List Fa
 depth_faults file leaf r = told_if (is_leaf_of file (start_of r.address) r && not (depth r.address == depth_of leaf (depth r.address)))
     (fault T05 r.page 0 (pos (depth r.address)))
 
--- the rowids of a visited page, where the bound by the cells above it is known
+-- the rowids of a page, where the bound by the cells above it is known
 abbrev pub rowids_by : Progress → Option ℤ → RowidBounds
 rowids_by p up_to = record { above = key_value p.greatest; up_to = up_to }
 
 -- The cause of a fault of this code at an event, by the progress so far, where U has the visits up to it.
 abbrev pub cause_by : List ℕ → List Reference → Progress → Event → FaultCode → Cause
-cause_by file U p (at_page r) T05 = option_map_or (λ l. cause.Leaf l.page) p.leaf cause.Itself
+cause_by file U p (at_page r) T05 = option_map_or (λ l. cause.Leaf l.page (rowids_by p (key_up_to file U r))) p.leaf cause.Itself
 cause_by file U p (at_page r) O01 = cause_of file U (at_page r) O01
 cause_by file U p (at_page r) code = visit_cause (rowids_by p (key_up_to file U r)) file r code
-cause_by file U p (at_key r v cell) T06 = option_map_or cause.Key p.greatest cause.Itself
-cause_by file U p (at_key r v cell) code = cause.Itself
-cause_by file U p (at_refused r) code = cause_of file U (at_refused r) code
+cause_by file U p (at_key r v x) T06 = option_map_or (λ k. cause.Key k (left_rows v x)) p.greatest cause.Itself
+cause_by file U p (at_key r v x) code = cause.Itself
+cause_by file U p (at_refused r) code = refusal_of file U r (rowids_by p (key_up_to file U r)) (tree_kind (role_of r))
 
 -- the row of the schema that a cell spells, by the visits so far, where it is in a leaf of the schema's tree
 abbrev pub rows_of : List ℕ → List Reference → Reference → View → ℕ × Cell → List SchemaCell

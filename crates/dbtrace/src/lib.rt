@@ -52,7 +52,8 @@ pub struct NamedPages {
     pub lost: u32,
 }
 
-/// Between which rowids the rows of a page of a table are, by the keys around it.
+/// Between which rowids the rows of a page of a table are, by the keys around it: of a page that was visited, or of one that a
+/// reference leads to.
 #[derive(Clone, Copy)]
 pub struct RowidBounds {
     /// They are above the greatest key before the page in its tree.
@@ -90,15 +91,19 @@ impl PageFacts {
     };
 }
 
-/// What a fault goes back to.
+/// What a fault goes back to. Two causes are compared without rowids.
 #[derive(Clone, Copy)]
 pub enum Cause {
     /// The fault goes back to nothing but itself.
     Itself,
-    /// The key that a key is not above: the greatest before it, at the first cell that has it.
-    Key(CellKey),
-    /// The page of the first leaf, which has another depth.
-    Leaf(u32),
+    /// It goes back to nothing but itself, and is of these rows: below a reference to a page of a tree that is refused, or of a leaf
+    /// without cells.
+    Rows(RowidBounds),
+    /// The key that a key is not above: the greatest before it, at the first cell that has it. Of a key of an interior page, the rows
+    /// of its left child, by the cell before it on its page.
+    Key(CellKey, Option<RowidBounds>),
+    /// The page of the first leaf, which has another depth, and the rows of the page with the fault.
+    Leaf(u32, RowidBounds),
     /// The chain that it breaks.
     Chain(CellChain),
     /// The page itself, which has it with other faults of its code.

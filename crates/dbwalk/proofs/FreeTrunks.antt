@@ -14,7 +14,7 @@ use Rattle.dbformat.specs.Story.{Event, at_page, own_visit, story_of}
 use Rattle.dbformat.proofs.Looping.{none_at_free_leaf, by_leaf, all_quiet}
 use Rattle.dbmarks.specs.declared.marks.Mark.{Mark}
 use Rattle.dbwalk.specs.Entered.{IsNext, Enters}
-use Rattle.dbtrace.specs.Causes.{cause_of}
+use Rattle.dbtrace.specs.Causes.{cause_of, refusal_cause}
 use Rattle.dbtrace.specs.Finding.{Finding, told_row, told_alone, told_by, told_at}
 use Rattle.dbwalk.specs.Trunks.{leaves_from, IsFirstTrunk, IsOnTrunks, TrunkTurns, trunk_step, next_step}
 use Rattle.dbwalk.specs.Done.{IsLeft, IsDone}
@@ -56,7 +56,7 @@ module _ {S : Type 0} (takes : S → Finding → S → Type 0) (file : List ℕ)
   next_of_left u f i (inr n) = absurd n
 
   -- a leaf is entered: nothing is reported of it, or why it is refused
-  pub leaf_entered : (b : Bool) → role_of c ≡ free_leaf → Enters takes file U c (Ok b) marks' s t → (T : List Reference)
+  pub leaf_entered : (b : Bool) → role_of c ≡ free_leaf → Enters takes file U c (refusal_cause file U c) (Ok b) marks' s t → (T : List Reference)
       × IsLeft takes file W errands before T es (marks', t)
   leaf_entered false r e = (U, left_refused takes file W errands before U marks s t marks' c es left e.0 e.1 e.2)
   leaf_entered true r e =
@@ -160,13 +160,13 @@ module _ {S : Type 0} (takes : S → Finding → S → Type 0) (file : List ℕ)
 module _ {S : Type 0} (takes : S → Finding → S → Type 0) (file : List ℕ) (W : List Reference) (c : Reference) (before : S) (step : Step)
     (marks : List Mark) (s : S) (on : IsOnTrunks takes file W c before step marks s) where
   -- the next trunk is refused
-  pub trunk_refused : (marks' : List Mark) (t : S) → Enters takes file on.visited on.d (Ok false) marks' s t
+  pub trunk_refused : (marks' : List Mark) (t : S) → Enters takes file on.visited on.d (refusal_cause file on.visited on.d) (Ok false) marks' s t
       → IsDone {A = Unit {0}} takes file W (Go c ∷ []) (Ok tt) marks' before t
   trunk_refused marks' t e = left_none takes file W (Go c ∷ []) before on.visited marks' t tt
       (left_refused takes file W (Go c ∷ []) before on.visited marks s t marks' on.d [] on.rest e.0 e.1 e.2)
 
   -- it is followed, but its page could not be read
-  pub trunk_unread : (x : RunError) (marks' : List Mark) (m : S) → Enters takes file on.visited on.d (Ok true) marks' s m
+  pub trunk_unread : (x : RunError) (marks' : List Mark) (m : S) → Enters takes file on.visited on.d (refusal_cause file on.visited on.d) (Ok true) marks' s m
       → IsDone {A = Unit {0}} takes file W (Go c ∷ []) (Err x) marks' before m
   trunk_unread x marks' m e = left_untold takes file W (Go c ∷ []) before on.visited marks s m marks' x (Go on.d ∷ []) on.rest e.2
 

@@ -1,5 +1,5 @@
 -- What entering a candidate leaves: its page is marked, or the reason against it is reported.
-use Rattle.std.specs.Prelude.{Bool, ◌≡◌, ℕ, true, false, List, [], ◌∷◌, ◌++◌, Result, Ok, Err}
+use Rattle.std.specs.Prelude.{Bool, ◌≡◌, ℕ, true, false, List, [], ◌∷◌, ◌++◌, map, option_to_list, Result, Ok, Err}
 use Rattle.dbmarks.specs.declared.marks.Mark.{Mark}
 use Rattle.dbsurvey.specs.Moves.{Moves}
 use Rattle.dbsurvey.specs.Traverse.{is_followed}
@@ -11,7 +11,10 @@ use Rattle.dbformat.specs.Story.{Event, at_refused}
 use Rattle.dbsource.specs.declared.error.RunError.{RunError}
 use Rattle.dbwalk.specs.declared.entering.Step.{Step}
 use Rattle.dbmarks.specs.Marking.{visit_mark, AreMarksOf}
-use Rattle.dbtrace.specs.Finding.{Finding, told_at}
+use Rattle.dbformat.specs.Laws.{event_row}
+use Rattle.dbformat.specs.Report.{event_faults}
+use Rattle.dbtrace.specs.Finding.{Finding, told_row, told_by}
+use Rattle.dbtrace.specs.declared.Cause.{Cause}
 
 -- all visits of W are before a candidate
 abbrev pub IsNext : List Reference → Reference → Type 0
@@ -25,9 +28,13 @@ pub record IsStepOf (step : Step) (c : Reference) : Type 0 where
   pub item : item_of c ≡ step.item
   pub deep : is_too_deep c ≡ step.is_too_deep
 
--- it was followed, and marked; or refused, which was reported; or the sink was found shut
-abbrev pub Enters : {S : Type 0} → (S → Finding → S → Type 0) → List ℕ → List Reference → Reference → Result Bool RunError → List Mark → S → S → Type 0
-Enters takes file W c (Ok true) marks s t = (is_followed (rules_of file) W c ≡ true) × AreMarksOf file (W ++ (c ∷ [])) marks × (s ≡ t)
-Enters takes file W c (Ok false) marks s t = (is_followed (rules_of file) W c ≡ false) × AreMarksOf file W marks
-    × Moves takes s (told_at file W (at_refused c)) t
-Enters takes file W c (Err e) marks s t = AreMarksOf file W marks × (s ≡ t)
+-- the report of a reference that is refused, whose fault has this cause
+abbrev pub refused_told : List ℕ → List Reference → Reference → Cause → List Finding
+refused_told file W c why = map told_row (option_to_list (event_row file (at_refused c))) ++ told_by (λ code. why) (event_faults file W (at_refused c))
+
+-- it was followed, and marked; or refused, which was reported with this cause; or the sink was found shut
+abbrev pub Enters : {S : Type 0} → (S → Finding → S → Type 0) → List ℕ → List Reference → Reference → Cause → Result Bool RunError → List Mark → S → S → Type 0
+Enters takes file W c why (Ok true) marks s t = (is_followed (rules_of file) W c ≡ true) × AreMarksOf file (W ++ (c ∷ [])) marks × (s ≡ t)
+Enters takes file W c why (Ok false) marks s t = (is_followed (rules_of file) W c ≡ false) × AreMarksOf file W marks
+    × Moves takes s (refused_told file W c why) t
+Enters takes file W c why (Err e) marks s t = AreMarksOf file W marks × (s ≡ t)

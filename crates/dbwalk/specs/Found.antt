@@ -79,22 +79,27 @@ damaged_row start path page = record {
   counts = no_counts;
 }
 
--- the cause of a fault within an undamaged page; and the same where the page's is known: only that it has no cells goes back to nothing
+-- the cause of a fault within an undamaged page; and the same where the page's is known: that it has no cells goes back to nothing, and
+-- has its rows
 abbrev pub view_cause : RowidBounds → View → FaultCode → Cause
 view_cause rowids v = page_cause rowids v.number v.usable v.bytes (Some v)
 
+abbrev pub rows_of : Cause → Cause
+rows_of (cause.Page page facts) = cause.Rows facts.rowids
+rows_of c = c
+
 abbrev pub inner_cause : Cause → FaultCode → Cause
-inner_cause page P10 = cause.Itself
+inner_cause page P10 = rows_of page
 inner_cause page _ = page
 
 -- what is reported of an undamaged page: its row, and then the faults within it
 abbrev pub undamaged_findings : ℕ → List ℕ → RowidBounds → View → Bool → List Finding
 undamaged_findings start path rowids v is_child = told_row (view_row start path v) ∷ told_by (view_cause rowids v) (inner_faults v is_child)
 
--- the causes of a page, and that of a leaf at another depth, by the first leaf before it
-abbrev pub with_leaf : (FaultCode → Cause) → Option TreeLeaf → FaultCode → Cause
-with_leaf why leaf T05 = leaf_cause leaf
-with_leaf why leaf code = why code
+-- the causes of a page, and that of a leaf at another depth, by its rows and the first leaf before it
+abbrev pub with_leaf : (FaultCode → Cause) → RowidBounds → Option TreeLeaf → FaultCode → Cause
+with_leaf why rowids leaf T05 = leaf_cause rowids leaf
+with_leaf why rowids leaf code = why code
 
 -- the one fault of page p, which is damaged
 abbrev pub damage_fault : ℕ → List ℕ → Damage → Fault
@@ -110,4 +115,4 @@ damaged_findings start path rowids page usable bytes damage = told_row (damaged_
 -- what is reported of the visit of a page of a tree: its row, and its faults, by its rowids and the first leaf before it
 abbrev pub page_findings : List ℕ → RowidBounds → Option TreeLeaf → Reference → List Finding
 page_findings file rowids leaf c = map told_row (option_to_list (event_row file (at_page c)))
-    ++ told_by (with_leaf (visit_cause rowids file c) leaf) (page_faults file [] c ++ depth_faults file leaf c)
+    ++ told_by (with_leaf (visit_cause rowids file c) rowids leaf) (page_faults file [] c ++ depth_faults file leaf c)

@@ -21,6 +21,7 @@ use Rattle.dbformat.specs.Tests.{told_if}
 use Rattle.dbtrace.specs.Finding.{Finding, told_fault}
 use Rattle.dbtrace.specs.Progress.{key_value, greater_key, depth_of}
 use Rattle.dbtrace.specs.declared.CellKey.{CellKey}
+use Rattle.dbtrace.specs.declared.RowidBounds.{RowidBounds}
 use Rattle.dbtrace.specs.declared.TreeLeaf.{TreeLeaf}
 use Rattle.dbtrace.specs.declared.Cause.{Cause}
 use Rattle.dbtrace.specs.declared.Cause.TheVariants as cause
@@ -89,29 +90,31 @@ abbrev pub overflow_errands : Reference → ℕ → Option (ℕ × ℕ) → List
 overflow_errands c i None = []
 overflow_errands c i (Some o) = go c (link c.page (overflow_step i) i (first_overflow o.1) o.0) ∷ []
 
--- the cause of a key out of order, the greatest key so far; and that of a leaf at another depth, the first leaf
-abbrev pub key_cause : Option CellKey → Cause
-key_cause top = option_map_or cause.Key top cause.Itself
+-- the cause of a key out of order, the greatest key so far, with the rows of its left child; and that of a leaf at another depth,
+-- the first leaf, with its rows
+abbrev pub key_cause : Option RowidBounds → Option CellKey → Cause
+key_cause left top = option_map_or (λ k. cause.Key k left) top cause.Itself
 
-abbrev pub leaf_cause : Option TreeLeaf → Cause
-leaf_cause leaf = option_map_or (λ l. cause.Leaf l.page) leaf cause.Itself
+abbrev pub leaf_cause : RowidBounds → Option TreeLeaf → Cause
+leaf_cause rowids leaf = option_map_or (λ l. cause.Leaf l.page rowids) leaf cause.Itself
 
 -- the fault of a key, or of a rowid, after keys of which this is the greatest, with its cause
-abbrev pub order_told : Bool → Option CellKey → ℕ → ℕ → ℤ → List Finding
-order_told is_rowid top page item key = told_if (is_late is_rowid (key_value top) key) (told_fault (fault T06 page item key) (key_cause top))
+abbrev pub order_told : Bool → Option RowidBounds → Option CellKey → ℕ → ℕ → ℤ → List Finding
+order_told is_rowid left top page item key = told_if (is_late is_rowid (key_value top) key) (told_fault (fault T06 page item key) (key_cause left top))
 
 -- that of the rowid of a cell, if it has one
 abbrev pub late_told : Option CellKey → ℕ → ℕ → Option ℤ → List Finding
 late_told top page item None = []
-late_told top page item (Some key) = order_told true top page item key
+late_told top page item (Some key) = order_told true None top page item key
 
 -- the first leaf of a tree, after a leaf with this page and depth
 abbrev pub first_of : Option TreeLeaf → ℕ → ℕ → TreeLeaf
 first_of leaf page depth = option_map_or (λ l. l) leaf (record { page = page; depth = depth })
 
 -- the fault of a leaf whose depth differs from that of the first leaf, with its cause
-abbrev pub depth_told : Option TreeLeaf → ℕ → ℕ → List Finding
-depth_told leaf page depth = told_if (not (depth == depth_of leaf depth)) (told_fault (fault T05 page 0 (pos depth)) (leaf_cause leaf))
+abbrev pub depth_told : RowidBounds → Option TreeLeaf → ℕ → ℕ → List Finding
+depth_told rowids leaf page depth =
+    told_if (not (depth == depth_of leaf depth)) (told_fault (fault T05 page 0 (pos depth)) (leaf_cause rowids leaf))
 
 -- the greatest key after that of a cell
 abbrev pub top_after : Option CellKey → ℕ → ℕ → Option ℤ → Option CellKey

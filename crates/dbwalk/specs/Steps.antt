@@ -5,7 +5,8 @@ use Rattle.dbformat.specs.Cell.{Cell, cell, count, overflow_size, child_number}
 use Rattle.dbformat.specs.Head.{View, undamaged}
 use Rattle.dbformat.specs.declared.CellFault.{CellFault}
 use Rattle.dbformat.specs.declared.TreeKind.{TreeKind}
-use Rattle.dbtrace.specs.Causes.{left_key}
+use Rattle.dbtrace.specs.Causes.{key_before, left_key}
+use Rattle.dbtrace.specs.declared.RowidBounds.{RowidBounds}
 use Rattle.dbwalk.specs.declared.steps.Next.{Next}
 use Rattle.dbwalk.specs.declared.steps.Next.TheVariants.{End, Nothing, Key, Chain, Child}
 
@@ -66,3 +67,13 @@ pub record HasNext (usable : ℕ) (kind : TreeKind) (levels : List (List ℕ)) (
 pub record AreEmpty (usable : ℕ) (kind : TreeKind) (levels : List (List ℕ)) (level page start end : ℕ) : Type 0 where
   pub rise : start ≤ end
   pub empty : (s : ℕ) → start ≤ s → s < end → HasNext usable kind levels level page s Nothing
+
+-- the key of the cell before cell n of the page at a level
+pub record HasKeyBefore (usable : ℕ) (kind : TreeKind) (levels : List (List ℕ)) (level page n : ℕ) (key : Option ℤ) : Type 0 where
+  pub is : (bytes : List ℕ) (v : View) → slice_get levels level ≡ Some bytes → undamaged kind page usable bytes ≡ Some v → n < count v
+      → key ≡ key_before v n
+
+-- the rows left of cell n, which has this key
+pub record HasLeft (usable : ℕ) (kind : TreeKind) (levels : List (List ℕ)) (level page n : ℕ) (key : ℤ) (rows : RowidBounds) : Type 0 where
+  pub above : HasKeyBefore usable kind levels level page n rows.above
+  pub up_to : rows.up_to ≡ Some key

@@ -6,11 +6,12 @@ ghost use Rattle.dbsource.specs.declared.error.RunError.TheVariants as run_error
 ghost use Rattle.dbmarks.specs.declared.marks.Mark.TheVariants as use_mark;
 ghost use Rattle.dbmarks.specs.Marking.{AreMarksOf, page_mark, named_page};
 ghost use Rattle.dbwalk.specs.Entered.{IsNext, IsStepOf, Enters};
-ghost use Rattle.dbtrace.specs.Causes.{refusal_cause};
+ghost use Rattle.dbtrace.specs.Causes.{no_rowids};
+ghost use Rattle.dbtrace.specs.declared.Cause.{Cause};
 ghost use Rattle.dbtrace.specs.declared.Cause.TheVariants as cause;
 ghost use Rattle.dbwalk.specs.Telling.{SinkWalks};
 
-use crate::{Cause, Fault, Mark, Marks, Sink};
+use crate::{Cause, Fault, Mark, Marks, RowidBounds, Sink};
 use dbformat::FaultCode;
 use dbsource::RunError;
 use std::alloc::Allocator;
@@ -35,6 +36,13 @@ pub(crate) fn itself() -> Cause
     ensures { result ≡ cause.Itself }
 {
     Cause::Itself
+}
+
+/// The cause of the fault of a root, made where it is asked for: any row may be below it.
+pub(crate) fn all_rows() -> Cause
+    ensures { result ≡ cause.Rows no_rowids }
+{
+    Cause::Rows(RowidBounds::NONE)
 }
 
 /// Whether a walk may go on: the sink is open.
@@ -75,8 +83,8 @@ pub(crate) fn enter<K: Sink, A: Allocator, F: FnOnce() -> Cause>(
     ensures after_error { IfErr result (λ e. (e ≡ run_error.WriteFailed) × (marks.new ≡ marks.old)) }
     ensures writes { SinkWalks result (K.held sink.old) (K.held sink.new) }
     ensures open { IfOk result (λ yes. IsTrue yes → (K.held sink.new).is_shut ≡ false) }
-    ensures entered { (file : List ℕ) (W : List Reference) (c : Reference) → IsStepOf step c → IsNext W c → AreMarksOf file W marks.old
-        → ((why : _) → F.post cause why → refusal_cause file W c ≡ why) → Enters K.takes file W c result marks.new sink.old sink.new }
+    ensures entered { (file : List ℕ) (W : List Reference) (c : Reference) (why : Cause) → IsStepOf step c → IsNext W c → AreMarksOf file W marks.old
+        → ((made : _) → F.post cause made → why ≡ made) → Enters K.takes file W c why result marks.new sink.old sink.new }
 {
     ask(sink)?;
     match marks.follow(step.page, step.mark, step.is_too_deep) {

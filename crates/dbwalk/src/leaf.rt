@@ -24,7 +24,7 @@ use crate::chain::{Chain, walk_chain};
 use crate::schema_row::{RowPlace, begin_row, tell_row};
 use crate::state::Tree;
 use crate::tree_walk::TreeWalk;
-use crate::{Marks, Sink, Taker};
+use crate::{CellKey, Marks, Sink, Taker};
 use dbbytes::RowSieve;
 use dbsource::{Bench, RunError, Source};
 use std::alloc::Allocator;
@@ -157,6 +157,11 @@ pub(crate) fn tell_rowid<K: Sink>(
     ensures others { IsSameButGreatest tree.old tree.new }
 {
     if let Some(key) = key {
-        tree.tell_key(page, i, key, true, sink);
+        let at = CellKey {
+            page,
+            item: i,
+            value: key,
+        };
+        tree.tell_key(at, true, None, sink);
     }
 }

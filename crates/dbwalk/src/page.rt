@@ -11,7 +11,7 @@ ghost use Rattle.dbformat.specs.Runs.{content_run};
 ghost use Rattle.dbtrace.specs.Causes.{page_cause, page_facts};
 ghost use Rattle.dbtrace.specs.Finding.{told_by};
 ghost use Rattle.dbtrace.specs.declared.Cause.TheVariants as cause;
-ghost use Rattle.dbwalk.specs.Found.{damage_fault, inner_cause, view_cause};
+ghost use Rattle.dbwalk.specs.Found.{damage_fault, inner_cause, rows_of, view_cause};
 ghost use Rattle.dbwalk.specs.Telling.{IsReportedTo};
 
 use crate::{Cause, PageFacts, RowidBounds, Sink};
@@ -225,6 +225,16 @@ fn tell_each<K: Sink>(faults: &[Option<Fault>], cause: &Cause, sink: &mut K)
     }
 }
 
+// What a page without cells goes back to: nothing but itself, with the rows that were to be on it.
+fn rows_of(cause: &Cause) -> Cause
+    ensures { result ≡ rows_of cause.now }
+{
+    match cause {
+        Cause::Page(_, facts) => Cause::Rows(facts.rowids),
+        other => *other,
+    }
+}
+
 // Reports a fault within a page, if there is one. That there are no cells goes back to nothing else.
 fn tell_found<K: Sink>(found: Option<Fault>, cause: &Cause, sink: &mut K)
     ensures { IsReportedTo K.takes K.held sink.old (told_by (inner_cause cause.now) (option_to_list found)) sink.new }
@@ -233,7 +243,7 @@ fn tell_found<K: Sink>(found: Option<Fault>, cause: &Cause, sink: &mut K)
         return;
     };
     match fault.code {
-        FaultCode::P10 => sink.fault(&fault, &Cause::Itself),
+        FaultCode::P10 => sink.fault(&fault, &rows_of(cause)),
         _ => sink.fault(&fault, cause),
     }
 }

@@ -8,13 +8,15 @@ ghost use Rattle.dbwalk.specs.Walked.{Does, SaysOfFiles, Walked};
 ghost use Rattle.dbwalk.specs.Watching.{fails, watches};
 ghost use Rattle.dbwalk.specs.Walking.{IsCandidate, IsOpen};
 ghost use Rattle.dbwalk.specs.Entered.{IsStepOf};
+ghost use Rattle.dbtrace.specs.declared.Cause.TheVariants as cause;
 ghost use Rattle.dbmarks.specs.Marking.{IsUse, unmarked_pages, named_page};
 ghost use Rattle.dbwalk.specs.Points.{AtPage, AtReference};
 
-use crate::entering::{Step, enter, itself};
+use crate::entering::{Step, enter};
 use crate::page_report::{PageFound, tell_page};
+use crate::state::key_value;
 use crate::tree_walk::TreeWalk;
-use crate::{Mark, Sink, Taker};
+use crate::{Cause, Mark, RowidBounds, Sink, Taker};
 use dbsource::{Bench, RunError, Source};
 use std::alloc::Allocator;
 
@@ -109,7 +111,11 @@ impl<A: Allocator, S: Source, K: Sink, T: Taker> TreeWalk<'_, '_, '_, '_, A, S, 
     {
         let level = self.tree.path.len();
         let step = tree_step(level, page, from, item);
-        if !enter(self.marks, step, itself, self.sink)? {
+        let above = key_value(self.tree.greatest);
+        let cause = || -> Cause
+            ensures { result ≡ cause.Rows (record { above = above; up_to = up_to }) }
+        { Cause::Rows(RowidBounds { above, up_to }) };
+        if !enter(self.marks, step, cause, self.sink)? {
             return Ok(false);
         }
         bench.load(level, self.source, page)?;

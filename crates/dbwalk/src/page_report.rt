@@ -46,14 +46,15 @@ pub(crate) fn tell_page<A: Allocator, K: Sink>(
     let level = tree.path.len();
     let usable = bench.geometry().usable;
     let depth = level as u32 + 1;
+    let rowids = RowidBounds {
+        above: key_value(tree.greatest),
+        up_to,
+    };
     let place = PagePlace {
         start: tree.start,
         path: tree.path.as_slice(),
         page,
-        rowids: RowidBounds {
-            above: key_value(tree.greatest),
-            up_to,
-        },
+        rowids,
     };
     let (bytes, uses) = bench.uses(level);
     let keys = match undamaged(bytes, page, usable, tree.kind) {
@@ -69,6 +70,6 @@ pub(crate) fn tell_page<A: Allocator, K: Sink>(
             return PageFound::Damaged;
         }
     };
-    tree.tell_depth(page, depth, sink);
+    tree.tell_depth(page, depth, rowids, sink);
     PageFound::Leaf(keys)
 }

@@ -4,12 +4,12 @@ ghost use Rattle.dbformat.specs.declared.FaultCode.TheVariants as fault_code;
 ghost use Rattle.dbtrace.specs.Finding.{told_fault};
 ghost use Rattle.dbtrace.specs.declared.Cause.TheVariants as cause;
 ghost use Rattle.std.specs.Prelude.{◌≡◌, [], ◌∷◌, Some, None, false, IsTrue, IsSomeAnd};
-ghost use Rattle.dbwalk.specs.LeafCells.{ArePassed, depth_told, first_of, order_told};
+ghost use Rattle.dbwalk.specs.LeafCells.{ArePassed, depth_told, first_of, is_late, order_told};
 ghost use Rattle.dbtrace.specs.Progress.{greater_key, key_value};
 ghost use Rattle.dbwalk.specs.Points.{IsSameButGreatest, IsSameButLeaf};
 ghost use Rattle.dbwalk.specs.Telling.{IsReportedTo};
 
-use crate::{Cause, CellKey, Sink, TreeLeaf};
+use crate::{Cause, CellKey, RowidBounds, Sink, TreeLeaf};
 use arrayvec::ArrayVec;
 use dbformat::{Fault, FaultCode, SCHEMA_START, TreeKind};
 use dbpage::is_rising;
@@ -47,16 +47,16 @@ pub(crate) fn key_value(key: Option<CellKey>) -> Option<i64>
 
 // Reports that a key is out of order, after the greatest key before it. Most keys are in order and do not reach this call.
 #[inline(never)]
-fn tell_late<K: Sink>(top: CellKey, page: u32, item: u32, key: i64, sink: &mut K)
-    ensures { IsReportedTo K.takes K.held sink.old (told_fault (fault fault_code.T06 page item key) (cause.Key top) ∷ []) sink.new }
+fn tell_late<K: Sink>(top: CellKey, at: CellKey, left: Option<RowidBounds>, sink: &mut K)
+    ensures { IsReportedTo K.takes K.held sink.old (told_fault (fault fault_code.T06 at.page at.item at.value) (cause.Key top left) ∷ []) sink.new }
 {
     let fault = Fault {
         code: FaultCode::T06,
-        page,
-        item,
-        value: key,
+        page: at.page,
+        item: at.item,
+        value: at.value,
     };
-    sink.fault(&fault, &Cause::Key(top));
+    sink.fault(&fault, &Cause::Key(top, left));
 }
 
 impl Tree {
@@ -74,40 +74,45 @@ impl Tree {
         }
     }
 
-    /// Reports a key that is out of order, and keeps the key if it is the greatest so far.
+    /// Whether a key of an interior page is out of order.
+    pub(crate) fn is_late(&self, key: i64) -> bool
+        ensures { result ≡ is_late false (key_value self.now.greatest) key }
+    {
+        match self.greatest {
+            None => false,
+            Some(top) => key < top.value,
+        }
+    }
+
+    /// Reports a key that is out of order, with the rows of its left child, and keeps the key if it is the greatest so far.
     pub(crate) fn tell_key<K: Sink>(
         &mut self,
-        page: u32,
-        item: u32,
-        key: i64,
+        at: CellKey,
         is_rowid: bool,
+        left: Option<RowidBounds>,
         sink: &mut K,
     )
-        ensures told { IsReportedTo K.takes K.held sink.old (order_told is_rowid self.old.greatest page item key) sink.new }
-        ensures greatest { self.new.greatest ≡ greater_key self.old.greatest (record { page = page; item = item; value = key }) }
+        ensures told { IsReportedTo K.takes K.held sink.old (order_told is_rowid left self.old.greatest at.page at.item at.value) sink.new }
+        ensures greatest { self.new.greatest ≡ greater_key self.old.greatest at }
         ensures others { IsSameButGreatest self.old self.new }
     {
         if let Some(top) = self.greatest {
             let is_late = if is_rowid {
-                key <= top.value
+                at.value <= top.value
             } else {
-                key < top.value
+                at.value < top.value
             };
             if is_late {
-                tell_late(top, page, item, key, sink);
+                tell_late(top, at, left, sink);
                 return;
             }
         }
         let is_greater = match self.greatest {
             None => true,
-            Some(top) => top.value < key,
+            Some(top) => top.value < at.value,
         };
         if is_greater {
-            self.greatest = Some(CellKey {
-                page,
-                item,
-                value: key,
-            });
+            self.greatest = Some(at);
         }
     }
 
@@ -135,9 +140,15 @@ impl Tree {
         true
     }
 
-    /// Reports a leaf whose depth differs from that of the first leaf of the tree.
-    pub(crate) fn tell_depth<K: Sink>(&mut self, page: u32, depth: u32, sink: &mut K)
-        ensures told { IsReportedTo K.takes K.held sink.old (depth_told self.old.leaf page depth) sink.new }
+    /// Reports a leaf whose depth differs from that of the first leaf of the tree, with its rows.
+    pub(crate) fn tell_depth<K: Sink>(
+        &mut self,
+        page: u32,
+        depth: u32,
+        rowids: RowidBounds,
+        sink: &mut K,
+    )
+        ensures told { IsReportedTo K.takes K.held sink.old (depth_told rowids self.old.leaf page depth) sink.new }
         ensures leaf { self.new.leaf ≡ Some (first_of self.old.leaf page depth) }
         ensures others { IsSameButLeaf self.old self.new }
     {
@@ -154,6 +165,6 @@ impl Tree {
             item: 0,
             value: i64::from(depth),
         };
-        sink.fault(&fault, &Cause::Leaf(first.page));
+        sink.fault(&fault, &Cause::Leaf(first.page, rowids));
     }
 }

@@ -1,11 +1,16 @@
 // The steps of an interior page: at each cell its overflow chain, its left child and its key, and after the cells the right
 // child.
-ghost use Rattle.std.specs.Prelude.{◌≡◌, ℕ, ◌<◌, ◌≤◌, suc};
+ghost use Rattle.std.specs.Prelude.{◌≡◌, ℕ, ◌<◌, ◌≤◌, ◌/◌, suc, false, true};
 ghost use Rattle.dbformat.specs.Address.{overflow_step, child_step, key_step};
 ghost use Rattle.dbformat.specs.Cell.{count};
-ghost use Rattle.dbwalk.specs.Steps.{AreEmpty, HasNext, IsEmptyAt, IsNextStep, child_of};
+ghost use Rattle.dbtrace.specs.Progress.{key_value};
+ghost use Rattle.dbwalk.specs.LeafCells.{is_late};
+ghost use Rattle.dbwalk.specs.Steps.{AreEmpty, HasKeyBefore, HasLeft, HasNext, IsEmptyAt, IsNextStep, child_of};
 
+use crate::RowidBounds;
+use crate::cells::leaf_cell;
 use crate::page::undamaged;
+use crate::state::Tree;
 use dbformat::{PageKind, TreeKind};
 use dbpage::PageView;
 use dbsource::Bench;
@@ -76,6 +81,46 @@ pub(crate) fn step_of<A: Allocator>(
     };
     let (next, what) = next_from(&view, view.cells(), frame.next);
     (StackFrame { next, ..frame }, what)
+}
+
+/// The rows of the left child of the cell at a frame's step, which has this key, where the key is out of order: by the cell before it
+/// and its own key.
+pub(crate) fn left_rows<A: Allocator>(
+    bench: &Bench<A>,
+    tree: &Tree,
+    level: usize,
+    frame: StackFrame,
+    key: i64,
+) -> RowidBounds
+    requires { level < 20 }
+    ensures { is_late false (key_value tree.now.greatest) key ≡ true
+        → HasLeft bench.now.geometry.usable tree.now.kind bench.now.levels level frame.page (frame.next / 3) key result }
+{
+    if !tree.is_late(key) {
+        return RowidBounds::NONE;
+    }
+    RowidBounds {
+        above: key_before(bench, tree.kind, level, frame.page, frame.next / 3),
+        up_to: Some(key),
+    }
+}
+
+// The key of the cell before cell `item` of the page at a level.
+#[inline(never)]
+fn key_before<A: Allocator>(
+    bench: &Bench<A>,
+    kind: TreeKind,
+    level: usize,
+    page: u32,
+    item: u32,
+) -> Option<i64>
+    requires { level < 20 }
+    ensures { HasKeyBefore bench.now.geometry.usable kind bench.now.levels level page item result }
+{
+    if item == 0 {
+        return None;
+    }
+    leaf_cell(bench, kind, level, page, item - 1).key
 }
 
 // The first step from one on at which there is something, and what is there.

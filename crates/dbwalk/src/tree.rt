@@ -18,7 +18,7 @@ ghost use Rattle.dbwalk.specs.Watching.{fails, watches};
 ghost use Rattle.dbwalk.specs.Done.{IsTreeDone};
 ghost use Rattle.dbwalk.specs.declared.root.RootKind.TheVariants as root_kind;
 
-use crate::entering::{ask, enter, itself};
+use crate::entering::{all_rows, ask, enter};
 use crate::page_entry::tree_step;
 use crate::root::{Root, root_kind};
 use crate::state::Tree;
@@ -92,7 +92,7 @@ pub fn walk_tree<A: Allocator, S: Source, K: Sink, T: Taker>(
     ensures others { 1 ≤ root.start → (taker.new ≡ taker.old) × IfErr result IsReadOrWrite }
 {
     let step = tree_step(0, root.page, 0, root.start);
-    if !enter(marks, step, itself, sink)? {
+    if !enter(marks, step, all_rows, sink)? {
         return ask(sink);
     }
     bench.load(0, source, root.page)?;

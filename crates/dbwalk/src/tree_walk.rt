@@ -11,8 +11,8 @@ ghost use Rattle.dbwalk.specs.Points.{AtStep, IsAtTurn};
 
 use crate::chain::{Chain, walk_unfed};
 use crate::state::Tree;
-use crate::steps::{Next, StackFrame};
-use crate::{Marks, Sink, Taker};
+use crate::steps::{Next, StackFrame, left_rows};
+use crate::{CellKey, Marks, Sink, Taker};
 use arrayvec::ArrayVec;
 use dbformat::Encoding;
 use dbsource::{Bench, RunError, Source};
@@ -103,9 +103,14 @@ impl<A: Allocator, S: Source, K: Sink, T: Taker> TreeWalk<'_, '_, '_, '_, A, S, 
                 Ok(())
             }
             Next::Key(key) => {
+                let left = left_rows(bench, &self.tree, frames.len(), frame, key);
                 frames.push(frame.stepped());
-                self.tree
-                    .tell_key(frame.page, frame.next / 3, key, false, self.sink);
+                let at = CellKey {
+                    page: frame.page,
+                    item: frame.next / 3,
+                    value: key,
+                };
+                self.tree.tell_key(at, false, Some(left), self.sink);
                 Ok(())
             }
             Next::Chain { first, left, rowid } => {

@@ -21,7 +21,7 @@ use Rattle.dbwalk.specs.declared.chain.ChainPlace.{ChainPlace}
 use Rattle.dbwalk.specs.declared.overflow.NextPage.{NextPage}
 use Rattle.dbmarks.specs.declared.marks.Mark.{Mark}
 use Rattle.dbmarks.specs.declared.marks.Mark.TheVariants.{FirstOverflow, LaterOverflow}
-use Rattle.dbtrace.specs.Causes.{is_from_zeros}
+use Rattle.dbtrace.specs.Causes.{is_from_zeros, refusal_cause}
 use Rattle.dbwalk.specs.Chains.{IsChainOf, IsNextPage, IsOnWay, next_of, Feeds, FeedsChain}
 use Rattle.dbwalk.specs.Done.{IsDone, IsLeft}
 use Rattle.dbwalk.specs.Entered.{IsNext, Enters}
@@ -44,7 +44,7 @@ quiet_chain file d left h = subst (λ es. AreQuiet own_visit es) (sym (by_chain 
 module _ {S : Type 0} (takes : S → Finding → S → Type 0) (file : List ℕ) (W : List Reference) (c : Reference) (before : S) (chain : Chain)
     (place : ChainPlace) (marks : List Mark) (s : S) {first old : Option RowSieve} (on : IsOnWay takes file W c before chain place marks s first old) where
   -- the next reference is refused
-  pub turn_refused : (marks' : List Mark) (t : S) → Enters takes file on.visited on.d (Ok false) marks' s t
+  pub turn_refused : (marks' : List Mark) (t : S) → Enters takes file on.visited on.d (refusal_cause file on.visited on.d) (Ok false) marks' s t
       → IsDone {A = Unit {0}} takes file W (Go c ∷ []) (Ok tt) marks' before t × FeedsChain file W c first old
   turn_refused marks' t e = (
     left_none takes file W (Go c ∷ []) before on.visited marks' t tt
@@ -53,7 +53,7 @@ module _ {S : Type 0} (takes : S → Finding → S → Type 0) (file : List ℕ)
   )
 
   -- it is followed, but its page could not be read
-  pub turn_stopped : (x : RunError) (marks' : List Mark) (m t : S) → Enters takes file on.visited on.d (Ok true) marks' s m
+  pub turn_stopped : (x : RunError) (marks' : List Mark) (m t : S) → Enters takes file on.visited on.d (refusal_cause file on.visited on.d) (Ok true) marks' s m
       → MovesBySome takes m (told_at file (on.visited ++ (on.d ∷ [])) (at_page on.d)) t
       → IsDone {A = Unit {0}} takes file W (Go c ∷ []) (Err x) marks' before t
   turn_stopped x marks' m t e h = left_stop takes file W (Go c ∷ []) before on.visited marks s t marks' x (Go on.d ∷ [])
@@ -61,7 +61,7 @@ module _ {S : Type 0} (takes : S → Finding → S → Type 0) (file : List ℕ)
       (sym (told_visit file on.visited on.d [] e.0 (quiet_chain file on.d place.left on.left)))
       (subst (λ y. MovesBySome takes y (told_at file (on.visited ++ (on.d ∷ [])) (at_page on.d)) t) (sym e.2) h)
 
-  turn_visited : (marks' : List Mark) (m t : S) → Enters takes file on.visited on.d (Ok true) marks' s m
+  turn_visited : (marks' : List Mark) (m t : S) → Enters takes file on.visited on.d (refusal_cause file on.visited on.d) (Ok true) marks' s m
       → Moves takes m (told_at file (on.visited ++ (on.d ∷ [])) (at_page on.d)) t
       → IsLeft takes file W (Go c ∷ []) before (on.visited ++ (on.d ∷ [])) (errands_of (story_of file) on.d ++ []) (marks', t)
   turn_visited marks' m t e h = left_visit takes file W (Go c ∷ []) before on.visited marks s t marks' on.d [] on.rest e.0
@@ -72,7 +72,7 @@ module _ {S : Type 0} (takes : S → Finding → S → Type 0) (file : List ℕ)
   since_more = ap (λ V. V ++ on.d ∷ []) on.since ∙ append_assoc W on.pages (on.d ∷ [])
 
   -- it was the last page
-  pub turn_last : (marks' : List Mark) (m t : S) → Enters takes file on.visited on.d (Ok true) marks' s m
+  pub turn_last : (marks' : List Mark) (m t : S) → Enters takes file on.visited on.d (refusal_cause file on.visited on.d) (Ok true) marks' s m
       → Moves takes m (told_at file (on.visited ++ (on.d ∷ [])) (at_page on.d)) t → place.left ≤ usable_size file - 4
       → (new : Option RowSieve) → Feeds old (held_bytes file on.d) new
       → IsDone {A = Unit {0}} takes file W (Go c ∷ []) (Ok tt) marks' before t × FeedsChain file W c first new
@@ -85,7 +85,7 @@ module _ {S : Type 0} (takes : S → Finding → S → Type 0) (file : List ℕ)
       )
 
   -- the next one is after it
-  pub turn_more : (marks' : List Mark) (m t : S) (next : NextPage) → Enters takes file on.visited on.d (Ok true) marks' s m
+  pub turn_more : (marks' : List Mark) (m t : S) (next : NextPage) → Enters takes file on.visited on.d (refusal_cause file on.visited on.d) (Ok true) marks' s m
       → Moves takes m (told_at file (on.visited ++ (on.d ∷ [])) (at_page on.d)) t → usable_size file - 4 < place.left
       → IsNextPage file place.step.page place.left next
       → (new : Option RowSieve) → Feeds old (held_bytes file on.d) new
@@ -118,7 +118,7 @@ module _ {S : Type 0} (takes : S → Finding → S → Type 0) (file : List ℕ)
   }
 
   pub turn_more_by : (marks' : List Mark) (m t : S) (next : NextPage) (room : ℕ) → room ≡ usable_size file - 4
-      → Enters takes file on.visited on.d (Ok true) marks' s m
+      → Enters takes file on.visited on.d (refusal_cause file on.visited on.d) (Ok true) marks' s m
       → Moves takes m (told_at file (on.visited ++ (on.d ∷ [])) (at_page on.d)) t → usable_size file - 4 < place.left
       → IsNextPage file place.step.page place.left next
       → (new : Option RowSieve) → Feeds old (held_bytes file on.d) new

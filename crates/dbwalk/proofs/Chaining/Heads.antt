@@ -14,8 +14,9 @@ use Rattle.dbsurvey.specs.Story.{Go}
 use Rattle.dbsurvey.proofs.Ordering.{is_before-from, is_before-itself}
 use Rattle.dbformat.specs.Address.{then_step, chain_place, chain_on, is_child_step, cell_of_step}
 use Rattle.dbformat.specs.Header.{usable_size}
-use Rattle.dbformat.specs.Reference.{Reference, role_of, from_of, item_of, bytes_left}
-use Rattle.dbtrace.specs.Causes.{cell_rowid, chain_number, head_address, is_same, chain_head, chain_of, chain_cause, is_from_zeros, refusal_cause, pages_for}
+use Rattle.dbformat.specs.Reference.{Role, root, child, first_overflow, later_overflow, trunk, free_leaf, Reference, role_of, from_of, item_of, bytes_left}
+use Rattle.dbformat.specs.Reference.{tree_kind}
+use Rattle.dbtrace.specs.Causes.{cell_rowid, chain_number, head_address, is_same, chain_head, chain_of, chain_cause, is_from_zeros, refusal_cause, refusal_of, rowids_of, pages_for}
 use Rattle.dbtrace.specs.declared.Cause.{Cause}
 use Rattle.dbtrace.specs.declared.Cause.TheVariants as cause
 use Rattle.dbwalk.specs.Chains.{HasHead, IsChainOf, IsOnChain, next_of, walked_chain}
@@ -73,10 +74,19 @@ pub refusal_here : (file : List ℕ) {usable : ℕ} → usable ≡ usable_size f
     → {why : Cause} → why ≡ cause.Chain (walked_chain chain number usable left number zeros) → refusal_cause file V d ≡ why
 refusal_here file u chain number left d V {zeros = zeros} z h on head e =
     let n : number + 0 ≡ number = omega arith in
-    head_cause file V chain number left 0 (is_from_zeros file d) d h on head
+    ap (refusal_of file V d (rowids_of file V d)) (no_tree (role_of d) h)
+    ∙ head_cause file V chain number left 0 (is_from_zeros file d) d h on head
     ∙ ap (λ n. cause.Chain (walked_chain chain number (usable_size file) left n (is_from_zeros file d))) n
     ∙ sym (e ∙ ap (λ x. cause.Chain (walked_chain chain number x left number zeros)) u
     ∙ ap (λ b. cause.Chain (walked_chain chain number (usable_size file) left number b)) z)
+  where
+    no_tree : (r : Role) → bytes_left r ≡ Some left → tree_kind r ≡ None
+    no_tree (root kind) e = cc
+    no_tree (child kind) e = cc
+    no_tree (first_overflow n) e = refl
+    no_tree (later_overflow n) e = refl
+    no_tree trunk e = refl
+    no_tree free_leaf e = refl
 
 -- at the first page
 pub head_start : (file : List ℕ) (chain : Chain) (V : List Reference) (c : Reference) → IsChainOf file chain c → HasHead file chain V c

@@ -54,7 +54,7 @@ is_child _ = false
 -- by the progress of a walk the faults of the page have the same causes
 pub page_causes : (file : List ℕ) (U : List Reference) (p : Progress) (c : Reference) {kind : TreeKind} → tree_kind (role_of c) ≡ Some kind
     → told_by (cause_by file U p (at_page c)) (page_faults file [] c ++ depth_faults file p.leaf c)
-    ≡ told_by (with_leaf (visit_cause (rowids_by p (key_up_to file U c)) file c) p.leaf) (page_faults file [] c ++ depth_faults file p.leaf c)
+    ≡ told_by (with_leaf (visit_cause (rowids_by p (key_up_to file U c)) file c) (rowids_by p (key_up_to file U c)) p.leaf) (page_faults file [] c ++ depth_faults file p.leaf c)
 page_causes file U p c {kind} role =
     told_by-append why (page_faults file [] c) (depth_faults file p.leaf c)
     ∙ ap (λ L. L ++ told_by why (depth_faults file p.leaf c))
@@ -66,7 +66,7 @@ page_causes file U p c {kind} role =
     why = cause_by file U p (at_page c)
 
     other : FaultCode → Cause
-    other = with_leaf (visit_cause (rowids_by p (key_up_to file U c)) file c) p.leaf
+    other = with_leaf (visit_cause (rowids_by p (key_up_to file U c)) file c) (rowids_by p (key_up_to file U c)) p.leaf
 
     no_chain : (r : Role) → tree_kind r ≡ Some kind → bytes_left r ≡ None
     no_chain (root k) e = refl
@@ -119,9 +119,9 @@ module _ (file : List ℕ) (c : Reference) (kind : TreeKind) (role : tree_kind (
       → page_findings file rowids leaf c ≡ (told_row (tree_page_row c o)
       ∷ told_by (page_cause rowids c.page (usable_size file) (page_bytes file c.page) o)
       (tree_page_faults kind (is_child (role_of c)) c.page (usable_size file) (page_bytes file c.page)))
-      ++ told_by (with_leaf (visit_cause rowids file c) leaf) (depth_faults file leaf c)
+      ++ told_by (with_leaf (visit_cause rowids file c) rowids leaf) (depth_faults file leaf c)
   page_told rowids leaf o f =
-      let why = with_leaf (visit_cause rowids file c) leaf in
+      let why = with_leaf (visit_cause rowids file c) rowids leaf in
       let fs = tree_page_faults kind (is_child (role_of c)) c.page (usable_size file) (page_bytes file c.page) in
       let last = told_by why (depth_faults file leaf c) in
       ap (λ r. map told_row (option_to_list r) ++ told_by why (page_faults file [] c ++ depth_faults file leaf c)) (row_is o f)

@@ -53,15 +53,15 @@ told_once why true f = refl
 told_once why false f = refl
 
 -- a leaf has one if its depth is not that of the first leaf; if there is none yet, it is the first itself
-at_leaf : (file : List ℕ) (why : FaultCode → Cause) (leaf : Option TreeLeaf) (c : Reference) (n : ℕ) → is_leaf_of file (start_of c.address) c ≡ true
+at_leaf : (file : List ℕ) (why : FaultCode → Cause) (rowids : RowidBounds) (leaf : Option TreeLeaf) (c : Reference) (n : ℕ) → is_leaf_of file (start_of c.address) c ≡ true
     → depth c.address ≡ n
-    → (told_by (with_leaf why leaf) (depth_faults file leaf c) ≡ depth_told leaf c.page n) × (leaf_after file leaf c ≡ Some (first_of leaf c.page n))
-at_leaf file why leaf c n e d = by_first leaf
+    → (told_by (with_leaf why rowids leaf) (depth_faults file leaf c) ≡ depth_told rowids leaf c.page n) × (leaf_after file leaf c ≡ Some (first_of leaf c.page n))
+at_leaf file why rowids leaf c n e d = by_first leaf
   where
-    by_first : (leaf : Option TreeLeaf) → (told_by (with_leaf why leaf) (depth_faults file leaf c) ≡ depth_told leaf c.page n)
+    by_first : (leaf : Option TreeLeaf) → (told_by (with_leaf why rowids leaf) (depth_faults file leaf c) ≡ depth_told rowids leaf c.page n)
         × (leaf_after file leaf c ≡ Some (first_of leaf c.page n))
-    by_first (Some m) = (told_once (with_leaf why (Some m)) _ _ ∙ rw (e, d) refl, refl)
-    by_first None = (told_once (with_leaf why None) _ _ ∙ rw (e, d) refl, rw (e, d) refl)
+    by_first (Some m) = (told_once (with_leaf why rowids (Some m)) _ _ ∙ rw (e, d) refl, refl)
+    by_first None = (told_once (with_leaf why rowids None) _ _ ∙ rw (e, d) refl, rw (e, d) refl)
 
 module _ (file : List ℕ) (kind : TreeKind) (k : ℕ) (path : List ℕ) (p from item : ℕ) (c : Reference) (candidate : IsCandidate kind k path p from item c) where
   role_is : role_of c ≡ role_at kind path
@@ -116,9 +116,9 @@ module _ (file : List ℕ) (kind : TreeKind) (k : ℕ) (path : List ℕ) (p from
     told_damaged f e g =
         let why = page_cause rowids c.page (usable_size file) (page_bytes file c.page) None in
         page_told file c kind kind_is rowids leaf None (viewed_as None e)
-        ∙ ap (λ fs. (told_row (tree_page_row c None) ∷ told_by why fs) ++ told_by (with_leaf (visit_cause rowids file c) leaf) (depth_faults file leaf c))
+        ∙ ap (λ fs. (told_row (tree_page_row c None) ∷ told_by why fs) ++ told_by (with_leaf (visit_cause rowids file c) rowids leaf) (depth_faults file leaf c))
         (faults_as (f ∷ []) g)
-        ∙ ap (λ fs. (told_row (tree_page_row c None) ∷ told_by why (f ∷ [])) ++ told_by (with_leaf (visit_cause rowids file c) leaf) fs)
+        ∙ ap (λ fs. (told_row (tree_page_row c None) ∷ told_by why (f ∷ [])) ++ told_by (with_leaf (visit_cause rowids file c) rowids leaf) fs)
         (no_leaf file leaf c (leaf_is None e)).0
         ∙ append-nil (told_row (tree_page_row c None) ∷ told_by why (f ∷ []))
         ∙ ap (λ r. told_row r ∷ told_by why (f ∷ [])) (sym (row_of_damage c p k path candidate.start candidate.path candidate.chain candidate.page))
@@ -131,10 +131,10 @@ module _ (file : List ℕ) (kind : TreeKind) (k : ℕ) (path : List ℕ) (p from
     module _ (v : View) (viewed : undamaged kind p (usable_size file) bytes ≡ Some v) (number : v.number ≡ p)
         (within : tree_page_faults kind (nat_lt 1 (length path + 1)) p (usable_size file) bytes ≡ inner_faults v (nat_lt 1 (length path + 1))) where
       pub row_and_faults : page_findings file rowids leaf c ≡ undamaged_findings k path rowids v (nat_lt 1 (length path + 1))
-          ++ told_by (with_leaf (visit_cause rowids file c) leaf) (depth_faults file leaf c)
+          ++ told_by (with_leaf (visit_cause rowids file c) rowids leaf) (depth_faults file leaf c)
       row_and_faults =
           let why = page_cause rowids c.page (usable_size file) (page_bytes file c.page) (Some v) in
-          let last = told_by (with_leaf (visit_cause rowids file c) leaf) (depth_faults file leaf c) in
+          let last = told_by (with_leaf (visit_cause rowids file c) rowids leaf) (depth_faults file leaf c) in
           let child = nat_lt 1 (length path + 1) in
           page_told file c kind kind_is rowids leaf (Some v) (viewed_as (Some v) viewed)
           ∙ ap (λ fs. (told_row (tree_page_row c (Some v)) ∷ told_by why fs) ++ last) (faults_as (inner_faults v child) within)
@@ -149,7 +149,7 @@ module _ (file : List ℕ) (kind : TreeKind) (k : ℕ) (path : List ℕ) (p from
       -- an interior page: its row, and the faults within it
       pub told_interior : is_interior v.kind ≡ true → page_findings file rowids leaf c ≡ undamaged_findings k path rowids v (nat_lt 1 (length path + 1))
       told_interior e = row_and_faults
-          ∙ ap (λ fs. undamaged_findings k path rowids v (nat_lt 1 (length path + 1)) ++ told_by (with_leaf (visit_cause rowids file c) leaf) fs)
+          ∙ ap (λ fs. undamaged_findings k path rowids v (nat_lt 1 (length path + 1)) ++ told_by (with_leaf (visit_cause rowids file c) rowids leaf) fs)
           (no_leaf file leaf c (leaf_is (Some v) viewed ∙ ap not e)).0
           ∙ append-nil (undamaged_findings k path rowids v (nat_lt 1 (length path + 1)))
 
@@ -158,14 +158,14 @@ module _ (file : List ℕ) (kind : TreeKind) (k : ℕ) (path : List ℕ) (p from
 
       -- a leaf: then that its depth is not that of the first
       pub told_leaf : is_interior v.kind ≡ false → page_findings file rowids leaf c ≡ undamaged_findings k path rowids v (nat_lt 1 (length path + 1))
-          ++ depth_told leaf p (length path + 1)
+          ++ depth_told rowids leaf p (length path + 1)
       told_leaf e = row_and_faults
           ∙ ap (λ L. undamaged_findings k path rowids v (nat_lt 1 (length path + 1)) ++ L)
-          ((at_leaf file (visit_cause rowids file c) leaf c (length path + 1) (leaf_is (Some v) viewed ∙ ap not e) candidate.depth).0
-          ∙ ap (λ q. depth_told leaf q (length path + 1)) candidate.page)
+          ((at_leaf file (visit_cause rowids file c) rowids leaf c (length path + 1) (leaf_is (Some v) viewed ∙ ap not e) candidate.depth).0
+          ∙ ap (λ q. depth_told rowids leaf q (length path + 1)) candidate.page)
 
       pub leaf_after_leaf : is_interior v.kind ≡ false → leaf_after file leaf c ≡ Some (first_of leaf p (length path + 1))
-      leaf_after_leaf e = (at_leaf file (visit_cause rowids file c) leaf c (length path + 1) (leaf_is (Some v) viewed ∙ ap not e) candidate.depth).1
+      leaf_after_leaf e = (at_leaf file (visit_cause rowids file c) rowids leaf c (length path + 1) (leaf_is (Some v) viewed ∙ ap not e) candidate.depth).1
           ∙ ap (λ q. Some (first_of leaf q (length path + 1))) candidate.page
 
 -- How the report of a page ends.
@@ -225,12 +225,13 @@ module _ {S : Type 0} (takes : S → Finding → S → Type 0) (held : S → Sin
       sym (leaf_after_interior file kind k path p from item c candidate rowids leaf v there number inner i),
     )
 
-    module _ (is_leaf : is_interior v.kind ≡ false) (t1 : S) (last : IsReportedTo takes held t (depth_told leaf p depth) t1) where
+    module _ (is_leaf : is_interior v.kind ≡ false) (t1 : S) (last : IsReportedTo takes held t (depth_told rowids' leaf p depth) t1) where
       abbrev last_told : List Finding
-      last_told = depth_told leaf p (length path + 1)
+      last_told = depth_told rowids leaf p (length path + 1)
 
       told_last : IsReportedTo takes held t last_told t1
-      told_last = subst (λ n. IsReportedTo takes held t (depth_told leaf p n) t1) depth_is last
+      told_last = subst (λ w. IsReportedTo takes held t (depth_told w leaf p (length path + 1)) t1) rowids_are
+          (subst (λ n. IsReportedTo takes held t (depth_told rowids' leaf p n) t1) depth_is last)
 
       pub exit_leaf : (new : Option TreeLeaf) → new ≡ Some (first_of leaf p depth) → Exit t1 new
       exit_leaf new n = (

@@ -12,21 +12,19 @@ use Rattle.dbsurvey.proofs.Moving.{Moves-append, some_after, some_first}
 use Rattle.dbsurvey.proofs.Past.{past_visit, past_join, errands_apart}
 use Rattle.dbsurvey.proofs.Tellings.{errands_at-step}
 use Rattle.dbformat.specs.File.{geometry}
-use Rattle.dbformat.specs.Reference.{Way, Reference, role_of, bytes_left, from_of, item_of}
+use Rattle.dbformat.specs.Reference.{Way, Reference, role_of, bytes_left, tree_kind, from_of, item_of}
 use Rattle.dbformat.specs.Survey.{rules_of, refused, is_too_deep}
 use Rattle.dbformat.specs.Story.{Event, at_page, at_refused, own_visit, story_of}
 use Rattle.dbformat.proofs.Theory.{are_rules, is_story}
 use Rattle.dbsource.specs.declared.error.RunError.{RunError}
 use Rattle.dbmarks.specs.declared.marks.Mark.{Mark}
 use Rattle.dbmarks.specs.Marking.{AreMarksOf, visit_mark, page_mark, refusal_by}
-use Rattle.dbtrace.specs.Causes.{chain_cause, is_from_zeros, refusal_cause}
+use Rattle.dbtrace.specs.Causes.{chain_cause, is_from_zeros, refusal_cause, refusal_of, rowids_of}
 use Rattle.dbtrace.specs.declared.Cause.TheVariants.{Itself}
-use Rattle.dbwalk.specs.Walking.{IsCandidate, role_at}
-use Rattle.dbformat.specs.declared.TreeKind.{TreeKind}
 use Rattle.dbtrace.specs.declared.Cause.{Cause}
 use Rattle.dbtrace.specs.Finding.{Finding, told_at, told_below, visited_below, told_fault}
 use Rattle.dbwalk.specs.Done.{IsDone, IsLeft}
-use Rattle.dbwalk.specs.Entered.{IsNext, IsStepOf}
+use Rattle.dbwalk.specs.Entered.{IsNext, IsStepOf, refused_told}
 use Rattle.dbwalk.proofs.Telling.Belows.{visited_none, visited_refused, visited_visit, visited_join, told_none, told_join}
 use Rattle.dbwalk.proofs.Telling.Belows.{told_refused, told_visit}
 use Rattle.std.specs.Prelude.{pos}
@@ -166,17 +164,10 @@ refusal_none (Some (LaterOverflow from)) false e = absurd (cc)
 refusal_none (Some (Child from)) true e = absurd (cc)
 refusal_none (Some (Child from)) false e = absurd (cc)
 
--- a reference to a page of no chain goes back to nothing else
-pub no_chain_refusal : (file : List ℕ) (W : List Reference) (c : Reference) → bytes_left (role_of c) ≡ None → refusal_cause file W c ≡ Itself
-no_chain_refusal file W c h = ap (λ o. chain_cause file W c o 0 (is_from_zeros file c)) h
-
-pub tree_refusal : {kind : TreeKind} {k : ℕ} {path : List ℕ} {p from item : ℕ} (file : List ℕ) (W : List Reference) (c : Reference)
-    → IsCandidate kind k path p from item c → refusal_cause file W c ≡ Itself
-tree_refusal {kind} {path = path} file W c h = no_chain_refusal file W c (ap (λ (w : Way). bytes_left w.role) h.way ∙ by_path path)
-  where
-    by_path : (path : List ℕ) → bytes_left (role_at kind path) ≡ None
-    by_path [] = refl
-    by_path (n ∷ path) = refl
+-- a reference to a page of no chain and no tree goes back to nothing else
+pub no_chain_refusal : (file : List ℕ) (W : List Reference) (c : Reference) → tree_kind (role_of c) ≡ None → bytes_left (role_of c) ≡ None
+    → refusal_cause file W c ≡ Itself
+no_chain_refusal file W c h k = ap (refusal_of file W c (rowids_of file W c)) h ∙ ap (λ o. chain_cause file W c o 0 (is_from_zeros file c)) k
 
 module _ (file : List ℕ) (W : List Reference) (c : Reference) (marks : List Mark) (step : Step) (is : IsStepOf step c) (next : IsNext W c)
     (m : AreMarksOf file W marks) where
@@ -196,15 +187,15 @@ module _ (file : List ℕ) (W : List Reference) (c : Reference) (marks : List Ma
         (marked-visit file W c marks m (ap (λ p. page_mark marks p) is.page ∙ (refusal_none (page_mark marks step.page) step.is_too_deep h).0))),
   )
 
-  pub entered_no : (code : FaultCode) (why : Cause) → refusal_cause file W c ≡ why → refusal_by (page_mark marks step.page) step.is_too_deep ≡ Some code
-      → (is_followed (rules_of file) W c ≡ false) × (told_at file W (at_refused c)
+  pub entered_no : (code : FaultCode) (expected why : Cause) → expected ≡ why → refusal_by (page_mark marks step.page) step.is_too_deep ≡ Some code
+      → (is_followed (rules_of file) W c ≡ false) × (refused_told file W c expected
       ≡ told_fault (record { code = code; page = step.from; item = step.item; value = pos step.page }) why ∷ [])
-  entered_no code why causes h = (
+  entered_no code expected why causes h = (
     followed-refused file W c code before (refused-is ∙ h),
     told (refused file W c) (refused-is ∙ h) ∙ ap (λ p. told_fault (record { code = code; page = from_of c; item = item_of c; value = pos p }) why ∷ []) is.page
         ∙ ap (λ f. told_fault (record { code = code; page = f; item = item_of c; value = pos step.page }) why ∷ []) is.from
         ∙ ap (λ i. told_fault (record { code = code; page = step.from; item = i; value = pos step.page }) why ∷ []) is.item,
   )
     where
-      told : (o : Option FaultCode) → refused file W c ≡ Some code → told_at file W (at_refused c) ≡ told_fault (refusal_fault c code) why ∷ []
+      told : (o : Option FaultCode) → refused file W c ≡ Some code → refused_told file W c expected ≡ told_fault (refusal_fault c code) why ∷ []
       told o e = rw e (ap (λ w. told_fault (refusal_fault c code) w ∷ []) causes)

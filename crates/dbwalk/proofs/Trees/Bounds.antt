@@ -10,6 +10,7 @@ use Rattle.std.proofs.lemmas.List.Folds.{find-append}
 use Rattle.dbsurvey.specs.Address.{IsIn, Address, IsBefore}
 use Rattle.dbsurvey.specs.InOrder.{is_before}
 use Rattle.dbsurvey.specs.Story.{Go}
+use Rattle.dbsurvey.proofs.Order.{IsBefore-beginning}
 use Rattle.dbsurvey.proofs.Ordering.{is_before-from, is_before-itself}
 use Rattle.dbformat.specs.Address.{cell_of_step, start_of, then_step}
 use Rattle.dbformat.specs.Cell.{child_number}
@@ -88,6 +89,44 @@ no_key_up_to file V c one = by_root (root_of V c.address)
     by_root : (o : Option Reference) → option_and_then (λ root. key_from file root c) o ≡ None
     by_root None = refl
     by_root (Some root) = no_key_from file root c one
+
+-- the reference itself changes nothing: no cell leads to a root, and no other page is at the address of one
+pub key_up_to_itself : (file : List ℕ) (V : List Reference) (c : Reference) → key_up_to file (V ++ (c ∷ [])) c ≡ key_up_to file V c
+key_up_to_itself file V c = by_address c.address refl
+  where
+    along : Address → Option Reference → Option ℤ
+    along a o = option_and_then (λ root. bound_along file None (sound_page file root.page) (drop 1 a)) o
+
+    nothing : (a : Address) → drop 1 a ≡ [] → (o : Option Reference) → along a o ≡ None
+    nothing a e None = refl
+    nothing a e (Some root) = ap (bound_along file None (sound_page file root.page)) e
+
+    short : (a : Address) → drop 1 a ≡ [] → c.address ≡ a → key_up_to file (V ++ (c ∷ [])) c ≡ key_up_to file V c
+    short a none e =
+        let d : drop 1 c.address ≡ [] = ap (drop 1) e ∙ none in
+        nothing c.address d (root_of (V ++ (c ∷ [])) c.address) ∙ sym (nothing c.address d (root_of V c.address))
+
+    by_address : (a : Address) → c.address ≡ a → key_up_to file (V ++ (c ∷ [])) c ≡ key_up_to file V c
+    by_address [] e = short [] refl e
+    by_address (x ∷ []) e = short (x ∷ []) refl e
+    by_address (x ∷ y ∷ a) e = ap (option_and_then (λ root. key_from file root c))
+        (find-append is_root V (c ∷ []) ∙ ap (λ b. option_or (find is_root V) (cond b (Some c) None)) other ∙ alone (find is_root V))
+      where
+        is_root : Reference → Bool
+        is_root u = is_same u.address (take 1 c.address)
+
+        other : is_root c ≡ false
+        other = ap (λ a. is_same a (take 1 a)) e
+            ∙ by_both (not (is_before (x ∷ y ∷ a) (x ∷ [])))
+            (ap not (is_before-from (x ∷ []) (x ∷ y ∷ a) (IsBefore-beginning (x ∷ []) y a)))
+          where
+            by_both : (b : Bool) {d : Bool} → d ≡ false → (b && d) ≡ false
+            by_both true f = f
+            by_both false f = refl
+
+        alone : (o : Option Reference) → option_or o None ≡ o
+        alone None = refl
+        alone (Some u) = refl
 
 -- the pages below it
 module _ (file : List ℕ) (kind : TreeKind) where

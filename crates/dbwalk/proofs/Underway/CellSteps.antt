@@ -17,6 +17,8 @@ use Rattle.dbformat.specs.Faults.{fault}
 use Rattle.dbformat.specs.declared.FaultCode.TheVariants.{T06}
 use Rattle.dbformat.proofs.Places.{cell_key}
 use Rattle.dbformat.specs.declared.FaultCode.{FaultCode}
+use Rattle.dbtrace.specs.Causes.{left_rows}
+use Rattle.dbtrace.specs.declared.RowidBounds.{RowidBounds}
 use Rattle.dbtrace.specs.Finding.{Finding, told_fault, told_by}
 use Rattle.dbtrace.specs.declared.Cause.{Cause}
 use Rattle.dbtrace.specs.declared.CellKey.{CellKey}
@@ -50,17 +52,17 @@ use Rattle.dbwalk.specs.declared.state.Tree.{Tree}
 use Rattle.dbwalk.proofs.Leaves.LeafErrands.{leaf_errands_are}
 
 -- the fault of a cell's key, if it has one, as the program reports it
-abbrev pub order_told_of : Bool → Option CellKey → ℕ → ℕ → Option ℤ → List Finding
-order_told_of is_rowid top page item None = []
-order_told_of is_rowid top page item (Some value) = order_told is_rowid top page item value
+abbrev pub order_told_of : Bool → Option RowidBounds → Option CellKey → ℕ → ℕ → Option ℤ → List Finding
+order_told_of is_rowid left top page item None = []
+order_told_of is_rowid left top page item (Some value) = order_told is_rowid left top page item value
 
 module _ (file : List ℕ) (r : Reference) (v : View) (n : ℕ) (x : Cell) where
-  key_faults_are : (why : FaultCode → Cause) (top : Option CellKey) → why T06 ≡ key_cause top → told_by why (flat_map (late_faults top) (key_of r v (n, x)))
-      ≡ order_told_of (not (is_interior v.kind)) top r.page n x.key
+  key_faults_are : (why : FaultCode → Cause) (top : Option CellKey) → why T06 ≡ key_cause (left_rows v (n, x)) top → told_by why (flat_map (late_faults top) (key_of r v (n, x)))
+      ≡ order_told_of (not (is_interior v.kind)) (left_rows v (n, x)) top r.page n x.key
   key_faults_are why top e = by_key x.key top e
     where
-      by_key : (o : Option ℤ) (top : Option CellKey) → why T06 ≡ key_cause top → told_by why (flat_map (late_faults top) (key_of r v (n, record x { key = o })))
-          ≡ order_told_of (not (is_interior v.kind)) top r.page n o
+      by_key : (o : Option ℤ) (top : Option CellKey) → why T06 ≡ key_cause (left_rows v (n, x)) top → told_by why (flat_map (late_faults top) (key_of r v (n, record x { key = o })))
+          ≡ order_told_of (not (is_interior v.kind)) (left_rows v (n, x)) top r.page n o
       by_key None top e = refl
       by_key (Some value) None e = refl
       by_key (Some value) (Some m) e = ap (told_by why) (append-nil (late_faults (Some m) (cell_key r v n value))) ∙ told_once why _ _
@@ -80,7 +82,7 @@ module _ (file : List ℕ) (r : Reference) (v : View) (n : ℕ) (x : Cell) where
 
   -- what the cell hands out, where these are its rows of the schema: the rows, and then the key's fault
   pub cell_items : (U : List Reference) (p : Progress) (rows : List SchemaCell) → rows_of file U r v (n, x) ≡ rows
-      → items_at file U p (at_key r v (n, x)) ≡ map given rows ++ map found (order_told_of (not (is_interior v.kind)) p.greatest r.page n x.key)
+      → items_at file U p (at_key r v (n, x)) ≡ map given rows ++ map found (order_told_of (not (is_interior v.kind)) (left_rows v (n, x)) p.greatest r.page n x.key)
   cell_items U p rows are = ap (λ l. map given l ++ map found
       (told_by (cause_by file U p (at_key r v (n, x))) (flat_map (late_faults p.greatest) (key_of r v (n, x))))) are
       ∙ ap (λ l. map given rows ++ map found l) (key_faults_are (cause_by file U p (at_key r v (n, x))) p.greatest refl)

@@ -1,5 +1,5 @@
 -- A cell of a leaf: its overflow chain, its row, where the tree is the schema's, and its key.
-use Rattle.std.proofs.Common.{◌≡◌, ℕ, ℤ, ◌≤◌, arith, true, false, not, inl, inr, List, [], ◌∷◌, ◌++◌, map, Option, Some, None, Result, Ok, Err, refl, sym, ap}
+use Rattle.std.proofs.Common.{◌≡◌, ℕ, ℤ, ◌≤◌, arith, true, false, not, inl, inr, List, [], ◌∷◌, ◌++◌, map, Option, Some, None, Result, Ok, Err, refl, sym, ap, cond}
 use Rattle.std.proofs.Common.{subst, ◌∙◌}
 use Rattle.std.specs.Prelude.{OnOk, IfErr, is_some, option_and_then, ◌==◌}
 use Rattle.std.specs.Result.{result_ok}
@@ -21,6 +21,7 @@ use Rattle.dbformat.specs.declared.Encoding.{Encoding}
 use Rattle.dbformat.specs.declared.TreeKind.{TreeKind}
 use Rattle.dbbytes.specs.declared.sieve.RowSieve.{RowSieve}
 use Rattle.dbsource.specs.declared.error.RunError.{RunError}
+use Rattle.dbtrace.specs.Causes.{key_before, left_rows}
 use Rattle.dbtrace.specs.Finding.{Finding, told_below, visited_below}
 use Rattle.dbtrace.specs.declared.CellKey.{CellKey}
 use Rattle.dbtrace.specs.Item.{Item, found, given}
@@ -90,7 +91,7 @@ module _ (file : List ℕ) (from : Walk) (c : Reference) (kind : TreeKind) (v : 
     leaf_is : w.state.leaf ≡ from.state.leaf
     items : w.items ≡ map given (rows_behind file m.visits c v i o) ++ key_items
 
-  same_faults : (top : Option CellKey) (o : Option ℤ) → order_told_of true top c.page i o ≡ late_told top c.page i o
+  same_faults : (top : Option CellKey) (o : Option ℤ) → order_told_of true None top c.page i o ≡ late_told top c.page i o
   same_faults top None = refl
   same_faults top (Some value) = refl
 
@@ -114,9 +115,11 @@ module _ (file : List ℕ) (from : Walk) (c : Reference) (kind : TreeKind) (v : 
                 ∙ ap (top_after from.state.greatest c.page i) (sym e);
             leaf_is = ap (λ p. p.leaf) chained.0;
             items = cell_items file c v i x U m.state (rows_of file m.visits c v (i, x)) here
-                ∙ ap (λ p. map given (rows_of file m.visits c v (i, x)) ++ map found (order_told_of (not (is_interior v.kind)) p.greatest c.page i x.key))
+                ∙ ap (λ p. map given (rows_of file m.visits c v (i, x)) ++ map found
+                (order_told_of (not (is_interior v.kind)) (left_rows v (i, x)) p.greatest c.page i x.key))
                 chained.0
-                ∙ ap (λ b. map given (rows_of file m.visits c v (i, x)) ++ map found (order_told_of (not b) from.state.greatest c.page i x.key)) leaf
+                ∙ ap (λ b. map given (rows_of file m.visits c v (i, x)) ++ map found
+                (order_told_of (not b) (cond b (Some (record { above = key_before v i; up_to = x.key })) None) from.state.greatest c.page i x.key)) leaf
                 ∙ ap (λ fs. map given (rows_of file m.visits c v (i, x)) ++ map found fs)
                 (same_faults from.state.greatest x.key ∙ ap (late_told from.state.greatest c.page i) (sym e));
           })

@@ -1,5 +1,5 @@
 -- One turn of the loop over the interior pages of a tree.
-use Rattle.std.proofs.Common.{◌≡◌, ℕ, suc, ◌+◌, ◌-◌, ◌*◌, ◌<◌, ◌≤◌, true, false, not, inl, inr, List, [], ◌∷◌, ◌++◌, map, length, Some, Ok, Err, refl, sym, ap}
+use Rattle.std.proofs.Common.{◌≡◌, ℕ, suc, ◌+◌, ◌-◌, ◌*◌, ◌<◌, ◌≤◌, true, false, not, inl, inr, List, [], ◌∷◌, ◌++◌, map, length, Some, Ok, Err, refl, sym, ap, cond}
 use Rattle.std.proofs.Common.{subst, arith, ◌∙◌, append_assoc, None, Result}
 use Rattle.std.specs.Prelude.{slice_get, OnOk, IfErr}
 use Rattle.std.proofs.lemmas.List.{append-nil}
@@ -14,7 +14,8 @@ use Rattle.dbformat.specs.Reference.{Way, Reference, role_of, tree_kind}
 use Rattle.dbformat.specs.Story.{Event, at_page, at_key, own_visit, story_of}
 use Rattle.dbformat.specs.declared.TreeKind.{TreeKind}
 use Rattle.dbsource.specs.declared.error.RunError.{RunError}
-use Rattle.dbtrace.specs.Causes.{key_from, root_of}
+use Rattle.dbtrace.specs.Causes.{key_from, root_of, key_before}
+use Rattle.dbtrace.specs.declared.RowidBounds.{RowidBounds}
 use Rattle.dbtrace.specs.Item.{Item, found}
 use Rattle.dbtrace.specs.Steps.{IsAside}
 use Rattle.dbtrace.specs.Walk.{Walk, advance, run_below, bare}
@@ -151,16 +152,19 @@ module _ {P : Type 0} {moves : P → Item → P → Type 0} {file : List ℕ} {W
       abbrev event : Event
       event = at_key top frames.1.view (n, cell)
 
+      abbrev pub left : RowidBounds
+      left = record { above = key_before frames.1.view n; up_to = cell.key }
+
       abbrev told : List Item
-      told = map found (order_told_of false tree.greatest top.page n cell.key)
+      told = map found (order_told_of false (Some left) tree.greatest top.page n cell.key)
 
       items_are : items_of file on.now event ≡ told
       items_are =
           let v = frames.1.view in
           let U = (advance file on.now event).visits in
           cell_items file top v n cell U on.now.state [] (no_row_inside file U top v (n, cell) frames.1.interior)
-          ∙ ap (λ b. map found (order_told_of (not b) on.now.state.greatest top.page n cell.key)) frames.1.interior
-          ∙ ap (λ top_key. map found (order_told_of false top_key top.page n cell.key)) (sym on.under.at.1)
+          ∙ ap (λ b. map found (order_told_of (not b) (cond b (Some left) None) on.now.state.greatest top.page n cell.key)) frames.1.interior
+          ∙ ap (λ top_key. map found (order_told_of false (Some left) top_key top.page n cell.key)) (sym on.under.at.1)
 
       pub on_cell : (tree' : Tree) → tree'.kind ≡ tree.kind → tree'.greatest ≡ top_after tree.greatest top.page n cell.key → tree'.leaf ≡ tree.leaf
           → Moves moves w told x

@@ -15,14 +15,20 @@ use Rattle.dbformat.specs.Head.{View, undamaged}
 use Rattle.dbformat.specs.Header.{usable_size}
 use Rattle.dbformat.specs.Reference.{first_overflow, Reference, role_of, tree_kind, tree_view}
 use Rattle.dbsource.specs.declared.error.RunError.{RunError}
-use Rattle.dbtrace.specs.Causes.{key_from, key_up_to, left_key}
+use Rattle.dbformat.specs.Faults.{fault}
+use Rattle.dbformat.specs.Tests.{told_if}
+use Rattle.dbformat.specs.declared.FaultCode.TheVariants.{T06}
+use Rattle.dbtrace.specs.Causes.{key_before, key_from, key_up_to, left_key}
+use Rattle.dbtrace.specs.Finding.{Finding, told_fault}
+use Rattle.dbtrace.specs.Progress.{key_value}
+use Rattle.dbtrace.specs.declared.RowidBounds.{RowidBounds}
 use Rattle.dbtrace.specs.Item.{Item, found}
 use Rattle.dbtrace.specs.Walk.{Walk}
 use Rattle.dbwalk.specs.Chains.{IsChainOf}
 use Rattle.dbwalk.specs.Entered.{IsNext}
-use Rattle.dbwalk.specs.LeafCells.{order_told, top_after}
+use Rattle.dbwalk.specs.LeafCells.{is_late, key_cause, order_told, top_after}
 use Rattle.dbwalk.specs.Walking.{errands_from, child_at, top_visit, IsCandidate, IsLeafAt, path_of}
-use Rattle.dbwalk.specs.Steps.{IsChainAt, IsChildAt, IsKeyAt, IsEmptyAt, no_chain, no_child, unreadable, without_key, IsNextStep, HasNext}
+use Rattle.dbwalk.specs.Steps.{IsChainAt, IsChildAt, IsKeyAt, IsEmptyAt, no_chain, no_child, unreadable, without_key, HasLeft, IsNextStep, HasNext}
 use Rattle.dbwalk.specs.Underway.{IsAt, HasDone, IsEntered, done_below, entered, IsWalkingOn, HasTurned, tree_walk}
 use Rattle.dbwalk.specs.Watching.{StopsAt}
 use Rattle.dbwalk.specs.declared.chain.Chain.{Chain}
@@ -111,7 +117,8 @@ module _ {P : Type 0} {moves : P → Item → P → Type 0} {file : List ℕ} {W
             (subst (λ s. errands_from file top s ≡ tell_cell top v n x ∷ errands_from file top (suc s)) (sym step)
             (step_key file top tree.kind v role viewed n x l read))
             tree refl (ap (λ o. top_after tree.greatest top.page n o) (sym none)) refl
-            (subst (λ o. Moves moves w (map found (order_told_of false tree.greatest top.page n o)) w) (sym none) refl)
+            (subst (λ o. Moves moves w (map found (order_told_of false (Some (record { above = key_before v n; up_to = o })) tree.greatest top.page n o)) w)
+            (sym none) refl)
 
     -- a key
     module _ (value : ℤ) (h : IsKeyAt v f.next value) (x : P) where
@@ -131,17 +138,47 @@ module _ {P : Type 0} {moves : P → Item → P → Type 0} {file : List ℕ} {W
           item : (n : ℕ) → (3 * n + 2) / 3 ≡ n
           item n = omega arith
 
-      told_key : order_told false tree.greatest f.page (f.next / 3) value ≡ order_told_of false tree.greatest top.page h.n h.x.key
-      told_key = ap (λ p. order_told false tree.greatest p (f.next / 3) value) on_page ∙ ap (λ i. order_told false tree.greatest top.page i value) at_cell
-          ∙ ap (order_told_of false tree.greatest top.page h.n) (sym h.key)
+      -- between the key of the cell before it and its own
+      abbrev between : Option ℤ → RowidBounds
+      between up_to = record { above = key_before v h.n; up_to = up_to }
 
-      pub turned_key : (tree' : Tree) → tree'.kind ≡ tree.kind → tree'.greatest ≡ top_after tree.greatest f.page (f.next / 3) (Some value) → tree'.leaf
-          ≡ tree.leaf → Moves moves w (map found (order_told false tree.greatest f.page (f.next / 3) value)) x
+      told_key : (left : RowidBounds) → (is_late false (key_value tree.greatest) value ≡ true → left ≡ between (Some value))
+          → order_told false (Some left) tree.greatest f.page (f.next / 3) value
+          ≡ order_told_of false (Some (between h.x.key)) tree.greatest top.page h.n h.x.key
+      told_key left are =
+          by_late (is_late false (key_value tree.greatest) value) are
+          ∙ ap (λ p. order_told false (Some (between (Some value))) tree.greatest p (f.next / 3) value) on_page
+          ∙ ap (λ i. order_told false (Some (between (Some value))) tree.greatest top.page i value) at_cell
+          ∙ ap (λ o. order_told_of false (Some (between o)) tree.greatest top.page h.n o) (sym h.key)
+        where
+          told_with : Bool → RowidBounds → List Finding
+          told_with late rows = told_if late (told_fault (fault T06 f.page (f.next / 3) value) (key_cause (Some rows) tree.greatest))
+
+          by_late : (late : Bool) → (late ≡ true → left ≡ between (Some value)) → told_with late left ≡ told_with late (between (Some value))
+          by_late true e = ap (told_with true) (e refl)
+          by_late false e = refl
+
+      -- what is read of the cell before it
+      pub left_here : {usable : ℕ} → usable ≡ usable_size file → (left : RowidBounds)
+          → HasLeft usable tree.kind levels (length fs) f.page (f.next / 3) value left → left ≡ between (Some value)
+      left_here usables left has =
+          let low : f.next / 3 < count v = subst (λ i. i < count v) (sym at_cell) h.low in
+          let bytes = ap (slice_get levels) (let e : length fs ≡ 0 + length fs = omega arith in e) ∙ read_last file levels 0 fs f on.read in
+          let seen = ap (λ u. undamaged tree.kind f.page u (page_bytes file f.page)) usables
+          ∙ ap (λ p. undamaged tree.kind p (usable_size file) (page_bytes file p)) on_page ∙ sym (view_is file top tree.kind role) ∙ viewed in
+          ap₂ rows_of (has.above.is (page_bytes file f.page) v bytes seen low ∙ ap (key_before v) at_cell) has.up_to
+        where
+          rows_of : Option ℤ → Option ℤ → RowidBounds
+          rows_of above up_to = record { above = above; up_to = up_to }
+
+      pub turned_key : (left : RowidBounds) → (is_late false (key_value tree.greatest) value ≡ true → left ≡ between (Some value))
+          → (tree' : Tree) → tree'.kind ≡ tree.kind → tree'.greatest ≡ top_after tree.greatest f.page (f.next / 3) (Some value) → tree'.leaf
+          ≡ tree.leaf → Moves moves w (map found (order_told false (Some left) tree.greatest f.page (f.next / 3) value)) x
           → IsWalkingOn moves file W c before (fs ++ (g ∷ []), levels) (marks, tree') x
-      turned_key tree' kinds tops leafs m = steps.on_cell fs f on g page next up_to within_key h.n h.x x key_errand tree' kinds
+      turned_key left are tree' kinds tops leafs m = steps.on_cell fs f on g page next up_to within_key h.n h.x x key_errand tree' kinds
           (tops ∙ ap (λ p. top_after tree.greatest p (f.next / 3) (Some value)) on_page ∙ ap (λ i. top_after tree.greatest top.page i (Some value)) at_cell
           ∙ ap (top_after tree.greatest top.page h.n) (sym h.key)) leafs
-          (subst (λ l. Moves moves w (map found l) x) told_key m)
+          (subst (λ l. Moves moves w (map found l) x) (told_key left are) m)
 
     -- an overflow chain
     module _ (first left : ℕ) (rowid : Option ℤ) (h : IsChainAt v f.next first left rowid) where

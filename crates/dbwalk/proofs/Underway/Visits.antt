@@ -21,13 +21,18 @@ use Rattle.dbformat.specs.Story.{at_page, at_refused, story_of}
 use Rattle.dbformat.specs.Survey.{rules_of}
 use Rattle.dbsource.specs.declared.error.RunError.{RunError}
 use Rattle.dbsource.specs.declared.error.RunError.TheVariants.{ReadFailed, WriteFailed, OutOfMemory}
-use Rattle.dbtrace.specs.Finding.{Finding, told_at, told_row}
+use Rattle.dbtrace.specs.Finding.{Finding, told_by, told_row}
 use Rattle.dbtrace.specs.Item.{Item, found}
-use Rattle.dbtrace.specs.Causes.{key_up_to}
-use Rattle.dbtrace.specs.Progress.{key_value, leaf_after}
+use Rattle.dbtrace.specs.Causes.{key_up_to, refusal_of}
+use Rattle.dbtrace.specs.Progress.{key_value, leaf_after, rowids_by}
+use Rattle.dbtrace.specs.declared.Cause.{Cause}
+use Rattle.dbtrace.specs.declared.Cause.TheVariants as cause
+use Rattle.dbformat.specs.ReferenceFaults.{reference_faults}
+use Rattle.dbformat.specs.declared.FaultCode.{FaultCode}
+use Rattle.dbwalk.proofs.Trees.Bounds.{key_up_to_itself}
 use Rattle.dbtrace.specs.Walk.{Walk, bare, advance, run_below}
 use Rattle.dbtrace.proofs.Stepping.{has_steps}
-use Rattle.dbwalk.specs.Entered.{IsNext}
+use Rattle.dbwalk.specs.Entered.{IsNext, refused_told}
 use Rattle.dbmarks.specs.Marking.{AreMarksOf}
 use Rattle.dbwalk.specs.Telling.{Tells}
 use Rattle.dbwalk.specs.Found.{page_findings}
@@ -131,17 +136,29 @@ pub unasked : {P A : Type 0} (moves : P → Item → P → Type 0) (stops : P �
     (w : P) → HasDone {A = A} moves stops file done (Err WriteFailed) now w w
 unasked moves stops file done now w = record { at = tt; handed = some_none moves w done.items }
 
+-- the cause of a reference that is refused, by the greatest key so far and that of the innermost cell whose left child leads to it
+abbrev pub rows_below : Option CellKey → Option ℤ → Cause
+rows_below top up_to = cause.Rows (record { above = key_value top; up_to = up_to })
+
 -- the reason against a reference, as the items of its refusal
+pub refused_items : (file : List ℕ) (from : Walk) (c : Reference) {kind : TreeKind} → tree_kind (role_of c) ≡ Some kind
+    → {top : Option CellKey} → top ≡ from.state.greatest → {up_to : Option ℤ} → key_up_to file (from.visits ++ (c ∷ [])) c ≡ up_to
+    → (refused file from c).items ≡ map found (refused_told file from.visits c (rows_below top up_to))
+refused_items file from c {kind} role {top} top_is {up_to} bound =
+    ap (λ U. map found (told_by (λ (code : FaultCode). refusal_of file U c (rowids_by from.state (key_up_to file U c)) (tree_kind (role_of c)))
+    (reference_faults file U c))) (append-nil from.visits)
+    ∙ ap (λ k. map found (told_by (λ (code : FaultCode). refusal_of file from.visits c (rowids_by from.state (key_up_to file from.visits c)) k)
+    (reference_faults file from.visits c))) role
+    ∙ ap₂ (λ t u. map found (refused_told file from.visits c (rows_below t u))) (sym top_is) (sym (key_up_to_itself file from.visits c) ∙ bound)
+
 pub refused_handed : {S T A : Type 0} (takes : S → Finding → S → Type 0) (keeps : T → SchemaRow → Taken → T → Type 0)
-    (refuses : T → SchemaRow → T → Type 0) (file : List ℕ) (from : Walk) (c : Reference)
-    (r : Result A RunError) (s s' : S) (t : T) → (r ≡ Err OutOfMemory → ⊥) → Tells takes r s (told_at file from.visits (at_refused c)) s'
+    (refuses : T → SchemaRow → T → Type 0) (file : List ℕ) (from : Walk) (c : Reference) {kind : TreeKind} → tree_kind (role_of c) ≡ Some kind
+    → {top : Option CellKey} → top ≡ from.state.greatest → {up_to : Option ℤ} → key_up_to file (from.visits ++ (c ∷ [])) c ≡ up_to
+    → (r : Result A RunError) (s s' : S) (t : T) → (r ≡ Err OutOfMemory → ⊥) → Tells takes r s (refused_told file from.visits c (rows_below top up_to)) s'
     → Handed (watches takes keeps) (fails refuses) r (s, t) (refused file from c).items (s', t)
-refused_handed takes keeps refuses file from c r s s' t quiet h =
-    subst (λ items. Handed (watches takes keeps) (fails refuses) r (s, t) items (s', t)) (sym are)
-    (found_handed takes keeps refuses r (told_at file from.visits (at_refused c)) s s' t quiet h)
-  where
-    are : (refused file from c).items ≡ map found (told_at file from.visits (at_refused c))
-    are = ap (λ U. map found (told_at file U (at_refused c))) (append-nil from.visits)
+refused_handed takes keeps refuses file from c role {top} top_is {up_to} bound r s s' t quiet h =
+    subst (λ items. Handed (watches takes keeps) (fails refuses) r (s, t) items (s', t)) (sym (refused_items file from c role top_is bound))
+    (found_handed takes keeps refuses r (refused_told file from.visits c (rows_below top up_to)) s s' t quiet h)
 
 -- what was before a page is before what it leads to, and so is the page
 pub visited_before : (file : List ℕ) (from : Walk) (c : Reference) → IsNext from.visits c → AreBefore (visited file from c).visits (then_step c.address 0)

@@ -8,7 +8,7 @@ use Rattle.dbsurvey.specs.Story.{errand_key, Go, errands_of}
 use Rattle.dbformat.specs.Reference.{Reference, role_of, tree_kind}
 use Rattle.dbformat.specs.declared.TreeKind.{TreeKind}
 use Rattle.dbtrace.specs.Starts.{IsOfEarlierStart, AreOfEarlierStarts}
-use Rattle.dbwalk.specs.Entered.{IsNext}
+use Rattle.dbwalk.specs.Entered.{IsNext, refused_told}
 use Rattle.dbwalk.specs.Walking.{IsCandidate, left_over}
 use Rattle.std.proofs.lemmas.Bool.Decides.{nat_tests}
 use Rattle.std.proofs.lemmas.List.{append-nil}
@@ -21,8 +21,11 @@ use Rattle.dbformat.specs.Story.{at_page, at_refused, story_of}
 use Rattle.dbformat.specs.Survey.{rules_of}
 use Rattle.dbsource.specs.declared.error.RunError.{RunError}
 use Rattle.dbsource.specs.declared.error.RunError.TheVariants.{ReadFailed, WriteFailed}
-use Rattle.dbtrace.specs.Finding.{Finding, told_at, told_below, visited_below}
+use Rattle.dbtrace.specs.Finding.{Finding, told_below, visited_below}
 use Rattle.dbtrace.specs.Item.{Item, found, given_cells}
+use Rattle.dbtrace.specs.Causes.{no_rowids}
+use Rattle.dbtrace.specs.declared.Cause.TheVariants as cause
+use Rattle.dbwalk.proofs.Underway.Visits.{refused_items}
 use Rattle.dbtrace.specs.Walk.{begin, advance}
 use Rattle.dbtrace.proofs.Folding.{is_fold}
 use Rattle.dbtrace.proofs.Stepping.{has_steps}
@@ -35,7 +38,7 @@ use Rattle.dbwalk.specs.declared.steps.StackFrame.{StackFrame}
 use Rattle.dbmarks.specs.declared.marks.Mark.{Mark}
 use Rattle.dbwalk.specs.declared.state.Tree.{Tree}
 use Rattle.dbwalk.specs.declared.taker.Taken.{Taken}
-use Rattle.dbwalk.proofs.Trees.Bounds.{no_key_from, root_address, root_first}
+use Rattle.dbwalk.proofs.Trees.Bounds.{no_key_from, root_address, root_first, no_key_up_to}
 use Rattle.dbwalk.proofs.Trees.Stacking.{from_first}
 use Rattle.dbwalk.proofs.Underway.Handing.{found_handed, handed_found, no_memory, only_found}
 use Rattle.dbwalk.proofs.Underway.Underways.{under_visit, under_end}
@@ -111,16 +114,17 @@ module _ {S T : Type 0} (takes : S → Finding → S → Type 0) (keeps : T → 
       marked (Err e) h = tt
 
   -- the root is refused, and that was reported
-  pub tree_refused : (r : Result (Unit {0}) RunError) (marks : List Mark) (s s' : S) (t : T) → IfErr r IsReadOrWrite → is_followed (rules_of file) W c ≡ false
+  pub tree_refused : {kind : TreeKind} → tree_kind (role_of c) ≡ Some kind
+      → (r : Result (Unit {0}) RunError) (marks : List Mark) (s s' : S) (t : T) → IfErr r IsReadOrWrite → is_followed (rules_of file) W c ≡ false
       → AreMarksOf file W marks
-      → Tells takes r s (told_at file W (at_refused c)) s' → IsTreeDone takes keeps refuses file W c r marks (s, t) (s', t)
-  tree_refused r marks s s' t only refused m told =
+      → Tells takes r s (refused_told file W c (cause.Rows no_rowids)) s' → IsTreeDone takes keeps refuses file W c r marks (s, t) (s', t)
+  tree_refused role r marks s s' t only refused m told =
       let whole : tree_walk file W c ≡ advance file (begin W) (at_refused c) = (has_steps file).refused (begin W) c [] refused
       ∙ (has_steps file).none (advance file (begin W) (at_refused c)) in
       tree_handed r marks (s, t) (s', t) (on_ok r (sym (ap (λ m. m.visits) whole ∙ append-nil W)))
       (subst (λ items. Handed (watches takes keeps) (fails refuses) r (s, t) items (s', t))
-      (ap (λ U. map found (told_at file U (at_refused c))) (sym (append-nil W)) ∙ sym (ap (λ m. m.items) whole))
-      (found_handed takes keeps refuses r (told_at file W (at_refused c)) s s' t (no_memory r only) told))
+      (sym (refused_items file (begin W) c role refl (no_key_up_to file (W ++ (c ∷ [])) c (ap length at))) ∙ sym (ap (λ m. m.items) whole))
+      (found_handed takes keeps refuses r (refused_told file W c (cause.Rows no_rowids)) s s' t (no_memory r only) told))
     where
       on_ok : (r : Result (Unit {0}) RunError) → W ≡ (tree_walk file W c).visits → OnOk r (AreMarksOf file (tree_walk file W c).visits marks)
       on_ok (Ok u) e = subst (λ U. AreMarksOf file U marks) e m

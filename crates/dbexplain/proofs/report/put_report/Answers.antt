@@ -1,4 +1,4 @@
-use Rattle.std.proofs.Common.{◌≡◌, ◌++◌, ℕ, List, rules, take, flat_map, ap, ap₂, ◌∙◌}
+use Rattle.std.proofs.Common.{◌≡◌, ◌++◌, ℕ, List, rules, take, flat_map, sym, ap, ap₂, subst, ◌∙◌}
 use Rattle.dbformat.specs.Reference.{Reference}
 use Rattle.dbformat.specs.Report.{more_text}
 use Rattle.dblines.proofs.Writing.{of_all, of_as, of_known, of_then, put_of}
@@ -6,6 +6,8 @@ use Rattle.dbscan.specs.Placed.{told_faults}
 use Rattle.dbentries.specs.Listed.{listed_entries}
 use Rattle.dbexplain.specs.Explained.{entry_text}
 use Rattle.dbexplain.specs.Keeping.{HasAll}
+use Rattle.dbexplain.specs.KeptRanges.{AreAllKept}
+use Rattle.dbexplain.proofs.RangesKept.{all_closed}
 use Rattle.dbexplain.specs.Summary.{summary}
 use Rattle.dbexplain.proofs.Desks.{of_desk}
 use Rattle.dbexplain.proofs.KeptEntries.{kept_texts}
@@ -28,6 +30,8 @@ returns g c =
       owners = owners file V h;
       tally = h.tally;
       zeros = h.zeros;
+      ranges = subst (AreAllKept (told_faults file V)) (sym c.close.ensures) (all_closed (told_faults file V) k.ranges h.ranges);
+      indexes = h.indexes;
     }) c.put_summary.ensures))) in
     let same = wrote.wrote.same_out in
     let k : c.out-1.given.0 ≡ c.put_summary.new.writer.out.now = search (rules, same) in

@@ -5,8 +5,8 @@ use Rattle.dblines.proofs.Writing.{wrote_as, wrote_then}
 use Rattle.dbscan.specs.Placed.{told_faults}
 use Rattle.dbscan.specs.Roots.{Listed}
 use Rattle.dbexplain.specs.Summary.{count_text, sum_line}
-use Rattle.dbexplain.specs.Sums.{code_sum}
-use Rattle.dbexplain.proofs.Summaries.{known_summary, known_zeros}
+use Rattle.dbexplain.specs.Sums.{code_sum, rows_sum}
+use Rattle.dbexplain.proofs.Summaries.{known_rows, known_summary, known_zeros}
 use Rattle.dbexplain.proofs.summary.put_summary.Goals as goal
 
 pub returns : goal.returns
@@ -25,8 +25,11 @@ returns g c =
           let o = h.owners in
           known_summary file V o.survey c.args.owners.now.header.now roots.rows c.names-names.result.encoding t c.geometry-shape.result.page_size
           c.zero_runs.result
+          (rows_sum c.args.rows.now.ranges.now c.args.rows.now.indexes.now roots.rows)
           o.header (ap (λ (l : Listed). l.rows) c.names-names.ensures.roots ∙ o.rows) c.names-names.ensures.encoding
           (c.count_pages.ensures file V (told_faults file V) o h.tally)
           (known_zeros file V c.geometry-shape.result c.args.listing.now.zeros c.zero_runs.result (c.geometry-shape.ensures.shape ∙ o.header.shape)
-          h.zeros c.zero_runs.ensures));
+          h.zeros c.zero_runs.ensures)
+          (known_rows file V roots.rows c.args.rows.now.ranges.now c.args.rows.now.indexes.now
+          (ap (λ (l : Listed). l.rows) c.names-names.ensures.roots ∙ o.rows) h.ranges h.indexes));
     }

@@ -8,7 +8,7 @@ use Rattle.dbwalk.proofs.Telling.Lefts.{refusal_none, entered_yes, entered_no}
 use Rattle.dbwalk.proofs.entering.enter.Goals as goal
 
 pub returns-in-None-clause-entered : goal.returns-in-None-clause-entered
-returns-in-None-clause-entered g c = λ file W d is next m causes.
+returns-in-None-clause-entered g c = λ file W d why is next m causes.
     let k = entered_yes file W d c.args.marks.now c.args.step is next m (sym c.follow.ensures.why ∙ c.in-None.is) in (
       k.0,
       subst (λ l. AreMarksOf file (W ++ (d ∷ [])) l)
@@ -17,8 +17,8 @@ returns-in-None-clause-entered g c = λ file W d is next m causes.
     )
 
 pub returns-in-Some-clause-entered : goal.returns-in-Some-clause-entered
-returns-in-Some-clause-entered g c = λ file W d is next m causes.
-    let k = entered_no file W d c.args.marks.now c.args.step is next m c.in-Some.code c.cause.result
+returns-in-Some-clause-entered g c = λ file W d why is next m causes.
+    let k = entered_no file W d c.args.marks.now c.args.step is next m c.in-Some.code why c.cause.result
     (causes c.cause.result c.cause.ensures) (sym c.follow.ensures.why ∙ c.in-Some.is) in (
       k.0,
       subst (λ l. AreMarksOf file W l) (sym (c.follow.ensures.marks ∙ ap (followed c.args.marks.now c.args.step.page c.args.step.mark) c.in-Some.is)) m,
@@ -40,6 +40,6 @@ pub returns-in-None-clause-marked : goal.returns-in-None-clause-marked
 returns-in-None-clause-marked g c = search rules
 
 pub returns-in_err-ask-clause-entered : goal.returns-in_err-ask-clause-entered
-returns-in_err-ask-clause-entered g c = λ file W d is next m causes.
+returns-in_err-ask-clause-entered g c = λ file W d why is next m causes.
     let p = err_from_is_err_and c.from_residual.result c.from_residual.ensures.1 in
-    subst (λ r. Enters g.K.Sink.takes file W d r c.args.marks.now c.args.sink.now c.args.sink.now) (sym (p.1 ∙ ap Err p.2)) (m, refl)
+    subst (λ r. Enters g.K.Sink.takes file W d why r c.args.marks.now c.args.sink.now c.args.sink.now) (sym (p.1 ∙ ap Err p.2)) (m, refl)

@@ -5,12 +5,13 @@ use Rattle.std.proofs.lemmas.Result.{err_from_is_err_and}
 use Rattle.dbsurvey.specs.Story.{Go}
 use Rattle.dbformat.specs.Numbers.{u32_at}
 use Rattle.dbsource.specs.declared.error.RunError.TheVariants.{ReadFailed}
+use Rattle.dbtrace.specs.Causes.{refusal_cause}
 use Rattle.dbwalk.specs.Entered.{Enters}
 use Rattle.dbwalk.specs.Done.{IsLeft}
 use Rattle.dbmarks.specs.declared.marks.Mark.TheVariants.{Trunk}
 use Rattle.dbmarks.specs.Marking.{IsUse, is_none, unmarked_pages}
 use Rattle.dbwalk.specs.Trunks.{TrunkTurns, next_step, trunk_step}
-use Rattle.dbformat.specs.Reference.{bytes_left}
+use Rattle.dbformat.specs.Reference.{bytes_left, tree_kind}
 use Rattle.dbwalk.proofs.Chaining.ChainTurns.{if_some_all}
 use Rattle.dbwalk.proofs.FreeTrunks.{trunk_refused, trunk_unread, next_turned}
 use Rattle.dbwalk.proofs.Telling.Lefts.{no_chain_refusal, left_untold}
@@ -34,16 +35,16 @@ returns-in_err-enter-clause-log g c = log_none c.args.bench.now.geometry.page_si
     subst (λ r. TrunkTurns g.K.Sink.takes file W d before r c.enter.new.marks c.enter.new.sink) (sym (q.1 ∙ ap Err q.2))
     (left_untold g.K.Sink.takes file W (Go d ∷ []) before on.visited c.args.marks.now c.args.sink.now c.enter.new.sink c.enter.new.marks
     c.in_err-enter.field-0.0 (Go on.d ∷ []) on.rest
-    (c.in_err-enter.ensures.entered file on.visited on.d on.step on.rest.past on.rest.marked
-    (λ why p. no_chain_refusal file on.visited on.d (ap bytes_left on.role) ∙ sym p)).1))
+    (c.in_err-enter.ensures.entered file on.visited on.d (refusal_cause file on.visited on.d) on.step on.rest.past on.rest.marked
+    (λ why p. no_chain_refusal file on.visited on.d (ap tree_kind on.role) (ap bytes_left on.role) ∙ sym p)).1))
 
 pub returns-then-not-branch-clause-log : goal.returns-then-not-branch-clause-log
 returns-then-not-branch-clause-log g c = log_none c.args.bench.now.geometry.page_size c.args.marks.now c.enter.new.marks (g.S.Source.held c.args.source.now)
     (c.in_ok-enter.ensures.unmarked c.if-not-branch.true) (λ file e W d before on.
     trunk_refused g.K.Sink.takes file W d before c.args.step c.args.marks.now c.args.sink.now on c.enter.new.marks c.enter.new.sink
-    (subst (λ b. Enters g.K.Sink.takes file on.visited on.d (Ok b) c.enter.new.marks c.args.sink.now c.enter.new.sink) c.if-not-branch.true
-    (c.in_ok-enter.ensures.entered file on.visited on.d on.step on.rest.past on.rest.marked
-    (λ why p. no_chain_refusal file on.visited on.d (ap bytes_left on.role) ∙ sym p))))
+    (subst (λ b. Enters g.K.Sink.takes file on.visited on.d (refusal_cause file on.visited on.d) (Ok b) c.enter.new.marks c.args.sink.now c.enter.new.sink) c.if-not-branch.true
+    (c.in_ok-enter.ensures.entered file on.visited on.d (refusal_cause file on.visited on.d) on.step on.rest.past on.rest.marked
+    (λ why p. no_chain_refusal file on.visited on.d (ap tree_kind on.role) (ap bytes_left on.role) ∙ sym p))))
 
 pub returns-in_err-load-clause-log : goal.returns-in_err-load-clause-log
 returns-in_err-load-clause-log g c =
@@ -54,10 +55,10 @@ returns-in_err-load-clause-log g c =
     (subst IsUse (sym c.requires) (record { some = refl; cleared = refl }))
     (log_load size c.args.step.page read.bytes (Err c.in_err-load.field-0.0) c.load.ensures.told read.size read.holds) (λ file h e W d before on.
     let q = err_from_is_err_and c.from_residual-in_err-load.result c.from_residual-in_err-load.ensures.1 in
-    let n = subst (λ b. Enters g.K.Sink.takes file on.visited on.d (Ok b) c.enter.new.marks c.args.sink.now c.enter.new.sink)
+    let n = subst (λ b. Enters g.K.Sink.takes file on.visited on.d (refusal_cause file on.visited on.d) (Ok b) c.enter.new.marks c.args.sink.now c.enter.new.sink)
     c.if-not-branch.false
-    (c.in_ok-enter.ensures.entered file on.visited on.d on.step on.rest.past on.rest.marked
-    (λ why p. no_chain_refusal file on.visited on.d (ap bytes_left on.role) ∙ sym p)) in
+    (c.in_ok-enter.ensures.entered file on.visited on.d (refusal_cause file on.visited on.d) on.step on.rest.past on.rest.marked
+    (λ why p. no_chain_refusal file on.visited on.d (ap tree_kind on.role) (ap bytes_left on.role) ∙ sym p)) in
     subst (λ r. TrunkTurns g.K.Sink.takes file W d before r c.enter.new.marks c.enter.new.sink) (sym (q.1 ∙ ap Err q.2))
     (trunk_unread g.K.Sink.takes file W d before c.args.step c.args.marks.now c.args.sink.now on ReadFailed c.enter.new.marks c.enter.new.sink n))
 
@@ -72,10 +73,10 @@ returns-in_err-item-clause-log g c =
     let k = page_read file read.bytes size c.args.step.page read.size h (sym (ap (λ g. g.page_size) e)) in
     let b = c.page-bytes.ensures.bytes ∙ ap (λ b. b.chain) read.only ∙ k in
     let u = ap (λ g. g.usable) (c.geometry-usable.ensures.value ∙ ap (λ b. b.geometry) read.only ∙ e) in
-    let n = subst (λ b. Enters g.K.Sink.takes file on.visited on.d (Ok b) c.enter.new.marks c.args.sink.now c.enter.new.sink)
+    let n = subst (λ b. Enters g.K.Sink.takes file on.visited on.d (refusal_cause file on.visited on.d) (Ok b) c.enter.new.marks c.args.sink.now c.enter.new.sink)
     c.if-not-branch.false
-    (c.in_ok-enter.ensures.entered file on.visited on.d on.step on.rest.past on.rest.marked
-    (λ why p. no_chain_refusal file on.visited on.d (ap bytes_left on.role) ∙ sym p)) in
+    (c.in_ok-enter.ensures.entered file on.visited on.d (refusal_cause file on.visited on.d) on.step on.rest.past on.rest.marked
+    (λ why p. no_chain_refusal file on.visited on.d (ap tree_kind on.role) (ap bytes_left on.role) ∙ sym p)) in
     let o = c.in_err-item.ensures.opened file W d before on.visited on.d c.args.marks.now on.step.page on.role b u n.0 n.1
     (subst (λ s. IsLeft g.K.Sink.takes file W (Go d ∷ []) before on.visited (Go on.d ∷ []) (c.args.marks.now, s)) n.2 on.rest) in
     let q = err_from_is_err_and c.from_residual-in_err-item.result c.from_residual-in_err-item.ensures.1 in
@@ -92,10 +93,10 @@ returns-clause-log g c =
     let k = page_read file read.bytes size c.args.step.page read.size h (sym (ap (λ g. g.page_size) e)) in
     let b = c.page-bytes.ensures.bytes ∙ ap (λ b. b.chain) read.only ∙ k in
     let u = ap (λ g. g.usable) (c.geometry-usable.ensures.value ∙ ap (λ b. b.geometry) read.only ∙ e) in
-    let n = subst (λ b. Enters g.K.Sink.takes file on.visited on.d (Ok b) c.enter.new.marks c.args.sink.now c.enter.new.sink)
+    let n = subst (λ b. Enters g.K.Sink.takes file on.visited on.d (refusal_cause file on.visited on.d) (Ok b) c.enter.new.marks c.args.sink.now c.enter.new.sink)
     c.if-not-branch.false
-    (c.in_ok-enter.ensures.entered file on.visited on.d on.step on.rest.past on.rest.marked
-    (λ why p. no_chain_refusal file on.visited on.d (ap bytes_left on.role) ∙ sym p)) in
+    (c.in_ok-enter.ensures.entered file on.visited on.d (refusal_cause file on.visited on.d) on.step on.rest.past on.rest.marked
+    (λ why p. no_chain_refusal file on.visited on.d (ap tree_kind on.role) (ap bytes_left on.role) ∙ sym p)) in
     let o = c.in_ok-item.ensures.opened file W d before on.visited on.d c.args.marks.now on.step.page on.role b u n.0 n.1
     (subst (λ s. IsLeft g.K.Sink.takes file W (Go d ∷ []) before on.visited (Go on.d ∷ []) (c.args.marks.now, s)) n.2 on.rest) in
     subst (λ o. TrunkTurns g.K.Sink.takes file W d before (Ok o) c.open_trunk.new.marks c.open_trunk.new.sink)

@@ -10,7 +10,7 @@ use Rattle.dbsource.specs.Errors.{is_read_failed, is_write_failed}
 use Rattle.dbsource.specs.Failures.{failures_after}
 use Rattle.dbsource.specs.Sources.{Asks}
 use Rattle.dbsource.specs.declared.error.RunError.TheVariants.{ReadFailed, WriteFailed}
-use Rattle.dbwalk.specs.Entered.{Enters}
+use Rattle.dbwalk.specs.Entered.{Enters, refused_told}
 use Rattle.dbwalk.specs.Found.{HasPageAt}
 use Rattle.dbmarks.specs.Marking.{page_mark}
 use Rattle.dbwalk.specs.Telling.{IsReadOrWrite, SinkAfter, Tells}
@@ -19,15 +19,15 @@ use Rattle.dbwalk.specs.Roots.{IsRootAfter, kind_of, kind_in}
 use Rattle.dbwalk.specs.Done.{IsTreeDone}
 use Rattle.dbmarks.specs.declared.marks.Mark.{Mark}
 use Rattle.dbmarks.specs.declared.marks.Mark.TheVariants.{Unmarked}
-use Rattle.dbwalk.proofs.Telling.Lefts.{tree_refusal}
+use Rattle.dbwalk.proofs.Pages.PageVisits.{kind_is}
 use Rattle.dbwalk.proofs.Chaining.Overflows.{page_read}
 use Rattle.dbmarks.proofs.Readings.{log_load, log_none, log_page, log_then}
 use Rattle.dbwalk.proofs.Pages.Levels.{geometry_kept, read_there}
 use Rattle.dbwalk.proofs.Trees.Bounds.{root_address}
 use Rattle.dbwalk.proofs.Underway.WalkedTrees.{candidate_as, root_next, tree_done, tree_refused, tree_unasked, tree_unread}
 use Rattle.dbwalk.proofs.Underway.Walks.{with_memory, without_memory}
-use Rattle.dbformat.specs.Story.{at_refused}
-use Rattle.dbtrace.specs.Finding.{told_at}
+use Rattle.dbtrace.specs.Causes.{no_rowids}
+use Rattle.dbtrace.specs.declared.Cause.TheVariants as cause
 use Rattle.dbwalk.proofs.Telling.Sinks.{asked_both, asked_open, asked_walks, moves_open, moves_some, walks_after, walks_as, walks_end}
 use Rattle.dbwalk.proofs.tree.walk_tree.Goals as goal
 
@@ -42,7 +42,7 @@ returns-in_err-enter-clause-asks g c =
           let is = c.tree_step-step.ensures.step (kind_in file root) root.start [] d refl at.candidate in
           let next = root_next file (kind_in file root) root.start root.page 0 root.start W d at.candidate at.early in
           let one = root_address d.address root.start at.candidate.depth at.candidate.start in
-          let n = c.in_err-enter.ensures.entered file W d is next at.marked (λ why p. tree_refusal file W d at.candidate ∙ sym p) in
+          let n = c.in_err-enter.ensures.entered file W d (cause.Rows no_rowids) is next at.marked (λ made p. sym p) in
           subst (λ r. IsTreeDone g.K.Sink.takes g.T.Taker.takes g.T.Taker.refuses file W d r c.enter.new.marks
           (c.args.sink.now, c.args.taker.now) (c.enter.new.sink, c.args.taker.now)) (sym failed)
           (subst (λ s. IsTreeDone g.K.Sink.takes g.T.Taker.takes g.T.Taker.refuses file W d (Err WriteFailed) c.enter.new.marks
@@ -66,13 +66,14 @@ returns-then-not-branch-clause-asks g c = record {
       let is = c.tree_step-step.ensures.step (kind_in file root) root.start [] d refl at.candidate in
       let next = root_next file (kind_in file root) root.start root.page 0 root.start W d at.candidate at.early in
       let one = root_address d.address root.start at.candidate.depth at.candidate.start in
-      let none = subst (λ b. Enters g.K.Sink.takes file W d (Ok b) c.enter.new.marks c.args.sink.now c.enter.new.sink) c.if-not-branch.true
-      (c.in_ok-enter.ensures.entered file W d is next at.marked (λ why p. tree_refusal file W d at.candidate ∙ sym p)) in
-      tree_refused g.K.Sink.takes g.T.Taker.takes g.T.Taker.refuses file root.start W d one at.early c.ask.result c.enter.new.marks c.args.sink.now
+      let none = subst (λ b. Enters g.K.Sink.takes file W d (cause.Rows no_rowids) (Ok b) c.enter.new.marks c.args.sink.now c.enter.new.sink) c.if-not-branch.true
+      (c.in_ok-enter.ensures.entered file W d (cause.Rows no_rowids) is next at.marked (λ made p. sym p)) in
+      tree_refused g.K.Sink.takes g.T.Taker.takes g.T.Taker.refuses file root.start W d one at.early
+      (kind_is file (kind_in file root) root.start [] root.page 0 root.start d at.candidate) c.ask.result c.enter.new.marks c.args.sink.now
       c.enter.new.sink c.args.taker.now (asked_both (λ r. IfErr r IsReadOrWrite) (g.K.Sink.held c.enter.new.sink).is_shut c.ask.ensures tt (inr refl))
-      none.0 none.1 (asked_both (λ r. Tells g.K.Sink.takes r c.args.sink.now (told_at file W (at_refused d)) c.enter.new.sink)
+      none.0 none.1 (asked_both (λ r. Tells g.K.Sink.takes r c.args.sink.now (refused_told file W d (cause.Rows no_rowids)) c.enter.new.sink)
       (g.K.Sink.held c.enter.new.sink).is_shut c.ask.ensures none.2
-      (moves_some g.K.Sink.takes c.args.sink.now c.enter.new.sink (told_at file W (at_refused d)) none.2)));
+      (moves_some g.K.Sink.takes c.args.sink.now c.enter.new.sink (refused_told file W d (cause.Rows no_rowids)) none.2)));
   count = asked_both (λ r. (g.S.Source.held c.args.source.now).failures ≡ failures_after is_read_failed r (g.S.Source.held c.args.source.now).failures)
       (g.K.Sink.held c.enter.new.sink).is_shut c.ask.ensures refl refl;
 }
@@ -92,8 +93,8 @@ returns-in_err-load-clause-asks g c =
           let is = c.tree_step-step.ensures.step (kind_in file root) root.start [] d refl at.candidate in
           let next = root_next file (kind_in file root) root.start root.page 0 root.start W d at.candidate at.early in
           let one = root_address d.address root.start at.candidate.depth at.candidate.start in
-          let n = subst (λ b. Enters g.K.Sink.takes file W d (Ok b) c.enter.new.marks c.args.sink.now c.enter.new.sink) c.if-not-branch.false
-          (c.in_ok-enter.ensures.entered file W d is next at.marked (λ why p. tree_refusal file W d at.candidate ∙ sym p)) in
+          let n = subst (λ b. Enters g.K.Sink.takes file W d (cause.Rows no_rowids) (Ok b) c.enter.new.marks c.args.sink.now c.enter.new.sink) c.if-not-branch.false
+          (c.in_ok-enter.ensures.entered file W d (cause.Rows no_rowids) is next at.marked (λ made p. sym p)) in
           subst (λ r. IsTreeDone g.K.Sink.takes g.T.Taker.takes g.T.Taker.refuses file W d r c.enter.new.marks
           (c.args.sink.now, c.args.taker.now) (c.enter.new.sink, c.args.taker.now)) (sym (q.1 ∙ ap Err q.2))
           (subst (λ s. IsTreeDone g.K.Sink.takes g.T.Taker.takes g.T.Taker.refuses file W d (Err ReadFailed) c.enter.new.marks
@@ -147,8 +148,8 @@ returns-clause-asks g c =
           let kinds = c.new-tree.ensures.names.1 ∙ c.root_kind.ensures.kind
           ∙ ap (kind_of root.kind root.page) (there (bytes_at c.load.new.self 0) c.root_kind.ensures.there) in
           let starts = c.new-tree.ensures.names.0 in
-          let n = subst (λ b. Enters g.K.Sink.takes file W d (Ok b) c.enter.new.marks c.args.sink.now c.enter.new.sink) c.if-not-branch.false
-          (c.in_ok-enter.ensures.entered file W d is next at.marked (λ why p. tree_refusal file W d at.candidate ∙ sym p)) in
+          let n = subst (λ b. Enters g.K.Sink.takes file W d (cause.Rows no_rowids) (Ok b) c.enter.new.marks c.args.sink.now c.enter.new.sink) c.if-not-branch.false
+          (c.in_ok-enter.ensures.entered file W d (cause.Rows no_rowids) is next at.marked (λ made p. sym p)) in
           subst (λ s. IsTreeDone g.K.Sink.takes g.T.Taker.takes g.T.Taker.refuses file W d c.walk_pages.result c.walk_pages.new.self.marks.now
           (s, c.args.taker.now) (c.walk_pages.new.self.sink.now, c.walk_pages.new.self.taker.now)) (sym n.2)
           (tree_done g.K.Sink.takes g.T.Taker.takes g.T.Taker.refuses file root.start W d one at.early c.walk_pages.result

@@ -1,4 +1,4 @@
-use Rattle.std.proofs.Common.{rules, ◌≡◌, ◌+◌, ◌-◌, ◌*◌, ◌<◌, ◌≤◌, [], ◌∷◌, false, inl, inr, set, Ok, Err, refl, sym, ap, subst, arith, ◌∙◌}
+use Rattle.std.proofs.Common.{rules, ◌≡◌, ℤ, Option, ◌+◌, ◌-◌, ◌*◌, ◌<◌, ◌≤◌, [], ◌∷◌, false, inl, inr, set, Ok, Err, refl, sym, ap, subst, arith, ◌∙◌}
 use Rattle.std.specs.Prelude.{slice_get}
 use Rattle.std.proofs.lemmas.Bool.{false≢true}
 use Rattle.std.proofs.lemmas.Result.{err_from_is_err_and}
@@ -12,18 +12,24 @@ use Rattle.dbsource.specs.declared.source.ReadFailed as source_error
 use Rattle.dbsource.proofs.Logs.{has_one}
 use Rattle.dbwalk.specs.Entered.{Enters}
 use Rattle.dbmarks.specs.Marking.{unmarked_pages}
-use Rattle.dbwalk.proofs.Telling.Lefts.{tree_refusal}
+use Rattle.dbwalk.proofs.Pages.PageVisits.{kind_is}
 use Rattle.dbwalk.proofs.Chaining.Overflows.{page_read}
 use Rattle.dbmarks.proofs.Readings.{log_none, log_page, log_then, put_count}
 use Rattle.dbwalk.specs.Found.{HasPageAt}
 use Rattle.dbwalk.specs.Underway.{HasDone, IsEntered, done_below, entered}
 use Rattle.dbwalk.specs.Watching.{watches, fails}
-use Rattle.dbwalk.proofs.Underway.Visits.{done_refused, refused_handed, entered_past, entered_err, unasked, unread}
+use Rattle.dbtrace.specs.declared.Cause.{Cause}
+use Rattle.dbtrace.specs.declared.Cause.TheVariants as cause
+use Rattle.dbwalk.proofs.Underway.Visits.{done_refused, rows_below, refused_handed, entered_past, entered_err, unasked, unread}
 use Rattle.dbwalk.proofs.Pages.Levels.{geometry_kept, read_there, below_kept, keeps_fewer, if_ok_all}
 use Rattle.std.proofs.lemmas.Result.{IfOk-weaker}
 use Rattle.dbwalk.proofs.Underway.Walks.{walked_behind, walked_by, walked_err}
 use Rattle.dbwalk.proofs.Telling.Sinks.{walks_as, walks_err, walks_ok}
 use Rattle.dbwalk.proofs.tree_walk.TreeWalk.enter_page.Goals as goal
+
+-- the cause of a refusal, between these keys
+abbrev rows_of : Option ℤ → Option ℤ → Cause
+rows_of above up_to = cause.Rows (record { above = above; up_to = up_to })
 
 pub returns-in_err-enter-clause-log : goal.returns-in_err-enter-clause-log
 returns-in_err-enter-clause-log g c = log_none c.args.bench.now.geometry.page_size c.args.self.now.marks.now c.enter.new.marks
@@ -31,7 +37,8 @@ returns-in_err-enter-clause-log g c = log_none c.args.bench.now.geometry.page_si
     let t = c.args.self.now.tree in
     let q = err_from_is_err_and c.from_residual.result c.from_residual.ensures.1 in
     let is = c.tree_step-step.ensures.step t.kind t.start t.path.items d (sym c.len-level.ensures.value) candidate in
-    let n = c.in_err-enter.ensures.entered file from.visits d is next at.0 (λ why p. tree_refusal file from.visits d candidate ∙ sym p) in
+    let n = c.in_err-enter.ensures.entered file from.visits d (rows_below t.greatest c.args.up_to) is next at.0
+    (λ made p. ap (λ above. rows_of above c.args.up_to) (sym c.key_value-above.ensures) ∙ sym p) in
     subst (λ s. HasDone (watches g.K.Sink.takes g.T.Taker.takes) (fails g.T.Taker.refuses) file (entered file from d c.from_residual.result)
     c.from_residual.result (c.enter.new.marks, t) (c.args.self.now.sink.now, c.args.self.now.taker.now) (s, c.args.self.now.taker.now)
     × IsEntered file from d c.from_residual.result c.args.bench.now.levels) n.1
@@ -46,15 +53,17 @@ returns-then-not-branch-clause-log g c = log_none c.args.bench.now.geometry.page
     (g.S.Source.held c.args.self.now.source.now) (c.in_ok-enter.ensures.unmarked c.if-not-branch.true) (λ file e coded from d candidate next at bound.
     let t = c.args.self.now.tree in
     let is = c.tree_step-step.ensures.step t.kind t.start t.path.items d (sym c.len-level.ensures.value) candidate in
-    let n = subst (λ b. Enters g.K.Sink.takes file from.visits d (Ok b) c.enter.new.marks c.args.self.now.sink.now c.enter.new.sink)
-    c.if-not-branch.true (c.in_ok-enter.ensures.entered file from.visits d is next at.0 (λ why p. tree_refusal file from.visits d candidate ∙ sym p)) in
+    let n = subst (λ b. Enters g.K.Sink.takes file from.visits d (rows_below t.greatest c.args.up_to) (Ok b) c.enter.new.marks c.args.self.now.sink.now c.enter.new.sink)
+    c.if-not-branch.true (c.in_ok-enter.ensures.entered file from.visits d (rows_below t.greatest c.args.up_to) is next at.0
+    (λ made p. ap (λ above. rows_of above c.args.up_to) (sym c.key_value-above.ensures) ∙ sym p)) in
     entered_past (watches g.K.Sink.takes g.T.Taker.takes) (fails g.T.Taker.refuses) file from d
     c.args.bench.now.levels false (c.enter.new.marks, c.args.self.now.tree) (c.args.self.now.sink.now, c.args.self.now.taker.now)
     (c.enter.new.sink, c.args.self.now.taker.now)
     (done_refused (watches g.K.Sink.takes g.T.Taker.takes) (fails g.T.Taker.refuses) file from d (Ok false)
     (c.enter.new.marks, c.args.self.now.tree) (c.args.self.now.sink.now, c.args.self.now.taker.now) (c.enter.new.sink, c.args.self.now.taker.now) n.0
     (n.1, at.1, at.2)
-    (refused_handed g.K.Sink.takes g.T.Taker.takes g.T.Taker.refuses file from d (Ok false) c.args.self.now.sink.now c.enter.new.sink
+    (refused_handed g.K.Sink.takes g.T.Taker.takes g.T.Taker.refuses file from d
+    (kind_is file t.kind t.start t.path.items c.args.page c.args.from c.args.item d candidate) at.1 bound (Ok false) c.args.self.now.sink.now c.enter.new.sink
     c.args.self.now.taker.now (λ o. cc) n.2)))
 
 pub returns-in_err-load-clause-levels : goal.returns-in_err-load-clause-levels
@@ -78,8 +87,9 @@ returns-in_err-load-clause-log g c =
     let t = c.args.self.now.tree in
     let q = err_from_is_err_and c.from_residual-in_err-load.result c.from_residual-in_err-load.ensures.1 in
     let is = c.tree_step-step.ensures.step t.kind t.start t.path.items d (sym c.len-level.ensures.value) candidate in
-    let n = subst (λ b. Enters g.K.Sink.takes file from.visits d (Ok b) c.enter.new.marks c.args.self.now.sink.now c.enter.new.sink)
-    c.if-not-branch.false (c.in_ok-enter.ensures.entered file from.visits d is next at.0 (λ why p. tree_refusal file from.visits d candidate ∙ sym p)) in
+    let n = subst (λ b. Enters g.K.Sink.takes file from.visits d (rows_below t.greatest c.args.up_to) (Ok b) c.enter.new.marks c.args.self.now.sink.now c.enter.new.sink)
+    c.if-not-branch.false (c.in_ok-enter.ensures.entered file from.visits d (rows_below t.greatest c.args.up_to) is next at.0
+    (λ made p. ap (λ above. rows_of above c.args.up_to) (sym c.key_value-above.ensures) ∙ sym p)) in
     subst (λ s. HasDone (watches g.K.Sink.takes g.T.Taker.takes) (fails g.T.Taker.refuses) file
     (entered file from d c.from_residual-in_err-load.result) c.from_residual-in_err-load.result (c.enter.new.marks, c.args.self.now.tree)
     (c.args.self.now.sink.now, c.args.self.now.taker.now) (s, c.args.self.now.taker.now)
@@ -128,8 +138,9 @@ returns-clause-log g c =
     (λ file h done e coded from d candidate next at bound.
     let t = c.args.self.now.tree in
     let is = c.tree_step-step.ensures.step t.kind t.start t.path.items d (sym c.len-level.ensures.value) candidate in
-    let n = subst (λ b. Enters g.K.Sink.takes file from.visits d (Ok b) c.enter.new.marks c.args.self.now.sink.now c.enter.new.sink)
-    c.if-not-branch.false (c.in_ok-enter.ensures.entered file from.visits d is next at.0 (λ why p. tree_refusal file from.visits d candidate ∙ sym p)) in
+    let n = subst (λ b. Enters g.K.Sink.takes file from.visits d (rows_below t.greatest c.args.up_to) (Ok b) c.enter.new.marks c.args.self.now.sink.now c.enter.new.sink)
+    c.if-not-branch.false (c.in_ok-enter.ensures.entered file from.visits d (rows_below t.greatest c.args.up_to) is next at.0
+    (λ made p. ap (λ above. rows_of above c.args.up_to) (sym c.key_value-above.ensures) ∙ sym p)) in
     let read = page_read file change.bytes c.args.bench.now.geometry.page_size c.args.page change.size h (sym (ap (λ s. s.page_size) e)) in
     let there = subst (λ l. HasPageAt c.load.new.self.levels l (page_bytes file c.args.page)) c.len-level.ensures.value
     (read_there c.args.bench.now c.load.new.self c.len-level.result low change.bytes change.only (page_bytes file c.args.page) read) in

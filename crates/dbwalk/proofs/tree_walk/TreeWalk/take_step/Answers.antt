@@ -1,10 +1,11 @@
-use Rattle.std.proofs.Common.{rules, Some, ◌/◌, ◌≤◌, false, inl, refl, ap, subst, arith, ◌∙◌, w64}
+use Rattle.std.proofs.Common.{rules, ◌≡◌, Some, ◌/◌, ◌≤◌, false, true, inl, refl, ap, subst, arith, ◌∙◌, w64}
 use Rattle.std.specs.Prelude.{slice_get}
 use Rattle.std.proofs.lemmas.Int.{to_z-of_z}
 use Rattle.dbformat.specs.Payload.{most_payload}
 use Rattle.dbformat.specs.FixedPages.{IsPageNumber}
 use Rattle.dbsurvey.specs.Moves.{Moves}
-use Rattle.dbwalk.specs.LeafCells.{order_told, top_after}
+use Rattle.dbtrace.specs.Progress.{key_value}
+use Rattle.dbwalk.specs.LeafCells.{is_late, order_told, top_after}
 use Rattle.dbsource.specs.Bench.{Pages}
 use Rattle.dbsource.proofs.Logs.{has_weaker}
 use Rattle.dbmarks.proofs.Readings.{log_none}
@@ -12,11 +13,12 @@ use Rattle.dbwalk.proofs.Trees.Frames.{ends_behind, ends_on, on_ok_all, next_at,
 use Rattle.dbwalk.proofs.Leaves.LeafCells.{cell_size}
 use Rattle.dbwalk.proofs.Pages.Levels.{keeps_fewer}
 use Rattle.dbwalk.specs.Walking.{path_of}
+use Rattle.dbwalk.specs.Steps.{HasLeft}
 use Rattle.dbwalk.specs.declared.steps.Next.TheVariants.{Chain, Key, Nothing}
 use Rattle.dbwalk.specs.Watching.{fails}
 use Rattle.dbwalk.proofs.Underway.TreeSteps.{aside_done, by_other}
 use Rattle.dbwalk.proofs.Underway.Handing.{found_moves}
-use Rattle.dbwalk.proofs.Underway.TreeTurns.{next_here, turned_behind, turned_empty, turned_key, chained, chain_is, chain_next, turned_chain}
+use Rattle.dbwalk.proofs.Underway.TreeTurns.{next_here, turned_behind, turned_empty, left_here, turned_key, chained, chain_is, chain_next, turned_chain}
 use Rattle.dbwalk.proofs.Underway.Walks.{none_refused, read_or_write, walked_by}
 use Rattle.dbwalk.proofs.Telling.Sinks.{walks_ok}
 use Rattle.dbwalk.proofs.tree_walk.TreeWalk.take_step.Goals as goal
@@ -97,12 +99,19 @@ returns-in-Key-clause-log g c = log_none c.args.bench.now.geometry.page_size c.a
     let n = c.tell_key.new in
     let same = to_z-of_z w64 c.in-Key.key (search rules) in
     let told = subst (λ z. Moves g.K.Sink.takes c.args.self.now.sink.now
-    (order_told false c.args.self.now.tree.greatest c.args.frame.page (c.args.frame.next / 3) z) n.sink) same c.tell_key.ensures.told.items in
+    (order_told false (Some c.left_rows-left.result) c.args.self.now.tree.greatest c.args.frame.page (c.args.frame.next / 3) z) n.sink) same c.tell_key.ensures.told.items in
     let moved = found_moves g.K.Sink.takes g.T.Taker.takes g.T.Taker.refuses
-    (order_told false c.args.self.now.tree.greatest c.args.frame.page (c.args.frame.next / 3) c.in-Key.key) c.args.self.now.sink.now n.sink
-    c.args.self.now.taker.now told in (
+    (order_told false (Some c.left_rows-left.result) c.args.self.now.tree.greatest c.args.frame.page (c.args.frame.next / 3) c.in-Key.key) c.args.self.now.sink.now n.sink
+    c.args.self.now.taker.now told in
+    let read_left = subst (λ z. is_late false (key_value c.args.self.now.tree.greatest) z ≡ true
+    → HasLeft c.args.bench.now.geometry.usable c.args.self.now.tree.kind c.args.bench.now.levels c.len.result c.args.frame.page
+    (c.args.frame.next / 3) z c.left_rows-left.result) same c.left_rows-left.ensures in
+    let left = λ (late : is_late false (key_value c.args.self.now.tree.greatest) c.in-Key.key ≡ true). left_here c.args.frames.now.items c.args.frame walk candidate c.stepped-in-Key.result c.stepped-in-Key.ensures.page
+    c.stepped-in-Key.ensures.next c.stepped-in-Key.ensures.up_to c.in-Key.key here (n.sink, c.args.self.now.taker.now) (ap (λ s. s.usable) e)
+    c.left_rows-left.result (subst (λ level. HasLeft c.args.bench.now.geometry.usable c.args.self.now.tree.kind c.args.bench.now.levels level c.args.frame.page
+    (c.args.frame.next / 3) c.in-Key.key c.left_rows-left.result) c.len.ensures.value (read_left late)) in (
       by_other (turned_key c.args.frames.now.items c.args.frame walk candidate c.stepped-in-Key.result c.stepped-in-Key.ensures.page
-          c.stepped-in-Key.ensures.next c.stepped-in-Key.ensures.up_to c.in-Key.key here (n.sink, c.args.self.now.taker.now) n.self c.tell_key.ensures.others.1
+          c.stepped-in-Key.ensures.next c.stepped-in-Key.ensures.up_to c.in-Key.key here (n.sink, c.args.self.now.taker.now) c.left_rows-left.result left n.self c.tell_key.ensures.others.1
           (c.tell_key.ensures.greatest ∙ ap (λ z. top_after c.args.self.now.tree.greatest c.args.frame.page (c.args.frame.next / 3) (Some z)) same)
           c.tell_key.ensures.others.2 moved)
           c.push-in-Key.ensures.items refl refl refl (λ n l. refl),
