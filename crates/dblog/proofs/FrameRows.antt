@@ -63,22 +63,6 @@ one_frame_more {h = h} {size = size} {count = count} {i = i} {bytes = bytes} {re
       looks = looks_more h f.fs frame s t u f.looks k;
     }
 
--- at the end
-pub all_looked_at : {h : List ℕ} {size count : ℕ} {bytes rest : List ℕ} {s t : Scanned} (i : ℕ) → SoFar h size count i bytes rest s t → count ≤ i
-    → i ≤ count → (fs : List (List ℕ)) × AreFrames size bytes fs × (length fs ≡ count) × LooksAt h fs s t
-all_looked_at {size = size} {count = count} {bytes = bytes} {rest = rest} i f l m =
-    let z : count - i ≡ 0 = omega arith in
-    let none : length rest ≡ 0 = f.left ∙ ap (λ n. n * size) z ∙ omega arith in (
-      f.fs,
-      record {
-        whole = sym (append-nil (concat f.fs)) ∙ ap (λ x. concat f.fs ++ x) (sym (nil_from_length rest none))
-            ∙ f.is;
-        sized = f.sized;
-      },
-      omega (arith, f.long),
-      f.looks,
-    )
-
 -- bytes of as many frames are frames
 pub cut : (size count : ℕ) (bytes : List ℕ) → length bytes ≡ count * size → (fs : List (List ℕ)) × AreFrames size bytes fs × (length fs ≡ count)
 cut size zero bytes l =

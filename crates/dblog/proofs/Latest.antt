@@ -83,10 +83,6 @@ gathers_latest old new pages count h k = record {
 
 -- ---- their pages rise, where all are committed
 
--- e may stand before f
-abbrev IsBefore : Entry → Entry → Type 0
-IsBefore e f = (e.page < f.page) ⊎ ((e.page ≡ f.page) × (e.frame ≤ f.frame))
-
 abbrev pub IsSortedEntries : List Entry → Type 0
 IsSortedEntries es = (k : ℕ) (d : Entry) → 0 ≤ k → k + 1 < length es
     → is_lt (ordering_then (nat_cmp (get_or es (k + 1) d).page (get_or es k d).page) (nat_cmp (get_or es (k + 1) d).frame (get_or es k d).frame)) ≡ false

@@ -100,23 +100,6 @@ scans_added h s t f done o v a k = record {
     by_commit true = omega (arith, k.frames, length_push k.kept f)
     by_commit false = k.committed
 
-pub scans_broken : (h : List ℕ) (s : Scanned) (f : List ℕ) (done : List (List ℕ)) → s.is_open ≡ true → is_valid h s.before f ≡ false → Scans h s done
-    → Scans h (record s { is_open = false }) (done ++ f ∷ [])
-scans_broken h s f done o v k = record {
-  kept = k.kept;
-  passed = f ∷ [];
-  whole = ap (λ xs. xs ++ f ∷ []) (all_kept h s done k o);
-  unbroken = λ e. absurd cc;
-  broken = λ e. omega arith;
-  goes_on = λ more. ap (valid_frames h (sums_at 24 h)) (append_assoc done (f ∷ []) more) ∙ k.goes_on (f ∷ more) ∙ rw (o, v) (append-nil k.kept);
-  frames = k.frames;
-  gathers = k.gathers;
-  committed = k.committed;
-  pages = k.pages;
-  transactions = k.transactions;
-  later = k.later ∙ ap (λ p. length (filter (has_salts h) (drop 1 p))) (k.unbroken o);
-}
-
 pub scans_passed : (h : List ℕ) (s : Scanned) (f : List ℕ) (done : List (List ℕ)) → s.is_open ≡ false → Scans h s done
     → Scans h (passed h f s) (done ++ f ∷ [])
 scans_passed h s f done o k = record {
@@ -162,9 +145,6 @@ passed_room h f s n r = record { frames = omega (arith, r.frames); transactions 
     by_salts : (b : Bool) → cond b (s.later + 1) s.later + n < 2 ^ 32
     by_salts true = omega (arith, r.later)
     by_salts false = omega (arith, r.later)
-
-pub broken_room : (s : Scanned) (n : ℕ) → HasRoom (n + 1) s → HasRoom n (record s { is_open = false })
-broken_room s n r = record { frames = omega (arith, r.frames); transactions = omega (arith, r.transactions); later = omega (arith, r.later) }
 
 -- one frame after others
 pub looks_more : (h : List ℕ) (fs : List (List ℕ)) (f : List ℕ) (s t u : Scanned) → LooksAt h fs s t → LooksAt h (f ∷ []) t u → LooksAt h (fs ++ f ∷ []) s u
