@@ -1,5 +1,5 @@
 // Notes on a file: lines beside the report, which they do not change.
-ghost use Rattle.std.specs.Prelude.{◌≡◌, ◌==◌};
+ghost use Rattle.std.specs.Prelude.{◌≡◌, ◌==◌, ◌<◌, ◌%◌, ◌↔◌, IsTrue, length, sum_by};
 ghost use Rattle.std.specs.List.{list_all};
 ghost use Rattle.dbcli.specs.NoteLines.{beginning_text, piece_text};
 
@@ -158,6 +158,14 @@ impl<'a, R: Lookup + AllocGlobal, N: Out> FileNotes<'a, R, N> {
         self.put_of_file(&[Piece::Words(" has "), len, Piece::Words(noun)]);
     }
 
+    // Whether the last page that the file has bytes of is not whole.
+    fn ends_in_part(&self) -> bool {
+        match self.watch.geometry() {
+            Some(geometry) => ends_in_part(self.watch.len(), geometry.page_size),
+            None => false,
+        }
+    }
+
     // Whether the file was changed, if its name still leads to it.
     fn has_changed(&self) -> bool {
         let Some(before) = self.before else {
@@ -198,7 +206,7 @@ impl<R: Lookup + AllocGlobal, N: Out> Notes for FileNotes<'_, R, N> {
     fn tell(&mut self, outcome: &Result<Verdict, RunError>) {
         match outcome {
             Ok(verdict) => {
-                if *verdict != Verdict::Clean && has_rest(self.watch) {
+                if *verdict != Verdict::Clean && self.ends_in_part() {
                     self.put_copied();
                 }
                 self.put_rest();
@@ -220,7 +228,9 @@ impl<R: Lookup + AllocGlobal, N: Out> Notes for FileNotes<'_, R, N> {
 }
 
 // How many bytes of a file are others.
-fn changed_bytes(changes: &Changes) -> u64 {
+fn changed_bytes(changes: &Changes) -> u64
+    ensures { result ≡ sum_by (λ change. length change.bytes) changes.now }
+{
     let mut count = 0u64;
     for change in changes.as_slice() {
         count = count.saturating_add(change.count() as u64);
@@ -246,10 +256,9 @@ fn beginning(first: [u8; 16]) -> Piece
     }
 }
 
-// Whether the length of the file is not that of whole pages.
-fn has_rest(watch: &Watch) -> bool {
-    match watch.geometry() {
-        Some(geometry) => watch.len().checked_rem(u64::from(geometry.page_size)) != Some(0),
-        None => false,
-    }
+// Whether a file of this length ends within a page.
+fn ends_in_part(len: u64, page_size: u32) -> bool
+    ensures { 0 < page_size → IsTrue result ↔ 0 < len % page_size }
+{
+    len.checked_rem(u64::from(page_size)) != Some(0)
 }

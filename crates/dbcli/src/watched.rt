@@ -1,5 +1,5 @@
 // A source over another source, which sees what is asked of that.
-ghost use Rattle.std.specs.Prelude.{◌≡◌};
+ghost use Rattle.std.specs.Prelude.{◌≡◌, ◌-◌, ◌++◌, length, replicate, take};
 
 use crate::copied::Copied;
 use crate::progress::Progress;
@@ -87,11 +87,12 @@ impl Watch {
 }
 
 // The first 16 bytes, with zeros for those that the file does not have.
-fn first_of(bytes: &[u8]) -> [u8; 16] {
+fn first_of(bytes: &[u8]) -> [u8; 16]
+    ensures { result ≡ take 16 bytes.now ++ replicate (16 - length bytes.now) 0 }
+{
     let mut first = [0; 16];
-    for (to, from) in first.iter_mut().zip(bytes) {
-        *to = *from;
-    }
+    let count = bytes.len().min(16);
+    first[..count].copy_from_slice(&bytes[..count]);
     first
 }
 
