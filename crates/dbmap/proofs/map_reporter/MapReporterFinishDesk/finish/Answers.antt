@@ -1,4 +1,4 @@
-use Rattle.std.proofs.Common.{Ok, Err, ap, inl, inr, refl, ◌∙◌}
+use Rattle.std.proofs.Common.{false, Ok, Err, ap, inl, inr, refl, ◌∙◌}
 use Rattle.std.proofs.lemmas.Result.{err_from_is_err_and}
 use Rattle.std.specs.Io.KnownBytes.{Appends}
 use Rattle.dbsource.specs.Outs.{Begins}
