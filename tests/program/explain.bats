@@ -6,6 +6,7 @@ note='table note'
 twice_below="    page 2 at byte 512: root of $note"$'\n'"    page 7 at byte 3072: in $note, child of page 2"$'\n'
 unused_below=$'    page 8 at byte 3584: in no tree, overflow chain or freelist\n    looks like a leaf of a table with 6 cells, rowids 25 to 30\n'
 summary=$'2 faults\n    1 R03 page is already in use\n    1 N01 page is not in use\n    1 in table note (root page 2), on 1 of its 5 pages\n'
+summary+=$'        rows not reached: rowids above 24 and up to 30\n'
 summary+=$'    1 in the whole file\n    0 of 1 table and 1 of 1 index without a fault\n'
 
 @test 'explain says ok of a sound database' {

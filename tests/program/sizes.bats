@@ -53,7 +53,8 @@ counted() {
     {
         echo "$1 faults"
         echo "    $1 P01 unknown page type"
-        seq "$1" | awk -v roots="$roots" -v name="$2" '{ printf "        1 in table " name " (root page %d), on 1 of its 1 page\n", $1, roots + $1 - 1 }'
+        seq "$1" | awk -v roots="$roots" -v name="$2" '{
+            printf "        1 in table " name " (root page %d), on 1 of its 1 page\n        rows not reached: %s\n", $1, roots + $1 - 1, $1 <= 1000 ? "all rows" : "1 more" }'
         echo "    pages $roots to $((roots + $1 - 1)) are zeros: bytes $((512 * (roots - 1))) to $((512 * (roots + $1 - 1) - 1))"
         echo "    0 of $1 tables and 0 of 0 indexes without a fault"
     } > "$work/wanted"
@@ -184,6 +185,7 @@ $lost_page
     all zeros
 4 faults
 *    1 in table t (root page $root), on 1 of its 5 pages
+        rows cut short: 1
     1 in the freelist*, on 1 of its $((pages - 8)) pages
     2 in the whole file
     page $lost is zeros: bytes $(at "$lost") to $(($(at "$lost") + 65535))

@@ -18,8 +18,8 @@ use std::alloc::Allocator;
 /// what it goes back to, and how many faults belong to it. Then how many faults there are by code and by tree. It reads what a
 /// check reads, and then each page to which nothing refers, once, for what it looks like.
 ///
-/// What it keeps is in memory from `alloc`, which may be any allocator: a [`Desk`](dbscan::Desk), `limit` entries, a count for each
-/// start, and for each page four bytes and two bits. All of this is there before the first page is read; only the list of roots grows
+/// What it keeps is in memory from `alloc`, which may be any allocator: a [`Desk`](dbscan::Desk), `limit` entries, 1000 ranges of rows,
+/// counts for each start, and for each page four bytes and two bits. All of this is there before the first page is read; only the list of roots grows
 /// after that.
 ///
 /// # Errors

@@ -32,6 +32,7 @@ N01 page 7 item 0 value 0: page is not in use
     1 R03 page is already in use
     1 N01 page is not in use
     1 in table order (root page 5), on 1 of its 2 pages
+        rows not reached: rowids above 200
     1 in the whole file
     1 of 2 tables and 0 of 0 indexes without a fault
 ";
@@ -158,8 +159,12 @@ const FAULTY: usize = STARTS + 16;
 // Four bytes a page for the trees.
 const TREES: usize = FAULTY + 32;
 
+// 1000 ranges of 40 bytes; and 24 bytes and then one for each of 65537 starts, all but the freelist's.
+const RANGES: usize = TREES + 1000 * 40;
+const OTHERS: usize = RANGES + 65537 * 24 + 8;
+const INDEXES: usize = OTHERS + 65537 + 15;
 // As rows are read, the list of roots takes four rows of 20 bytes, and then 8 bytes of names, and 16 in their place.
-const ROOTS: usize = TREES + 80;
+const ROOTS: usize = INDEXES + 80;
 
 const NAMES: usize = ROOTS + 16;
 
@@ -176,6 +181,9 @@ fn each_growth_is_refused(rt: HostRuntime) -> Result<(), Fail> {
         STARTS,
         FAULTY,
         TREES,
+        RANGES,
+        OTHERS,
+        INDEXES,
         ROOTS,
         NAMES,
         NAMES + 16,
