@@ -87,3 +87,8 @@ END
     needs python3
     python3 tests/logs.py "$DBCK" "$work/pairs" 60 7
 }
+
+@test 'each read and each growth of a run over a pair fails in turn' {
+    needs python3 cc
+    python3 tests/failing.py "$DBCK" "$work/failing"
+}

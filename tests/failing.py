@@ -1,0 +1,133 @@
+#!/usr/bin/env python3
+"""What a run over a database and its log answers where a read fails, or memory is refused: each call in turn.
+
+    tests/failing.py DBCK FOLDER
+
+A library that is loaded before the C library lets the call of one number fail; `cc` makes it in FOLDER. A read that fails has to end the run
+with status 4 and E8, a growth that is refused with 5 and E9; or all is as it is without: a longer read is made again, of the page alone, and
+a growth may be one of a note. What was written by then is a beginning of the report, of whole lines; of `explain` the first lines of what it
+found. The pair is as it was.
+"""
+
+import os
+import random
+import shutil
+import subprocess
+import sys
+
+sys.path.insert(0, os.path.dirname(os.path.abspath(__file__)))
+import logs
+
+LIBRARY = r"""
+#define _GNU_SOURCE
+#include <dlfcn.h>
+#include <errno.h>
+#include <stdlib.h>
+#include <unistd.h>
+
+static long calls, of_read, at, told;
+
+static long number(const char *name) {
+    const char *text = getenv(name);
+    return text ? atol(text) : 0;
+}
+
+__attribute__((constructor)) static void begin(void) {
+    of_read = number("FAILS_READ") > 0;
+    told = number("TOLD");
+    calls = 0;
+    at = number(of_read ? "FAILS_READ" : "FAILS_GROWTH");
+}
+
+static int fails(int is_read) {
+    return at && is_read == of_read && ++calls == at && write(told, "x", 1) == 1;
+}
+
+#define CALL(type, name, ...) static type (*real)(__VA_ARGS__); if (!real) real = (type (*)(__VA_ARGS__))dlsym(RTLD_NEXT, name)
+
+void *malloc(size_t count) {
+    CALL(void *, "malloc", size_t);
+    return fails(0) ? NULL : real(count);
+}
+
+void *realloc(void *old, size_t count) {
+    CALL(void *, "realloc", void *, size_t);
+    return fails(0) ? NULL : real(old, count);
+}
+
+ssize_t pread(int file, void *bytes, size_t count, off_t from) {
+    CALL(ssize_t, "pread", int, void *, size_t, off_t);
+    if (!fails(1)) return real(file, bytes, count, from);
+    errno = EIO;
+    return -1;
+}
+"""
+
+COMMANDS = (["check"], ["stat", "--all"], ["explain"], ["map"])
+ERRORS = {"FAILS_READ": (4, b"dbck: E8 the file cannot be read\n"), "FAILS_GROWTH": (5, b"dbck: E9 out of memory\n")}
+
+
+def ran(words, library, what, number):
+    """How a run ended whose call of this number failed, what it wrote, and whether there was such a call."""
+    told, tells = os.pipe()
+    env = {"LD_PRELOAD": library, "TOLD": str(tells), what: str(number)}
+    done = subprocess.run(words, stdout=subprocess.PIPE, stderr=subprocess.PIPE, pass_fds=(tells,), env=env, check=False, timeout=60)
+    os.close(tells)
+    has_failed = os.read(told, 1) != b""
+    os.close(told)
+    said = b"".join(line for line in done.stderr.splitlines(keepends=True) if not line.startswith(b"dbck: note: "))
+    return (done.returncode, done.stdout, said), has_failed
+
+
+def are_lines_of(out, whole):
+    """Whether these are whole lines of a report, in its order."""
+    rest = iter(whole.splitlines(keepends=True))
+    return out[-1:] in (b"", b"\n") and all(line in rest for line in out.splitlines(keepends=True))
+
+
+def is_right(command, what, got, whole):
+    """Whether a run in which a call failed ended as it has to, where this is how it ends if none does."""
+    (status, out, err), (error, line) = got, ERRORS[what]
+    if got == whole:
+        return True
+    is_part = are_lines_of(out, whole[1]) and (command == ["explain"] or whole[1].startswith(out))
+    return status == error and is_part and err.endswith(line) and whole[2].startswith(err[: -len(line)])
+
+
+def run(dbck, folder):
+    rnd, wrong = random.Random(3), 0
+    shutil.rmtree(folder, ignore_errors=True)
+    os.makedirs(folder)
+    library = folder + "/failing.so"
+    logs.put(folder + "/failing.c", LIBRARY.encode())
+    subprocess.run(["cc", "-shared", "-fPIC", "-O1", "-o", library, folder + "/failing.c", "-ldl"], check=True)
+    # without and with a fault
+    for more in ([], ["--with", "100=07"]):
+        os.makedirs(folder + "/pair")
+        logs.wal_pair(folder + "/pair", rnd)
+        pair = (folder + "/pair/kept", folder + "/pair/kept-wal")
+        before = logs.seen(pair)
+        for command in COMMANDS:
+            words = [dbck] + command + more + ["--recovered", pair[0]]
+            whole, _ = ran(words, library, "FAILS_READ", 0)
+            for what in ERRORS:
+                number, has_failed = 0, True
+                while has_failed:
+                    number += 1
+                    got, has_failed = ran(words, library, what, number)
+                    if got != whole if not has_failed else not is_right(command, what, got, whole):
+                        wrong += 1
+                        print("%s, %s %d: status %d, %d bytes, %r" % (" ".join(command), what, number, got[0], len(got[1]), got[2][-80:]))
+                print("%s: %s, %d calls, ends with %d without" % (" ".join(command), what, number - 1, whole[0]))
+        if logs.seen(pair) != before:
+            wrong += 1
+            print("the pair was changed")
+        shutil.rmtree(folder + "/pair")
+    print("%d wrong" % wrong)
+    return 1 if wrong else 0
+
+
+if __name__ == "__main__":
+    if len(sys.argv) != 3:
+        sys.exit(__doc__)
+    sys.exit(run(*sys.argv[1:]))
