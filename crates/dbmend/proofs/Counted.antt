@@ -1,5 +1,5 @@
 -- What the counter has counted of a file.
-use Rattle.std.proofs.Common.{◌≡◌, ◌∙◌, ◌+◌, ℕ, List, [], ◌∷◌, length, Result, Ok, Err, ap, arith, inl, inr, refl, subst, sym}
+use Rattle.std.proofs.Common.{◌≡◌, ◌∙◌, ◌+◌, ℕ, List, [], ◌∷◌, length, Result, Ok, ap, arith, inl, inr, subst, sym}
 use Rattle.std.specs.Prelude.{IfOk}
 use Rattle.dbsurvey.specs.Moves.{Moves}
 use Rattle.dbformat.specs.Lines.{counted}

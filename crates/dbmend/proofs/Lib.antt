@@ -5,3 +5,6 @@ pub mod LentRuns
 pub mod Looked
 pub mod Patching
 pub mod RunCounts
+pub mod Searches
+pub mod Steps
+pub mod Trials

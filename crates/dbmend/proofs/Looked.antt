@@ -1,8 +1,8 @@
 -- A look, by what the call of the source says.
-use Rattle.std.proofs.Common.{◌≡◌, ℕ, ◌+◌, ◌≤◌, List, length, Option, None, Some, Result, Ok, Err, ap, refl, subst, sym}
+use Rattle.std.proofs.Common.{◌≡◌, ℕ, ◌≤◌, List, length, Option, Result, Ok, Err, ap, subst, sym}
 use Rattle.std.specs.Prelude.{IfSome, OnOk}
 use Rattle.dbformat.specs.declared.ByteRange.{ByteRange}
-use Rattle.dbsource.specs.Answers.{FitsAnswer, IsRangeOf, answer, asked}
+use Rattle.dbsource.specs.Answers.{FitsAnswer, IsRangeOf, answer}
 use Rattle.dbsource.specs.Failures.{failures_after, is_any}
 use Rattle.dbsource.specs.declared.source.Source.{Ghosts as SourceWords}
 use Rattle.dbsource.proofs.Logs.{asked_range}

@@ -1,5 +1,5 @@
 -- What a run with changes read, by what it read of a source with changes over a reference.
-use Rattle.std.proofs.Common.{◌≡◌, ℕ, List, [], ◌∷◌, Option, Result, Ok, Err, ap, refl, subst, sym}
+use Rattle.std.proofs.Common.{◌≡◌, List, Result, Ok, Err, subst}
 use Rattle.std.specs.Prelude.{MatchResult}
 use Rattle.dbformat.specs.File.{geometry}
 use Rattle.dbformat.specs.Log.{IsRunLog, IsSomeRunLog}

@@ -1,12 +1,11 @@
 -- What a run has counted, by how it was opened and what its counter heard.
-use Rattle.std.proofs.Common.{◌≡◌, ◌∙◌, ℕ, Bool, true, cond, arith, List, Result, Ok, Err, None, false, ap, refl, subst, sym}
+use Rattle.std.proofs.Common.{◌≡◌, ◌∙◌, ℕ, Bool, true, cond, arith, List, Result, Ok, Err, false, ap, refl, sym}
 use Rattle.std.proofs.lemmas.Bool.Decides.{nat_tests}
-use Rattle.std.specs.Prelude.{◌==◌, ◌↔◌, IfErr, IfOk, Some}
-use Rattle.dbformat.specs.File.{geometry, refusal}
+use Rattle.std.specs.Prelude.{◌==◌, ◌↔◌}
 use Rattle.dbformat.specs.FixedPages.{geometry_of}
 use Rattle.dbformat.specs.Log.{IsPageLog}
 use Rattle.dbformat.specs.Reference.{Reference}
-use Rattle.dbformat.specs.Report.{faults, verdict, verdict_of}
+use Rattle.dbformat.specs.Report.{faults, verdict_of}
 use Rattle.dbformat.specs.Sound.{Sound}
 use Rattle.dbformat.specs.Survey.{Survey, survey}
 use Rattle.dbformat.specs.declared.Command.TheVariants.{Check}

@@ -1,8 +1,7 @@
 -- What is done to a source: runs over it with some changes, and looks at pieces of it.
-use Rattle.std.specs.Prelude.{◌≡◌, ◌+◌, ◌≤◌, ◌⊎◌, ℕ, List, [], ◌∷◌, sum_by, Result, IfErr, IfSome}
+use Rattle.std.specs.Prelude.{◌≡◌, ◌+◌, ◌≤◌, ◌⊎◌, ℕ, List, [], ◌∷◌, sum_by, Result, IfErr, IfOk, IfSome}
 use Rattle.dbformat.specs.File.{geometry}
 use Rattle.dbformat.specs.Log.{IsRunLog, IsSomeRunLog}
-use Rattle.dbformat.specs.declared.ByteRange.{ByteRange}
 use Rattle.dbsource.specs.Answers.{Answer, FitsAnswer, asked, failed, given}
 use Rattle.dbsource.specs.Changes.{Change, patched}
 use Rattle.dbsource.specs.Errors.{is_read_failed}
@@ -71,12 +70,12 @@ module _ {S : Type 0} (source : SourceWords S) where
   DoesAll [] old new = new ≡ old
   DoesAll (d ∷ ds) old new = (mid : S) × Does d old mid × DoesAll ds mid new
 
-  -- What a call did: some deeds, of which this is so. With the runs that it left, its runs are those that it had. The source failed, once,
-  -- exactly at a failed read; and no other error is answered but that memory was refused.
-  pub record HasDone {A : Type 0} (r : Result A RunError) (had left : ℕ) (Of : List Deed → Type 0) (old new : S) : Type 0 where
+  -- What a call did: some deeds, of which this is so, with its answer. With the runs that it left, its runs are at most those that it had.
+  -- The source failed, once, exactly at a failed read; and no other error is answered but that memory was refused.
+  pub record HasDone {A : Type 0} (r : Result A RunError) (had left : ℕ) (Of : A → List Deed → Type 0) (old new : S) : Type 0 where
     pub deeds : List Deed
     pub done : DoesAll deeds old new
-    pub runs : runs_in deeds + left ≡ had
-    pub of : Of deeds
+    pub runs : runs_in deeds + left ≤ had
+    pub of : IfOk r (λ a. Of a deeds)
     pub reads : (source.held new).failures ≡ failures_after is_read_failed r (source.held old).failures
     pub only : IfErr r IsReadOrMemory

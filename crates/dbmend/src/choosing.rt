@@ -36,7 +36,7 @@ pub fn candidates<A: Allocator + Copy, S: Source>(
     found: &Findings<A>,
     source: &mut S,
 ) -> Result<Tries, RunError>
-    ensures { HasDone S.Source result 0 0 (λ deeds. Unit {0}) source.old source.new }
+    ensures { HasDone S.Source result 0 0 (λ tries deeds. Unit {0}) source.old source.new }
 {
     let mut paper = Paper::new_in(alloc, found.desk.geometry())?;
     let mut lost = Lost::new_in(alloc, found.desk.geometry().pages)?;

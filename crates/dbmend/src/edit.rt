@@ -1,6 +1,7 @@
 // A few bytes that may be put into a file, and how changes are made of them.
 ghost use Rattle.std.specs.Prelude.{◌≡◌, ◌∷◌, ◌++◌, [], ◌≤◌, length, take, IfSome};
 
+use arrayvec::ArrayVec;
 use dbsource::{Change, Changes};
 use std::marker::Model;
 
@@ -83,6 +84,9 @@ impl Edit {
         &self.bytes[..self.count]
     }
 }
+
+// The edits of a search so far.
+pub(crate) type Edits = ArrayVec<Edit, 16>;
 
 // The changes of some edits, if they can be made together.
 fn changes_of(edits: &[Edit]) -> Option<Changes>

@@ -1,5 +1,7 @@
-//! What a search for the changes that make a damaged database sound stands on: runs over a file with changes, and the edits that are
-//! worth such a run.
+//! Looks for the changes that make a damaged database sound.
+//!
+//! [`mend`] writes them, each of a run over the file with it and those before it, and how many faults each leaves. Nothing is written to
+//! the file.
 //!
 //! [`count_changed`] counts the faults of a file with some changes, as a check does of the file itself. It writes nothing. So whether a
 //! file would be sound with other bytes is answered before they are written.
@@ -18,15 +20,20 @@ mod header_edits;
 mod lent;
 mod looking;
 mod lost;
+mod mending;
 mod numbers;
 mod places;
 mod pointers;
 mod reading;
+mod stepping;
+mod texts;
+mod trying;
 mod wanted;
 
 pub use choosing::{Tries, candidates};
 pub use count::Count;
 pub use counter::Counter;
 pub use counting::{Findings, count_changed};
-pub use dbsource::{Change, Changes, RunError, Source};
+pub use dbsource::{Change, Changes, Out, RunError, Source};
 pub use edit::{Edit, changes_with};
+pub use mending::mend;

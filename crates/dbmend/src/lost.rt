@@ -146,7 +146,7 @@ pub(crate) fn look_at_lost<A: Allocator, S: Source>(
     paper: &mut Paper<A>,
     lost: &mut Lost<A>,
 ) -> Result<(), RunError>
-    ensures { HasDone S.Source result 0 0 (λ deeds. Unit {0}) source.old source.new }
+    ensures { HasDone S.Source result 0 0 (λ a deeds. Unit {0}) source.old source.new }
 {
     for index in 0..desk.geometry().pages {
         if desk.is_lost(index + 1) {

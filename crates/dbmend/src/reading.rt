@@ -92,7 +92,7 @@ pub(crate) fn read_page<A: Allocator, S: Source>(
     page: u32,
     paper: &mut Paper<A>,
 ) -> Result<(), RunError>
-    ensures { HasDone S.Source result 0 0 (λ deeds. Unit {0}) source.old source.new }
+    ensures { HasDone S.Source result 0 0 (λ a deeds. Unit {0}) source.old source.new }
 {
     paper.page = page;
     let begins = paper.begins();

@@ -1,6 +1,5 @@
-use Rattle.std.proofs.Common.{List, Ok, Err, refl}
+use Rattle.std.proofs.Common.{Ok, Err, refl}
 use Rattle.std.proofs.lemmas.Result.{err_from_is_err_and}
-use Rattle.dbmend.specs.Deeds.{Deed}
 use Rattle.dbmend.proofs.Done.{done_error, done_refused, done_then, done_weaker}
 use Rattle.dbmend.proofs.choosing.candidates.Goals as goal
 
@@ -13,13 +12,13 @@ loop-want-preserved g c = done_then g.S.Source tt (Ok tt) c.loop-want.invariant 
 pub returns-in_err-read_page : goal.returns-in_err-read_page
 returns-in_err-read_page g c =
     let q = err_from_is_err_and c.from_residual-in_err-read_page.result c.from_residual-in_err-read_page.ensures.1 in
-    rw q.1 (rw q.2 (done_error g.S.Source c.in_err-read_page.field-0.0 {P = λ (ds : List Deed). Unit {0}}
-    (done_then g.S.Source tt (Err c.in_err-read_page.field-0.0) c.loop-want.invariant c.in_err-read_page.ensures (λ x y p q. tt)) (λ x p. tt)))
+    rw q.1 (rw q.2 (done_error g.S.Source c.in_err-read_page.field-0.0
+    (done_then g.S.Source tt (Err c.in_err-read_page.field-0.0) {R = λ a deeds. Unit {0}} c.loop-want.invariant c.in_err-read_page.ensures (λ x y p q. tt))))
 
 pub returns-in_err-look_at_lost : goal.returns-in_err-look_at_lost
 returns-in_err-look_at_lost g c =
     let q = err_from_is_err_and c.from_residual-in_err-look_at_lost.result c.from_residual-in_err-look_at_lost.ensures.1 in
-    rw q.1 (rw q.2 (done_error g.S.Source c.in_err-look_at_lost.field-0.0 c.in_err-look_at_lost.ensures (λ x p. tt)))
+    rw q.1 (rw q.2 (done_error g.S.Source c.in_err-look_at_lost.field-0.0 c.in_err-look_at_lost.ensures))
 
 pub returns : goal.returns
 returns g c = done_weaker g.S.Source tt _ c.loop-want.invariant (λ x p. tt)
@@ -27,9 +26,9 @@ returns g c = done_weaker g.S.Source tt _ c.loop-want.invariant (λ x p. tt)
 pub returns-in_err-paper : goal.returns-in_err-paper
 returns-in_err-paper g c =
     let q = err_from_is_err_and c.from_residual.result c.from_residual.ensures.1 in
-    rw q.1 (rw q.2 (done_refused g.S.Source 0 c.args.source.now c.args.source.now refl tt))
+    rw q.1 (rw q.2 (done_refused g.S.Source 0 c.args.source.now c.args.source.now refl))
 
 pub returns-in_err-lost : goal.returns-in_err-lost
 returns-in_err-lost g c =
     let q = err_from_is_err_and c.from_residual-in_err-lost.result c.from_residual-in_err-lost.ensures.1 in
-    rw q.1 (rw q.2 (done_refused g.S.Source 0 c.args.source.now c.args.source.now refl tt))
+    rw q.1 (rw q.2 (done_refused g.S.Source 0 c.args.source.now c.args.source.now refl))

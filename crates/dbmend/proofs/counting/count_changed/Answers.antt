@@ -1,4 +1,4 @@
-use Rattle.std.proofs.Common.{rules, ◌≡◌, ◌∙◌, ap}
+use Rattle.std.proofs.Common.{rules, ◌≡◌}
 use Rattle.dbmend.proofs.Patching.{tried_over}
 use Rattle.dbmend.proofs.counting.count_changed.Goals as goal
 

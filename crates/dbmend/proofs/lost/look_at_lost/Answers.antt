@@ -1,7 +1,6 @@
 use Rattle.std.proofs.lemmas.Result.{err_from_is_err_and}
-use Rattle.std.proofs.Common.{Ok, Err, subst, sym}
-use Rattle.dbmend.specs.Deeds.{HasDone}
-use Rattle.dbmend.proofs.Done.{done_error, done_then}
+use Rattle.std.proofs.Common.{Ok, Err}
+use Rattle.dbmend.proofs.Done.{done_then}
 use Rattle.dbmend.proofs.lost.look_at_lost.Goals.{then-is_lost+in_ok-read_page, else-is_lost}
 use Rattle.dbmend.proofs.lost.look_at_lost.Goals as goal
 
