@@ -14,9 +14,13 @@ use Rattle.dbsource.specs.declared.out.Out.{Ghosts as OutWords}
 use Rattle.dbsource.specs.declared.source.Source.{Ghosts as SourceWords}
 use Rattle.dbsource.proofs.Changed.{changed_length}
 use Rattle.dbsource.proofs.PatchedRuns.{patched_file, ranges_below, same_changed}
+use Rattle.dbcli.proofs.Mending.{mended_from}
 use Rattle.dbcli.specs.Exit.{IsFinishOf, failures_at_4}
 use Rattle.dbcli.specs.Finishing.{Finishes, IsInsideRun, IsMeasured, IsPastEnd, IsUnmeasured, RunsInside}
+use Rattle.dbcli.specs.Tasks.{Does, DoesWith, changed_words}
 use Rattle.dbcli.specs.declared.request.Request.{Request}
+use Rattle.dbcli.specs.declared.task.Task.{Task}
+use Rattle.dbcli.specs.declared.task.Task.TheVariants.{Run, Mend}
 
 -- a source as contracts see it is its parts
 pub same_state : (s t : SourceState) → s.bytes ≡ t.bytes → s.trail ≡ t.trail → s.failures ≡ t.failures → s ≡ t
@@ -39,7 +43,7 @@ failed_below a b s t e =
 module _ {S O E : Type 0} (inner : SourceWords S) (out : OutWords O) (err : OutWords E) where
   -- the source with changes
   abbrev pub patched_words : SourceWords (Over S)
-  patched_words = record { held = λ s. changed s.changes (inner.held s.source); step = ChangedStep inner.step; lengths = ChangedLength inner.lengths }
+  patched_words = changed_words inner
 
   -- what finishing left of it is left of the source below it, with its changes
   finishes_below : (asked : Request) (status : ℕ) (s t : Over S) (o o' : O) (e e' : E) → Finishes patched_words out err [] asked status (s, o, e) (t, o', e')
@@ -60,6 +64,12 @@ module _ {S O E : Type 0} (inner : SourceWords S) (out : OutWords O) (err : OutW
     second = record { whole = h.second.whole; tried = h.second.tried; quiet = h.second.quiet; line = h.second.line };
   }
 
+  -- and what is left by what a line asks for
+  does_below : (asked : Task) (status : ℕ) (s t : Over S) (o o' : O) (e e' : E) → Does patched_words out err asked status (s, o, e) (t, o', e')
+      → DoesWith inner out err s.changes asked status (s.source, o, e) (t.source, o', e')
+  does_below (Run request) status s t o o' e e' h = finishes_below request status s t o o' e e' h
+  does_below (Mend limit) status s t o o' e e' h = (t, refl, h)
+
   -- a length of it is one of the source below
   measured_below : (len : ℕ) (s : Over S) → IsMeasured patched_words out err len s → IsMeasured inner out err len s.source
   measured_below len s h = record {
@@ -75,15 +85,15 @@ module _ {S O E : Type 0} (inner : SourceWords S) (out : OutWords O) (err : OutW
       of_told (Some file) k = k ∙ changed_length s.changes 0 file
 
   -- what a line left of it is left of the source below
-  pub runs_below : (changes : List Change) (asked : Request) (status : ℕ) (s t : Over S) (o o' : O) (e e' : E)
-      → RunsInside patched_words out err changes (Finishes patched_words out err [] asked status) status (s, o, e) (t, o', e')
-      → RunsInside inner out err changes (Finishes inner out err s.changes asked status) status (s.source, o, e) (t.source, o', e')
-  runs_below [] asked status s t o o' e e' h = finishes_below asked status s t o o' e e' h
+  pub runs_below : (changes : List Change) (asked : Task) (status : ℕ) (s t : Over S) (o o' : O) (e e' : E)
+      → RunsInside patched_words out err changes (Does patched_words out err asked status) status (s, o, e) (t, o', e')
+      → RunsInside inner out err changes (DoesWith inner out err s.changes asked status) status (s.source, o, e) (t.source, o', e')
+  runs_below [] asked status s t o o' e e' h = does_below asked status s t o o' e e' h
   runs_below (c ∷ changes) asked status s t o o' e e' (inl h) = inl (record {
     len = h.len;
     measured = measured_below h.len s h.measured;
     inside = h.inside;
-    ran = finishes_below asked status s t o o' e e' h.ran;
+    ran = does_below asked status s t o o' e e' h.ran;
   })
   runs_below (c ∷ changes) asked status s t o o' e e' (inr (inl h)) = inr (inl (record {
     len = h.len;
@@ -102,7 +112,7 @@ module _ {S O E : Type 0} (inner : SourceWords S) (out : OutWords O) (err : OutW
   }))
 
   -- what finishing left after the length was asked for, it left
-  pub finishes_from : (asked : Request) (status : ℕ) (s s' t : S) (o o' : O) (e e' : E) → inner.held s' ≡ inner.held s
+  finishes_from : (asked : Request) (status : ℕ) (s s' t : S) (o o' : O) (e e' : E) → inner.held s' ≡ inner.held s
       → Finishes inner out err [] asked status (s', o, e) (t, o', e') → Finishes inner out err [] asked status (s, o, e) (t, o', e')
   finishes_from asked status s s' t o o' e e' same h = record {
     read = record {
@@ -122,6 +132,22 @@ module _ {S O E : Type 0} (inner : SourceWords S) (out : OutWords O) (err : OutW
     };
     first = record { whole = h.first.whole; unwritten = h.first.unwritten; tried = h.first.tried };
     second = record { whole = h.second.whole; tried = h.second.tried; quiet = h.second.quiet; line = h.second.line };
+  }
+
+  -- and so what was asked for
+  pub does_from : (asked : Task) (status : ℕ) (s s' t : S) (o o' : O) (e e' : E) → inner.held s' ≡ inner.held s
+      → Does inner out err asked status (s', o, e) (t, o', e') → Does inner out err asked status (s, o, e) (t, o', e')
+  does_from (Run request) status s s' t o o' e e' same h = finishes_from request status s s' t o o' e e' same h
+  does_from (Mend limit) status s s' t o o' e e' same h = record {
+    answer = h.answer;
+    written = h.written;
+    mended = mended_from inner out limit h.answer s s' t o h.written same h.mended;
+    outcome = h.outcome;
+    second = h.second;
+    handed = h.handed;
+    is_status = h.is_status;
+    quiet = h.quiet;
+    line = h.line;
   }
 
   -- a run with changes

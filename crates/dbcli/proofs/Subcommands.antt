@@ -15,8 +15,9 @@ use Rattle.dbcli.specs.declared.command_line.LineError.{LineError}
 use Rattle.dbcli.specs.declared.command_line.LineError.TheVariants.{Words, Limit, With, NotText}
 use Rattle.clap.proofs.OnLiterals.{clap_on_literals}
 use Rattle.dbcli.specs.CommandLine.{AsksFor, AsksForNone, HasLimit, IsErrorIn, IsErrorOf, IsInRow, IsKindOf, IsLimit, IsLimitOf, SpellsNone, dbck_app, name_of}
-use Rattle.dbcli.specs.declared.request.Request.{Request}
 use Rattle.dbcli.specs.declared.request.Request.TheVariants.{Report, Explain, Map}
+use Rattle.dbcli.specs.declared.task.Task.{Task}
+use Rattle.dbcli.specs.declared.task.Task.TheVariants.{Run, Mend}
 use Rattle.dbformat.specs.declared.Command.TheVariants.{Check, Stat}
 
 -- a name and rows that were found are those of one subcommand
@@ -73,11 +74,11 @@ error_is_in_words (Ok a) words met taken same h = tt
 error_is_in_words (Err error) words met taken same h = error_in_words error words met taken same h
 
 -- what a subcommand with these rows asks for has its name, and is in these rows
-pub asked_of : (met : Option (Text × List Row)) (name : Text) (rows : List Row) (request : Request) (file : Text) → met ≡ Some (name, rows)
-    → AsksFor met request file → (name ≡ name_of request) × (first_of (codes "FILE") rows ≡ Some file) × IsLimitOf request rows
-asked_of met name rows request file e asks =
-    let both : Some (name, rows) ≡ Some (name_of request, asks.rows) = sym e ∙ asks.named in
-    let pair : (name, rows) ≡ (name_of request, asks.rows) = cc in
+pub asked_of : (met : Option (Text × List Row)) (name : Text) (rows : List Row) (task : Task) (file : Text) → met ≡ Some (name, rows)
+    → AsksFor met task file → (name ≡ name_of task) × (first_of (codes "FILE") rows ≡ Some file) × IsLimitOf task rows
+asked_of met name rows task file e asks =
+    let both : Some (name, rows) ≡ Some (name_of task, asks.rows) = sym e ∙ asks.named in
+    let pair : (name, rows) ≡ (name_of task, asks.rows) = cc in
     let same : rows ≡ asks.rows = ap (λ (p : Text × List Row). p.1) pair in
     (ap (λ (p : Text × List Row). p.0) pair, rw same asks.file_given, rw same asks.limit)
 
@@ -86,28 +87,48 @@ pub none_more : {T P Q : Type 0} (o : Option T) → IfNone o P → (P → Q) →
 none_more None p f = f p
 none_more (Some x) p f = tt
 
--- names that begin with another byte are others
-other_name : (a b name : Text) → name ≡ a → name ≡ b → (slice_index a 0 ≡ slice_index b 0 → ⊥) → ⊥
-other_name a b name e named other = other (ap (λ (l : Text). slice_index l 0) (sym e ∙ named))
+-- names that have another byte at a place are others
+other_name : (k : ℕ) (a b name : Text) → name ≡ a → name ≡ b → (slice_index a k ≡ slice_index b k → ⊥) → ⊥
+other_name k a b name e named other = other (ap (λ (l : Text). slice_index l k) (sym e ∙ named))
 
 -- a check alone has its name
-pub only_checks : (request : Request) (name : Text) (rows : List Row) → name ≡ codes "check"
-    → ((limit : ℕ) → IsLimit 1000000 limit → IsInRow limit rows → ⊥) → HasLimit request → name ≡ name_of request → IsLimitOf request rows → ⊥
-only_checks (Report (Check limit)) name rows e none range named value = none limit range value
-only_checks (Report (Stat aggregate all)) name rows e none range named value =
-    other_name (codes "check") (codes "stat") name e named (λ h. absurd (omega (arith, h)))
-only_checks (Explain limit) name rows e none range named value = other_name (codes "check") (codes "explain") name e named (λ h. absurd (omega (arith, h)))
-only_checks (Map title) name rows e none range named value = other_name (codes "check") (codes "map") name e named (λ h. absurd (omega (arith, h)))
+pub only_checks : (task : Task) (name : Text) (rows : List Row) → name ≡ codes "check"
+    → ((limit : ℕ) → IsLimit 1000000 limit → IsInRow limit rows → ⊥) → HasLimit task → name ≡ name_of task → IsLimitOf task rows → ⊥
+only_checks (Run (Report (Check limit))) name rows e none range named value = none limit range value
+only_checks (Run (Report (Stat aggregate all))) name rows e none range named value =
+    other_name 0 (codes "check") (codes "stat") name e named (λ h. absurd (omega (arith, h)))
+only_checks (Run (Explain limit)) name rows e none range named value =
+    other_name 0 (codes "check") (codes "explain") name e named (λ h. absurd (omega (arith, h)))
+only_checks (Run (Map title)) name rows e none range named value =
+    other_name 0 (codes "check") (codes "map") name e named (λ h. absurd (omega (arith, h)))
+only_checks (Mend limit) name rows e none range named value =
+    other_name 0 (codes "check") (codes "mend") name e named (λ h. absurd (omega (arith, h)))
 
 -- and an explanation
-pub only_explains : (request : Request) (name : Text) (rows : List Row) → name ≡ codes "explain"
-    → ((limit : ℕ) → IsLimit 10000 limit → IsInRow limit rows → ⊥) → HasLimit request → name ≡ name_of request → IsLimitOf request rows → ⊥
-only_explains (Explain limit) name rows e none range named value = none limit range value
-only_explains (Report (Check limit)) name rows e none range named value =
-    other_name (codes "explain") (codes "check") name e named (λ h. absurd (omega (arith, h)))
-only_explains (Report (Stat aggregate all)) name rows e none range named value =
-    other_name (codes "explain") (codes "stat") name e named (λ h. absurd (omega (arith, h)))
-only_explains (Map title) name rows e none range named value = other_name (codes "explain") (codes "map") name e named (λ h. absurd (omega (arith, h)))
+pub only_explains : (task : Task) (name : Text) (rows : List Row) → name ≡ codes "explain"
+    → ((limit : ℕ) → IsLimit 10000 limit → IsInRow limit rows → ⊥) → HasLimit task → name ≡ name_of task → IsLimitOf task rows → ⊥
+only_explains (Run (Explain limit)) name rows e none range named value = none limit range value
+only_explains (Run (Report (Check limit))) name rows e none range named value =
+    other_name 0 (codes "explain") (codes "check") name e named (λ h. absurd (omega (arith, h)))
+only_explains (Run (Report (Stat aggregate all))) name rows e none range named value =
+    other_name 0 (codes "explain") (codes "stat") name e named (λ h. absurd (omega (arith, h)))
+only_explains (Run (Map title)) name rows e none range named value =
+    other_name 0 (codes "explain") (codes "map") name e named (λ h. absurd (omega (arith, h)))
+only_explains (Mend limit) name rows e none range named value =
+    other_name 0 (codes "explain") (codes "mend") name e named (λ h. absurd (omega (arith, h)))
+
+-- and a mend
+pub only_mends : (task : Task) (name : Text) (rows : List Row) → name ≡ codes "mend"
+    → ((limit : ℕ) → IsLimit 16 limit → IsInRow limit rows → ⊥) → HasLimit task → name ≡ name_of task → IsLimitOf task rows → ⊥
+only_mends (Mend limit) name rows e none range named value = none limit range value
+only_mends (Run (Report (Check limit))) name rows e none range named value =
+    other_name 0 (codes "mend") (codes "check") name e named (λ h. absurd (omega (arith, h)))
+only_mends (Run (Report (Stat aggregate all))) name rows e none range named value =
+    other_name 0 (codes "mend") (codes "stat") name e named (λ h. absurd (omega (arith, h)))
+only_mends (Run (Explain limit)) name rows e none range named value =
+    other_name 0 (codes "mend") (codes "explain") name e named (λ h. absurd (omega (arith, h)))
+only_mends (Run (Map title)) name rows e none range named value =
+    other_name 1 (codes "mend") (codes "map") name e named (λ h. absurd (omega (arith, h)))
 
 -- a row that is there is not away
 pub not_away : (row : Option Text) (text : Text) → row ≡ None → row ≡ Some text → ⊥

@@ -20,10 +20,11 @@ use Rattle.dbsource.specs.declared.source.ReadFailed.{ReadFailed as Unread}
 use Rattle.dbsource.specs.declared.source.Source.{Ghosts as SourceWords}
 use Rattle.dbcli.specs.ErrorLines.{error_line, unrun_line}
 use Rattle.dbcli.specs.Exit.{EndsWithLine}
-use Rattle.dbcli.specs.Finishing.{Finishes, RunsInside}
+use Rattle.dbcli.specs.Finishing.{RunsInside}
 use Rattle.dbcli.specs.Status.{exit_status}
+use Rattle.dbcli.specs.Tasks.{DoesWith}
 use Rattle.dbcli.specs.declared.error_lines.Unrun.TheVariants.{Version, PageSize}
-use Rattle.dbcli.specs.declared.request.Request.{Request}
+use Rattle.dbcli.specs.declared.task.Task.{Task}
 
 -- what a write-ahead log's name has after that of its database
 abbrev pub wal_suffix : List ℕ
@@ -127,45 +128,45 @@ module _ {S O E : Type 0} (source : SourceWords S) (out : OutWords O) (err : Out
   -- ---- and then there is a run
 
   -- A run of both as one, if the header fits.
-  abbrev pub RunsFitting : List Change → Request → ℕ → Result Bool Unread → Beside S S × O × E → Beside S S × O × E → Type 0
+  abbrev pub RunsFitting : List Change → Task → ℕ → Result Bool Unread → Beside S S × O × E → Beside S S × O × E → Type 0
   RunsFitting changes asked status (Ok true) old new =
-      RunsInside (both_words source) out err changes (Finishes (both_words source) out err changes asked status) status old new
+      RunsInside (both_words source) out err changes (DoesWith (both_words source) out err changes asked status) status old new
   RunsFitting changes asked status (Ok false) old new =
       (new.0 ≡ old.0) × (status ≡ 3) × EndsSo (unrun_line PageSize) (old.1, old.2) (new.1, new.2)
   RunsFitting changes asked status (Err e) old new =
       (new.0 ≡ old.0) × (status ≡ 4) × EndsSo (error_line ReadFailed) (old.1, old.2) (new.1, new.2)
 
-  pub record RunsLogged (changes : List Change) (asked : Request) (status : ℕ) (old new : Beside S S × O × E) : Type 0 where
+  pub record RunsLogged (changes : List Change) (asked : Task) (status : ℕ) (old new : Beside S S × O × E) : Type 0 where
     pub fits : Result Bool Unread
     pub mid : Beside S S
     pub looked : LooksAtHeader source fits old.0 mid
     pub ran : RunsFitting changes asked status fits (mid, old.1, old.2) new
 
   -- Where something of the log is used, both as one are run; else the file alone.
-  abbrev pub RunsUsed : List Change → Request → ℕ → Bool → Indexed → ℕ → (S × S) × O × E → (S × S) × O × E → Type 0
+  abbrev pub RunsUsed : List Change → Task → ℕ → Bool → Indexed → ℕ → (S × S) × O × E → (S × S) × O × E → Type 0
   RunsUsed changes asked status true index len old new = (left : Beside S S) × (new.0 ≡ (left.base, left.log))
       × RunsLogged changes asked status (joined index len old.0, old.1, old.2) (left, new.1, new.2)
   RunsUsed changes asked status false index len old new =
-      RunsInside source out err changes (Finishes source out err changes asked status) status (old.0.0, old.1, old.2) (new.0.0, new.1, new.2)
+      RunsInside source out err changes (DoesWith source out err changes asked status) status (old.0.0, old.1, old.2) (new.0.0, new.1, new.2)
       × (new.0.1 ≡ old.0.1)
 
-  abbrev pub RunsFound : List Change → Request → ℕ → Result (Indexed × ℕ) LogError → (S × S) × O × E → (S × S) × O × E → Type 0
+  abbrev pub RunsFound : List Change → Task → ℕ → Result (Indexed × ℕ) LogError → (S × S) × O × E → (S × S) × O × E → Type 0
   RunsFound changes asked status (Err e) old new =
       (new.0 ≡ old.0) × (status ≡ log_status e) × EndsSo (log_line e) (old.1, old.2) (new.1, new.2)
   RunsFound changes asked status (Ok (index, len)) old new =
       (used : Bool) × (used ≡ is_used index len) × RunsUsed changes asked status used index len old new
 
   -- What became of a file and its log.
-  pub record RunsBeside (changes : List Change) (asked : Request) (status : ℕ) (old new : (S × S) × O × E) : Type 0 where
+  pub record RunsBeside (changes : List Change) (asked : Task) (status : ℕ) (old new : (S × S) × O × E) : Type 0 where
     pub found : Result (Indexed × ℕ) LogError
     pub mid : S × S
     pub looked : FindsLog source found old.0 mid
     pub ran : RunsFound changes asked status found (mid, old.1, old.2) new
 
   -- What became of what was opened: of the file alone, or of both.
-  abbrev pub RunsFiles : List Change → Request → ℕ → S × Option S → S × Option S → O × E → O × E → Type 0
+  abbrev pub RunsFiles : List Change → Task → ℕ → S × Option S → S × Option S → O × E → O × E → Type 0
   RunsFiles changes asked status (base, None) (left, None) old new =
-      RunsInside source out err changes (Finishes source out err changes asked status) status (base, old.0, old.1) (left, new.0, new.1)
+      RunsInside source out err changes (DoesWith source out err changes asked status) status (base, old.0, old.1) (left, new.0, new.1)
   RunsFiles changes asked status (base, Some log) (left, Some rest) old new =
       RunsBeside changes asked status ((base, log), old.0, old.1) ((left, rest), new.0, new.1)
   RunsFiles changes asked status (base, None) (left, Some rest) old new = ⊥

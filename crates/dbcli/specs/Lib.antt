@@ -12,3 +12,4 @@ pub mod Running
 pub mod Spelled
 pub mod Stamps
 pub mod Status
+pub mod Tasks

@@ -11,7 +11,7 @@ use Rattle.dbcli.specs.CommandLine.{AreSpelled, AsksFor, HasLimit, IsErrorOf, Is
 use Rattle.dbcli.specs.ErrorLines.{error_line}
 use Rattle.dbcli.specs.Status.{exit_status, line_status}
 use Rattle.dbcli.specs.declared.command_line.LineError.{LineError}
-use Rattle.dbcli.specs.declared.request.Request.{Request}
+use Rattle.dbcli.specs.declared.task.Task.{Task}
 
 -- the status of an error of the words, or 6 where they ask for help or the version, which could not be printed
 abbrev pub IsErrorStatus : ℕ → LineError → Type 0
@@ -21,7 +21,7 @@ module _ {F S O E : Type 0} (opens : F → List ℕ → Result S Unread → F �
     (opens_log : F → List ℕ → List ℕ → Result (Option S) RunError → F → Type 0) (closes : F → S → F → Type 0)
     (source : SourceWords S) (out : OutWords O) (err : OutWords E) where
   -- What was opened was run with these changes, and was given back as that left it: nothing else was asked of it. Or nothing is open.
-  abbrev pub RunsOpened : List Change → Request → ℕ → Result (S × Option S) RunError → F × O × E → F × O × E → Type 0
+  abbrev pub RunsOpened : List Change → Task → ℕ → Result (S × Option S) RunError → F × O × E → F × O × E → Type 0
   RunsOpened changes asked status (Ok opened) old new = (left : S × Option S)
       × RunsFiles source out err changes asked status opened left (old.1, old.2) (new.1, new.2)
       × ClosesFiles opens opens_log closes left old.0 new.0
@@ -29,7 +29,7 @@ module _ {F S O E : Type 0} (opens : F → List ℕ → Result S Unread → F �
       (status ≡ exit_status (Err e)) × EndsSo source out err (error_line e) (old.1, old.2) (new.1, new.2) × (new.0 ≡ old.0)
 
   -- What became of a line that asks this of the file at this path, with its log or without, and with these changes.
-  pub record RunsLine (recovered : Bool) (changes : List Change) (asked : Request) (path : Text) (status : ℕ) (old new : F × O × E) : Type 0 where
+  pub record RunsLine (recovered : Bool) (changes : List Change) (asked : Task) (path : Text) (status : ℕ) (old new : F × O × E) : Type 0 where
     -- that file was opened, and its log, if the line asks for it, or could not be, and no other
     pub answer : Result (S × Option S) RunError
     pub between : F
@@ -40,16 +40,16 @@ module _ {F S O E : Type 0} (opens : F → List ℕ → Result S Unread → F �
   -- What became of words that are taken, in which the parser finds no fault: what they ask for, of the file that they name, was run.
   pub record RunsWords (words : List Text) (status : ℕ) (old new : F × O × E) : Type 0 where
     pub taken : fault_of dbck_app words ≡ []
-    pub request : Request
+    pub task : Task
     pub file : Text
-    pub asked : AsksFor (subcommand_of dbck_app words) request file
-    pub limit : HasLimit request
+    pub asked : AsksFor (subcommand_of dbck_app words) task file
+    pub limit : HasLimit task
     pub changes : List Change
     pub are_changes : AreChanges changes
     pub spelled : AreSpelled changes (subcommand_of dbck_app words)
     pub recovered : Bool
     pub is_recovered : IsRecoveredOf recovered (subcommand_of dbck_app words)
-    pub ran : RunsLine recovered changes request file status old new
+    pub ran : RunsLine recovered changes task file status old new
 
   module _ {N : Type 0} (notes : OutWords N) where
     -- What became of words that are not: no file was opened, and nothing was put to an Out or to the notes.

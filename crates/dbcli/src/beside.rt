@@ -3,7 +3,8 @@ ghost use Rattle.std.specs.Prelude.{◌≡◌, IfSome, OnOk};
 ghost use Rattle.dbsource.specs.Sources.{AreBytes};
 ghost use Rattle.dbcli.specs.Beside.{ClosesFiles, FindsLog, FitsError, LooksAtHeader, OpensFiles, RunsBeside, RunsFiles, RunsLogged, is_used, log_line, log_status};
 ghost use Rattle.dbcli.specs.Exit.{EndsWithLine};
-ghost use Rattle.dbcli.specs.Finishing.{Finishes, RunsInside};
+ghost use Rattle.dbcli.specs.Finishing.{RunsInside};
+ghost use Rattle.dbcli.specs.Tasks.{DoesWith};
 
 use crate::command_line::Line;
 use crate::error_lines::Unrun;
@@ -64,7 +65,7 @@ fn run_over<R: Lookup + AllocGlobal, S: Source + Drop, O: Out, E: Out, N: Out, W
     notes: &mut FileNotes<'_, R, N>,
     progress: &Progress<W>,
 ) -> (u8, S)
-    ensures { RunsInside S.Source O.Out E.Out line.now.changes (Finishes S.Source O.Out E.Out line.now.changes line.now.request result.0) result.0
+    ensures { RunsInside S.Source O.Out E.Out line.now.changes (DoesWith S.Source O.Out E.Out line.now.changes line.now.task result.0) result.0
         (source, out.old, err.old) (result.1, out.new, err.new) }
 {
     let patched = Patched::new(&line.changes, source);
@@ -132,12 +133,13 @@ fn run_logged<R: Lookup + AllocGlobal, S: Source + Drop, O: Out, E: Out, N: Out,
     notes: &mut FileNotes<'_, R, N>,
     progress: &Progress<W>,
 ) -> (u8, Logged<S, S>)
-    ensures { RunsLogged S.Source O.Out E.Out line.now.changes line.now.request result.0 (both, out.old, err.old) (result.1, out.new, err.new) }
+    ensures { RunsLogged S.Source O.Out E.Out line.now.changes line.now.task result.0 (both, out.old, err.old) (result.1, out.new, err.new) }
 {
     let mut both = both;
     match fits(&mut both) {
         Ok(is_fit) => {
             if is_fit {
+                notes.joined(line.task);
                 return run_over(line, both, out, err, notes, progress);
             }
             put_unrun(err, Unrun::PageSize, notes);
@@ -163,7 +165,7 @@ fn run_beside<R: Lookup + AllocGlobal, S: Source + Drop, O: Out, E: Out, N: Out,
     notes: &mut FileNotes<'_, R, N>,
     progress: &Progress<W>,
 ) -> (u8, (S, S))
-    ensures { RunsBeside S.Source O.Out E.Out line.now.changes line.now.request result.0 (opened, out.old, err.old) (result.1, out.new, err.new) }
+    ensures { RunsBeside S.Source O.Out E.Out line.now.changes line.now.task result.0 (opened, out.old, err.old) (result.1, out.new, err.new) }
 {
     let (mut base, mut log) = opened;
     let found = find_log(notes.alloc(), &mut base, &mut log);
@@ -198,7 +200,7 @@ pub(crate) fn run_files<
     notes: &mut FileNotes<'_, R, N>,
     progress: &Progress<W>,
 ) -> (u8, (S, Option<S>))
-    ensures { RunsFiles S.Source O.Out E.Out line.now.changes line.now.request result.0 opened result.1 (out.old, err.old) (out.new, err.new) }
+    ensures { RunsFiles S.Source O.Out E.Out line.now.changes line.now.task result.0 opened result.1 (out.old, err.old) (out.new, err.new) }
 {
     let (base, log) = opened;
     match log {

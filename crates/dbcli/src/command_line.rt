@@ -1,28 +1,23 @@
 // The command line of the program.
-ghost use Rattle.std.specs.Prelude.{◌≡◌, ◌≤◌, ◌⊎◌, ℕ, List, [], Option, IfOk, IfErr, IfSome, IfNone, codes, map, not, false};
-ghost use Rattle.clap.specs.Words.{Row, Text, App, app_of, fault_of, found_of, new_app, rows_of, rule_of};
-ghost use Rattle.clap.specs.Words.{subcommand_of, subcommand_rows_of, with_rule, with_subcommand};
+ghost use Rattle.std.specs.Prelude.{◌≡◌, ◌⊎◌, ℕ, List, [], Option, IfOk, IfErr, IfSome, IfNone, codes, map, not};
+ghost use Rattle.clap.specs.Words.{Row, Text, fault_of, found_of, rows_of, subcommand_of, subcommand_rows_of};
 ghost use Rattle.clap.specs.declared.error.kind.ErrorKind.TheVariants as error_kind;
-ghost use Rattle.clap.specs.declared.builder.command.Command.TheViews.{out-Command as fields_of};
-ghost use Rattle.dbcli.specs.CommandLine.{dbck_app, check_app, explain_app, limited_app, map_app, stat_app};
-ghost use Rattle.dbcli.specs.CommandLine.{changes_rule, file_rule, flag_rule, limit_rule, name_of, with_file_rules};
+ghost use Rattle.dbcli.specs.CommandLine.{dbck_app, name_of};
 ghost use Rattle.dbcli.specs.CommandLine.{AreSpelled, AsksForNone, IsErrorIn, SpellsNone, change_texts};
 ghost use Rattle.dbcli.specs.Spelled.{texts_in};
 ghost use Rattle.dbsource.specs.Changes.{AreChanges};
 ghost use Rattle.dbcli.specs.CommandLine.{AsksFor, HasFlags, HasLimit, IsErrorOf, IsFlag, IsInRow, IsLimit, IsLimitOf, IsNameOf, IsProgressOf};
 ghost use Rattle.dbcli.specs.CommandLine.{IsRecoveredOf};
-ghost use Rattle.dbcli.specs.declared.request.Request.{Request as request_type};
+ghost use Rattle.dbcli.specs.declared.task.Task.{Task as task_type};
 
-use crate::help::{
-    ABOUT, CHECK_ABOUT, CHECK_EXAMPLES, EXPLAIN_ABOUT, EXPLAIN_EXAMPLES, MAP_ABOUT, MAP_EXAMPLES,
-    STAT_ABOUT, STAT_EXAMPLES, STATUSES,
-};
+use crate::arguments::{MOST_CHANGED, MOST_EXPLAINED, MOST_SHOWN, dbck_command};
 use crate::request::Request;
 use crate::shown::{Shown, shown_words};
 use crate::spelled::{Misspelled, SpellingError, changes_in};
+use crate::task::Task;
 use crate::words_error::WordsError;
+use clap::ArgMatches;
 use clap::error::ErrorKind;
-use clap::{Arg, ArgAction, ArgMatches, Command as Words, value_parser};
 use dbreport::Command;
 use dbsource::{Changes, NoMemory};
 use std::alloc::{AllocError, Global};
@@ -32,8 +27,8 @@ use thiserror::Error;
 /// What the words of a command line ask for.
 #[derive(Drop)]
 pub struct Line<'a> {
-    /// What is asked of the file.
-    pub request: Request<'a>,
+    /// What is to be done with the file.
+    pub task: Task<'a>,
     /// The path of the file.
     pub file: &'a str,
     /// The changes with which the file is reported.
@@ -47,7 +42,7 @@ pub struct Line<'a> {
 // The same, with the words in which the changes are given.
 #[derive(Clone, Copy)]
 struct Asked<'m, 'a> {
-    request: Request<'a>,
+    task: Task<'a>,
     file: &'a str,
     changes: Option<&'m [&'a str]>,
     recovered: bool,
@@ -103,181 +98,6 @@ impl From<NoMemory> for LineError {
     }
 }
 
-/// The version of the program, which is stated only here.
-const VERSION: &str = "0.2.0";
-
-/// The most faults that `check` shows.
-const MOST_SHOWN: u32 = 1000000;
-
-/// The most injuries that `explain` shows.
-const MOST_EXPLAINED: u32 = 10000;
-
-fn file_arg<'a>(alloc: Global) -> Arg<'a>
-    ensures rule { rule_of result ≡ file_rule }
-    ensures local { result.global ≡ false }
-{
-    Arg::new(alloc, "FILE")
-        .required(true)
-        .help("The database file")
-}
-
-// The option `--limit N`, from 1 to `most`, and 100 where it is not given.
-fn limit_arg<'a>(alloc: Global, most: u32, help: &'a str) -> Arg<'a>
-    requires { (1 ≤ most) × (most ≤ 1000000) }
-    ensures rule { rule_of result ≡ limit_rule most }
-    ensures local { result.global ≡ false }
-{
-    Arg::new(alloc, "N")
-        .long("limit")
-        .value_parser(value_parser!(u32).range(1..i64::from(most) + 1))
-        .default_value("100")
-        .help(help)
-}
-
-// A flag, by its name after two dashes.
-fn flag_arg<'a>(alloc: Global, name: &'a str, help: &'a str) -> Arg<'a>
-    ensures rule { rule_of result ≡ flag_rule name.entry.now }
-    ensures local { result.global ≡ false }
-{
-    Arg::new(alloc, name)
-        .long(name)
-        .action(ArgAction::SetTrue)
-        .help(help)
-}
-
-// The option `--with OFFSET=HEX`, which may be given more than once.
-fn changes_arg<'a>(alloc: Global) -> Arg<'a>
-    ensures rule { rule_of result ≡ changes_rule }
-    ensures local { result.global ≡ false }
-{
-    let help = "Report FILE with these bytes at this offset, from 0; up to 16 times";
-    Arg::new(alloc, "OFFSET=HEX")
-        .long("with")
-        .action(ArgAction::Append)
-        .help(help)
-}
-
-fn recovered_arg<'a>(alloc: Global) -> Arg<'a>
-    ensures rule { rule_of result ≡ flag_rule (codes "recovered") }
-    ensures local { result.global ≡ false }
-{
-    let help = "Report the database that SQLite would recover from FILE and FILE-wal";
-    flag_arg(alloc, "recovered", help)
-}
-
-fn no_progress_arg<'a>(alloc: Global) -> Arg<'a>
-    ensures rule { rule_of result ≡ flag_rule (codes "no-progress") }
-    ensures local { result.global ≡ false }
-{
-    let help = "Show no progress where standard error is a terminal";
-    flag_arg(alloc, "no-progress", help)
-}
-
-// A command of this name, with the texts at the top and at the end of its help.
-fn described<'a>(alloc: Global, name: &'a str, about: &'a str, after: &'a str) -> Words<'a>
-    ensures app { app_of result ≡ new_app name.entry.now }
-    ensures local { (fields_of result).has_globals ≡ false }
-{
-    Words::new(alloc, name).about(about).after_help(after)
-}
-
-// The command with what each subcommand takes last: the log, the changes, the flag that turns progress off, and the file.
-fn with_file<'a>(alloc: Global, command: Words<'a>) -> Result<Words<'a>, AllocError>
-    ensures { (app : App) → app_of command.entry ≡ app → (fields_of command.entry).has_globals ≡ false
-        → IfOk result (λ c. (app_of c ≡ with_file_rules app) × ((fields_of c).has_globals ≡ false)) }
-{
-    command
-        .arg(recovered_arg(alloc))?
-        .arg(changes_arg(alloc))?
-        .arg(no_progress_arg(alloc))?
-        .arg(file_arg(alloc))
-}
-
-// A subcommand of this name with a limit of at most `most`.
-fn limited_command<'a>(
-    alloc: Global,
-    name: &'a str,
-    most: u32,
-    help: &'a str,
-    about: &'a str,
-    after: &'a str,
-) -> Result<Words<'a>, AllocError>
-    requires { (1 ≤ most) × (most ≤ 1000000) }
-    ensures { IfOk result (λ c. (app_of c ≡ limited_app name.entry.now most) × ((fields_of c).has_globals ≡ false)) }
-{
-    let command = described(alloc, name, about, after).arg(limit_arg(alloc, most, help))?;
-    with_file(alloc, command)
-}
-
-fn check_command<'a>(alloc: Global) -> Result<Words<'a>, AllocError>
-    ensures { IfOk result (λ c. (app_of c ≡ check_app) × ((fields_of c).has_globals ≡ false)) }
-{
-    let help = "The most fault lines to print, from 1 to 1000000";
-    limited_command(
-        alloc,
-        "check",
-        MOST_SHOWN,
-        help,
-        CHECK_ABOUT,
-        CHECK_EXAMPLES,
-    )
-}
-
-fn explain_command<'a>(alloc: Global) -> Result<Words<'a>, AllocError>
-    ensures { IfOk result (λ c. (app_of c ≡ explain_app) × ((fields_of c).has_globals ≡ false)) }
-{
-    let help = "The most injuries to print, from 1 to 10000";
-    limited_command(
-        alloc,
-        "explain",
-        MOST_EXPLAINED,
-        help,
-        EXPLAIN_ABOUT,
-        EXPLAIN_EXAMPLES,
-    )
-}
-
-fn map_command<'a>(alloc: Global) -> Result<Words<'a>, AllocError>
-    ensures { IfOk result (λ c. (app_of c ≡ map_app) × ((fields_of c).has_globals ≡ false)) }
-{
-    with_file(alloc, described(alloc, "map", MAP_ABOUT, MAP_EXAMPLES))
-}
-
-fn stat_command<'a>(alloc: Global) -> Result<Words<'a>, AllocError>
-    ensures { IfOk result (λ c. (app_of c ≡ stat_app) × ((fields_of c).has_globals ≡ false)) }
-{
-    let aggregate = "One row for each tree, with the sums of its pages";
-    let all = "Rows for the pages that are in no tree, too";
-    let command = described(alloc, "stat", STAT_ABOUT, STAT_EXAMPLES)
-        .arg(flag_arg(alloc, "aggregate", aggregate))?
-        .arg(flag_arg(alloc, "all", all))?;
-    with_file(alloc, command)
-}
-
-// The command with one more subcommand, if there was memory for that.
-fn with_command<'a>(
-    command: Words<'a>,
-    made: Result<Words<'a>, AllocError>,
-) -> Result<Words<'a>, AllocError>
-    ensures { (app : App) → IfOk made.entry (λ c. (app_of c ≡ app) × ((fields_of c).has_globals ≡ false))
-        → IfOk result (λ c. app_of c ≡ with_subcommand (app_of command.entry) app.top) }
-{
-    command.subcommand(made?)
-}
-
-/// The command `dbck`, with its subcommands.
-pub(crate) fn dbck_command<'a>(alloc: Global) -> Result<Words<'a>, AllocError>
-    ensures { IfOk result (λ c. app_of c ≡ dbck_app) }
-{
-    let command = described(alloc, "dbck", ABOUT, STATUSES)
-        .version(VERSION)
-        .subcommand_required(true);
-    let command = with_command(command, check_command(alloc))?;
-    let command = with_command(command, explain_command(alloc))?;
-    let command = with_command(command, map_command(alloc))?;
-    Ok(with_command(command, stat_command(alloc))?)
-}
-
 // The given limit, if it is from 1 to `most`.
 fn limit_of(given: &ArgMatches<'_>, most: u32) -> Option<u32>
     ensures range { IfSome result (λ limit. IsLimit most limit) }
@@ -292,37 +112,37 @@ fn limit_of(given: &ArgMatches<'_>, most: u32) -> Option<u32>
 }
 
 // The check that the words ask for.
-fn check_of<'a>(given: &ArgMatches<'_>) -> Option<Request<'a>>
-    ensures named { IfSome result (λ request. name_of request ≡ codes "check") }
+fn check_of<'a>(given: &ArgMatches<'_>) -> Option<Task<'a>>
+    ensures named { IfSome result (λ task. name_of task ≡ codes "check") }
     ensures limit { IfSome result HasLimit }
-    ensures value { IfSome result (λ request. IsLimitOf request (rows_of (found_of given.now))) }
-    ensures flags { IfSome result (λ request. HasFlags request (rows_of (found_of given.now))) }
-    ensures title { (file : Text) → IfSome result (λ request. IsNameOf request file) }
+    ensures value { IfSome result (λ task. IsLimitOf task (rows_of (found_of given.now))) }
+    ensures flags { IfSome result (λ task. HasFlags task (rows_of (found_of given.now))) }
+    ensures title { (file : Text) → IfSome result (λ task. IsNameOf task file) }
     ensures none { IfNone result ((limit : ℕ) → IsLimit 1000000 limit → IsInRow limit (rows_of (found_of given.now)) → ⊥) }
 {
     match limit_of(given, MOST_SHOWN) {
-        Some(limit) => Some(Request::Report(Command::Check { limit })),
+        Some(limit) => Some(Task::Run(Request::Report(Command::Check { limit }))),
         None => None,
     }
 }
 
 // The explanation that the words ask for.
-fn explain_of<'a>(given: &ArgMatches<'_>) -> Option<Request<'a>>
-    ensures named { IfSome result (λ request. name_of request ≡ codes "explain") }
+fn explain_of<'a>(given: &ArgMatches<'_>) -> Option<Task<'a>>
+    ensures named { IfSome result (λ task. name_of task ≡ codes "explain") }
     ensures limit { IfSome result HasLimit }
-    ensures value { IfSome result (λ request. IsLimitOf request (rows_of (found_of given.now))) }
-    ensures flags { IfSome result (λ request. HasFlags request (rows_of (found_of given.now))) }
-    ensures title { (file : Text) → IfSome result (λ request. IsNameOf request file) }
+    ensures value { IfSome result (λ task. IsLimitOf task (rows_of (found_of given.now))) }
+    ensures flags { IfSome result (λ task. HasFlags task (rows_of (found_of given.now))) }
+    ensures title { (file : Text) → IfSome result (λ task. IsNameOf task file) }
     ensures none { IfNone result ((limit : ℕ) → IsLimit 10000 limit → IsInRow limit (rows_of (found_of given.now)) → ⊥) }
 {
     match limit_of(given, MOST_EXPLAINED) {
-        Some(limit) => Some(Request::Explain { limit }),
+        Some(limit) => Some(Task::Run(Request::Explain { limit })),
         None => None,
     }
 }
 
 // A picture of the file at this path, whose title is the last part of the path.
-fn map_of<'a>(file: &'a str) -> Request<'a>
+fn map_of<'a>(file: &'a str) -> Task<'a>
     ensures named { name_of result ≡ codes "map" }
     ensures title { IsNameOf result file.entry.now }
     ensures limit { HasLimit result }
@@ -330,21 +150,36 @@ fn map_of<'a>(file: &'a str) -> Request<'a>
     ensures flags { (rows : List Row) → HasFlags result rows }
 {
     let name = Path::new(file).file_name().unwrap_or(file);
-    Request::Map { name }
+    Task::Run(Request::Map { name })
+}
+
+// The mend that the words ask for.
+fn mend_of<'a>(given: &ArgMatches<'_>) -> Option<Task<'a>>
+    ensures named { IfSome result (λ task. name_of task ≡ codes "mend") }
+    ensures limit { IfSome result HasLimit }
+    ensures value { IfSome result (λ task. IsLimitOf task (rows_of (found_of given.now))) }
+    ensures flags { IfSome result (λ task. HasFlags task (rows_of (found_of given.now))) }
+    ensures title { (file : Text) → IfSome result (λ task. IsNameOf task file) }
+    ensures none { IfNone result ((limit : ℕ) → IsLimit 16 limit → IsInRow limit (rows_of (found_of given.now)) → ⊥) }
+{
+    match limit_of(given, MOST_CHANGED) {
+        Some(limit) => Some(Task::Mend { limit }),
+        None => None,
+    }
 }
 
 // The statistics that the words ask for.
-fn stat_of<'a>(given: &ArgMatches<'_>) -> Request<'a>
+fn stat_of<'a>(given: &ArgMatches<'_>) -> Task<'a>
     ensures named { name_of result ≡ codes "stat" }
     ensures limit { HasLimit result }
     ensures value { IsLimitOf result (rows_of (found_of given.now)) }
     ensures flags { HasFlags result (rows_of (found_of given.now)) }
     ensures title { (file : Text) → IsNameOf result file }
 {
-    Request::Report(Command::Stat {
+    Task::Run(Request::Report(Command::Stat {
         aggregate: given.get_flag("aggregate"),
         all: given.get_flag("all"),
-    })
+    }))
 }
 
 // Whether progress is shown: it is unless a flag turns it off.
@@ -362,19 +197,20 @@ fn is_recovered(given: &ArgMatches<'_>) -> bool
 }
 
 // What this subcommand asks for, of the file at this path.
-fn request_of<'a>(name: &str, given: &ArgMatches<'_>, file: &'a str) -> Option<Request<'a>>
-    ensures named { IfSome result (λ request. name.now ≡ name_of request) }
+fn task_of<'a>(name: &str, given: &ArgMatches<'_>, file: &'a str) -> Option<Task<'a>>
+    ensures named { IfSome result (λ task. name.now ≡ name_of task) }
     ensures limit { IfSome result HasLimit }
-    ensures value { IfSome result (λ request. IsLimitOf request (rows_of (found_of given.now))) }
-    ensures none { IfNone result ((request : request_type) → HasLimit request → name.now ≡ name_of request
-        → IsLimitOf request (rows_of (found_of given.now)) → ⊥) }
-    ensures flags { IfSome result (λ request. HasFlags request (rows_of (found_of given.now))) }
-    ensures title { IfSome result (λ request. IsNameOf request file.entry.now) }
+    ensures value { IfSome result (λ task. IsLimitOf task (rows_of (found_of given.now))) }
+    ensures none { IfNone result ((task : task_type) → HasLimit task → name.now ≡ name_of task
+        → IsLimitOf task (rows_of (found_of given.now)) → ⊥) }
+    ensures flags { IfSome result (λ task. HasFlags task (rows_of (found_of given.now))) }
+    ensures title { IfSome result (λ task. IsNameOf task file.entry.now) }
 {
     match name {
         "check" => check_of(given),
         "explain" => explain_of(given),
         "map" => Some(map_of(file)),
+        "mend" => mend_of(given),
         "stat" => Some(stat_of(given)),
         _ => None,
     }
@@ -382,8 +218,8 @@ fn request_of<'a>(name: &str, given: &ArgMatches<'_>, file: &'a str) -> Option<R
 
 // What the subcommand that was parsed asks for, of its file.
 fn asked_of<'m, 'a: 'm>(matches: &'m ArgMatches<'a>) -> Option<Asked<'m, 'a>>
-    ensures asks { IfSome result (λ asked. AsksFor (subcommand_rows_of matches.now) asked.request asked.file.now) }
-    ensures limit { IfSome result (λ asked. HasLimit asked.request) }
+    ensures asks { IfSome result (λ asked. AsksFor (subcommand_rows_of matches.now) asked.task asked.file.now) }
+    ensures limit { IfSome result (λ asked. HasLimit asked.task) }
     ensures progress { IfSome result (λ asked. IsProgressOf asked.progress (subcommand_rows_of matches.now)) }
     ensures recovered { IfSome result (λ asked. IsRecoveredOf asked.recovered (subcommand_rows_of matches.now)) }
     ensures changes { IfSome result (λ asked. texts_in asked.changes ≡ change_texts (subcommand_rows_of matches.now)) }
@@ -392,7 +228,7 @@ fn asked_of<'m, 'a: 'm>(matches: &'m ArgMatches<'a>) -> Option<Asked<'m, 'a>>
     let (name, given) = matches.subcommand()?;
     let file = given.get_str("FILE")?;
     Some(Asked {
-        request: request_of(name, given, file)?,
+        task: task_of(name, given, file)?,
         file,
         changes: given.get_strs("OFFSET=HEX"),
         recovered: is_recovered(given),
@@ -425,8 +261,8 @@ fn with_error(alloc: Global, misspelled: Misspelled<'_>) -> LineError
 
 // What the subcommand that was parsed asks for, of its file with its changes.
 fn line_in<'a>(alloc: Global, matches: &ArgMatches<'a>) -> Result<Line<'a>, LineError>
-    ensures asks { IfOk result (λ line. AsksFor (subcommand_rows_of matches.now) line.request line.file.now) }
-    ensures limit { IfOk result (λ line. HasLimit line.request) }
+    ensures asks { IfOk result (λ line. AsksFor (subcommand_rows_of matches.now) line.task line.file.now) }
+    ensures limit { IfOk result (λ line. HasLimit line.task) }
     ensures progress { IfOk result (λ line. IsProgressOf line.progress (subcommand_rows_of matches.now)) }
     ensures recovered { IfOk result (λ line. IsRecoveredOf line.recovered (subcommand_rows_of matches.now)) }
     ensures changes { IfOk result (λ line. AreSpelled line.changes (subcommand_rows_of matches.now)) }
@@ -438,7 +274,7 @@ fn line_in<'a>(alloc: Global, matches: &ArgMatches<'a>) -> Result<Line<'a>, Line
     };
     match changes_in(asked.changes) {
         Ok(changes) => Ok(Line {
-            request: asked.request,
+            task: asked.task,
             file: asked.file,
             changes,
             recovered: asked.recovered,
@@ -457,8 +293,8 @@ fn line_in<'a>(alloc: Global, matches: &ArgMatches<'a>) -> Result<Line<'a>, Line
 /// the parser took a limit that is out of range, and [`LineError::With`] where it took a word of `--with` that spells no
 /// change, or one that is not taken beside others.
 pub fn line_of<'a>(alloc: Global, words: &'a [&'a str]) -> Result<Line<'a>, LineError>
-    ensures asks { IfOk result (λ line. AsksFor (subcommand_of dbck_app (map (λ word. word.now) words.entry.now)) line.request line.file.now) }
-    ensures limit { IfOk result (λ line. HasLimit line.request) }
+    ensures asks { IfOk result (λ line. AsksFor (subcommand_of dbck_app (map (λ word. word.now) words.entry.now)) line.task line.file.now) }
+    ensures limit { IfOk result (λ line. HasLimit line.task) }
     ensures progress { IfOk result (λ line. IsProgressOf line.progress (subcommand_of dbck_app (map (λ word. word.now) words.entry.now))) }
     ensures recovered { IfOk result (λ line. IsRecoveredOf line.recovered (subcommand_of dbck_app (map (λ word. word.now) words.entry.now))) }
     ensures changes { IfOk result (λ line. AreSpelled line.changes (subcommand_of dbck_app (map (λ word. word.now) words.entry.now))) }

@@ -3,14 +3,17 @@ ghost use Rattle.std.specs.Prelude.{◌≡◌, [], IfErr, OnOk};
 ghost use Rattle.dbreport.specs.Runs.{IsUnwritten};
 ghost use Rattle.dbcli.specs.ErrorLines.{error_line, unrun_line};
 ghost use Rattle.dbcli.specs.Exit.{EndsWithLine, IsKnown};
-ghost use Rattle.dbcli.specs.Finishing.{FailsByStatus, Finishes, IsFinished, LeavesFirst, LeavesSecond, RunsInside, ToldFilesAreFinished};
-ghost use Rattle.dbcli.specs.Handing.{IsHanded};
+ghost use Rattle.dbcli.specs.Finishing.{FailsByStatus, IsFinished, LeavesFirst, LeavesSecond, RunsInside, ToldFilesAreFinished};
+ghost use Rattle.dbcli.specs.Handing.{IsHanded, IsTextHanded};
 ghost use Rattle.dbcli.specs.Status.{exit_status};
+ghost use Rattle.dbcli.specs.Tasks.{Does, LeavesMend};
 
 use crate::command_line::Line;
 use crate::error_lines::{Unrun, error_line, unrun_line};
 use crate::request::{Request, run_request};
 use crate::status::status_of;
+use crate::task::Task;
+use dbmend::mend;
 use dbreport::Verdict;
 use dbsource::{Changes, Out, RunError, Source};
 use std::alloc::Global;
@@ -112,7 +115,56 @@ pub fn finish<S: Source, O: Out, E: Out, N: Notes>(
     end(err, outcome, notes)
 }
 
-/// Runs what a line asks for on the source, which gives the file with the changes of the line. Where it has some, the length is
+// Hands on the text of a mend, which may be there at a refusal too.
+fn hand_on_text<O: Out, E: Out>(
+    out: &mut O,
+    err: &mut E,
+    answer: Result<Verdict, RunError>,
+) -> Result<Verdict, RunError>
+    ensures { IsTextHanded answer result (O.held out.old) (O.held out.new) (E.held err.old) (E.held err.new) }
+{
+    if let Err(RunError::Refused(_)) = answer {
+        out.flush()?;
+        return answer;
+    }
+    hand_on(out, err, answer)
+}
+
+/// Mends the file that the source gives, with at most `limit` changes, and answers the exit status, which is that of the file as it is.
+/// The text is handed on before the status is decided; after an error the line of it is put to `err` and handed on, if it can be.
+pub(crate) fn finish_mend<S: Source, O: Out, E: Out, N: Notes>(
+    alloc: Global,
+    limit: u32,
+    source: &mut S,
+    out: &mut O,
+    err: &mut E,
+    notes: &mut N,
+) -> u8
+    ensures { LeavesMend S.Source O.Out E.Out limit result (source.old, out.old, err.old) (source.new, out.new, err.new) }
+{
+    let answer = mend(alloc, limit, source, out);
+    let outcome = hand_on_text(out, err, answer);
+    end(err, outcome, notes)
+}
+
+// Does what a line asks for.
+fn do_task<S: Source, O: Out, E: Out, N: Notes>(
+    alloc: Global,
+    task: Task<'_>,
+    source: &mut S,
+    out: &mut O,
+    err: &mut E,
+    notes: &mut N,
+) -> u8
+    ensures { Does S.Source O.Out E.Out task.entry result (source.old, out.old, err.old) (source.new, out.new, err.new) }
+{
+    match task {
+        Task::Run(request) => finish(alloc, request, source, out, err, notes),
+        Task::Mend { limit } => finish_mend(alloc, limit, source, out, err, notes),
+    }
+}
+
+/// Does what a line asks for with the source, which gives the file with the changes of the line. Where it has some, the length is
 /// asked for first, and there is a run only if all are inside it.
 pub(crate) fn finish_line<S: Source, O: Out, E: Out, N: Notes>(
     alloc: Global,
@@ -122,17 +174,17 @@ pub(crate) fn finish_line<S: Source, O: Out, E: Out, N: Notes>(
     err: &mut E,
     notes: &mut N,
 ) -> u8
-    ensures { RunsInside S.Source O.Out E.Out line.now.changes (Finishes S.Source O.Out E.Out [] line.now.request result) result
+    ensures { RunsInside S.Source O.Out E.Out line.now.changes (Does S.Source O.Out E.Out line.now.task result) result
         (source.old, out.old, err.old) (source.new, out.new, err.new) }
 {
     let changes = &line.changes;
     if changes.as_slice().is_empty() {
-        return finish(alloc, line.request, source, out, err, notes);
+        return do_task(alloc, line.task, source, out, err, notes);
     }
     match source.len() {
         Ok(len) if changes.are_inside(len) => {
             notes.begin(changes);
-            finish(alloc, line.request, source, out, err, notes)
+            do_task(alloc, line.task, source, out, err, notes)
         }
         Ok(_) => {
             put_unrun(err, Unrun::PastEnd, notes);

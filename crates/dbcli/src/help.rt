@@ -39,6 +39,21 @@ Example:
 
 'dbck --help' lists the exit statuses.";
 
+pub(crate) const MEND_ABOUT: &str =
+    "Print the changes of single numbers with which the file has no fault, or fewer; it is not changed";
+
+pub(crate) const MEND_EXAMPLES: &str =
+    "For each change: at which byte of FILE which bytes are to be put for which; what its page is; and
+how many faults are left after it, or 'ok'. Sound is not yet right: look at the rows of that page.
+
+Examples:
+  dbck mend notes.db            At most 8 changes, each found by runs over notes.db with other bytes
+  dbck mend --limit 1 notes.db  One change
+  dbck check --with 1526=00000007 notes.db
+                                The faults that notes.db would have with a change that was found
+
+The status is that of check. 'dbck --help' lists the exit statuses.";
+
 pub(crate) const STAT_ABOUT: &str =
     "Print a row for each page of a tree, and the faults to standard error";
 

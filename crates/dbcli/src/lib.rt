@@ -2,6 +2,7 @@
 //! the request, and reports errors, notes and progress.
 #![tactic(auto)]
 
+mod arguments;
 mod beside;
 mod command_line;
 mod copied;
@@ -23,6 +24,7 @@ mod shown;
 mod spelled;
 mod stamp;
 mod status;
+mod task;
 mod watched;
 mod words;
 mod words_error;
@@ -40,5 +42,6 @@ pub use request::Request;
 pub use running::{System, answer_words, run_line, tell};
 pub use spelled::SpellingError;
 pub use status::{line_status, status_of};
+pub use task::Task;
 pub use words::{texts_of, words_of};
 pub use words_error::WordsError;

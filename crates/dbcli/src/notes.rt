@@ -13,6 +13,7 @@ use crate::note::{NoteOut, Piece};
 use crate::rest::put_rest;
 use crate::shown::Shown;
 use crate::stamp::Stamp;
+use crate::task::Task;
 use crate::watched::Watch;
 use dblog::{Index, LogError};
 use dbreport::Verdict;
@@ -86,6 +87,15 @@ impl<'a, R: Lookup + AllocGlobal, N: Out> FileNotes<'a, R, N> {
             put_found(&mut self.notes, &name, found);
         }
         self.is_read = found.is_ok();
+    }
+
+    /// Says that the file and its log are run as one: the changes of a mend are then not those of the file.
+    pub fn joined(&mut self, task: Task<'_>) {
+        if let Task::Mend { .. } = task {
+            self.put_of_file(&[Piece::Words(
+                ": the changes are of the database that SQLite would recover, not of this file",
+            )]);
+        }
     }
 
     // Puts a note of the file's name, and of what is said of it.

@@ -8,8 +8,11 @@ const PAGES: u64 = 65_536;
 
 const BYTES: u64 = 268_435_456;
 
-// Blanks over the longest text, between two returns to the beginning of the line.
+// Blanks over the longest text of a file that is read once, between two returns to the beginning of the line.
 const BLANK: &str = "\r                                        \r";
+
+// And over the longest of one that is read again.
+const LONG_BLANK: &str = "\r                                                 \r";
 
 /// A line of a stream that is overwritten, if the stream is a terminal. After each text the cursor goes back to the beginning
 /// of the line, so that the next text overwrites it, also after an interrupted run. A failed write changes nothing.
@@ -18,6 +21,8 @@ pub struct Progress<W> {
     stream: W,
     is_on: Cell<bool>,
     is_shown: Cell<bool>,
+    // Whether what is shown has the number of a run.
+    is_long: Cell<bool>,
 }
 
 impl<W: Print> Progress<W> {
@@ -27,6 +32,7 @@ impl<W: Print> Progress<W> {
             stream,
             is_on: Cell::new(is_terminal),
             is_shown: Cell::new(false),
+            is_long: Cell::new(false),
         }
     }
 
@@ -50,14 +56,25 @@ impl<W: Print> Progress<W> {
         count > 0 && count % step == 0
     }
 
-    /// Shows how many pages were read, and how many there are.
-    pub fn show(&self, count: u64, pages: u64) {
+    /// Shows how many pages the run of this number, from 1, has read, and how many there are. Only a later run shows its number.
+    pub fn show(&self, run: u64, count: u64, pages: u64) {
         let Some(percent) = count.saturating_mul(100).checked_div(pages) else {
             return;
         };
-        let mut line: ArrayString<64> = ArrayString::new();
-        if write!(line, "dbck: {count} of {pages} pages, {percent}%\r").is_ok() {
+        let mut line: ArrayString<80> = ArrayString::new();
+        let written = if run > 1 {
+            // It may be shorter than the last one.
+            self.wipe();
+            write!(
+                line,
+                "dbck: run {run}, {count} of {pages} pages, {percent}%\r"
+            )
+        } else {
+            write!(line, "dbck: {count} of {pages} pages, {percent}%\r")
+        };
+        if written.is_ok() {
             self.is_shown.set(true);
+            self.is_long.set(run > 1);
             let _ = self.stream.print(line.as_str());
         }
     }
@@ -65,7 +82,12 @@ impl<W: Print> Progress<W> {
     /// Wipes the text that is shown, before another line is written.
     pub fn wipe(&self) {
         if self.is_shown.replace(false) {
-            let _ = self.stream.print(BLANK);
+            let blank = if self.is_long.get() {
+                LONG_BLANK
+            } else {
+                BLANK
+            };
+            let _ = self.stream.print(blank);
         }
     }
 }

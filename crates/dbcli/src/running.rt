@@ -45,7 +45,7 @@ pub fn run_line<R: Lookup + AllocGlobal, F: Opener, O: Out, E: Out, N: Out, W: P
     notes: &mut N,
     progress: &Progress<W>,
 ) -> u8
-    ensures { RunsLine F.opens F.opens_log F.closes F.File.Source O.Out E.Out line.entry.recovered line.entry.changes line.entry.request
+    ensures { RunsLine F.opens F.opens_log F.closes F.File.Source O.Out E.Out line.entry.recovered line.entry.changes line.entry.task
         line.entry.file.now result (system.old.files, out.old, err.old) (system.new.files, out.new, err.new) }
 {
     let watch = Watch::new();

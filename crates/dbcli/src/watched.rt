@@ -12,6 +12,8 @@ pub struct Watch {
     len: Cell<u64>,
     first: Cell<[u8; 16]>,
     geometry: Cell<Option<Geometry>>,
+    // How many runs there were, and how many reads in the last of them.
+    runs: Cell<u64>,
     reads: Cell<u64>,
     failed: Cell<Option<ByteRange>>,
     copied: Cell<Option<Copied>>,
@@ -24,6 +26,7 @@ impl Watch {
             len: Cell::new(0),
             first: Cell::new([0; 16]),
             geometry: Cell::new(None),
+            runs: Cell::new(0),
             reads: Cell::new(0),
             failed: Cell::new(None),
             copied: Cell::new(None),
@@ -55,7 +58,13 @@ impl Watch {
         self.copied.get()
     }
 
-    // The first read is that of the header.
+    // A run asks for the length first, and then reads the header.
+    fn see_len(&self, len: u64) {
+        self.len.set(len);
+        self.reads.set(0);
+    }
+
+    // The first read of a run is that of the header.
     fn pages_read(&self) -> u64 {
         self.reads.get().saturating_sub(1)
     }
@@ -73,6 +82,9 @@ impl Watch {
     // reach this call.
     #[inline(never)]
     fn keep_read(&self, offset: u64, bytes: &[u8], is_read: bool, is_first: bool) {
+        if is_first {
+            self.runs.set(self.runs.get().saturating_add(1));
+        }
         if !is_read {
             let len = bytes.len() as u64;
             self.failed.set(Some(ByteRange { offset, len }));
@@ -123,7 +135,9 @@ impl<'w, 'p, S: Source, W: Print> Watched<'w, 'p, S, W> {
         if let Some(geometry) = self.watch.geometry()
             && self.progress.is_due(count, geometry.page_size)
         {
-            self.progress.show(count, u64::from(geometry.pages));
+            let pages = u64::from(geometry.pages);
+            self.progress
+                .show(self.watch.runs.get(), count.min(pages), pages);
         }
     }
 
@@ -144,7 +158,7 @@ impl<S: Source, W: Print> Source for Watched<'_, '_, S, W> {
 
     fn len(&mut self) -> Result<u64, ReadFailed> {
         let len = self.source.len()?;
-        self.watch.len.set(len);
+        self.watch.see_len(len);
         Ok(len)
     }
 

@@ -2,7 +2,7 @@
 ghost use Rattle.std.specs.Prelude.{◌≡◌, ◌⊎◌};
 ghost use Rattle.clap.specs.declared.error.kind.ErrorKind.TheVariants.{OutOfMemory};
 
-use crate::command_line::dbck_command;
+use crate::arguments::dbck_command;
 use crate::shown::Shown;
 use clap::error::ErrorKind;
 use std::alloc::{AllocError, Global};

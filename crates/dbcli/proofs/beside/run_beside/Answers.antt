@@ -19,7 +19,7 @@ returns-then-is_used g c =
         (
           c.run_logged-status.result.1,
           c.into_inner.ensures,
-          subst (λ x. RunsLogged g.S.Source g.O.Out g.E.Out c.args.line.now.changes c.args.line.now.request c.run_logged-status.result.0
+          subst (λ x. RunsLogged g.S.Source g.O.Out g.E.Out c.args.line.now.changes c.args.line.now.task c.run_logged-status.result.0
               (x, c.args.out.now, c.args.err.now) (c.run_logged-status.result.1, c.run_logged-status.new.out, c.run_logged-status.new.err))
               c.new-both.ensures c.run_logged-status.ensures,
         ),

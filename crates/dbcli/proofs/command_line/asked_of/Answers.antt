@@ -14,11 +14,11 @@ returns-clause-asks c =
     let met = named_by c.args.matches.now c.in_ok-name.name.now rows c.in_ok-name.ensures.name c.in_ok-name.ensures.rows in
     record {
       rows = rows;
-      named = met ∙ ap (λ (name : Text). Some (name, rows)) c.in_ok-request_of.ensures.named;
+      named = met ∙ ap (λ (name : Text). Some (name, rows)) c.in_ok-task_of.ensures.named;
       file_given = sym (first_value-rows (found_of c.in_ok-name.given.now) (codes "FILE")) ∙ sym c.in_ok-file.ensures;
-      flags = c.in_ok-request_of.ensures.flags;
-      limit = c.in_ok-request_of.ensures.value;
-      title = c.in_ok-request_of.ensures.title;
+      flags = c.in_ok-task_of.ensures.flags;
+      limit = c.in_ok-task_of.ensures.value;
+      title = c.in_ok-task_of.ensures.title;
     }
 
 pub returns-in_err-file-clause-none : goal.returns-in_err-file-clause-none
@@ -26,8 +26,8 @@ returns-in_err-file-clause-none c =
     let rows = rows_of (found_of c.in_ok-name.given.now) in
     let met = named_by c.args.matches.now c.in_ok-name.name.now rows c.in_ok-name.ensures.name c.in_ok-name.ensures.rows in
     let file_row = sym (first_value-rows (found_of c.in_ok-name.given.now) (codes "FILE")) ∙ sym c.in_err-file.ensures in
-    rw c.from_residual-in_err-file.ensures (λ request file range asks.
-    not_away (first_of (codes "FILE") rows) file file_row (asked_of _ c.in_ok-name.name.now rows request file met asks).1)
+    rw c.from_residual-in_err-file.ensures (λ task file range asks.
+    not_away (first_of (codes "FILE") rows) file file_row (asked_of _ c.in_ok-name.name.now rows task file met asks).1)
 
 pub returns-clause-changes : goal.returns-clause-changes
 returns-clause-changes c =

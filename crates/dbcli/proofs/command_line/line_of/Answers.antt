@@ -10,7 +10,7 @@ returns-in-Ok-clause-asks c =
     let app = c.in_ok-command.ensures in
     let words = map (λ word. word.now) c.args.words.now in
     let met = (c.in-Ok.ensures.matches (ap is_simple app ∙ is_simple_dbck)).1 ∙ ap (λ a. subcommand_of a words) app in
-    subst (λ a. IfOk c.line_in.result (λ line. AsksFor a line.request line.file.now)) met c.line_in.ensures.asks
+    subst (λ a. IfOk c.line_in.result (λ line. AsksFor a line.task line.file.now)) met c.line_in.ensures.asks
 
 pub returns-in-Ok-clause-progress : goal.returns-in-Ok-clause-progress
 returns-in-Ok-clause-progress c =

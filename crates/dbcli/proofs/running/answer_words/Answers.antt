@@ -4,7 +4,7 @@ use Rattle.dbcli.proofs.running.answer_words.Goals as goal
 pub returns-in-Ok : goal.returns-in-Ok
 returns-in-Ok g c = inl (record {
   taken = c.in-Ok.ensures.taken;
-  request = c.in-Ok.line.request;
+  task = c.in-Ok.line.task;
   file = c.in-Ok.line.file.now;
   asked = c.in-Ok.ensures.asks;
   limit = c.in-Ok.ensures.limit;

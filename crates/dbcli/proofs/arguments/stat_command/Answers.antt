@@ -2,7 +2,7 @@ use Rattle.std.proofs.Common.{codes}
 use Rattle.clap.specs.Words.{App, new_app, with_rule}
 use Rattle.dbcli.specs.CommandLine.{flag_rule, stat_flags}
 use Rattle.dbcli.proofs.Adding.{one_more}
-use Rattle.dbcli.proofs.command_line.stat_command.Goals as goal
+use Rattle.dbcli.proofs.arguments.stat_command.Goals as goal
 
 pub returns : goal.returns
 returns c =

@@ -1,11 +1,12 @@
+use Rattle.std.proofs.Common.{codes}
 use Rattle.clap.specs.Words.{App, new_app, with_rule}
 use Rattle.dbcli.specs.CommandLine.{limit_rule}
 use Rattle.dbcli.proofs.Adding.{one_more}
-use Rattle.dbcli.proofs.command_line.limited_command.Goals as goal
+use Rattle.dbcli.proofs.arguments.limited_command.Goals as goal
 
 pub returns : goal.returns
 returns c =
     let app : App = new_app c.args.name.now in
-    let limited = one_more c.described.result c.limit_arg.result c.in_ok-command.command app (limit_rule c.args.most)
+    let limited = one_more c.described.result c.limit_arg.result c.in_ok-command.command app (limit_rule c.args.most (codes "100"))
     (c.described.ensures.app, c.described.ensures.local) c.limit_arg.ensures.rule c.limit_arg.ensures.local c.in_ok-command.ensures in
-    c.with_file.ensures (with_rule app (limit_rule c.args.most)) limited.0 limited.1
+    c.with_file.ensures (with_rule app (limit_rule c.args.most (codes "100"))) limited.0 limited.1
