@@ -8,15 +8,15 @@ _dbck() {
         [ "$word" = -- ] && after=yes
     done
     if [ "$COMP_CWORD" -eq 1 ]; then
-        words='check explain map stat help --help --version'
+        words='check explain map mend stat help --help --version'
     elif [ -z "$after" ] && [[ $prev == --limit || $prev == --with ]]; then
         return
     else
         case $command in
-            check | explain) words='--limit --recovered --with --no-progress --help' ;;
+            check | explain | mend) words='--limit --recovered --with --no-progress --help' ;;
             map) words='--recovered --with --no-progress --help' ;;
             stat) words='--aggregate --all --recovered --with --no-progress --help' ;;
-            help) words='check explain map stat' ;;
+            help) words='check explain map mend stat' ;;
             *) return ;;
         esac
     fi

@@ -1,8 +1,9 @@
 # fish completion for dbck
-set -l commands check explain map stat help
+set -l commands check explain map mend stat help
 complete -c dbck -n "not __fish_seen_subcommand_from $commands" -f -a check -d 'Print a line for each fault'
 complete -c dbck -n "not __fish_seen_subcommand_from $commands" -f -a explain -d 'Print each injury once'
 complete -c dbck -n "not __fish_seen_subcommand_from $commands" -f -a map -d 'Print a picture of the pages'
+complete -c dbck -n "not __fish_seen_subcommand_from $commands" -f -a mend -d 'Print changes that leave fewer faults'
 complete -c dbck -n "not __fish_seen_subcommand_from $commands" -f -a stat -d 'Print a row for each page'
 complete -c dbck -n "not __fish_seen_subcommand_from $commands" -f -a help -d 'Print help'
 complete -c dbck -n "not __fish_seen_subcommand_from $commands" -s V -l version -d 'Print the version'
@@ -18,9 +19,13 @@ complete -c dbck -n '__fish_seen_subcommand_from explain' -l no-progress -d 'Sho
 complete -c dbck -n '__fish_seen_subcommand_from map' -l recovered -d 'Report the database that SQLite would recover from the file and its -wal'
 complete -c dbck -n '__fish_seen_subcommand_from map' -l with -x -d 'Report the file with these bytes at this offset'
 complete -c dbck -n '__fish_seen_subcommand_from map' -l no-progress -d 'Show no progress on a terminal'
+complete -c dbck -n '__fish_seen_subcommand_from mend' -l limit -x -d 'Find at most N changes'
+complete -c dbck -n '__fish_seen_subcommand_from mend' -l recovered -d 'Report the database that SQLite would recover from the file and its -wal'
+complete -c dbck -n '__fish_seen_subcommand_from mend' -l with -x -d 'Report the file with these bytes at this offset'
+complete -c dbck -n '__fish_seen_subcommand_from mend' -l no-progress -d 'Show no progress on a terminal'
 complete -c dbck -n '__fish_seen_subcommand_from stat' -l aggregate -d 'Print one row for each tree'
 complete -c dbck -n '__fish_seen_subcommand_from stat' -l all -d 'Print rows for all other pages, too'
 complete -c dbck -n '__fish_seen_subcommand_from stat' -l recovered -d 'Report the database that SQLite would recover from the file and its -wal'
 complete -c dbck -n '__fish_seen_subcommand_from stat' -l with -x -d 'Report the file with these bytes at this offset'
 complete -c dbck -n '__fish_seen_subcommand_from stat' -l no-progress -d 'Show no progress on a terminal'
-complete -c dbck -n '__fish_seen_subcommand_from help' -f -a 'check explain map stat'
+complete -c dbck -n '__fish_seen_subcommand_from help' -f -a 'check explain map mend stat'

@@ -22,7 +22,7 @@ compare() {
     fi
 }
 
-for command in check explain map stat; do
+for command in check explain map mend stat; do
     "$dbck" "$command" --help | long > "$work/help"
     # shellcheck disable=SC1091
     words=$(
@@ -41,7 +41,7 @@ done
 "$dbck" --help | sed -n '/^Commands:/,/^$/s/^  \([a-z]*\) .*/\1/p' | LC_ALL=C sort > "$work/help"
 for file in dbck.bash _dbck dbck.fish; do
     : > "$work/words"
-    for word in check explain map stat help; do
+    for word in check explain map mend stat help; do
         grep -q -- "$word" "$file" && echo "$word" >> "$work/words"
     done
     LC_ALL=C sort -o "$work/words" "$work/words"
@@ -54,13 +54,13 @@ mkdir "$work/files"
 words=$(
     . ./dbck.bash
     cd "$work/files" || exit
-    for command in check explain map stat; do
+    for command in check explain map mend stat; do
         COMP_WORDS=(dbck "$command" -- --) COMP_CWORD=3
         _dbck
         printf '%s\n' "$command: ${COMPREPLY[*]}"
     done
 )
-for command in check explain map stat; do
+for command in check explain map mend stat; do
     echo "$command: --limit.db"
 done > "$work/help"
 echo "$words" > "$work/words"

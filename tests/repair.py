@@ -3,8 +3,9 @@
 
 It makes databases in FOLDER by the sqlite3 program, and injuries of them by a fixed seed. Over each it runs every recipe of
 docs/REPAIR.md, and compares each row of each table, and of the schema, with the database before its injury. The last column of its
-table is of the recipe that `explain` leads to. It ends with 1 where that one loses a row that another one saves, or has a row that
-is neither of the database nor read out of the damaged file by a single command.
+table is of the recipe that the page leads to. It ends with 1 where that one loses a row that another one saves, or has a row that
+is neither of the database nor read out of the damaged file by a single command, or where `mend` says ok and `check` of the changed copy does
+not. What `mend` made sound has a table of its own, with how many files are byte for byte as before.
 
 Recipes with .recover need a sqlite3 that has it: SQLITE_RECOVER=PATH; docs/REPAIR.md says how to build one.
 """
@@ -94,12 +95,15 @@ class Workshop:
         self.path = os.environ["PATH"]
         self.recovers = "SQLITE_RECOVER" in os.environ
         self.plain = [recipe for recipe in PLAIN if self.recovers or recipe not in (".recover", "Both ways")]
+        programs = {"dbck": dbck}
         if self.recovers:
-            programs = folder / "bin" / name
-            programs.mkdir(parents=True, exist_ok=True)
-            (programs / "sqlite3").unlink(missing_ok=True)
-            (programs / "sqlite3").symlink_to(pathlib.Path(os.environ["SQLITE_RECOVER"]).resolve())
-            self.path = f"{programs}:{self.path}"
+            programs["sqlite3"] = pathlib.Path(os.environ["SQLITE_RECOVER"]).resolve()
+        folder = folder / "bin" / name
+        folder.mkdir(parents=True, exist_ok=True)
+        for program, path in programs.items():
+            (folder / program).unlink(missing_ok=True)
+            (folder / program).symlink_to(path)
+        self.path = f"{folder}:{self.path}"
 
     def begin(self, damage):
         """A folder with a copy of the damaged file, what lies beside docs/REPAIR.md, and the statements that made its tables."""
@@ -120,6 +124,16 @@ class Workshop:
         variables = {"PATH": self.path, "HOME": str(self.folder), **values}
         done = subprocess.run(["sh", "-c", self.recipes.get(recipe, recipe)], cwd=self.folder, env=variables, capture_output=True)
         return bool(done.stderr) or done.stdout.startswith(b"ROLLBACK")
+
+    def mend(self):
+        """Makes the changes of `dbck mend` in the copy, and gives whether it found some and ends with ok. Else the copy is as it was."""
+        kept = self.copy.read_bytes()
+        self.run("mend")
+        lines = (self.folder / "mend.txt").read_text().splitlines()
+        if len(lines) > 1 and lines[-1] == "ok":
+            return True
+        self.copy.write_bytes(kept)
+        return False
 
     def explain(self):
         done = subprocess.run([self.dbck, "explain", "--limit", "10000", self.copy], capture_output=True, text=True, errors="replace")
@@ -288,6 +302,9 @@ def with_first_page(shop, page_size):
 
 def chosen(shop, damage):
     """Repairs the copy in the shop as docs/REPAIR.md leads to, and gives the steps and the file that is the result."""
+    if shop.mend() and result_of(shop.folder, shop.copy, []).sound:
+        return ["mend"], shop.copy
+    shop.begin(damage)
     steps = []
     while True:
         explained, status = shop.explain()
@@ -319,7 +336,7 @@ def chosen(shop, damage):
 PLAIN = ("VACUUM INTO", ".dump", ".dump and sed", ".recover", "Both ways")
 FEW = 20
 FEW_SHAPES = ("rowid-512", "without-rowid-512", "incremental-1024", "full-vacuum-512", "repeated-512", "generated-512")
-Damage = collections.namedtuple("Damage", "kind name file page_size encoding schema tables")
+Damage = collections.namedtuple("Damage", "kind name file page_size encoding schema tables before")
 
 
 class Ward:
@@ -340,7 +357,7 @@ class Ward:
             return None
         file = self.folder / f"{self.shape}-{kind.replace(' ', '-')}-{copy}.db"
         file.write_bytes(patient.data)
-        return Damage(kind, file.stem, file, self.page_size, self.data[59], self.schema, self.tables)
+        return Damage(kind, file.stem, file, self.page_size, self.data[59], self.schema, self.tables, self.data)
 
 
 def damages(dbck, folder, copies, shape):
@@ -360,7 +377,7 @@ def few(dbck, folder):
                 yield damage
 
 
-Outcome = collections.namedtuple("Outcome", "name kind steps results lost invented")
+Outcome = collections.namedtuple("Outcome", "name kind steps results lost invented same unsound", defaults=(False, False))
 
 
 def repaired(shop, damage):
@@ -384,9 +401,20 @@ def repaired(shop, damage):
         shop.begin(damage)
         shop.run(recipe)
         results[recipe] = result_of(shop.folder, shop.new, damage.tables)
+    same, unsound = with_mend(shop, damage, results)
     later.append(read_of(damage.file, damage.tables))
-    readers = [result for recipe, result in results.items() if recipe not in ("chosen", "Both ways")]
-    return Outcome(damage.name, damage.kind, steps, results, losses(results, later, damage.tables), invented(results["chosen"], readers + later))
+    readers = [result for recipe, result in results.items() if recipe not in ("chosen", "Both ways", "mend")]
+    made = invented(results["chosen"], readers + later)
+    return Outcome(damage.name, damage.kind, steps, results, losses(results, later, damage.tables), made, same, unsound)
+
+
+def with_mend(shop, damage, results):
+    """Has `mend` among the results, where it ends with ok. Gives whether the copy is then as before the injury, and whether it has a fault."""
+    shop.begin(damage)
+    if not shop.mend():
+        return False, False
+    results["mend"] = result_of(shop.folder, shop.copy, damage.tables)
+    return shop.copy.read_bytes() == damage.before, shop.explain()[0] != "ok\n"
 
 
 def losses(results, later, tables):
@@ -411,10 +439,11 @@ class Sums:
     """What a recipe did in several injuries."""
 
     def __init__(self):
-        self.injuries = self.whole = self.lost = self.sound = self.wrong = self.elsewhere = 0
+        self.injuries = self.whole = self.lost = self.sound = self.wrong = self.elsewhere = self.same = 0
 
-    def add(self, lost, result):
+    def add(self, lost, result, same):
         self.injuries += 1
+        self.same += same
         self.whole += lost == 0
         self.lost += lost
         self.sound += result.sound
@@ -434,7 +463,10 @@ def table(head, lines):
 
 
 def report(of_class, of_steps, of_recipe):
-    """The three tables of docs/REPAIR.md."""
+    """The four tables of docs/REPAIR.md."""
+    head = ["Damage", "Files", "sound by mend", "byte for byte as before", "sound to SQLite", "Rows lost", "Rows wrong"]
+    mended = [(kind, by["chosen"].injuries, by["mend"]) for kind, by in [*of_class.items(), ("all", of_recipe)]]
+    table(head, [[kind, files, by.injuries, by.same, by.sound, by.lost, by.wrong] for kind, files, by in mended])
     columns = [recipe for recipe in (*PLAIN, "chosen") if recipe in of_recipe]
     lines = [[kind, by["chosen"].injuries] + [by[recipe] for recipe in columns] for kind, by in of_class.items()]
     lines.append(["all", of_recipe["chosen"].injuries] + [of_recipe[recipe] for recipe in columns])
@@ -478,7 +510,7 @@ def main():
             left_out += not outcome.results
             for recipe, result in outcome.results.items():
                 for group in ("class", outcome.kind), ("steps", steps), ("all", "all"):
-                    sums[group][recipe].add(outcome.lost[recipe], result)
+                    sums[group][recipe].add(outcome.lost[recipe], result, outcome.same)
                 wrong = sum(rows.total() for rows in result.wrong.values())
                 made = outcome.invented if recipe == "chosen" else ""
                 print(outcome.name, steps, recipe, outcome.lost[recipe], wrong, made, result.sound, sep="\t", file=listed, flush=True)
@@ -486,6 +518,9 @@ def main():
                 if count:
                     failed += 1
                     print(f"{outcome.name}: {steps} {what} {count} rows")
+            if outcome.unsound:
+                failed += 1
+                print(f"{outcome.name}: mend says ok, and the changed copy has faults")
     report({kind: by for (group, kind), by in sums.items() if group == "class"}, {s: by for (g, s), by in sums.items() if g == "steps"}, sums["all", "all"])
     if left_out:
         print(f"left out: {left_out} injuries of which the recipe needs a sqlite3 with .recover (SQLITE_RECOVER)")

@@ -14,7 +14,7 @@ tree=$'sqlite_schema\t-\t1\t-\t0\t0\t404\t0\t-\t512\n'
 picture='<svg xmlns=*<title>Pages of'
 unread=$'dbck: E8 the file cannot be read\n'
 unwritten=$'dbck: E10 the output cannot be written\n'
-four=(check explain map stat)
+five=(check explain map mend stat)
 
 # Each test begins at the top of the repository, with a folder of its own that is gone after it.
 setup() {

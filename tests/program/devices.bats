@@ -24,7 +24,7 @@ teardown() {
 # as_a_file FILE: each command writes of the device what it writes of the file.
 as_a_file() {
     local words wanted
-    for words in check 'check --limit 1' explain map stat 'stat --all' 'stat --aggregate --all'; do
+    for words in check 'check --limit 1' explain map mend stat 'stat --all' 'stat --aggregate --all'; do
         # shellcheck disable=SC2086
         dbck $words "$1"
         sed "s|$1|$device|g" "$work/err" > "$work/errors"
@@ -85,7 +85,7 @@ as_a_file() {
     cp "$data/whole.db" "$work/x.db"
     with_device "$work/x.db"
     before=$(stat -c '%i %Y %Z %a' "$loop")
-    for command in "${four[@]}"; do
+    for command in "${five[@]}"; do
         dbck "$command" "$device"
         [ "$status" = 0 ]
     done

@@ -22,6 +22,8 @@ explain explain --help
 explain help explain
 map map --help
 map help map
+mend mend --help
+mend help mend
 stat stat --help
 stat help stat
 END

@@ -11,7 +11,7 @@ in_memory() {
 @test 'without the memory for the marks of 67108864 pages each command ends with 5' {
     cp "$data/empty.db" "$work/many-pages.db"
     sparse "$work/many-pages.db" 34359738368
-    for command in "${four[@]}"; do
+    for command in "${five[@]}"; do
         in_memory 40000 "$command" "$work/many-pages.db"
         row "$command in 40 MB" ended 5 '' $'dbck: E9 out of memory\n'
     done

@@ -24,7 +24,7 @@ harmless() {
 # noted STATUS TEXT: each command writes this alone of $file, with the shown path for each `@`.
 noted() {
     local command
-    for command in "${four[@]}"; do
+    for command in "${five[@]}"; do
         exactly "$1" '' "${2//@/"$work/here/$shown"}" "$command" -- "$file" || return
         harmless "$work/err" || return
     done
@@ -193,7 +193,7 @@ END
     for bytes in '\xff' 'x\xc3' '\xc0\xaf' '\xed\xa0\x80' '\xf4\x90\x80\x80' 'x\x9b2J' '\xe2\x80'; do
         word=$(printf '%b' "$bytes")
         cp "$data/empty.db" "$work/$word"
-        for command in "${four[@]}"; do
+        for command in "${five[@]}"; do
             exactly 2 '' $'dbck: a word of the command line is not UTF-8\n' "$command" "$work/$word"
         done
         exactly 2 '' $'dbck: a word of the command line is not UTF-8\n' "$word"

@@ -84,7 +84,7 @@ noted() {
     put_at "$work/x.db" 16 '\03'
     log_notes "$work/x.db"
     note=$(changed_note "$work/x.db")
-    for command in "${four[@]}"; do
+    for command in "${five[@]}"; do
         at_first_note "touch '$work/x.db'" "$command" "$work/x.db"
         ended_exactly 3 '' "${wal}dbck: note: $work/x.db is not checked"$'\n'"${note%.}"$'dbck: E3 page size is not valid\n'
     done
@@ -93,7 +93,7 @@ noted() {
 @test 'a file that is emptied after it was opened has no bytes, and was changed' {
     log_notes "$work/x.db"
     note=$(changed_note "$work/x.db")
-    for command in "${four[@]}"; do
+    for command in "${five[@]}"; do
         cp tests/sqlite/pages-of-65536.db "$work/x.db"
         at_first_note "truncate -s 0 '$work/x.db'" "$command" "$work/x.db"
         ended_exactly 3 '' "${wal}dbck: note: $work/x.db is not checked"$'\n'"dbck: note: $work/x.db has no bytes; to SQLite it is an empty database"$'\n'"${note%.}"$'dbck: E1 file is shorter than 100 bytes\n'
@@ -169,7 +169,7 @@ END
         changed refused 16 '\03'
         put_at "$work/refused.db" 80 '\0303\0251\0303\0251\0303\0251\0303\0251aaaaaaaaaaaa'
         [ -z "$cut" ] || put_at "$work/refused.db" $((100 - ${#cut} / 5)) "$cut"
-        for command in "${four[@]}"; do
+        for command in "${five[@]}"; do
             exactly 3 '' "dbck: note: $work/refused.db is not checked"$'\n'"$letters"$'dbck: E3 page size is not valid\n' "$command" "$work/refused.db"
         done
     done

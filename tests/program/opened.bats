@@ -9,7 +9,7 @@ load common
         cp "$root/$data/empty.db" "$name"
     done
     for name in x ./x "$work/here/x" 'file:y' '%79' '[x]' "\$x" 'x.' x.s '~/x' here/x X/x; do
-        for command in "${four[@]}"; do
+        for command in "${five[@]}"; do
             reason='No such file or directory'
             [[ $name != [~X]/x ]] || reason='Not a directory'
             exactly 4 '' "dbck: note: $name: $reason"$'\n'"$unread" "$command" "$name"
@@ -54,7 +54,7 @@ state() {
     chmod 640 "$work/here/sound.db"
     state "$work/here" > "$work/before"
     for name in sound.db faults.db refused.db none.db link.db pipe.db missing.db .; do
-        for words in check 'check --limit 1' explain map stat 'stat --all --aggregate'; do
+        for words in check 'check --limit 1' explain map mend stat 'stat --all --aggregate'; do
             # shellcheck disable=SC2086
             dbck $words "$work/here/$name"
             [ "$status" -lt 5 ]
@@ -94,7 +94,7 @@ state() {
         done > "$work/open"
         grep -E "^[0-9]+: .* $pid " /proc/locks > "$work/locks" || true
     }
-    for command in "${four[@]}"; do
+    for command in "${five[@]}"; do
         at_first_note seen "$command" "$work/x.db"
         [ "$status" = 0 ]
         # 0 is reading alone.
@@ -116,7 +116,7 @@ state() {
 @test 'a lock on the file is not waited for' {
     needs flock timeout
     cp "$data/whole.db" "$work/x.db"
-    for command in "${four[@]}"; do
+    for command in "${five[@]}"; do
         flock -x "$work/x.db" timeout 10 "$DBCK" "$command" "$work/x.db" > "$work/out"
     done
     if command -v python3 > "$work/why"; then
@@ -161,7 +161,7 @@ END
     ln -s pipe "$work/to-pipe"
     ln -s /dev/zero "$work/to-zero"
     while IFS='|' read -r name reason; do
-        for command in "${four[@]}"; do
+        for command in "${five[@]}"; do
             status=0
             timeout 10 "$DBCK" "$command" "$work/$name" > "$work/out" 2> "$work/err" < /dev/null || status=$?
             ended_exactly 4 '' "dbck: note: $work/$name: $reason"$'\n'"$unread"

@@ -48,7 +48,7 @@ row_of() {
 
 @test 'a file in memory is read once, and its header' {
     row_of 300 65536 "$work/x.db"
-    for words in check stat 'stat --all --aggregate' explain map; do
+    for words in check stat 'stat --all --aggregate' explain map mend; do
         # Each page is one call, and two where it is the first of a MiB; and one is the header's.
         # shellcheck disable=SC2086
         reads $((100 + size)) $((1 + size / 65536 + size / 1048576 + 1)) $words "$work/x.db"
@@ -59,7 +59,7 @@ row_of() {
 @test 'pages that follow one another are read many at once, and still once' {
     for size in 512 4096; do
         row_of 9000 "$size" "$work/x.db"
-        for words in check 'stat --aggregate' explain map; do
+        for words in check 'stat --aggregate' explain map mend; do
             # shellcheck disable=SC2086
             reads $((100 + size)) $((size / 262144 + 16)) $words "$work/x.db"
             [ "$status" = 0 ]
@@ -88,7 +88,7 @@ row_of() {
     sqlite3 "$work/x.db" 'DELETE FROM t'
     [ "$(wc -c < "$work/x.db")" = "$size" ]
     # Pages 1 and 2 and the trunk.
-    for words in check 'stat --all' explain map; do
+    for words in check 'stat --all' explain map mend; do
         # shellcheck disable=SC2086
         reads $((100 + 3 * 65536)) 8 $words "$work/x.db"
         [ "$status" = 0 ]
@@ -96,7 +96,7 @@ row_of() {
 }
 
 @test 'of a refused file the header alone is read, once' {
-    for command in "${four[@]}"; do
+    for command in "${five[@]}"; do
         reads 100 1 "$command" tests/slow.py
         [ "$status" = 3 ]
     done
@@ -106,7 +106,7 @@ row_of() {
     truncate -s 99 "$work/few.db"
     cp "$data/empty.db" "$work/many.db"
     sparse "$work/many.db" 34359738880
-    for command in "${four[@]}"; do
+    for command in "${five[@]}"; do
         reads 100 1 "$command" "$work/page-size.db"
         reads 100 1 "$command" "$work/many.db"
         reads 0 0 "$command" "$work/few.db"
@@ -118,7 +118,7 @@ row_of() {
     mkdir "$work/folder"
     mkfifo "$work/pipe"
     for name in "$work/folder" "$work/pipe" /dev/zero "$work/missing" /proc/self/mem; do
-        for command in "${four[@]}"; do
+        for command in "${five[@]}"; do
             reads 0 0 "$command" "$name"
             [ "$status" = 4 ]
         done
@@ -129,7 +129,7 @@ row_of() {
     # It has fewer bytes than it says: a call gets these, and a second one none.
     lying=/sys/devices/system/cpu/online
     [ -f "$lying" ] || skip "there is no $lying"
-    for command in "${four[@]}"; do
+    for command in "${five[@]}"; do
         reads "$(cat "$lying" | wc -c)" 2 "$command" "$lying"
         [ "$status" = 4 ]
     done

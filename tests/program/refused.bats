@@ -4,13 +4,13 @@ load common
 
 @test 'a file without bytes is refused as too short, and a note says what it is to SQLite' {
     : > "$work/no-bytes.db"
-    for command in "${four[@]}"; do
+    for command in "${five[@]}"; do
         expect 3 '' "dbck: note: $work/no-bytes.db is not checked"$'\n'"dbck: note: $work/no-bytes.db has no bytes; to SQLite it is an empty database"$'\ndbck: E1 file is shorter than 100 bytes\n' "$command" "$work/no-bytes.db"
     done
 }
 
 @test 'a script is refused, and a note says how it begins' {
-    for command in "${four[@]}"; do
+    for command in "${five[@]}"; do
         expect 3 '' $'dbck: note: tests/program/refused.bats is not checked\ndbck: note: tests/program/refused.bats begins with 23 21 2f 75 73 72 2f 62 69 6e 2f 65 6e 76 20 62  #!/usr/bin/env b\ndbck: E2 file is not a SQLite 3 database\n' "$command" tests/program/refused.bats
     done
 }
@@ -26,7 +26,7 @@ load common
     truncate -s 100 "$work/header-alone.db"
     changed few-bytes 0 S
     truncate -s 99 "$work/few-bytes.db"
-    for command in "${four[@]}"; do
+    for command in "${five[@]}"; do
         while IFS='|' read -r name begins error; do
             begins=${begins:+dbck: note: $work/$name.db begins with $begins$'\n'}
             expect 3 '' "dbck: note: $work/$name.db is not checked"$'\n'"${begins}dbck: $error"$'\n' "$command" "$work/$name.db"

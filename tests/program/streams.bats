@@ -49,7 +49,7 @@ to_full_disk() {
 }
 
 @test 'a report that cannot be written ends with 6' {
-    for words in check explain map stat 'stat --all' 'stat --aggregate'; do
+    for words in check explain map mend stat 'stat --all' 'stat --aggregate'; do
         # shellcheck disable=SC2086
         to_full_disk $words "$data/whole.db"
         row "$words to a full disk" ended 6 '' "$unwritten"

@@ -3,7 +3,7 @@
 load common
 
 @test 'a device and standard input are no regular files' {
-    for command in "${four[@]}"; do
+    for command in "${five[@]}"; do
         for path in /dev/null /dev/zero -; do
             expect 4 '' "dbck: note: $path: not a regular file: unpack it first"$'\n'"$unread" "$command" "$path"
         done
@@ -11,14 +11,14 @@ load common
 }
 
 @test 'a folder is not read' {
-    for command in "${four[@]}"; do
+    for command in "${five[@]}"; do
         expect 4 '' "dbck: note: $work: a directory"$'\n'"$unread" "$command" "$work"
     done
 }
 
 @test 'what is not there is not read, and its name is shown without control characters' {
     : > "$work/no-bytes.db"
-    for command in "${four[@]}"; do
+    for command in "${five[@]}"; do
         for path in "$work/missing.db" '' "$work/"$'no\e'; do
             expect 4 '' "dbck: note: ${path/$'\e'/\\\\x1b}: No such file or directory"$'\n'"$unread" "$command" "$path"
         done
@@ -29,7 +29,7 @@ load common
 @test 'a named pipe is not waited for' {
     mkfifo "$work/named"
     as=(timeout 10)
-    for command in "${four[@]}"; do
+    for command in "${five[@]}"; do
         dbck "$command" "$work/named"
         row "$command of a named pipe" ended 4 '' "dbck: note: $work/named: not a regular file: unpack it first"$'\n'"$unread"
     done
@@ -39,7 +39,7 @@ load common
     cp "$data/empty.db" "$work/closed.db"
     chmod 000 "$work/closed.db"
     to_be_nobody
-    for command in "${four[@]}"; do
+    for command in "${five[@]}"; do
         expect 4 '' "dbck: note: $work/closed.db: Permission denied"$'\n'"$unread" "$command" "$work/closed.db"
     done
 }

@@ -24,7 +24,7 @@ refuses() {
 # past FILE LENGTH OPTIONS..: each command ends so, where the file has this length.
 past() {
     local command
-    for command in "${four[@]}"; do
+    for command in "${five[@]}"; do
         exactly 3 '' "dbck: note: $1 has $2"$'\ndbck: E11 a byte of --with is past the end of the file\n' "$command" "${@:3}" "$1" || return
     done
 }

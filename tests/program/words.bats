@@ -9,7 +9,7 @@ load common
 }
 
 @test 'after -- a word is a file, whatever it looks like' {
-    for command in "${four[@]}"; do
+    for command in "${five[@]}"; do
         expect 4 '' $'dbck: note: --all: No such file or directory\n'"$unread" "$command" -- --all
     done
     cp "$data/empty.db" "$work/-x"
@@ -23,7 +23,7 @@ load common
         # shellcheck disable=SC2086
         expect 2 '' "dbck: $text*" $words
     done < <(table wrong-words)
-    [ "$rows" = 22 ]
+    [ "$rows" = 26 ]
 }
 
 @test 'a word that is refused is shown without control characters' {

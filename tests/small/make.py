@@ -1,10 +1,10 @@
 #!/usr/bin/env python3
 """Makes small databases, most with one damage each: make.py TEXT FOLDER.
 
-TEXT is explain.txt, map.txt or stat.txt beside this file, which has a block for each: a line `== NAME PAGES: CHANGES`, what is known of it
-in lines that begin with `#`, perhaps a line `--limit N`, and then what `explain` is to write; or the lines that its picture is to have, in
-their order; or what `check` is to write, and perhaps the rows of `stat`: after `-- pages` those of all pages, and after `-- trees` those of
-trees, with each tab written `|`. NAME is a function below. PAGES, which may be left out, is how many pages it has, or is cut or filled to
+TEXT is explain.txt, map.txt, mend.txt or stat.txt beside this file, which has a block for each: a line `== NAME PAGES: CHANGES`, what is known
+of it in lines that begin with `#`, perhaps a line `--limit N`, and then what `explain` or `mend` is to write; or the lines that its picture is
+to have, in their order; or what `check` is to write, and perhaps the rows of `stat`: after `-- pages` those of all pages, and after `-- trees`
+those of trees, with each tab written `|`. NAME is a function below. PAGES, which may be left out, is how many pages it has, or is cut or filled to
 with zeros. CHANGES are bytes that are written over it: `2 508 0000ffff` on page 2 from byte 508 on. Each database is FOLDER/K.db and its
 text FOLDER/K.text; of each a line `K|limit|NAME PAGES: CHANGES` is printed.
 """
@@ -223,6 +223,14 @@ def own_trunk(_):
     db = Database(2)
     db.freelist(2, 1)
     db.put(2, 0, be(2))
+    return db
+
+
+def two_trunks(_):
+    """Two trunks without leaves."""
+    db = Database(3)
+    db.freelist(2, 2)
+    db.put(2, 0, be(3))
     return db
 
 

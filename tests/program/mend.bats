@@ -1,0 +1,239 @@
+#!/usr/bin/env bats
+# `mend`: the changes with which a file has no fault, or fewer. Nothing is written to the file.
+load common
+
+fixed=$'2 faults\nat byte 1526 put 00000007 for 00000005\n    page 3 at byte 1024\nok\n'
+
+# changes_of FILE: puts the changes that a file of lines says into $changes, as options.
+changes_of() {
+    mapfile -t changes < <(sed -n 's/^at byte \([0-9]*\) put \([0-9a-f]*\) for .*/--with=\1=\2/p' "$1")
+}
+
+# is_sound_so FILE LINES: `check` of the file with the changes of these lines says ok.
+is_sound_so() {
+    changes_of "$2"
+    dbck check "${changes[@]}" "$1"
+    [ "$status" = 0 ] && [ "$(< "$work/out")" = ok ]
+}
+
+# are_put FILE LINES: in a copy the changes are made as docs/REPAIR.md says, and `check` says ok of it.
+are_put() {
+    local at bytes
+    cp "$1" "$work/put.db"
+    while read -r at bytes; do
+        # shellcheck disable=SC2001
+        env printf "$(sed 's/../\\x&/g' <<< "$bytes")" | dd of="$work/put.db" bs=1 seek="$at" conv=notrunc status=none
+    done < <(sed -n 's/^at byte \([0-9]*\) put \([0-9a-f]*\) for .*/\1 \2/p' "$2")
+    dbck check "$work/put.db"
+    [ "$status" = 0 ]
+}
+
+@test 'mend says what was there, and writes nothing to the file' {
+    cp "$data/two-tables.db" "$work/x.db"
+    exactly 1 "$fixed" '' mend "$work/x.db"
+    exactly 1 "$fixed" '' mend --no-progress --limit=16 -- "$work/x.db"
+    cmp "$work/x.db" "$data/two-tables.db"
+    exactly 0 $'ok\n' '' mend "$data/whole.db"
+}
+
+@test 'mend writes of each database of tests/small/mend.txt what stands there, and with that it is sound' {
+    local wanted
+    small mend
+    while IFS='|' read -r number limit name; do
+        [ "$limit" != 100 ] || limit=8
+        dbck mend --limit "$limit" "$work/small/$number.db"
+        row "mend --limit $limit $name" diff "$work/small/$number.text" "$work/out"
+        wanted=1
+        [ "$(< "$work/small/$number.text")" != ok ] || wanted=0
+        row "the status of $name" ended "$wanted" '*' ''
+        if [ "$(tail -n 1 "$work/out")" = ok ]; then
+            cp "$work/out" "$work/lines"
+            row "$name with these changes" is_sound_so "$work/small/$number.db" "$work/lines"
+            row "$name with these bytes in a copy" are_put "$work/small/$number.db" "$work/lines"
+        fi
+    done < "$work/list"
+    [ "$rows" -gt 100 ]
+}
+
+@test 'of databases of which numbers were overwritten, what mend calls ok is sound' {
+    needs python3 sqlite3
+    row 'numbers overwritten' tests/mend.py --copies 1 --shape rowid-512 --shape full-vacuum-512 --shape freelist-1024 "$DBCK" "$work/numbers"
+}
+
+@test 'with --with the changes are of the file with these bytes' {
+    needs python3
+    printf '== whole: 2 507 00000000, 5 8 00000000\nok\n' > "$work/two.txt"
+    tests/small/make.py "$work/two.txt" "$work/two" > "$work/list"
+    note="dbck: note: $work/two/0.db with 4 other bytes"$'\n'
+    exactly 1 $'2 faults\nat byte 2056 put 00000007 for 00000000\n    page 5 at byte 2048\nok\n' "$note" mend --with 1019=00000003 "$work/two/0.db"
+    exactly 0 $'ok\n' "${note/4/8}" mend --with 1019=00000003 --with 2056=00000007 "$work/two/0.db"
+    # What is put for which bytes is said of these, too.
+    exactly 1 $'2 faults\nat byte 1526 put 00000007 for 00000001\n    page 3 at byte 1024\nok\n' \
+        "dbck: note: $data/two-tables.db with 4 other bytes"$'\n' mend --with 1526=00000001 "$data/two-tables.db"
+    exactly 3 '' "dbck: note: $data/whole.db has $(wc -c < "$data/whole.db") bytes"$'\ndbck: E11 a byte of --with is past the end of the file\n' \
+        mend --with 99999999=00 "$data/whole.db"
+}
+
+@test 'with --recovered the changes are of the file that SQLite recovers' {
+    needs python3
+    python3 - "$work" << 'END'
+import shutil, sqlite3, sys
+work = sys.argv[1]
+db = sqlite3.connect(work + "/made.db", isolation_level=None)
+db.execute("PRAGMA page_size = 512")
+db.execute("PRAGMA journal_mode = WAL")
+db.execute("PRAGMA wal_autocheckpoint = 0")
+db.execute("CREATE TABLE t(a)")
+db.execute("PRAGMA wal_checkpoint(TRUNCATE)")
+db.execute("INSERT INTO t VALUES (1)")
+for name in ("pair", "whole"):
+    shutil.copy(work + "/made.db", work + "/%s.db" % name)
+    shutil.copy(work + "/made.db-wal", work + "/%s.db-wal" % name)
+db.close()
+db = sqlite3.connect(work + "/whole.db", isolation_level=None)
+db.execute("PRAGMA wal_checkpoint(TRUNCATE)")
+db.close()
+END
+    # A payload fraction: page 1 is read from the file, and page 2 from the log.
+    put_at "$work/pair.db" 21 A
+    put_at "$work/whole.db" 21 A
+    dbck mend "$work/whole.db"
+    cp "$work/out" "$work/wanted"
+    dbck mend --recovered "$work/pair.db"
+    row 'what mend writes of a pair' cmp "$work/out" "$work/wanted"
+    row 'the note on a pair' ended 1 $'1 fault\nat byte 21 put 40 for 41\n    page 1 at byte 0\nok\n' \
+        "dbck: note: $work/pair.db-wal: 1 page of 1 transaction is read from it
+dbck: note: $work/pair.db: the changes are of the database that SQLite would recover, not of this file"$'\n'
+}
+
+@test 'a limit is from 1 to 16' {
+    for limit in 0 17 x 4294967296; do
+        dbck mend --limit "$limit" "$data/whole.db"
+        row "mend --limit '$limit'" ended 2 '' "dbck: invalid value '$limit' for '--limit <N>'*"
+    done
+    exactly 0 $'ok\n' '' mend --limit 1 "$data/whole.db"
+    exactly 0 $'ok\n' '' mend --limit 16 "$data/whole.db"
+}
+
+@test 'mend without its output ends with 6' {
+    dbck mend "$data/whole.db"
+    for file in whole two-tables; do
+        status=0
+        "$DBCK" mend "$data/$file.db" > /dev/full 2> "$work/err" < /dev/null 3>&- || status=$?
+        : > "$work/out"
+        row "mend $file.db to a full disk" ended 6 '' "$unwritten"
+    done
+    # Who reads the first line alone.
+    status=0
+    { (trap '' PIPE && exec "$DBCK" mend "$data/two-tables.db" 2> "$work/err" < /dev/null 3>&-) || echo $? > "$work/ended"; } | true
+    [ ! -s "$work/ended" ] || [[ $(< "$work/ended") = [16] ]]
+}
+
+@test 'mend without memory ends with 5' {
+    cp "$data/empty.db" "$work/many-pages.db"
+    sparse "$work/many-pages.db" 34359738368
+    status=0
+    (ulimit -v 40000 && exec "$DBCK" mend "$work/many-pages.db" > "$work/out" 2> "$work/err" < /dev/null 3>&-) || status=$?
+    row 'mend in 40 MB' ended 5 '' $'dbck: E9 out of memory\n'
+}
+
+# is_bounded FILE WORDS..: mend ends with 1 within a minute. For each change that it writes, and for the search of one more, there are at
+# most 64 runs, which read each page once, and a look at each page; and 256 runs in all.
+is_bounded() {
+    local size count bytes
+    size=$(wc -c < "$1")
+    timeout 60 python3 tests/program/io.py "$work/counts" "$DBCK" "${@:2}" "$1" > "$work/out" 2> "$work/err" < /dev/null || return
+    read -r status bytes _ < "$work/counts"
+    count=$(($(grep -c '^at byte' "$work/out") + 1))
+    echo "$count steps, $((bytes / size)) times the file"
+    # The program itself is less than 16 MiB, and what is read ahead one.
+    [ "$status" = 1 ] && [ "$bytes" -le $(((65 * count < 272 ? 65 * count : 272) * (size + 100) + 17825792)) ]
+}
+
+# hostile WHAT FILE: makes a file that is hard to mend.
+hostile() {
+    python3 - "$@" << 'END'
+import sys
+sys.path.insert(0, "tests/small")
+from make import Database, be
+what, path = sys.argv[1:]
+if what == "leaves":
+    # A table of 20000 leaves of zeros: each is P01.
+    levels = [500, 13]
+    db = Database(2 + 13 + 500 + 20000)
+    db.schema(("table", "t", 2))
+    db.interior(2, 15, *[(3 + k, 1600 * (k + 1)) for k in range(12)])
+    for k in range(13):
+        below = [16 + n for n in range(500) if n // 40 == k]
+        db.interior(3 + k, below[-1], *[(page, 40 * (page - 15)) for page in below[:-1]])
+    for n in range(500):
+        first = 516 + 40 * n
+        db.interior(16 + n, first + 39, *[(first + k, 40 * n + k + 1) for k in range(39)])
+elif what == "cycles":
+    # A wrong first trunk; and pages that nothing refers to, each of which names the next, in circles of a hundred.
+    db = Database(20001)
+    db.put(1, 32, be(99999) + be(20000))
+    for page in range(2, 20002):
+        last = (page - 2) // 100 * 100 + 101
+        db.put(page, 0, be(page + 1 if page < last else last - 99))
+elif what == "children":
+    # A table of which each of 70 children is the root itself, and a thousand lost leaves.
+    db = Database(1003)
+    db.schema(("table", "t", 2))
+    db.interior(2, 2, *[(2, k + 1) for k in range(69)])
+    for page in range(3, 1004):
+        db.leaf(page, page)
+elif what == "references":
+    # An index with 20 chains that end too early, and as many pages lost.
+    db = Database(42)
+    db.schema(("table", "t", 2))
+    db.interior(2, 22, *[(3 + k, k + 1) for k in range(19)])
+    for k in range(20):
+        db.tree_page(3 + k, 13, [bytes([0x84, 0x58, k + 1]) + bytes(92) + be(0)])
+open(path, "wb").write(db.bytes)
+END
+}
+
+@test 'hostile files end within their runs, and a minute' {
+    needs python3
+    [ -r /proc/self/io ] || skip 'there is no /proc/self/io'
+    for what in leaves cycles children references; do
+        hostile "$what" "$work/$what.db"
+        for limit in 1 16; do
+            row "mend --limit $limit of $what" is_bounded "$work/$what.db" mend --limit "$limit"
+        done
+    done
+}
+
+@test '800000 lost pages end within their runs, and a minute' {
+    needs python3
+    [ -r /proc/self/io ] || skip 'there is no /proc/self/io'
+    cp "$data/empty.db" "$work/lost.db"
+    sparse "$work/lost.db" $((512 * 800001))
+    put_at "$work/lost.db" 32 '\0\0\0\01'
+    row 'mend of 800000 lost pages' is_bounded "$work/lost.db" mend
+}
+
+@test '65536 bad roots end within their runs, and a minute' {
+    needs python3
+    [ -r /proc/self/io ] || skip 'there is no /proc/self/io'
+    eval "$(python3 tests/program/make.py tables 65536 8 "$work/roots.db")"
+    size=$(wc -c < "$work/roots.db")
+    truncate -s $((512 * (roots - 1))) "$work/roots.db"
+    sparse "$work/roots.db" "$size"
+    row 'mend of 65536 bad roots' is_bounded "$work/roots.db" mend
+}
+
+@test 'progress is that of the run at hand' {
+    local wiped
+    needs script
+    on_terminal true
+    [ "$status" = 0 ] || skip 'script makes no terminal here'
+    large_database
+    # A reserved byte of the header: one fault, and a run without it.
+    put_at "$work/large.db" 72 '\01'
+    on_terminal "'$DBCK' mend '$work/large.db' > '$work/report'"
+    wiped="dbck: 65536 of $pages pages, 97%"$'\r'
+    row 'progress of two runs' ended 1 "$wiped"*"dbck: run 2, 65536 of $pages pages, 97%"$'\r'* ''
+    row 'a report beside progress' grep -qx ok "$work/report"
+}
