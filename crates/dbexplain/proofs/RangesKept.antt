@@ -1,5 +1,6 @@
 -- The ranges that are kept of some faults are the first of all that are found, and the others are counted.
-use Rattle.std.proofs.Common.{◌≡◌, ℕ, ◌+◌, ◌<◌, ◌≤◌, Bool, true, false, cond, List, [], ◌∷◌, ◌++◌, length, replicate, take, drop, Option, Some, None, refl, sym, ap}
+use Rattle.std.proofs.Common.{◌≡◌, ℕ, ◌+◌, ◌<◌, ◌≤◌, Bool, true, false, cond, List, [], ◌∷◌, ◌++◌, length, replicate, take, drop, Option, Some, None, refl}
+use Rattle.std.proofs.Common.{sym, ap}
 use Rattle.std.proofs.Common.{subst, ◌∙◌, arith, length-append, append-nil}
 use Rattle.std.specs.Prelude.{count_by, fold, nat_lt, option_to_list, slice_set, slice_index_or, ◌==◌}
 use Rattle.std.proofs.Math.ListN.{length-set}

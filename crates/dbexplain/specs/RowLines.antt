@@ -1,5 +1,6 @@
 -- The lines of rows below the count of a tree in the summary (own).
-use Rattle.std.specs.Prelude.{ℕ, ℤ, ◌+◌, ◌-◌, not, Bool, true, false, ◌&&◌, List, [], ◌∷◌, ◌++◌, length, take, Option, Some, None, is_none, codes, decimal, ◌==◌}
+use Rattle.std.specs.Prelude.{ℕ, ℤ, ◌+◌, ◌-◌, not, Bool, true, false, ◌&&◌, List, [], ◌∷◌, ◌++◌, length, take, Option, Some, None, is_none, codes, decimal}
+use Rattle.std.specs.Prelude.{◌==◌}
 use Rattle.std.specs.Prelude.{if◌then◌else◌}
 use Rattle.std.specs.Fmt.{signed_decimal}
 use Rattle.std.specs.List.{list_any}

@@ -1,5 +1,6 @@
 -- The summary by the counts of a tally.
-use Rattle.std.specs.Prelude.{ℕ, suc, ◌-◌, Bool, true, false, ◌&&◌, ◌||◌, List, [], ◌++◌, slice_get, unwrap_or, if◌then◌else◌, take, length, min, count_by, codes, ◌==◌}
+use Rattle.std.specs.Prelude.{ℕ, suc, ◌-◌, Bool, true, false, ◌&&◌, ◌||◌, List, [], ◌++◌, slice_get, unwrap_or, if◌then◌else◌, take, length, min, count_by}
+use Rattle.std.specs.Prelude.{codes, ◌==◌}
 use Rattle.std.specs.List.{flat_map, range_with_len}
 use Rattle.dbformat.specs.Address.{freelist_start}
 use Rattle.dbformat.specs.Codes.{all_codes}

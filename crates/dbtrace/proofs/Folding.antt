@@ -1,5 +1,6 @@
 -- What is reported of a start follows from the progress of its walk.
-use Rattle.std.proofs.Common.{◌≡◌, ℕ, ◌+◌, inl, inr, Bool, true, false, cond, not, ◌&&◌, List, [], ◌∷◌, ◌++◌, map, length, ℤ, Option, Some, None, refl, sym, ap, ap₂}
+use Rattle.std.proofs.Common.{◌≡◌, ℕ, ◌+◌, inl, inr, Bool, true, false, cond, not, ◌&&◌, List, [], ◌∷◌, ◌++◌, map, length, ℤ, Option, Some, None, refl, sym}
+use Rattle.std.proofs.Common.{ap, ap₂}
 use Rattle.std.proofs.Common.{subst, arith, ◌∙◌, append_assoc}
 use Rattle.std.specs.Prelude.{flat_map, option_map, option_to_list, nat_le, ◌==◌}
 use Rattle.std.specs.Option.{option_map_or}

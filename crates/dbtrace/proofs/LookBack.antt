@@ -131,7 +131,8 @@ module _ (file : List ℕ) (U T : List Reference) (place : Address) (after : (t 
   by_front e = cause_of file U e
 
   -- a page has the fault of its depth only where it is a leaf
-  depth_front : (r : Reference) → r.address ≡ place → IsIn r U → told_by (by_all (at_page r)) (depth_fault file U r) ≡ told_by (by_front (at_page r)) (depth_fault file U r)
+  depth_front : (r : Reference) → r.address ≡ place → IsIn r U → told_by (by_all (at_page r)) (depth_fault file U r)
+      ≡ told_by (by_front (at_page r)) (depth_fault file U r)
   unfolding depth_fault
   depth_front r at i = by_leaf (is_leaf_of file (start_of r.address) r) refl
     where
@@ -154,7 +155,8 @@ module _ (file : List ℕ) (U T : List Reference) (place : Address) (after : (t 
 
   key_front : (r : Reference) (v : View) (x : ℕ × Cell) → then_step r.address (key_step x.0) ≡ place → (code : FaultCode) → by_all (at_key r v x) code
       ≡ by_front (at_key r v x) code
-  key_front r v x e T06 = ap (λ k. option_map_or (λ k. cause.Key (cell_key k) (left_rows v x)) k cause.Itself) (top_front (key_of r v x) (λ k i. key_place r v x k i ∙ e))
+  key_front r v x e T06 = ap (λ k. option_map_or (λ k. cause.Key (cell_key k) (left_rows v x)) k cause.Itself) (top_front (key_of r v x)
+      (λ k i. key_place r v x k i ∙ e))
   key_front r v x e _ = refl
 
   event_front : (V : List Reference) (e : Event) → IsOf file V place e → ((r : Reference) → own_visit e ≡ Some r → IsIn r U)

@@ -16,7 +16,8 @@ use Rattle.dbformat.specs.Address.{then_step, chain_place, chain_on, is_child_st
 use Rattle.dbformat.specs.Header.{usable_size}
 use Rattle.dbformat.specs.Reference.{Role, root, child, first_overflow, later_overflow, trunk, free_leaf, Reference, role_of, from_of, item_of, bytes_left}
 use Rattle.dbformat.specs.Reference.{tree_kind}
-use Rattle.dbtrace.specs.Causes.{cell_rowid, chain_number, head_address, is_same, chain_head, chain_of, chain_cause, is_from_zeros, refusal_cause, refusal_of, rowids_of, pages_for}
+use Rattle.dbtrace.specs.Causes.{cell_rowid, chain_number, head_address, is_same, chain_head, chain_of, chain_cause, is_from_zeros, refusal_cause}
+use Rattle.dbtrace.specs.Causes.{refusal_of, rowids_of, pages_for}
 use Rattle.dbtrace.specs.declared.Cause.{Cause}
 use Rattle.dbtrace.specs.declared.Cause.TheVariants as cause
 use Rattle.dbwalk.specs.Chains.{HasHead, IsChainOf, IsOnChain, next_of, walked_chain}

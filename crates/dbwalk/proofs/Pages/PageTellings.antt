@@ -54,7 +54,8 @@ is_child _ = false
 -- by the progress of a walk the faults of the page have the same causes
 pub page_causes : (file : List ℕ) (U : List Reference) (p : Progress) (c : Reference) {kind : TreeKind} → tree_kind (role_of c) ≡ Some kind
     → told_by (cause_by file U p (at_page c)) (page_faults file [] c ++ depth_faults file p.leaf c)
-    ≡ told_by (with_leaf (visit_cause (rowids_by p (key_up_to file U c)) file c) (rowids_by p (key_up_to file U c)) p.leaf) (page_faults file [] c ++ depth_faults file p.leaf c)
+    ≡ told_by (with_leaf (visit_cause (rowids_by p (key_up_to file U c)) file c) (rowids_by p (key_up_to file U c)) p.leaf) (page_faults file [] c
+    ++ depth_faults file p.leaf c)
 page_causes file U p c {kind} role =
     told_by-append why (page_faults file [] c) (depth_faults file p.leaf c)
     ∙ ap (λ L. L ++ told_by why (depth_faults file p.leaf c))

@@ -53,9 +53,11 @@ told_once why true f = refl
 told_once why false f = refl
 
 -- a leaf has one if its depth is not that of the first leaf; if there is none yet, it is the first itself
-at_leaf : (file : List ℕ) (why : FaultCode → Cause) (rowids : RowidBounds) (leaf : Option TreeLeaf) (c : Reference) (n : ℕ) → is_leaf_of file (start_of c.address) c ≡ true
+at_leaf : (file : List ℕ) (why : FaultCode → Cause) (rowids : RowidBounds) (leaf : Option TreeLeaf) (c : Reference) (n : ℕ)
+    → is_leaf_of file (start_of c.address) c ≡ true
     → depth c.address ≡ n
-    → (told_by (with_leaf why rowids leaf) (depth_faults file leaf c) ≡ depth_told rowids leaf c.page n) × (leaf_after file leaf c ≡ Some (first_of leaf c.page n))
+    → (told_by (with_leaf why rowids leaf) (depth_faults file leaf c) ≡ depth_told rowids leaf c.page n) × (leaf_after file leaf c
+    ≡ Some (first_of leaf c.page n))
 at_leaf file why rowids leaf c n e d = by_first leaf
   where
     by_first : (leaf : Option TreeLeaf) → (told_by (with_leaf why rowids leaf) (depth_faults file leaf c) ≡ depth_told rowids leaf c.page n)
@@ -116,7 +118,8 @@ module _ (file : List ℕ) (kind : TreeKind) (k : ℕ) (path : List ℕ) (p from
     told_damaged f e g =
         let why = page_cause rowids c.page (usable_size file) (page_bytes file c.page) None in
         page_told file c kind kind_is rowids leaf None (viewed_as None e)
-        ∙ ap (λ fs. (told_row (tree_page_row c None) ∷ told_by why fs) ++ told_by (with_leaf (visit_cause rowids file c) rowids leaf) (depth_faults file leaf c))
+        ∙ ap (λ fs. (told_row (tree_page_row c None) ∷ told_by why fs) ++ told_by (with_leaf (visit_cause rowids file c) rowids leaf)
+        (depth_faults file leaf c))
         (faults_as (f ∷ []) g)
         ∙ ap (λ fs. (told_row (tree_page_row c None) ∷ told_by why (f ∷ [])) ++ told_by (with_leaf (visit_cause rowids file c) rowids leaf) fs)
         (no_leaf file leaf c (leaf_is None e)).0

@@ -57,11 +57,13 @@ order_told_of is_rowid left top page item None = []
 order_told_of is_rowid left top page item (Some value) = order_told is_rowid left top page item value
 
 module _ (file : List ℕ) (r : Reference) (v : View) (n : ℕ) (x : Cell) where
-  key_faults_are : (why : FaultCode → Cause) (top : Option CellKey) → why T06 ≡ key_cause (left_rows v (n, x)) top → told_by why (flat_map (late_faults top) (key_of r v (n, x)))
+  key_faults_are : (why : FaultCode → Cause) (top : Option CellKey) → why T06 ≡ key_cause (left_rows v (n, x)) top
+      → told_by why (flat_map (late_faults top) (key_of r v (n, x)))
       ≡ order_told_of (not (is_interior v.kind)) (left_rows v (n, x)) top r.page n x.key
   key_faults_are why top e = by_key x.key top e
     where
-      by_key : (o : Option ℤ) (top : Option CellKey) → why T06 ≡ key_cause (left_rows v (n, x)) top → told_by why (flat_map (late_faults top) (key_of r v (n, record x { key = o })))
+      by_key : (o : Option ℤ) (top : Option CellKey) → why T06 ≡ key_cause (left_rows v (n, x)) top
+          → told_by why (flat_map (late_faults top) (key_of r v (n, record x { key = o })))
           ≡ order_told_of (not (is_interior v.kind)) (left_rows v (n, x)) top r.page n o
       by_key None top e = refl
       by_key (Some value) None e = refl
@@ -82,7 +84,8 @@ module _ (file : List ℕ) (r : Reference) (v : View) (n : ℕ) (x : Cell) where
 
   -- what the cell hands out, where these are its rows of the schema: the rows, and then the key's fault
   pub cell_items : (U : List Reference) (p : Progress) (rows : List SchemaCell) → rows_of file U r v (n, x) ≡ rows
-      → items_at file U p (at_key r v (n, x)) ≡ map given rows ++ map found (order_told_of (not (is_interior v.kind)) (left_rows v (n, x)) p.greatest r.page n x.key)
+      → items_at file U p (at_key r v (n, x)) ≡ map given rows ++ map found (order_told_of (not (is_interior v.kind)) (left_rows v
+      (n, x)) p.greatest r.page n x.key)
   cell_items U p rows are = ap (λ l. map given l ++ map found
       (told_by (cause_by file U p (at_key r v (n, x))) (flat_map (late_faults p.greatest) (key_of r v (n, x))))) are
       ∙ ap (λ l. map given rows ++ map found l) (key_faults_are (cause_by file U p (at_key r v (n, x))) p.greatest refl)

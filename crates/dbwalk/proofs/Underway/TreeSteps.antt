@@ -1,5 +1,6 @@
 -- One turn of the loop over the interior pages of a tree.
-use Rattle.std.proofs.Common.{◌≡◌, ℕ, suc, ◌+◌, ◌-◌, ◌*◌, ◌<◌, ◌≤◌, true, false, not, inl, inr, List, [], ◌∷◌, ◌++◌, map, length, Some, Ok, Err, refl, sym, ap, cond}
+use Rattle.std.proofs.Common.{◌≡◌, ℕ, suc, ◌+◌, ◌-◌, ◌*◌, ◌<◌, ◌≤◌, true, false, not, inl, inr, List, [], ◌∷◌, ◌++◌, map, length, Some, Ok, Err, refl, sym}
+use Rattle.std.proofs.Common.{ap, cond}
 use Rattle.std.proofs.Common.{subst, arith, ◌∙◌, append_assoc, None, Result}
 use Rattle.std.specs.Prelude.{slice_get, OnOk, IfErr}
 use Rattle.std.proofs.lemmas.List.{append-nil}

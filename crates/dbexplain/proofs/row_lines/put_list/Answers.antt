@@ -24,5 +24,6 @@ loop-range-preserved g c =
     }
 
 pub returns : goal.returns
-returns g c = subst (λ l. Wrote g.O.Out.held c.args.writer.now (list_text c.args.kind true (take 10 (filter (is_of c.args.start c.args.kind) l))) c.loop-range.writer)
+returns g c = subst (λ l. Wrote g.O.Out.held c.args.writer.now (list_text c.args.kind true (take 10 (filter
+    (is_of c.args.start c.args.kind) l))) c.loop-range.writer)
     (take_all c.loop-range.range-index c.args.ranges.now c.loop-range-test.false) c.loop-range.invariant.written

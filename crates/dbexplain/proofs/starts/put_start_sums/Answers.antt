@@ -9,7 +9,8 @@ use Rattle.dbexplain.proofs.starts.put_start_sums.Goals as goal
 pub loop-start-init : goal.loop-start-init
 loop-start-init g c =
     let rows = c.args.names.now.roots.now.rows in
-    wrote_none (numbered_sum c.args.tally.now (start_name c.args.names.now.encoding rows) (rows_sum c.args.rows.now.ranges.now c.args.rows.now.indexes.now rows)) (range_with_len 0 (suc (length rows))) c.args.writer.now
+    wrote_none (numbered_sum c.args.tally.now (start_name c.args.names.now.encoding rows)
+    (rows_sum c.args.rows.now.ranges.now c.args.rows.now.indexes.now rows)) (range_with_len 0 (suc (length rows))) c.args.writer.now
 
 pub loop-start-preserved : goal.loop-start-preserved
 loop-start-preserved g c =
@@ -27,4 +28,5 @@ returns g c =
     let rows = c.args.names.now.roots.now.rows in
     let trees = range_with_len 0 (suc (length rows)) in
     let all : length trees ≡ suc (length rows) = length-range_with_len 0 (suc (length rows)) in
-    wrote_all (numbered_sum c.args.tally.now (start_name c.args.names.now.encoding rows) (rows_sum c.args.rows.now.ranges.now c.args.rows.now.indexes.now rows)) trees c.loop-start.start (omega arith) c.loop-start.invariant
+    wrote_all (numbered_sum c.args.tally.now (start_name c.args.names.now.encoding rows)
+    (rows_sum c.args.rows.now.ranges.now c.args.rows.now.indexes.now rows)) trees c.loop-start.start (omega arith) c.loop-start.invariant

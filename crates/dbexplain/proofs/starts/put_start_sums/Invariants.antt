@@ -9,4 +9,5 @@ abbrev pub invariant-loop-start : goal.invariant-loop-start
 invariant-loop-start g l =
     let rows = l.names.roots.now.rows in
     Wrote g.O.Out.held l.initial.writer
-    (flat_map (numbered_sum l.tally (start_name l.names.encoding rows) (rows_sum l.rows.ranges.now l.rows.indexes.now rows)) (take l.start (range_with_len 0 (suc (length rows))))) l.writer
+    (flat_map (numbered_sum l.tally (start_name l.names.encoding rows) (rows_sum l.rows.ranges.now l.rows.indexes.now rows)) (take l.start
+    (range_with_len 0 (suc (length rows))))) l.writer

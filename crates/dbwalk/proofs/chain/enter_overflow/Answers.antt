@@ -34,7 +34,8 @@ returns-then-not-branch-clause-log g c = log_none c.args.bench.now.geometry.page
     (c.in_ok-enter.ensures.unmarked c.if-not-branch.true) (λ file e W d before first on.
     turn_refused g.K.Sink.takes file W d before c.args.chain.now c.args.place c.args.marks.now c.args.sink.now on c.enter.new.marks
     c.enter.new.sink
-    (subst (λ b. Enters g.K.Sink.takes file on.visited on.d (refusal_cause file on.visited on.d) (Ok b) c.enter.new.marks c.args.sink.now c.enter.new.sink) c.if-not-branch.true
+    (subst (λ b. Enters g.K.Sink.takes file on.visited on.d (refusal_cause file on.visited on.d)
+    (Ok b) c.enter.new.marks c.args.sink.now c.enter.new.sink) c.if-not-branch.true
     (c.in_ok-enter.ensures.entered file on.visited on.d (refusal_cause file on.visited on.d) on.step on.rest.past on.rest.marked
     (λ why p. refusal_here file (ap (λ s. s.usable) (c.geometry.ensures.value ∙ e)) c.args.chain.now c.args.place.number c.args.place.left on.d on.visited
     on.zeros on.left on.on on.head p))))
@@ -45,7 +46,8 @@ returns-in_err-next-clause-log g c =
     log_page _ c.args.bench.now.geometry.page_size c.args.marks.now c.enter.new.marks c.args.place.step.page c.args.place.step.mark k.0 k.1
     c.requires.place.used c.in_err-next.ensures.log (λ file v e W d before first on.
     let q = err_from_is_err_and c.from_residual-in_err-next.result c.from_residual-in_err-next.ensures.1 in
-    let n = subst (λ b. Enters g.K.Sink.takes file on.visited on.d (refusal_cause file on.visited on.d) (Ok b) c.enter.new.marks c.args.sink.now c.enter.new.sink)
+    let n = subst (λ b. Enters g.K.Sink.takes file on.visited on.d (refusal_cause file on.visited on.d)
+    (Ok b) c.enter.new.marks c.args.sink.now c.enter.new.sink)
     c.if-not-branch.false
     (c.in_ok-enter.ensures.entered file on.visited on.d (refusal_cause file on.visited on.d) on.step on.rest.past on.rest.marked
     (λ why p. refusal_here file (ap (λ s. s.usable) (c.geometry.ensures.value ∙ e)) c.args.chain.now c.args.place.number c.args.place.left on.d on.visited
@@ -62,7 +64,8 @@ returns-then-place-room-clause-log g c =
     let k = c.in_ok-enter.ensures.marked (search rules) in
     log_page _ c.args.bench.now.geometry.page_size c.args.marks.now c.enter.new.marks c.args.place.step.page c.args.place.step.mark k.0 k.1
     c.requires.place.used c.in_ok-next.ensures.log (λ file v e W d before first on.
-    let n = subst (λ b. Enters g.K.Sink.takes file on.visited on.d (refusal_cause file on.visited on.d) (Ok b) c.enter.new.marks c.args.sink.now c.enter.new.sink)
+    let n = subst (λ b. Enters g.K.Sink.takes file on.visited on.d (refusal_cause file on.visited on.d)
+    (Ok b) c.enter.new.marks c.args.sink.now c.enter.new.sink)
     c.if-not-branch.false
     (c.in_ok-enter.ensures.entered file on.visited on.d (refusal_cause file on.visited on.d) on.step on.rest.past on.rest.marked
     (λ why p. refusal_here file (ap (λ s. s.usable) (c.geometry.ensures.value ∙ e)) c.args.chain.now c.args.place.number c.args.place.left on.d on.visited
@@ -80,7 +83,8 @@ returns-clause-log g c =
     let k = c.in_ok-enter.ensures.marked (search rules) in
     log_page _ c.args.bench.now.geometry.page_size c.args.marks.now c.enter.new.marks c.args.place.step.page c.args.place.step.mark k.0 k.1
     c.requires.place.used c.in_ok-next.ensures.log (λ file v e W d before first on.
-    let n = subst (λ b. Enters g.K.Sink.takes file on.visited on.d (refusal_cause file on.visited on.d) (Ok b) c.enter.new.marks c.args.sink.now c.enter.new.sink)
+    let n = subst (λ b. Enters g.K.Sink.takes file on.visited on.d (refusal_cause file on.visited on.d)
+    (Ok b) c.enter.new.marks c.args.sink.now c.enter.new.sink)
     c.if-not-branch.false
     (c.in_ok-enter.ensures.entered file on.visited on.d (refusal_cause file on.visited on.d) on.step on.rest.past on.rest.marked
     (λ why p. refusal_here file (ap (λ s. s.usable) (c.geometry.ensures.value ∙ e)) c.args.chain.now c.args.place.number c.args.place.left on.d on.visited

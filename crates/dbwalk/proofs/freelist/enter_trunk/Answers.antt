@@ -42,7 +42,8 @@ pub returns-then-not-branch-clause-log : goal.returns-then-not-branch-clause-log
 returns-then-not-branch-clause-log g c = log_none c.args.bench.now.geometry.page_size c.args.marks.now c.enter.new.marks (g.S.Source.held c.args.source.now)
     (c.in_ok-enter.ensures.unmarked c.if-not-branch.true) (λ file e W d before on.
     trunk_refused g.K.Sink.takes file W d before c.args.step c.args.marks.now c.args.sink.now on c.enter.new.marks c.enter.new.sink
-    (subst (λ b. Enters g.K.Sink.takes file on.visited on.d (refusal_cause file on.visited on.d) (Ok b) c.enter.new.marks c.args.sink.now c.enter.new.sink) c.if-not-branch.true
+    (subst (λ b. Enters g.K.Sink.takes file on.visited on.d (refusal_cause file on.visited on.d)
+    (Ok b) c.enter.new.marks c.args.sink.now c.enter.new.sink) c.if-not-branch.true
     (c.in_ok-enter.ensures.entered file on.visited on.d (refusal_cause file on.visited on.d) on.step on.rest.past on.rest.marked
     (λ why p. no_chain_refusal file on.visited on.d (ap tree_kind on.role) (ap bytes_left on.role) ∙ sym p))))
 
@@ -55,7 +56,8 @@ returns-in_err-load-clause-log g c =
     (subst IsUse (sym c.requires) (record { some = refl; cleared = refl }))
     (log_load size c.args.step.page read.bytes (Err c.in_err-load.field-0.0) c.load.ensures.told read.size read.holds) (λ file h e W d before on.
     let q = err_from_is_err_and c.from_residual-in_err-load.result c.from_residual-in_err-load.ensures.1 in
-    let n = subst (λ b. Enters g.K.Sink.takes file on.visited on.d (refusal_cause file on.visited on.d) (Ok b) c.enter.new.marks c.args.sink.now c.enter.new.sink)
+    let n = subst (λ b. Enters g.K.Sink.takes file on.visited on.d (refusal_cause file on.visited on.d)
+    (Ok b) c.enter.new.marks c.args.sink.now c.enter.new.sink)
     c.if-not-branch.false
     (c.in_ok-enter.ensures.entered file on.visited on.d (refusal_cause file on.visited on.d) on.step on.rest.past on.rest.marked
     (λ why p. no_chain_refusal file on.visited on.d (ap tree_kind on.role) (ap bytes_left on.role) ∙ sym p)) in
@@ -73,7 +75,8 @@ returns-in_err-item-clause-log g c =
     let k = page_read file read.bytes size c.args.step.page read.size h (sym (ap (λ g. g.page_size) e)) in
     let b = c.page-bytes.ensures.bytes ∙ ap (λ b. b.chain) read.only ∙ k in
     let u = ap (λ g. g.usable) (c.geometry-usable.ensures.value ∙ ap (λ b. b.geometry) read.only ∙ e) in
-    let n = subst (λ b. Enters g.K.Sink.takes file on.visited on.d (refusal_cause file on.visited on.d) (Ok b) c.enter.new.marks c.args.sink.now c.enter.new.sink)
+    let n = subst (λ b. Enters g.K.Sink.takes file on.visited on.d (refusal_cause file on.visited on.d)
+    (Ok b) c.enter.new.marks c.args.sink.now c.enter.new.sink)
     c.if-not-branch.false
     (c.in_ok-enter.ensures.entered file on.visited on.d (refusal_cause file on.visited on.d) on.step on.rest.past on.rest.marked
     (λ why p. no_chain_refusal file on.visited on.d (ap tree_kind on.role) (ap bytes_left on.role) ∙ sym p)) in
@@ -93,7 +96,8 @@ returns-clause-log g c =
     let k = page_read file read.bytes size c.args.step.page read.size h (sym (ap (λ g. g.page_size) e)) in
     let b = c.page-bytes.ensures.bytes ∙ ap (λ b. b.chain) read.only ∙ k in
     let u = ap (λ g. g.usable) (c.geometry-usable.ensures.value ∙ ap (λ b. b.geometry) read.only ∙ e) in
-    let n = subst (λ b. Enters g.K.Sink.takes file on.visited on.d (refusal_cause file on.visited on.d) (Ok b) c.enter.new.marks c.args.sink.now c.enter.new.sink)
+    let n = subst (λ b. Enters g.K.Sink.takes file on.visited on.d (refusal_cause file on.visited on.d)
+    (Ok b) c.enter.new.marks c.args.sink.now c.enter.new.sink)
     c.if-not-branch.false
     (c.in_ok-enter.ensures.entered file on.visited on.d (refusal_cause file on.visited on.d) on.step on.rest.past on.rest.marked
     (λ why p. no_chain_refusal file on.visited on.d (ap tree_kind on.role) (ap bytes_left on.role) ∙ sym p)) in

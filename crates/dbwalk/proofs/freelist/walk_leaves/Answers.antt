@@ -34,7 +34,8 @@ returns-in_err-enter-clause-done g c = λ file W errands before U d tail p h.
     subst (λ r. LeavesErrands g.K.Sink.takes file W errands before tail r c.enter.new.marks c.enter.new.sink) (sym (q.1 ∙ ap Err q.2))
     (left_untold g.K.Sink.takes file W errands before k.0 c.loop-index.marks c.loop-index.sink c.enter.new.sink c.enter.new.marks
     c.in_err-enter.field-0.0 (Go e ∷ es) l
-    (c.in_err-enter.ensures.entered file k.0 e (refusal_cause file k.0 e) (record { page = sym c.u32_at.ensures; mark = refl; from = p; item = refl; deep = refl })
+    (c.in_err-enter.ensures.entered file k.0 e (refusal_cause file k.0 e)
+    (record { page = sym c.u32_at.ensures; mark = refl; from = p; item = refl; deep = refl })
     (next_of_left g.K.Sink.takes file W errands before k.0 e es c.loop-index.marks c.enter.new.marks c.loop-index.sink c.enter.new.sink l)
     l.marked (λ why p. sym p)).1)
 
@@ -74,7 +75,8 @@ loop-index-preserved g c = record {
       let m : c.args.count - c.loop-index.index - 1 ≡ c.args.count - (c.loop-index.index + 1) = omega arith in
       let r = leaf_entered g.K.Sink.takes file W errands before k.0 e es c.loop-index.marks c.enter.new.marks c.loop-index.sink c.enter.new.sink
       l c.in_ok-enter.field-0 refl
-      (c.in_ok-enter.ensures.entered file k.0 e (refusal_cause file k.0 e) (record { page = sym c.u32_at.ensures; mark = refl; from = p; item = refl; deep = refl })
+      (c.in_ok-enter.ensures.entered file k.0 e (refusal_cause file k.0 e)
+      (record { page = sym c.u32_at.ensures; mark = refl; from = p; item = refl; deep = refl })
       (next_of_left g.K.Sink.takes file W errands before k.0 e es c.loop-index.marks c.enter.new.marks c.loop-index.sink c.enter.new.sink l)
       l.marked (λ why p. sym p)) in (
         r.0,

@@ -66,7 +66,8 @@ returns-then-not-branch-clause-asks g c = record {
       let is = c.tree_step-step.ensures.step (kind_in file root) root.start [] d refl at.candidate in
       let next = root_next file (kind_in file root) root.start root.page 0 root.start W d at.candidate at.early in
       let one = root_address d.address root.start at.candidate.depth at.candidate.start in
-      let none = subst (λ b. Enters g.K.Sink.takes file W d (cause.Rows no_rowids) (Ok b) c.enter.new.marks c.args.sink.now c.enter.new.sink) c.if-not-branch.true
+      let none = subst (λ b. Enters g.K.Sink.takes file W d (cause.Rows no_rowids)
+      (Ok b) c.enter.new.marks c.args.sink.now c.enter.new.sink) c.if-not-branch.true
       (c.in_ok-enter.ensures.entered file W d (cause.Rows no_rowids) is next at.marked (λ made p. sym p)) in
       tree_refused g.K.Sink.takes g.T.Taker.takes g.T.Taker.refuses file root.start W d one at.early
       (kind_is file (kind_in file root) root.start [] root.page 0 root.start d at.candidate) c.ask.result c.enter.new.marks c.args.sink.now
@@ -93,7 +94,8 @@ returns-in_err-load-clause-asks g c =
           let is = c.tree_step-step.ensures.step (kind_in file root) root.start [] d refl at.candidate in
           let next = root_next file (kind_in file root) root.start root.page 0 root.start W d at.candidate at.early in
           let one = root_address d.address root.start at.candidate.depth at.candidate.start in
-          let n = subst (λ b. Enters g.K.Sink.takes file W d (cause.Rows no_rowids) (Ok b) c.enter.new.marks c.args.sink.now c.enter.new.sink) c.if-not-branch.false
+          let n = subst (λ b. Enters g.K.Sink.takes file W d (cause.Rows no_rowids)
+          (Ok b) c.enter.new.marks c.args.sink.now c.enter.new.sink) c.if-not-branch.false
           (c.in_ok-enter.ensures.entered file W d (cause.Rows no_rowids) is next at.marked (λ made p. sym p)) in
           subst (λ r. IsTreeDone g.K.Sink.takes g.T.Taker.takes g.T.Taker.refuses file W d r c.enter.new.marks
           (c.args.sink.now, c.args.taker.now) (c.enter.new.sink, c.args.taker.now)) (sym (q.1 ∙ ap Err q.2))
@@ -148,7 +150,8 @@ returns-clause-asks g c =
           let kinds = c.new-tree.ensures.names.1 ∙ c.root_kind.ensures.kind
           ∙ ap (kind_of root.kind root.page) (there (bytes_at c.load.new.self 0) c.root_kind.ensures.there) in
           let starts = c.new-tree.ensures.names.0 in
-          let n = subst (λ b. Enters g.K.Sink.takes file W d (cause.Rows no_rowids) (Ok b) c.enter.new.marks c.args.sink.now c.enter.new.sink) c.if-not-branch.false
+          let n = subst (λ b. Enters g.K.Sink.takes file W d (cause.Rows no_rowids)
+          (Ok b) c.enter.new.marks c.args.sink.now c.enter.new.sink) c.if-not-branch.false
           (c.in_ok-enter.ensures.entered file W d (cause.Rows no_rowids) is next at.marked (λ made p. sym p)) in
           subst (λ s. IsTreeDone g.K.Sink.takes g.T.Taker.takes g.T.Taker.refuses file W d c.walk_pages.result c.walk_pages.new.self.marks.now
           (s, c.args.taker.now) (c.walk_pages.new.self.sink.now, c.walk_pages.new.self.taker.now)) (sym n.2)

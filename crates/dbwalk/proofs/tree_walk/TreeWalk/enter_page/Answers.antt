@@ -53,7 +53,8 @@ returns-then-not-branch-clause-log g c = log_none c.args.bench.now.geometry.page
     (g.S.Source.held c.args.self.now.source.now) (c.in_ok-enter.ensures.unmarked c.if-not-branch.true) (λ file e coded from d candidate next at bound.
     let t = c.args.self.now.tree in
     let is = c.tree_step-step.ensures.step t.kind t.start t.path.items d (sym c.len-level.ensures.value) candidate in
-    let n = subst (λ b. Enters g.K.Sink.takes file from.visits d (rows_below t.greatest c.args.up_to) (Ok b) c.enter.new.marks c.args.self.now.sink.now c.enter.new.sink)
+    let n = subst (λ b. Enters g.K.Sink.takes file from.visits d (rows_below t.greatest c.args.up_to)
+    (Ok b) c.enter.new.marks c.args.self.now.sink.now c.enter.new.sink)
     c.if-not-branch.true (c.in_ok-enter.ensures.entered file from.visits d (rows_below t.greatest c.args.up_to) is next at.0
     (λ made p. ap (λ above. rows_of above c.args.up_to) (sym c.key_value-above.ensures) ∙ sym p)) in
     entered_past (watches g.K.Sink.takes g.T.Taker.takes) (fails g.T.Taker.refuses) file from d
@@ -87,7 +88,8 @@ returns-in_err-load-clause-log g c =
     let t = c.args.self.now.tree in
     let q = err_from_is_err_and c.from_residual-in_err-load.result c.from_residual-in_err-load.ensures.1 in
     let is = c.tree_step-step.ensures.step t.kind t.start t.path.items d (sym c.len-level.ensures.value) candidate in
-    let n = subst (λ b. Enters g.K.Sink.takes file from.visits d (rows_below t.greatest c.args.up_to) (Ok b) c.enter.new.marks c.args.self.now.sink.now c.enter.new.sink)
+    let n = subst (λ b. Enters g.K.Sink.takes file from.visits d (rows_below t.greatest c.args.up_to)
+    (Ok b) c.enter.new.marks c.args.self.now.sink.now c.enter.new.sink)
     c.if-not-branch.false (c.in_ok-enter.ensures.entered file from.visits d (rows_below t.greatest c.args.up_to) is next at.0
     (λ made p. ap (λ above. rows_of above c.args.up_to) (sym c.key_value-above.ensures) ∙ sym p)) in
     subst (λ s. HasDone (watches g.K.Sink.takes g.T.Taker.takes) (fails g.T.Taker.refuses) file
@@ -138,7 +140,8 @@ returns-clause-log g c =
     (λ file h done e coded from d candidate next at bound.
     let t = c.args.self.now.tree in
     let is = c.tree_step-step.ensures.step t.kind t.start t.path.items d (sym c.len-level.ensures.value) candidate in
-    let n = subst (λ b. Enters g.K.Sink.takes file from.visits d (rows_below t.greatest c.args.up_to) (Ok b) c.enter.new.marks c.args.self.now.sink.now c.enter.new.sink)
+    let n = subst (λ b. Enters g.K.Sink.takes file from.visits d (rows_below t.greatest c.args.up_to)
+    (Ok b) c.enter.new.marks c.args.self.now.sink.now c.enter.new.sink)
     c.if-not-branch.false (c.in_ok-enter.ensures.entered file from.visits d (rows_below t.greatest c.args.up_to) is next at.0
     (λ made p. ap (λ above. rows_of above c.args.up_to) (sym c.key_value-above.ensures) ∙ sym p)) in
     let read = page_read file change.bytes c.args.bench.now.geometry.page_size c.args.page change.size h (sym (ap (λ s. s.page_size) e)) in

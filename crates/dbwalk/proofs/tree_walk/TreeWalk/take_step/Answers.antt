@@ -99,19 +99,23 @@ returns-in-Key-clause-log g c = log_none c.args.bench.now.geometry.page_size c.a
     let n = c.tell_key.new in
     let same = to_z-of_z w64 c.in-Key.key (search rules) in
     let told = subst (λ z. Moves g.K.Sink.takes c.args.self.now.sink.now
-    (order_told false (Some c.left_rows-left.result) c.args.self.now.tree.greatest c.args.frame.page (c.args.frame.next / 3) z) n.sink) same c.tell_key.ensures.told.items in
+    (order_told false (Some c.left_rows-left.result) c.args.self.now.tree.greatest c.args.frame.page
+    (c.args.frame.next / 3) z) n.sink) same c.tell_key.ensures.told.items in
     let moved = found_moves g.K.Sink.takes g.T.Taker.takes g.T.Taker.refuses
-    (order_told false (Some c.left_rows-left.result) c.args.self.now.tree.greatest c.args.frame.page (c.args.frame.next / 3) c.in-Key.key) c.args.self.now.sink.now n.sink
+    (order_told false (Some c.left_rows-left.result) c.args.self.now.tree.greatest c.args.frame.page
+    (c.args.frame.next / 3) c.in-Key.key) c.args.self.now.sink.now n.sink
     c.args.self.now.taker.now told in
     let read_left = subst (λ z. is_late false (key_value c.args.self.now.tree.greatest) z ≡ true
     → HasLeft c.args.bench.now.geometry.usable c.args.self.now.tree.kind c.args.bench.now.levels c.len.result c.args.frame.page
     (c.args.frame.next / 3) z c.left_rows-left.result) same c.left_rows-left.ensures in
-    let left = λ (late : is_late false (key_value c.args.self.now.tree.greatest) c.in-Key.key ≡ true). left_here c.args.frames.now.items c.args.frame walk candidate c.stepped-in-Key.result c.stepped-in-Key.ensures.page
+    let left = λ (late : is_late false (key_value c.args.self.now.tree.greatest) c.in-Key.key
+    ≡ true). left_here c.args.frames.now.items c.args.frame walk candidate c.stepped-in-Key.result c.stepped-in-Key.ensures.page
     c.stepped-in-Key.ensures.next c.stepped-in-Key.ensures.up_to c.in-Key.key here (n.sink, c.args.self.now.taker.now) (ap (λ s. s.usable) e)
     c.left_rows-left.result (subst (λ level. HasLeft c.args.bench.now.geometry.usable c.args.self.now.tree.kind c.args.bench.now.levels level c.args.frame.page
     (c.args.frame.next / 3) c.in-Key.key c.left_rows-left.result) c.len.ensures.value (read_left late)) in (
       by_other (turned_key c.args.frames.now.items c.args.frame walk candidate c.stepped-in-Key.result c.stepped-in-Key.ensures.page
-          c.stepped-in-Key.ensures.next c.stepped-in-Key.ensures.up_to c.in-Key.key here (n.sink, c.args.self.now.taker.now) c.left_rows-left.result left n.self c.tell_key.ensures.others.1
+          c.stepped-in-Key.ensures.next c.stepped-in-Key.ensures.up_to c.in-Key.key here
+          (n.sink, c.args.self.now.taker.now) c.left_rows-left.result left n.self c.tell_key.ensures.others.1
           (c.tell_key.ensures.greatest ∙ ap (λ z. top_after c.args.self.now.tree.greatest c.args.frame.page (c.args.frame.next / 3) (Some z)) same)
           c.tell_key.ensures.others.2 moved)
           c.push-in-Key.ensures.items refl refl refl (λ n l. refl),
