@@ -161,7 +161,9 @@ const TREES: usize = FAULTY + 32;
 
 // 1000 ranges of 40 bytes; and 24 bytes and then one for each of 65537 starts, all but the freelist's.
 const RANGES: usize = TREES + 1000 * 40;
+
 const OTHERS: usize = RANGES + 65537 * 24 + 8;
+
 const INDEXES: usize = OTHERS + 65537 + 15;
 // As rows are read, the list of roots takes four rows of 20 bytes, and then 8 bytes of names, and 16 in their place.
 const ROOTS: usize = INDEXES + 80;
