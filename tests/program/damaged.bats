@@ -57,11 +57,6 @@ has_verdict() {
     row 'a slow checker agrees' tests/slow.py "$DBCK" "$work/slow" tests/sqlite/*.db "$work"/damaged/*
 }
 
-@test 'explain names the rows that 200 injured tables have lost' {
-    row 'rows are named' tests/rows.py "$DBCK" "$work/rows" 200
-    [ "$rows" = 1 ]
-}
-
 @test 'docs/REPAIR.md saves of twenty damaged databases each row that another recipe saves' {
     needs python3 sqlite3
     row 'twenty repairs' tests/repair.py --few "$DBCK" "$work/repairs"
