@@ -1,14 +1,12 @@
 -- What handing on leaves of the outcome of a run.
 use Rattle.std.specs.Prelude.{◌≡◌, ℕ, ◌-◌, List, [], length, slice_get, Some, Result, Ok, Err}
 use Rattle.std.specs.Io.KnownBytes.{Keeps}
-use Rattle.dbformat.specs.declared.Refusal.{Refusal}
 use Rattle.dbformat.specs.declared.Verdict.{Verdict}
 use Rattle.dbreport.specs.StatReporter.{IsFlushed, failures_of_each}
 use Rattle.dbsource.specs.Failures.{HasOneMore}
-use Rattle.dbsource.specs.Outs.{Flushes, OutState}
+use Rattle.dbsource.specs.Outs.{OutState}
 use Rattle.dbsource.specs.declared.error.RunError.{RunError}
 use Rattle.dbsource.specs.declared.error.RunError.TheVariants.{Refused, WriteFailed}
-use Rattle.dbsource.specs.declared.out.WriteFailed.{WriteFailed as Unwritten}
 use Rattle.dbcli.specs.Exit.{IsHandedOnOrFailed}
 
 -- a piece whose last byte is a line feed
@@ -34,14 +32,3 @@ IsHanded (Ok v) (Ok w) out out' err err' = (w ≡ v) × IsFlushed out out' × Is
 IsHanded (Ok v) (Err e) out out' err err' = (e ≡ WriteFailed) × StopsFlushing out out' err err'
 IsHanded (Err (Refused e)) r out out' err err' = (r ≡ Err (Refused e)) × (out' ≡ out) × (err' ≡ err)
 IsHanded (Err e) r out out' err err' = (r ≡ Err e) × TriesToFlush out out' × (err' ≡ err)
-
--- a refusal, unless a flush failed
-abbrev pub unless_failed : Result (Unit {0}) Unwritten → Refusal → Result Verdict RunError
-unless_failed (Ok done) e = Err (Refused e)
-unless_failed (Err failed) e = Err WriteFailed
-
--- The same of a mend, which writes of a refused file too: at a refusal the first Out is flushed.
-abbrev pub IsTextHanded : Result Verdict RunError → Result Verdict RunError → OutState → OutState → OutState → OutState → Type 0
-IsTextHanded (Err (Refused e)) r out out' err err' =
-    (flushed : Result (Unit {0}) Unwritten) × Flushes flushed out out' × (r ≡ unless_failed flushed e) × (err' ≡ err)
-IsTextHanded answer r out out' err err' = IsHanded answer r out out' err err'
