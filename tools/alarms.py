@@ -66,6 +66,9 @@ NEEDED = {
         "dbcli": "help_as_mistake limit_at_most_100 refused_line_puts",
     },
     "the file that the words name is opened, and no other, once (answer_words)": {"dbcli": "another_file_opened second_file_opened"},
+    "what mend writes was tried, and its last line is ok only of a sound file (mend: mended, ok)": {
+        "dbmend": "count_of_no_run ok_where_faults_are_left other_bytes_than_tried run_without_its_changes",
+    },
     "each output gets its part, whole, and the line of the error (finish)": {
         "dbcli": "error_line_missing line_after_what_explain_found streams_exchanged",
         "dbsource": "buffered_line_torn half_of_the_buffer_flushed memory_put_dropped",
