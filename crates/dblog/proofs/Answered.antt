@@ -64,7 +64,7 @@ all_frames h file fs s r l =
 -- ---- what is answered
 
 no_entries : IsIndexOf [] []
-no_entries = record { rising = λ i j d l m. absurd (omega arith); names = λ k d l. absurd (omega arith); last = λ k l. absurd (omega arith) }
+no_entries = record { rising = λ i j d l m. absurd (omega arith); names = λ k d l. absurd (omega arith); last = λ k l p. absurd (omega arith) }
 
 pub no_log : (file : List ℕ) → is_header (header file) ≡ false
     → IsAnswerFor (Ok (record { page_size = 0; pages = 0; entries = []; counts = no_counts })) file

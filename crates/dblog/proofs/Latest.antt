@@ -77,8 +77,8 @@ pub gathers_latest : (old new : List Entry) (pages : List ℕ) (count : ℕ) →
     → Gathers (latest count new) pages count
 gathers_latest old new pages count h k = record {
   names = all_latest (NamesFrame pages) count new (All-permutation (NamesFrame pages) old new h k.names);
-  last = λ n l. any_latest (IsFor (slice_index pages n) n count) count (for_replaced (slice_index pages n) n count) new
-      (any_permutation (IsFor (slice_index pages n) n count) old new h (k.last n l));
+  last = λ n l m. any_latest (IsFor (slice_index pages n) n count) count (for_replaced (slice_index pages n) n count) new
+      (any_permutation (IsFor (slice_index pages n) n count) old new h (k.last n l m));
 }
 
 -- ---- their pages rise, where all are committed
@@ -144,13 +144,13 @@ any_with P Q xs h (k, x, l, e, q) = (k, x, l, e, (subst P e (h k x l), q))
 any_weaker : {X : Type 0} (P Q : X → Type 0) (xs : List X) → ((x : X) → P x → Q x) → Any P xs → Any Q xs
 any_weaker P Q xs f (k, x, l, e, p) = (k, x, l, e, f x p)
 
-any_append : {X : Type 0} (P : X → Type 0) (xs ys : List X) → Any P xs → Any P (xs ++ ys)
+pub any_append : {X : Type 0} (P : X → Type 0) (xs ys : List X) → Any P xs → Any P (xs ++ ys)
 any_append P xs ys (k, x, l, e, p) = (k, x, omega (arith, length-append xs ys), get_or_append_left xs ys x k l ∙ e, p)
 
 names_more : (pages more : List ℕ) (e : Entry) → NamesFrame pages e → NamesFrame (pages ++ more) e
 names_more pages more e h = (omega (arith, h.0, length-append pages more), get_or_append_left pages more 0 e.frame h.0 ∙ h.1)
 
-below_cases : (k n : ℕ) → k < n + 1 → (k < n) ⊎ (k ≡ n)
+pub below_cases : (k n : ℕ) → k < n + 1 → (k < n) ⊎ (k ≡ n)
 below_cases k n l = by_test (nat_lt k n) refl
   where
     by_test : (b : Bool) → b ≡ nat_lt k n → (k < n) ⊎ (k ≡ n)
@@ -163,7 +163,7 @@ pub gathers_more : (es : List Entry) (pages : List ℕ) (page frame count new : 
 gathers_more es pages page frame count new long least moved h = record {
   names = All-push (NamesFrame (pages ++ page ∷ [])) es (record { page = page; frame = frame })
       (λ k d l. names_more pages (page ∷ []) (get_or es k d) (h.names k d l)) (omega (arith, length_push pages page), get_or_push pages page 0 frame long);
-  last = λ k l. by_place k (below_cases k (length pages) (omega (arith, length_push pages page)));
+  last = λ k l m. by_place k m (below_cases k (length pages) (omega (arith, length_push pages page)));
 }
   where
     older : (k : ℕ) → k < length pages → (e : Entry) → NamesFrame pages e × IsFor (slice_index pages k) k count e
@@ -178,12 +178,13 @@ gathers_more es pages page frame count new long least moved h = record {
     newest k e (inl m) z = absurd (omega arith)
     newest k e (inr m) z = omega arith
 
-    by_place : (k : ℕ) → (k < length pages) ⊎ (k ≡ length pages)
+    by_place : (k : ℕ) → 0 < slice_index (pages ++ page ∷ []) k → (k < length pages) ⊎ (k ≡ length pages)
         → Any (IsFor (slice_index (pages ++ page ∷ []) k) k new) (es ++ (record { page = page; frame = frame }) ∷ [])
-    by_place k (inl l) = any_append (IsFor (slice_index (pages ++ page ∷ []) k) k new) es ((record { page = page; frame = frame }) ∷ [])
+    by_place k m (inl l) = any_append (IsFor (slice_index (pages ++ page ∷ []) k) k new) es ((record { page = page; frame = frame }) ∷ [])
         (any_weaker (λ e. NamesFrame pages e × IsFor (slice_index pages k) k count e) (IsFor (slice_index (pages ++ page ∷ []) k) k new) es (older k l)
-        (any_with (NamesFrame pages) (IsFor (slice_index pages k) k count) es h.names (h.last k l)))
-    by_place k (inr e) = Any-push (IsFor (slice_index (pages ++ page ∷ []) k) k new) es (record { page = page; frame = frame })
+        (any_with (NamesFrame pages) (IsFor (slice_index pages k) k count) es h.names
+        (h.last k l (subst (λ n. 0 < n) (get_or_append_left pages (page ∷ []) 0 k l) m))))
+    by_place k m (inr e) = Any-push (IsFor (slice_index (pages ++ page ∷ []) k) k new) es (record { page = page; frame = frame })
         (sym (get_or_push pages page 0 k (sym e)), omega arith, newest k e moved)
 
 -- the filter that keeps what is committed
@@ -205,10 +206,10 @@ pub gathers_committed : (es : List Entry) (pages : List ℕ) (count : ℕ) → c
     → Gathers (filter (λ e. nat_lt e.frame count) es) (take count pages) count
 gathers_committed es pages count le h = record {
   names = λ k d l. names_first (get_or kept k d) (All-filter p (NamesFrame pages) es h.names k d l) (filter_passes p es k d l);
-  last = λ k l. let lt : k < count = omega (arith, length-take-le count pages le) in
+  last = λ k l m. let lt : k < count = omega (arith, length-take-le count pages le) in
       any_filter (IsFor (slice_index (take count pages) k) k count) p (λ e f. passes e (f.2 lt)) es
       (any_weaker (IsFor (slice_index pages k) k count) (IsFor (slice_index (take count pages) k) k count) es
-      (λ e f. (f.0 ∙ sym (get_or-take count pages k 0 lt), f.1, f.2)) (h.last k (omega arith)));
+      (λ e f. (f.0 ∙ sym (get_or-take count pages k 0 lt), f.1, f.2)) (h.last k (omega arith) (subst (λ n. 0 < n) (get_or-take count pages k 0 lt) m)));
 }
   where
     p : Entry → Bool
@@ -235,9 +236,36 @@ index_of_committed es new pages count le keeps rising h =
       rising = rising;
       names = k.names;
       last =
-          λ n l. any_weaker (IsFor (slice_index (take count pages) n) n count) (λ e. (e.page ≡ slice_index (take count pages) n) × (n ≤ e.frame)) new
-          (λ e f. (f.0, f.1)) (k.last n l);
+          λ n l m. any_weaker (IsFor (slice_index (take count pages) n) n count) (λ e. (e.page ≡ slice_index (take count pages) n) × (n ≤ e.frame)) new
+          (λ e f. (f.0, f.1)) (k.last n l m);
     }
 
 pub all_committed : (es : List Entry) (count : ℕ) → All (λ e. e.frame < count) (filter (λ e. nat_lt e.frame count) es)
 all_committed es count k d l = let t = filter_passes (λ e. nat_lt e.frame count) es k d l in grind (arith, nat_tests)
+
+-- no frame at the next place
+gathers_zero : (es : List Entry) (pages : List ℕ) (count : ℕ) → Gathers es pages count → Gathers es (pages ++ 0 ∷ []) count
+gathers_zero es pages count h = record {
+  names = λ k d l. names_more pages (0 ∷ []) (get_or es k d) (h.names k d l);
+  last = λ k l m. by_place k m (below_cases k (length pages) (omega (arith, length_push pages 0)));
+}
+  where
+    by_place : (k : ℕ) → 0 < slice_index (pages ++ 0 ∷ []) k → (k < length pages) ⊎ (k ≡ length pages)
+        → Any (IsFor (slice_index (pages ++ 0 ∷ []) k) k count) es
+    by_place k m (inl l) =
+        let e = get_or_append_left pages (0 ∷ []) 0 k l in
+        subst (λ n. Any (IsFor n k count) es) (sym e) (h.last k l (subst (λ n. 0 < n) e m))
+    by_place k m (inr e) = absurd (omega (arith, m, get_or_push pages 0 0 k (sym e)))
+
+-- n places more
+abbrev pub pad : ℕ → List ℕ → List ℕ
+pad zero pages = pages
+pad (suc n) pages = pad n (pages ++ 0 ∷ [])
+
+pub length_pad : (n : ℕ) (pages : List ℕ) → length (pad n pages) ≡ length pages + n
+length_pad zero pages = omega arith
+length_pad (suc n) pages = length_pad n (pages ++ 0 ∷ []) ∙ omega (arith, length_push pages 0)
+
+pub gathers_pad : (n : ℕ) (es : List Entry) (pages : List ℕ) (count : ℕ) → Gathers es pages count → Gathers es (pad n pages) count
+gathers_pad zero es pages count h = h
+gathers_pad (suc n) es pages count h = gathers_pad n es (pages ++ 0 ∷ []) count (gathers_zero es pages count h)

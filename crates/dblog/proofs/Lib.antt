@@ -14,3 +14,6 @@ pub mod Besides
 pub mod BothRuns
 pub mod Recovery
 pub mod Answered
+pub mod JournalSteps
+pub mod JournalRuns
+pub mod JournalAll

@@ -95,10 +95,10 @@ place_of page (e ∷ es) = by_test (e.page == page) refl (place_of page es)
 -- ---- a byte
 
 -- the frame that the index names for a page is its last one
-same_last : (es : List Entry) (fs : List (List ℕ)) (page : ℕ) → IsIndexOf es (map page_number fs)
+same_last : (es : List Entry) (fs : List (List ℕ)) (page : ℕ) → 0 < page → IsIndexOf es (map page_number fs)
     → ((k : ℕ) × (k < length fs) × (named_frame es page ≡ Some k) × (last_of page fs ≡ Some (get_or fs k [])))
     ⊎ ((named_frame es page ≡ None) × (last_of page fs ≡ None))
-same_last es fs page is = by_place (place_of page es)
+same_last es fs page some is = by_place (place_of page es)
   where
     number : (j : ℕ) → j < length fs → slice_index (map page_number fs) j ≡ page_number (get_or fs j [])
     number j l = get_or-map page_number fs j [] 0 l
@@ -117,7 +117,7 @@ same_last es fs page is = by_place (place_of page es)
       where
         after : (j : ℕ) → (get_or es i no_entry).frame < j → j < length fs → page_number (get_or fs j []) ≡ page → ⊥
         after j m n z =
-            let (q, x, inside, at, (xp, xf)) = is.last j (omega (arith, n, size)) in
+            let (q, x, inside, at, (xp, xf)) = is.last j (omega (arith, n, size)) (omega (arith, number j n, z, some)) in
             let here_too : x.page ≡ page = xp ∙ number j n ∙ z in
             let same : get_or es q no_entry ≡ x = sym (any_default es q x inside) ∙ at in
             by_order {q = q} (cases_order q i) x inside same here_too j xf m
@@ -138,7 +138,7 @@ same_last es fs page is = by_place (place_of page es)
     by_place (inr none) = inr (
       named_none page es none,
       last_none page fs None (λ j n z.
-          let (q, x, inside, at, (xp, xf)) = is.last j (omega (arith, n, size)) in
+          let (q, x, inside, at, (xp, xf)) = is.last j (omega (arith, n, size)) (omega (arith, number j n, z, some)) in
           none q inside (ap (λ (y : Entry). y.page) (sym (any_default es q x inside) ∙ at) ∙ xp ∙ number j n ∙ z)),
     )
 
@@ -192,7 +192,7 @@ same_byte : (index : Indexed) (base log : List ℕ) → (is : Indexes index log)
     → 0 < page_size (header log)
     → (i : ℕ) → byte_through (placed index (length base)) base log i ≡ recovered_byte base (page_size (header log)) (used log) i
 same_byte index base log is t z some i =
-    by_place (same_last index.entries (used log) (i / index.page_size + 1) is.entries)
+    by_place (same_last index.entries (used log) (i / index.page_size + 1) (omega arith) is.entries)
   where
     p : Placed
     p = placed index (length base)

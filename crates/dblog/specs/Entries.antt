@@ -13,7 +13,7 @@ NamesFrame pages e = (e.frame < length pages) × (slice_index pages e.frame ≡ 
 pub record IsIndexOf (entries : List Entry) (pages : List ℕ) : Type 0 where
   pub rising : AllPairs (λ d e. d.page < e.page) entries
   pub names : All (NamesFrame pages) entries
-  pub last : (k : ℕ) → k < length pages → Any (λ e. (e.page ≡ slice_index pages k) × (k ≤ e.frame)) entries
+  pub last : (k : ℕ) → k < length pages → 0 < slice_index pages k → Any (λ e. (e.page ≡ slice_index pages k) × (k ≤ e.frame)) entries
 
 -- the frame that is named for a page, if one is
 abbrev pub named_frame : List Entry → ℕ → Option ℕ
@@ -28,7 +28,8 @@ pub record Gathering : Type 0 where
 -- frame's page has an entry that names no frame before it, and a committed one for a committed frame.
 pub record Gathers (entries : List Entry) (pages : List ℕ) (count : ℕ) : Type 0 where
   pub names : All (NamesFrame pages) entries
-  pub last : (k : ℕ) → k < length pages → Any (λ e. (e.page ≡ slice_index pages k) × (k ≤ e.frame) × (k < count → e.frame < count)) entries
+  pub last : (k : ℕ) → k < length pages → 0 < slice_index pages k
+      → Any (λ e. (e.page ≡ slice_index pages k) × (k ≤ e.frame) × (k < count → e.frame < count)) entries
 
 -- whether nothing is lost without e, since f names a later frame of the same page, which is committed if that of e is
 abbrev pub is_replaced : ℕ → Entry → Entry → Bool

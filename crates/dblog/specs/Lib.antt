@@ -8,3 +8,5 @@ pub mod Recovered
 pub mod Scanning
 pub mod Sums
 pub mod Wal
+pub mod Journal
+pub mod JournalReading
