@@ -75,25 +75,7 @@ are_put() {
 }
 
 @test 'with --recovered the changes are of the file that SQLite recovers' {
-    needs python3
-    python3 - "$work" << 'END'
-import shutil, sqlite3, sys
-work = sys.argv[1]
-db = sqlite3.connect(work + "/made.db", isolation_level=None)
-db.execute("PRAGMA page_size = 512")
-db.execute("PRAGMA journal_mode = WAL")
-db.execute("PRAGMA wal_autocheckpoint = 0")
-db.execute("CREATE TABLE t(a)")
-db.execute("PRAGMA wal_checkpoint(TRUNCATE)")
-db.execute("INSERT INTO t VALUES (1)")
-for name in ("pair", "whole"):
-    shutil.copy(work + "/made.db", work + "/%s.db" % name)
-    shutil.copy(work + "/made.db-wal", work + "/%s.db-wal" % name)
-db.close()
-db = sqlite3.connect(work + "/whole.db", isolation_level=None)
-db.execute("PRAGMA wal_checkpoint(TRUNCATE)")
-db.close()
-END
+    paired
     # A payload fraction: page 1 is read from the file, and page 2 from the log.
     put_at "$work/pair.db" 21 A
     put_at "$work/whole.db" 21 A

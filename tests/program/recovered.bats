@@ -2,32 +2,6 @@
 # `--recovered`: the report of the database that SQLite would recover from a file and its write-ahead log; neither is written.
 load common
 
-# paired: makes pair.db, whose last transaction is in pair.db-wal alone, and whole.db, which SQLite recovered of a copy of both.
-paired() {
-    needs python3
-    python3 - "$work" << 'END'
-import shutil, sqlite3, sys
-work = sys.argv[1]
-db = sqlite3.connect(work + "/made.db", isolation_level=None)
-db.execute("PRAGMA page_size = 512")
-db.execute("PRAGMA journal_mode = WAL")
-db.execute("PRAGMA wal_autocheckpoint = 0")
-db.execute("CREATE TABLE t(a)")
-db.execute("PRAGMA wal_checkpoint(TRUNCATE)")
-db.execute("BEGIN")
-for k in range(40):
-    db.execute("INSERT INTO t VALUES (?)", ("row %d" % k,))
-db.execute("COMMIT")
-for name in ("pair", "whole"):
-    shutil.copy(work + "/made.db", work + "/%s.db" % name)
-    shutil.copy(work + "/made.db-wal", work + "/%s.db-wal" % name)
-db.close()
-db = sqlite3.connect(work + "/whole.db", isolation_level=None)
-db.execute("PRAGMA wal_checkpoint(TRUNCATE)")
-db.close()
-END
-}
-
 @test 'the report of a pair is that of what SQLite recovers, and neither file is written' {
     local command
     paired
