@@ -15,7 +15,7 @@ import sys
 
 TOP = os.path.dirname(os.path.dirname(os.path.abspath(__file__)))
 WORDS = {"README.md": 1800}
-ALL_WORDS = 31500
+ALL_WORDS = 32500
 WIDTH = 160
 # Sections that have to be there: what a reader acts on, and what a length must not take away.
 SECTIONS = {
@@ -24,7 +24,7 @@ SECTIONS = {
     "CONTRIBUTING.md": ["Report a bug", "What is where", "Prove one crate", "Before a push", "Commits", "Read a goal that fails",
                         "Run a test, or the program on a file", "Try an edit", "Words"],
     "docs/DECISIONS.md": ["What is reported", "The program", "Names and forms"],
-    "docs/DESIGN.md": ["The house", "To add a fault", "To add a command", "To add a column to `stat`", "Decisions", "Limits of the tools", "The gate"],
+    "docs/DESIGN.md": ["Overview", "To add a fault", "To add a command", "To add a column to `stat`", "Decisions", "Limits of the tools", "The gate"],
     "docs/FAULTS.md": ["Fault lines", "Last lines of `check`", "Lines of `explain`", "Lines of `mend`", "The picture of `map`", "Rows of `stat`", "Shown names"],
     "docs/PROOFS.md": ["The theorem for every source", "Premises", "Which call promises what", "Tested, read, assumed"],
     "docs/SQLITE.md": ["The runs", "What the words mean", "What came of them", "Refused by dbck", "Faults by dbck alone",
