@@ -195,7 +195,7 @@ def choice():
     if table_of(readme) and table_of(readme) != rows:
         failed.append("README.md, the choice of a recipe is not that of docs/REPAIR.md:")
         failed.extend(f"    {row}" for row in table_of(readme) if row not in rows)
-    page = re.search(r"^\.S[sh] What to do about a fault\n(.*?)^\.S[sh] ", text_of("docs/dbck.1"), re.M | re.S)[1].split("\nWhat SQLite does not find")[0]
+    page = re.search(r"^\.S[sh] What to do about a fault\n(.*?)^\.S[sh] ", text_of("docs/dbck.1"), re.M | re.S)[1].split("\nWhat SQLite can no longer reach")[0]
     for path, text in ("README.md", readme), ("docs/dbck.1", page):
         if "REPAIR.md" not in text:
             failed.append(f"{path}: what it says of a damaged database does not name REPAIR.md")

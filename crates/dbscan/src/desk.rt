@@ -10,7 +10,7 @@ use dbwalk::Marks;
 use std::alloc::{Allocator, Global};
 use std::marker::Model;
 
-/// All that runs over one file keep: its header, 22 page buffers, a mark a page, and the roots that its schema names.
+/// What every run over a file keeps: its header, 22 page buffers, one mark for each page, and the roots that its schema names.
 #[derive(Drop)]
 pub struct Desk<A: Allocator = Global> {
     pub(crate) header: Header,
@@ -62,7 +62,7 @@ impl<A: Allocator> Desk<A> {
         &self.roots
     }
 
-    /// Takes back all marks and roots, for a walk from the beginning.
+    /// Removes all marks and roots, for a new run.
     pub fn renew(&mut self)
         ensures fresh { IsFresh self.new }
         ensures header { self.new.header ≡ self.old.header }

@@ -129,14 +129,14 @@ fn end_pages<S: Source, K: Reporter, A: Allocator, B: Allocator>(
     Ok(())
 }
 
-/// Reports what is left when all pages have been visited: the marks, and then the faults at the end, by the header and the marks,
-/// first of the whole and then of each page. `any_rows` says whether the schema has rows. Each map page with pages after it is
-/// read once, to the chain buffer, when its number has its turn.
+/// Reports what is left when all walks have ended: the marks, and then the faults at the end, by the header and the marks, first of the
+/// whole and then of each page. `any_rows` says whether the schema has rows. Each map page with pages after it is read once, to the chain
+/// buffer, when its number has its turn.
 ///
 /// # Errors
 ///
-/// [`RunError::ReadFailed`] exactly where the source failed, [`RunError::WriteFailed`] exactly where the reporter failed: it
-/// heard a beginning then.
+/// [`RunError::ReadFailed`] exactly where the source failed, [`RunError::WriteFailed`] exactly where the reporter failed: then it heard a
+/// prefix of the notices.
 pub fn tell_end<S: Source, K: Reporter, A: Allocator>(
     desk: &mut Desk<A>,
     source: &mut S,

@@ -94,8 +94,8 @@ impl<A: Allocator> Desk<A> {
         is_lost(&self.marks, page)
     }
 
-    /// Reads a page to the chain buffer, once, and says what its fault goes back to, where it is lost: what it looks like, and of
-    /// an interior page how many of the pages that it names are lost too.
+    /// Reads a page into the chain buffer, once, and returns the cause of its N01, which applies only if the page is lost: what it looks
+    /// like, and of an interior page how many of the pages that it names are lost too.
     ///
     /// # Errors
     ///

@@ -16,7 +16,7 @@ use dbwalk::{Mark, Marks, Row};
 use std::alloc::{Allocator, Global};
 use std::marker::Model;
 
-/// Of each page of a tree or an overflow chain the start of its tree, in four bytes, as rows are heard.
+/// Keeps four bytes for each page: for a page of a tree or an overflow chain the start of its tree, noted as rows are heard.
 #[derive(Drop)]
 pub struct PageTrees<A: Allocator = Global> {
     // By the number of the page: there is one of page 0 too.
@@ -34,7 +34,7 @@ impl<A: Allocator> Model for PageTrees<A> {
 }
 
 impl<A: Allocator> PageTrees<A> {
-    /// Nothing was heard of the pages of a file, in one growth from any allocator.
+    /// A table in which nothing is noted yet of the pages of a file. It takes one growth, from any allocator.
     ///
     /// # Errors
     ///
@@ -57,8 +57,8 @@ impl<A: Allocator> PageTrees<A> {
         }
     }
 
-    /// The start of the tree that a page belongs to, or the freelist's: 0 is the schema, 1 to 65536 are the rows of the list
-    /// of roots, and 65537 is the freelist. None has a page that belongs to no start, and a number that no page has.
+    /// The start of the tree that a page belongs to, or the freelist's: 0 is the schema, 1 to 65536 are the rows of the list of roots, and
+    /// 65537 is the freelist. `None` for a page that belongs to no start, and for a number that no page has.
     pub fn start_of<B: Allocator>(&self, marks: &Marks<B>, page: u32) -> Option<u32>
         // Where all rows of a file were heard, and the marks are those of its visits.
         ensures { (file : List ℕ) (V : List Reference) → Survey file V → AreMarksOf file V marks.now → AreTrees V self.now.known

@@ -8,9 +8,8 @@ ghost use Rattle.dbtrace.specs.declared.Reported.{Reported};
 ghost use Rattle.dbscan.specs.Notices.{run_notices, start_notices};
 ghost use Rattle.dbscan.specs.Placed.{AreStarts, IsOfStart, StartsRise, faults_of, reported_in, told_faults, walk_told};
 
-/// What is reported at the starts of a file is each fault of the walk, with the cause that it has by all pages of the survey, start
-/// by start in their order. With the faults of the header before it and those at the end after it, which go back to nothing else,
-/// it is all faults of the file.
+/// At the starts, in their order, each fault of the walk is reported with its cause, which the whole survey decides. With the header's
+/// faults before and those at the end after, whose cause is `Itself`, these are all faults of the file.
 pub fn faults_are_told_with_their_causes()
     ensures told { (file : List ℕ) (V : List Reference) → Survey file V → reported_in (start_notices file V) ≡ walk_told file V }
     ensures heard { (file : List ℕ) (V : List Reference) → Survey file V → reported_in (run_notices file V) ≡ told_faults file V }

@@ -10,8 +10,8 @@ use dbsource::{Geometry, RunError};
 use dbwalk::Marks;
 use std::alloc::Allocator;
 
-/// Hears what is found in a file, one notice after another. Once a notice was not taken whole it is shut, for good: it takes
-/// nothing after that. A run asks for this before it goes on to a further page.
+/// Hears what is found in a file, one notice after another. Once a notice was not taken whole it is shut, for good: it takes nothing after
+/// that. Before each further page a run asks whether it is shut.
 ///
 /// # A quiet reporter
 ///
@@ -42,7 +42,8 @@ use std::alloc::Allocator;
 /// }
 /// ```
 ///
-/// One that writes has a `Writer` (of `dblines`) for its Out, which fails once and for all, and is shut where that has failed.
+/// One that writes keeps its Out and a flag. After a failed put it sets the flag, puts nothing more and is shut, as `CheckReporter` (of
+/// `dbreport`) does.
 pub trait Reporter {
     ghost use Rattle.dbwalk.specs.Telling.{SinkState};
     ghost use Rattle.dbscan.specs.Notices.{Notice as Heard};

@@ -23,7 +23,7 @@ use std::alloc::Allocator;
 /// # Errors
 ///
 /// [`RunError::ReadFailed`] exactly where the source failed, [`RunError::WriteFailed`] exactly where the reporter failed, and
-/// [`RunError::OutOfMemory`] exactly where the list of roots was refused memory. The reporter heard a beginning then.
+/// [`RunError::OutOfMemory`] exactly where the list of roots was refused memory. Then the reporter heard a prefix of the notices.
 pub fn scan<A: Allocator, S: Source, K: Reporter>(
     desk: &mut Desk<A>,
     source: &mut S,

@@ -8,8 +8,8 @@ use dbsource::memory::with_room;
 use std::alloc::{Allocator, Global};
 use std::marker::Model;
 
-/// A value for each start, with room for all of them. Of the trees' values those up to the last that was set are written, and no
-/// more: most files have few trees.
+/// A value for each start, with room for all of them. It writes the trees' values only up to the last one that was set, since most files
+/// have few trees.
 #[derive(Drop)]
 pub struct StartTable<T, A: Allocator = Global> {
     // Of the first trees.

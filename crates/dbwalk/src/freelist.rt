@@ -149,8 +149,8 @@ fn enter_trunk<S: Source, K: Sink, A: Allocator>(
 ///
 /// # Errors
 ///
-/// [`RunError::ReadFailed`] exactly where the source failed, [`RunError::WriteFailed`] exactly where the sink failed: it is shut
-/// then, and no page was read after that. It was given a beginning of what is reported otherwise.
+/// [`RunError::ReadFailed`] exactly where the source failed, [`RunError::WriteFailed`] exactly where the sink failed: it is shut then, and
+/// no page is read after that (tested; no clause says it). It got a prefix of what is reported otherwise.
 pub fn walk_freelist<S: Source, K: Sink, A: Allocator>(
     source: &mut S,
     bench: &mut Bench<A>,

@@ -32,8 +32,8 @@
 //! **Pages reported at once** (specs/LeafCells). If one reading of a page shows all of its cells, the row and the faults come
 //! from that reading. For a leaf whose cells have nothing but their keys to look at, the first and the last key are enough.
 //!
-//! **Rows of the schema** (specs/Taking) go to the taker in the order of their cells; its answer decides S04, and so all that is
-//! said of a walk holds with every taker. The walk over a leaf passes its cells a place for the sieve that takes a row's payload.
+//! **Rows of the schema** (specs/Taking) go to the taker in the order of their cells; its answer decides whether S04 is
+//! reported. All that is said of a walk holds for every taker. The walk over a leaf passes its cells a place for the sieve that takes a row's payload.
 //! Other trees leave the place empty.
 #![tactic(auto)]
 

@@ -24,8 +24,8 @@ pub struct Row<'a> {
     pub counts: Counts,
 }
 
-/// Takes the rows and faults that a walk reports, one after another. Once an item was not taken whole it is shut, for good: it
-/// takes nothing after that. A walk asks for this before it goes on to a further page.
+/// Takes the rows and faults that a walk reports, one after another. Once an item was not taken whole it is shut, for good: it takes
+/// nothing after that. Before each further page a walk asks whether it is shut.
 ///
 /// # A quiet sink
 ///

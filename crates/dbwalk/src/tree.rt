@@ -56,20 +56,19 @@ impl<A: Allocator, S: Source, K: Sink, T: Taker> TreeWalk<'_, '_, '_, '_, A, S, 
     }
 }
 
-/// Walks over the tree of a root, and marks and reports all that is below it. Each page is marked and then read, once. A root
-/// that may not be followed is reported. The rows of the schema that can be read go to the taker, in their order, each before its
-/// faults are reported: S04 exactly where the taker answered [`Taken::Full`]. No other tree calls it.
+/// Walks over the tree of a root, and marks and reports all that is below it. Each page is marked and then read, once. A root that may not
+/// be followed is reported. The rows of the schema that can be read go to the taker, in their order, each before its faults are reported:
+/// S04 if and only if the taker answered [`Taken::Full`]. Only the walk over the schema's tree calls the taker.
 ///
-/// All trees of a file share one [`Marks`] and one [`Bench`]: a page that a walk over one tree has marked is R03 in every other. Marks
-/// made anew for each tree let two trees own one page.
+/// All trees of a file share one [`Marks`] and one [`Bench`]: a page that a walk over one tree has marked is R03 in every other. Do not
+/// make new marks for each tree: two trees could then own one page.
 ///
 /// # Errors
 ///
 /// [`RunError::ReadFailed`] exactly where the source failed, [`RunError::WriteFailed`] exactly where the sink failed,
-/// [`RunError::OutOfMemory`] exactly where the taker was refused memory. The sink and the taker were given a beginning then:
-/// nothing was reported of a row that the taker was refused memory for. At [`RunError::WriteFailed`] alone the sink is shut, and no
-/// page was read and the taker was not called after that.
-/// Which pages are marked is not specified.
+/// [`RunError::OutOfMemory`] exactly where the taker was refused memory. The sink and the taker got a prefix then: nothing was reported of
+/// a row that the taker was refused memory for. The sink is shut after [`RunError::WriteFailed`], and after no other error. No page is read
+/// after that, and the taker is not called (tested; no clause says it). Which pages are marked is not specified.
 pub fn walk_tree<A: Allocator, S: Source, K: Sink, T: Taker>(
     source: &mut S,
     bench: &mut Bench<A>,
