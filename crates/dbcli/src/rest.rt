@@ -29,7 +29,7 @@ fn read_words(rest: u64) -> &'static str
     }
 }
 
-// That so many whole pages are among them.
+// How the number of whole pages among them is followed.
 fn whole_words(pages: u64) -> &'static str
     ensures { result.now ≡ whole_words pages }
 {
@@ -40,7 +40,7 @@ fn whole_words(pages: u64) -> &'static str
     }
 }
 
-// Puts the note on so many bytes after this page, which have so many whole pages.
+// Puts the note on the bytes after this page: how many they are, and how many whole pages.
 fn put_counts<N: Out>(notes: &mut NoteOut<'_, N>, none: &Shown, rest: u64, page: u64, pages: u64)
     ensures { PutsIfRoom (N.held notes.old.out.now) (N.held notes.new.out.now) (said_line none.now (rest_said rest page pages)) }
 {

@@ -81,7 +81,7 @@ counted_start V ts n k = record {
   faulty = count_by (λ p. is_reached V k p && is_told ts p) (range_with_len 1 n);
 }
 
--- The tally is that of these faults of a file of so many pages, and of the first n pages.
+-- The tally is that of these faults, of a file with this number of pages, and of its first n pages.
 pub record IsTallyTo (pages : ℕ) (V : List Reference) (ts : List Reported) (n : ℕ) (t : Tallied) : Type 0 where
   pub all : t.all ≡ counted (length ts)
   pub codes : (code : FaultCode) → slice_get t.codes (code_index code) ≡ Some (counted (code_count ts code))

@@ -20,8 +20,8 @@ const TIMES: u64 = 16;
 
 const MOST_AT_ONCE: u64 = 256;
 
-// A window is read only if at least one of so many pages is used: otherwise its pages take less time one by one. On a turning disk,
-// where a read takes `SEEK_MICROS` or longer, two pages in a window are enough.
+// A window is read only if at least one page in 16 is used: otherwise its pages take less time one by one. On a turning disk, where a read
+// takes `SEEK_MICROS` or longer, two pages in a window are enough.
 const PAGES_A_USED_ONE: u64 = 16;
 
 const PAGES_A_USED_ONE_ON_A_DISK: u64 = 128;
@@ -131,7 +131,7 @@ impl<'r, C: Clock> ReadAhead<'r, C> {
         file.read_exact_at(rest, offset.wrapping_add(first.len() as u64))
     }
 
-    // Whether so many pages of a window will be read that it pays to read it as a whole, where a page takes this time.
+    // Whether enough pages of a window will be read that it pays to read it as a whole, if one page takes this time.
     fn pays(&self, time: Duration) -> bool {
         self.share.is_one_in(if time >= Duration::from_micros(SEEK_MICROS) {
             PAGES_A_USED_ONE_ON_A_DISK

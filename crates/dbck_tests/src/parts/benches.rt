@@ -11,8 +11,8 @@ const GEOMETRY: Geometry = Geometry {
     has_map: false,
 };
 
-// Writes the page of a chain, its last byte by a level that is lent. Whether the level is as it was then, and the chain has what was
-// written to it, and else what was read to it.
+// Writes the page of a chain, its last byte by a borrowed level. Whether the level is as it was then, and the chain has what was written to
+// it, and else what was read to it.
 fn is_lent(bench: &mut Bench, bytes: &[u8]) -> bool {
     let (level, chain) = bench.chain(3);
     patch(chain, 0, &[1]);

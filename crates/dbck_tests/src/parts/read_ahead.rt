@@ -281,8 +281,7 @@ fn windows_with(
     Some(read_since(rt, before)? / WINDOW)
 }
 
-// Whether so many windows are read ahead with each of these reads, of this size. Of pages of which a few fill a window, one window is read
-// at once.
+// Whether each of these reads, of this size, reads this number of windows ahead. If a few pages fill a window, one window is read at once.
 fn are_followed(
     rt: &HostRuntime,
     source: &mut impl Source,
