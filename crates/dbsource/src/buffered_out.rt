@@ -157,17 +157,6 @@ fn make_room<W: Write, A: Allocator>(
     hand_on(writer, gathered, handed)
 }
 
-// Gathers a piece that has room in the buffer.
-fn gather<A: Allocator>(gathered: &mut Vec<u8, A>, piece: &[u8])
-    requires { vec_len gathered.old + length piece.now ≤ vec_capacity gathered.old }
-    ensures items { gathered.new.items ≡ gathered.old.items ++ piece.now }
-    ensures capacity { vec_capacity gathered.old ≤ vec_capacity gathered.new }
-{
-    let Ok(()) = gathered.extend_from_slice(piece) else {
-        unreachable!()
-    };
-}
-
 // Gathers the piece, or writes it where it is longer than the buffer.
 fn take_piece<W: Write, A: Allocator>(
     writer: &mut W,
@@ -191,7 +180,9 @@ fn take_piece<W: Write, A: Allocator>(
             return write_whole(writer, piece).1;
         }
     }
-    gather(gathered, piece);
+    let Ok(()) = gathered.extend_from_slice(piece) else {
+        unreachable!()
+    };
     Ok(())
 }
 
