@@ -1,6 +1,6 @@
 -- The walks from the starts, one after another: what a walk over the next tree leaves to be reported.
 use Rattle.std.proofs.Common.{◌≡◌, ◌↔◌, ℕ, suc, ◌+◌, ◌-◌, ◌<◌, Bool, false, cond, List, [], ◌∷◌, ◌++◌, drop, length, map, Some, Result, Ok, Err, refl, sym}
-use Rattle.std.proofs.Common.{ap, subst, ◌∙◌, arith, append_assoc, append-nil}
+use Rattle.std.proofs.Common.{ap, ap₂, subst, ◌∙◌, arith, append_assoc, append-nil}
 use Rattle.std.specs.Prelude.{OnOk, slice_get, ◌==◌}
 use Rattle.std.specs.List.{enumerate_from}
 use Rattle.dbsurvey.specs.Moves.{Moves, MovesBySome}
@@ -13,6 +13,7 @@ use Rattle.dbformat.specs.Schema.{start as start_at}
 use Rattle.dbformat.specs.SchemaRow.{SchemaRow}
 use Rattle.dbformat.specs.Story.{Event, start_errands}
 use Rattle.dbformat.specs.Survey.{Survey}
+use Rattle.dbformat.specs.declared.Encoding.{Encoding}
 use Rattle.dbsource.specs.declared.error.RunError.{RunError}
 use Rattle.dbtrace.specs.Finding.{Finding, told_below, visited_below}
 use Rattle.dbwalk.specs.Done.{IsDone, IsTreeDone}
@@ -36,7 +37,7 @@ use Rattle.dbscan.specs.Tellers.{HandsOn}
 use Rattle.dbscan.specs.Walks.{Any, IsAtStarts, IsTreeWalked, IsWalkedOver, IsSchemaWalked, IsBetweenStarts, StopsTelling, AreTold, AreWalked}
 use Rattle.dbscan.specs.declared.teller.Teller.{Teller}
 use Rattle.dbscan.proofs.RunItems.{all_visited, starts_left, survey_below_starts}
-use Rattle.dbscan.proofs.Starts.{drop_more, quiet_go, root_next, row_there}
+use Rattle.dbscan.proofs.Starts.{drop_more, no_schema_kind, quiet_go, root_next, row_there}
 use Rattle.dbscan.proofs.Tellers.{teller_moves, teller_some}
 
 any_moves : (items : List Finding) → Moves Any tt items tt
@@ -114,6 +115,20 @@ module _ {S : Type 0} (hears : S → Notice → S → Type 0) where
         has_rows = tt;
         given = λ k. tt;
       }
+
+  -- the tree of a row of a list, by the root that it names; the taker is not asked
+  pub row_walked : {T : Type 0} (keeps : T → SchemaRow → Taken → T → Type 0) (file : List ℕ) (code : Encoding) (k : ℕ) (own row : SchemaRow) (named : Root)
+      (old marks : List Mark) (w t : Teller S) (first u : T) (r : Result (Unit {0}) RunError)
+      → code ≡ encoding file → own ≡ row → named ≡ root_of code k own → w.start.now ≡ at_row k own
+      → (named.encoding ≡ encoding file → (W : List Reference) (c : Reference) → IsRootAfter file named W c old → (held : T → ℕ)
+      → (named.kind ≡ Schema → StartsEmpty keeps held first) → IsWalkedOver hears keeps file W c r marks w t first u)
+      → (W : List Reference) (c : Reference) → IsRootAfter file (root_of (encoding file) k row) W c old
+      → IsTreeWalked hears (at_row k row) file W c r marks w.reporter.now t.reporter.now
+  row_walked keeps file code k own row named old marks w t first u r coded same is at walked W c after =
+      let root : named ≡ root_of (encoding file) k row = is ∙ ap₂ (λ x y. root_of x k y) coded same in
+      subst (λ at. IsTreeWalked hears at file W c r marks w.reporter.now t.reporter.now) (at ∙ ap (at_row k) same)
+      (walked (ap (λ (x : Root). x.encoding) root) W c (subst (λ x. IsRootAfter file x W c old) (sym root) after) (λ x. 0)
+      (λ s. absurd (no_schema_kind row.kind (ap (λ (x : Root). x.kind) (sym root) ∙ s)))).tree
 
   module _ (file : List ℕ) (V : List Reference) (survey : Survey file V) (before : S) where
     -- ---- the schema's tree
