@@ -25,13 +25,12 @@ ghost use Rattle.dbscan.specs.Walks.{AreTold, AreWalked, IsSchemaWalked, IsBetwe
 use crate::Desk;
 use crate::no_rows::NoRows;
 use crate::reporter::Reporter;
-use crate::roots::RootList;
 use crate::start::Start;
 use crate::teller::Teller;
 use dbbytes::SchemaRow;
 use dbformat::{Encoding, RowKind};
-use dbsource::{Bench, RunError, Source};
-use dbwalk::{Marks, Root, RootKind, Taker, walk_freelist, walk_tree};
+use dbsource::{RunError, Source};
+use dbwalk::{Root, RootKind, walk_freelist, walk_tree};
 use std::alloc::Allocator;
 
 // The root of the schema.
@@ -71,33 +70,6 @@ fn root_of(row: &SchemaRow<'_>, start: u32, encoding: Encoding) -> Root
     }
 }
 
-// Walks over the tree of a root, to its end.
-fn walk_over<A: Allocator, S: Source, T: Taker, K: Reporter>(
-    source: &mut S,
-    bench: &mut Bench<A>,
-    marks: &mut Marks<A>,
-    root: Root,
-    taker: &mut T,
-    teller: &mut Teller<'_, K>,
-) -> Result<(), RunError>
-    requires schema { (root.kind ≡ root_kind.Schema) ↔ (root.start ≡ schema_start) }
-    requires open { (K.held teller.old.reporter.now).is_shut ≡ false }
-    ensures same_reporter { teller.new.reporter.ghost_name ≡ teller.old.reporter.ghost_name }
-    ensures shape { bench.new.geometry ≡ bench.old.geometry }
-    ensures asks { Asks S.step (Reads bench.old.geometry.page_size marks.old marks.new) (λ file. bench.old.geometry ≡ geometry file
-        → root.encoding ≡ encoding_of file → (W : List Reference) (c : Reference) → IsRootAfter file root W c marks.old
-        → (held : T → ℕ) → (root.kind ≡ root_kind.Schema → StartsEmpty T.takes held taker.old)
-        → IsWalkedOver K.hears T.takes file W c result marks.new teller.old teller.new taker.old taker.new)
-        is_read_failed result (S.held source.old) (S.held source.new) }
-    ensures writes { SinkAfter is_write_failed result (K.held teller.old.reporter.now) (K.held teller.new.reporter.now) }
-    ensures refusals { T.refusals taker.new ≡ failures_after is_out_of_memory result (T.refusals taker.old) }
-    ensures only { IfErr result IsReadWriteOrMemory }
-    ensures later { 1 ≤ root.start → IfErr result IsReadOrWrite }
-{
-    walk_tree(source, bench, marks, root, taker, teller)?;
-    teller.end()
-}
-
 // Walks over the schema's tree, to its end. The list takes its rows. It answers whether there are any.
 fn walk_schema<A: Allocator, S: Source, K: Reporter>(
     desk: &mut Desk<A>,
@@ -114,14 +86,9 @@ fn walk_schema<A: Allocator, S: Source, K: Reporter>(
     let root = schema_root(desk.header.encoding());
     let start = Start::schema();
     let mut teller = Teller::new(reporter, &start);
-    walk_over(
-        source,
-        &mut desk.bench,
-        &mut desk.marks,
-        root,
-        &mut desk.roots,
-        &mut teller,
-    )?;
+    let (bench, marks) = (&mut desk.bench, &mut desk.marks);
+    walk_tree(source, bench, marks, root, &mut desk.roots, &mut teller)?;
+    teller.end()?;
     Ok(teller.has_rows())
 }
 
@@ -148,7 +115,8 @@ fn walk_roots<A: Allocator, S: Source, K: Reporter>(
         let start = Start::tree(number, row.name);
         let mut teller = Teller::new(reporter, &start);
         let (bench, marks) = (&mut desk.bench, &mut desk.marks);
-        walk_over(source, bench, marks, root, &mut NoRows, &mut teller)?;
+        walk_tree(source, bench, marks, root, &mut NoRows, &mut teller)?;
+        teller.end()?;
     }
     Ok(())
 }
