@@ -14,13 +14,15 @@ use Rattle.dbsource.specs.declared.error.RunError.{RunError}
 use Rattle.dbsource.specs.declared.error.RunError.TheVariants.{WriteFailed}
 use Rattle.dbsource.specs.declared.out.Out.{Ghosts as OutWords}
 use Rattle.dbsource.specs.declared.source.Source.{Ghosts as SourceWords}
+use Rattle.dbsource.proofs.Beginnings.{begins_nothing}
+use Rattle.dbsource.proofs.Gathered.{begins_longer}
 use Rattle.dbmend.specs.Deeds.{Deed, Does, DoesAll, HasTried, looked, tried}
 use Rattle.dbmend.specs.Mended.{AreSteps, Fix, Follows, HasMended, IsMended, WritesOkOfSound, changes_of, fix_text, left_after}
 use Rattle.dbmend.specs.Stepped.{HasPut}
 use Rattle.dbmend.specs.Texts.{end_text, first_text}
 use Rattle.dbmend.specs.Trials.{Among}
 use Rattle.dbmend.specs.declared.count.Count.{Count}
-use Rattle.dbmend.proofs.Steps.{begins_more, begins_none, writes_then}
+use Rattle.dbmend.proofs.Steps.{writes_then}
 
 module _ {S O : Type 0} (source : SourceWords S) (out : OutWords O) (limit : ℕ) where
   -- the file is not read
@@ -34,7 +36,7 @@ module _ {S O : Type 0} (source : SourceWords S) (out : OutWords O) (limit : ℕ
     fixes = [];
     steps = tt;
     few = omega arith;
-    written = begins_none (out.held o).bytes [];
+    written = begins_nothing (out.held o).bytes [];
     answer = (refl, refl, refl);
     reads = h.reads;
     writes = rw never refl;
@@ -51,7 +53,7 @@ module _ {S O : Type 0} (source : SourceWords S) (out : OutWords O) (limit : ℕ
     fixes = [];
     steps = tt;
     few = omega arith;
-    written = begins_more (out.held o).bytes (out.held p).bytes (first_text c.faults) _ put.held;
+    written = begins_longer (out.held o).bytes (out.held p).bytes (first_text c.faults) _ put.held;
     answer = inl (inr refl);
     reads = h.reads;
     writes = put.count;
@@ -83,7 +85,7 @@ module _ {S O : Type 0} (source : SourceWords S) (out : OutWords O) (limit : ℕ
     pub mended_stopped : {A : Type 0} (e : RunError) {left : ℕ} {Of : List Fix → Type 0} (new : S × O)
         → HasPut source out {A = A} [] c.faults 255 left (min limit 16) (Err e) Of (s, p) new → HasMended source out limit (Err e) (old, o) new
     mended_stopped e new k = mended_by (Err e) (Err e) new new k refl
-        (begins_more (out.held p).bytes (out.held new.1).bytes (flat_map fix_text k.fixes) _ k.written) k.only k.reads k.writes
+        (begins_longer (out.held p).bytes (out.held new.1).bytes (flat_map fix_text k.fixes) _ k.written) k.only k.reads k.writes
 
     module _ {A : Type 0} (a : A) (left : ℕ) {still : ℕ} (m : S × O)
         (k : HasPut source out {A = A} [] c.faults 255 still (min limit 16) (Ok a) (λ fixes. left ≡ left_after c.faults fixes) (s, p) m) where

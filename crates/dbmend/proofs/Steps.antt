@@ -14,6 +14,7 @@ use Rattle.dbsource.specs.declared.error.RunError.{RunError}
 use Rattle.dbsource.specs.declared.error.RunError.TheVariants.{OutOfMemory, ReadFailed, Refused, WriteFailed}
 use Rattle.dbsource.specs.declared.out.Out.{Ghosts as OutWords}
 use Rattle.dbsource.specs.declared.source.Source.{Ghosts as SourceWords}
+use Rattle.dbsource.proofs.Beginnings.{begins_nothing}
 use Rattle.dbsource.proofs.Puts.{appends_append, appends_nothing}
 use Rattle.dbmend.specs.Deeds.{Deed, HasDone, IsReadOrMemory, runs_in, runs_of}
 use Rattle.dbmend.specs.Mended.{AreSteps, Fix, changes_of, fix_text, left_after}
@@ -33,19 +34,6 @@ writes_then (Err e) o m n a b h k = record {
   whole = append_assoc a k.part k.rest ∙ ap (λ w. a ++ w) k.whole;
   added = appends_append o m n a k.part h k.added;
 }
-
--- a beginning of a text is one of a longer text
-pub begins_more : (o n : Option (List ℕ)) (a b : List ℕ) → Begins o n a → Begins o n (a ++ b)
-begins_more o n a b h = record {
-  part = h.part;
-  rest = h.rest ++ b;
-  whole = sym (append_assoc h.part h.rest b) ∙ ap (λ w. w ++ b) h.whole;
-  added = h.added;
-}
-
--- nothing was written
-pub begins_none : (o : Option (List ℕ)) (a : List ℕ) → Begins o o a
-begins_none o a = record { part = []; rest = a; whole = refl; added = appends_nothing o }
 
 -- ---- steps
 
@@ -195,7 +183,7 @@ module _ {S O : Type 0} (source : SourceWords S) (out : OutWords O) where
     steps = tt;
     few = omega arith;
     of = tt;
-    written = begins_none (out.held o).bytes [];
+    written = begins_nothing (out.held o).bytes [];
     reads = h.reads;
     writes = by_error e h.only (out.held o).failures;
     only = elim h.only [ inl r ↦ inl (inl r) | inr m ↦ inr m ];

@@ -1,16 +1,13 @@
 // A check of a file: what it writes of the notices that it hears.
 ghost use Rattle.std.specs.Prelude.{◌≡◌, IfOk, false};
-ghost use Rattle.dblines.specs.Writing.{Wrote};
-ghost use Rattle.dbformat.specs.Lines.{fault_line};
 ghost use Rattle.dbsource.specs.Outs.{Puts};
-ghost use Rattle.dbwalk.specs.Telling.{SinkMoves};
-ghost use Rattle.dbreport.specs.CheckReporter.{ShowsFault, check_held, end_text, found_verdict, writer_of};
+ghost use Rattle.dbreport.specs.CheckReporter.{end_text, found_verdict};
 
 use dbformat::Verdict;
 use dblines::{put_fault, put_ok, put_rest};
 use dbscan::{Desk, Finish, Notice, Reporter};
 use dbsource::{Geometry, Out, RunError, Source, WriteFailed};
-use dbwalk::{Fault, Marks};
+use dbwalk::Marks;
 use std::alloc::Allocator;
 
 // Writes the lines of the first faults as they come, and counts the others. It holds no list. Its Out is a writer's: nothing is put to
@@ -43,31 +40,6 @@ impl<'a, O: Out> CheckReporter<'a, O> {
         }
     }
 
-    // Puts the line of a fault, unless the Out failed before.
-    fn put(&mut self, fault: &Fault)
-        ensures limit { self.new.limit ≡ self.old.limit }
-        ensures counts { (self.new.shown ≡ self.old.shown) × (self.new.more ≡ self.old.more) }
-        ensures wrote { Wrote O.held (writer_of self.old) (fault_line fault.now) (writer_of self.new) }
-    {
-        if !self.has_failed {
-            self.has_failed = put_fault(self.out, fault).is_err();
-        }
-    }
-
-    // Puts the line of a fault, or counts it.
-    #[tactic(auto, using(dblines::proofs::Writing::wrote_nothing))]
-    fn show(&mut self, fault: &Fault)
-        ensures item { ShowsFault O.held self.old fault.now self.new }
-        ensures count { SinkMoves (check_held O.held self.old) (check_held O.held self.new) }
-    {
-        if self.shown < self.limit {
-            self.put(fault);
-            self.shown += 1;
-        } else {
-            self.more = self.more.saturating_add(1);
-        }
-    }
-
     // Puts the last line, that there is no fault or how many there are beside those shown, and answers what was found.
     fn end(&mut self) -> Result<Verdict, WriteFailed>
         ensures same_out { self.new.out.ghost_name ≡ self.old.out.ghost_name }
@@ -94,11 +66,20 @@ impl<O: Out> Reporter for CheckReporter<'_, O> {
 
     ghost held = { check_held O.held };
 
+    // Puts the line of a fault, unless the Out failed before, or counts it.
+    #[tactic(auto, using(dblines::proofs::Writing::wrote_nothing))]
     fn hear(&mut self, notice: &Notice<'_>) {
-        match notice {
-            Notice::Fault(told) => self.show(&told.fault),
-            Notice::Row(_, _) | Notice::Ended(_) => {}
+        let Notice::Fault(told) = notice else {
+            return;
+        };
+        if self.shown >= self.limit {
+            self.more = self.more.saturating_add(1);
+            return;
         }
+        if !self.has_failed {
+            self.has_failed = put_fault(self.out, &told.fault).is_err();
+        }
+        self.shown += 1;
     }
 
     fn walked<A: Allocator>(&mut self, _geometry: Geometry, _marks: &Marks<A>) {}

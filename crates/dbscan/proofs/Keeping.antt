@@ -26,3 +26,8 @@ keeps_then {r = r} {before = before} {new = new} h k = record {
   };
   writes = subst (λ s. SinkAfter is_write_failed r s new) h.writes k.writes;
 }
+
+-- an error is one of any call
+pub keeps_error : {A B : Type 0} {e : RunError} {before after : DeskView} {old new : SinkState} → KeepsHeader {A = A} (Err e) before after old new
+    → KeepsHeader {A = B} (Err e) before after old new
+keeps_error h = record { desk = record { header = h.desk.header; memory = h.desk.memory; only = h.desk.only }; writes = h.writes }

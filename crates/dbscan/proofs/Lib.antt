@@ -15,6 +15,7 @@ pub mod Owned
 pub mod PageMarks
 pub mod PlacedFaults
 pub mod Reached
+pub mod Reported
 pub mod RootLists
 pub mod RootsTaken
 pub mod RowsBelow
@@ -26,6 +27,7 @@ pub mod ShortNames
 pub mod Slots
 pub mod StartByStart
 pub mod StartTables
+pub mod StartWalks
 pub mod Starts
 pub mod StartsRise
 pub mod Tellers

@@ -1,8 +1,8 @@
 -- What the walk over the schema's tree has found: its rows in the list, and whether there are any.
-use Rattle.std.proofs.Common.{◌≡◌, ℕ, Bool, false, List, [], ◌∷◌, length, map, take, Result, Ok, Err, refl, sym, ap, subst, ◌∙◌}
+use Rattle.std.proofs.Common.{◌≡◌, ◌↔◌, ℕ, Bool, false, List, [], ◌∷◌, length, map, take, Result, Ok, Err, refl, sym, ap, subst, ◌∙◌}
 use Rattle.std.specs.Prelude.{◌||◌, OnOk}
 use Rattle.std.specs.List.{list_any}
-use Rattle.dbformat.specs.Address.{last_root_start}
+use Rattle.dbformat.specs.Address.{last_root_start, schema_start}
 use Rattle.dbsurvey.specs.Story.{Go, Follow, errands_at}
 use Rattle.dbformat.specs.Header.{encoding as encoding_of}
 use Rattle.dbformat.specs.Laws.{schema_part}
@@ -30,6 +30,10 @@ use Rattle.dbscan.specs.declared.teller.Teller.{Teller}
 use Rattle.dbscan.proofs.RootsTaken.{roots_start_empty, schema_roots, starts_listed}
 use Rattle.dbscan.proofs.SchemaTold.{schema_rows_told}
 use Rattle.dbformat.proofs.HeaderPrefix.{encoding_within}
+
+-- its root is the schema's
+pub schema_own : (code : Encoding) (named : Root) → named ≡ root_of_schema code → (named.kind ≡ Schema) ↔ (named.start ≡ schema_start)
+schema_own code named is = (λ k. ap (λ (r : Root). r.start) is, λ k. ap (λ (r : Root). r.kind) is)
 
 -- page 1 comes first
 pub schema_first : (file : List ℕ) (encoding : Encoding) (marks : List Mark) → AreMarksOf file [] marks

@@ -90,15 +90,3 @@ asked_ok shut is = asked_open {r = Ok tt} shut is
 pub unread : {A : Type 0} (r : Result A RunError) → IfErr r (λ e. e ≡ WriteFailed) → (n : ℕ) → n ≡ failures_after is_read_failed r n
 unread (Ok a) only n = refl
 unread (Err e) only n = subst (λ e. n ≡ failures_after {A = Unit {0}} is_read_failed (Err e) n) (sym only) refl
-
--- a reporter that failed is that of a teller that did
-abbrev lend : ℕ → SinkState → SinkState
-lend name s = record s { lent = name ∷ s.lent }
-
-pub lent_moves : (name : ℕ) (a b : SinkState) → SinkMoves a b → SinkMoves (lend name a) (lend name b)
-lent_moves name a b (inl e) = inl (ap (lend name) e)
-lent_moves name a b (inr h) = inr (record {
-  was_open = h.was_open;
-  shut = h.shut;
-  failed = record { lent = ap (λ l. name ∷ l) h.failed.lent; failures = h.failed.failures };
-})

@@ -1,8 +1,8 @@
 -- Faults that are reported, one after another.
-use Rattle.std.proofs.Common.{◌≡◌, ℕ, ◌+◌, ◌<◌, List, [], ◌∷◌, ◌++◌, length, take, drop, map, get_or, Option, Some, None, sym, ap, ◌∙◌}
+use Rattle.std.proofs.Common.{◌≡◌, ℕ, ◌+◌, ◌<◌, List, [], ◌∷◌, ◌++◌, length, take, map, get_or, Option, None, sym, ap, ◌∙◌}
 use Rattle.std.specs.Prelude.{flat_map, option_to_list}
 use Rattle.std.proofs.lemmas.Grind.{flat_map-append}
-use Rattle.std.proofs.lemmas.List.{take-append-drop, take_more, map-append}
+use Rattle.std.proofs.lemmas.List.{take_more, map-append}
 use Rattle.dbformat.specs.declared.Fault.{Fault}
 use Rattle.dbtrace.specs.declared.Part.{Part}
 use Rattle.dbscan.specs.Notices.{whole}
@@ -18,9 +18,3 @@ items_more p faults i o h e =
     ap (items_of p) (take_more faults i None h)
     ∙ items_append p (take i faults) (get_or faults i None ∷ [])
     ∙ ap (λ x. items_of p (take i faults) ++ items_of p (x ∷ [])) e
-
-pub items_around : (p : Part) (faults : List (Option Fault)) (i : ℕ) (f : Fault) → i < length faults → get_or faults i None ≡ Some f
-    → (items_of p (take i faults) ++ (whole p f ∷ [])) ++ items_of p (drop (i + 1) faults) ≡ items_of p faults
-items_around p faults i f h e =
-    sym (ap (λ l. l ++ items_of p (drop (i + 1) faults)) (items_more p faults i (Some f) h e))
-    ∙ sym (items_append p (take (i + 1) faults) (drop (i + 1) faults)) ∙ ap (items_of p) (take-append-drop (i + 1) faults)

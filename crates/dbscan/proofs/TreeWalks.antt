@@ -1,6 +1,6 @@
 -- The walks from the starts, one after another: what a walk over the next tree leaves to be reported.
 use Rattle.std.proofs.Common.{◌≡◌, ◌↔◌, ℕ, suc, ◌+◌, ◌-◌, ◌<◌, Bool, false, cond, List, [], ◌∷◌, ◌++◌, drop, length, map, Some, Result, Ok, Err, refl, sym}
-use Rattle.std.proofs.Common.{ap, subst, ◌∙◌, arith, append_assoc, append-nil}
+use Rattle.std.proofs.Common.{ap, ap₂, subst, ◌∙◌, arith, append_assoc, append-nil}
 use Rattle.std.specs.Prelude.{OnOk, slice_get, ◌==◌}
 use Rattle.std.specs.List.{enumerate_from}
 use Rattle.dbsurvey.specs.Moves.{Moves, MovesBySome}
@@ -13,6 +13,7 @@ use Rattle.dbformat.specs.Schema.{start as start_at}
 use Rattle.dbformat.specs.SchemaRow.{SchemaRow}
 use Rattle.dbformat.specs.Story.{Event, start_errands}
 use Rattle.dbformat.specs.Survey.{Survey}
+use Rattle.dbformat.specs.declared.Encoding.{Encoding}
 use Rattle.dbsource.specs.declared.error.RunError.{RunError}
 use Rattle.dbtrace.specs.Finding.{Finding, told_below, visited_below}
 use Rattle.dbwalk.specs.Done.{IsDone, IsTreeDone}
@@ -36,7 +37,7 @@ use Rattle.dbscan.specs.Tellers.{HandsOn}
 use Rattle.dbscan.specs.Walks.{Any, IsAtStarts, IsTreeWalked, IsWalkedOver, IsSchemaWalked, IsBetweenStarts, StopsTelling, AreTold, AreWalked}
 use Rattle.dbscan.specs.declared.teller.Teller.{Teller}
 use Rattle.dbscan.proofs.RunItems.{all_visited, starts_left, survey_below_starts}
-use Rattle.dbscan.proofs.Starts.{drop_more, quiet_go, root_next, row_there}
+use Rattle.dbscan.proofs.Starts.{drop_more, no_schema_kind, quiet_go, root_next, row_there, some_is}
 use Rattle.dbscan.proofs.Tellers.{teller_moves, teller_some}
 
 any_moves : (items : List Finding) → Moves Any tt items tt
@@ -115,6 +116,40 @@ module _ {S : Type 0} (hears : S → Notice → S → Type 0) where
         given = λ k. tt;
       }
 
+  -- the tree of a root, with a taker that starts empty, if the tree is the schema's: it was walked over, or an error stopped the walk
+  module _ {T : Type 0} (keeps : T → SchemaRow → Taken → T → Type 0) (refuses : T → SchemaRow → T → Type 0) (file : List ℕ) (named : Root)
+      (old marks : List Mark) (w m : Teller S) (first u : T) (schema : (named.kind ≡ Schema) ↔ (named.start ≡ schema_start)) where
+    abbrev IsDoneFrom : Result (Unit {0}) RunError → Type 0
+    IsDoneFrom r = named.encoding ≡ encoding file → (W : List Reference) (c : Reference) → IsRootAfter file named W c old
+        → IsTreeDone (HandsOn hears) keeps refuses file W c r marks (w, first) (m, u)
+
+    abbrev IsWalkedFrom : Result (Unit {0}) RunError → Teller S → Type 0
+    IsWalkedFrom r t = named.encoding ≡ encoding file → (W : List Reference) (c : Reference) → IsRootAfter file named W c old → (held : T → ℕ)
+        → (named.kind ≡ Schema → StartsEmpty keeps held first) → IsWalkedOver hears keeps file W c r marks w t first u
+
+    pub from_stopped : (e : RunError) → IsDoneFrom (Err e) → IsWalkedFrom (Err e) m
+    from_stopped e done code W c after held empty = tree_stopped keeps refuses file W c marks w m first u e
+        (root_done keeps refuses file W c marks w m first u (Err e) named old after schema held empty (done code W c after))
+
+    pub from_ended : (t : Teller S) → hears m.reporter.now (ended m.start.now) t.reporter.now → t.has_rows ≡ m.has_rows → (r : Result (Unit {0}) RunError)
+        → IsDoneFrom (Ok tt) → IsWalkedFrom r t
+    from_ended t ends rows r done code W c after held empty = tree_ended keeps refuses file W c marks w m first u t
+        (root_done keeps refuses file W c marks w m first u (Ok tt) named old after schema held empty (done code W c after)) ends rows r
+
+  -- the tree of a row of a list, by the root that it names; the taker is not asked
+  row_walked : {T : Type 0} (keeps : T → SchemaRow → Taken → T → Type 0) (file : List ℕ) (code : Encoding) (k : ℕ) (own row : SchemaRow) (named : Root)
+      (old marks : List Mark) (w t : Teller S) (first u : T) (r : Result (Unit {0}) RunError)
+      → code ≡ encoding file → own ≡ row → named ≡ root_of code k own → w.start.now ≡ at_row k own
+      → (named.encoding ≡ encoding file → (W : List Reference) (c : Reference) → IsRootAfter file named W c old → (held : T → ℕ)
+      → (named.kind ≡ Schema → StartsEmpty keeps held first) → IsWalkedOver hears keeps file W c r marks w t first u)
+      → (W : List Reference) (c : Reference) → IsRootAfter file (root_of (encoding file) k row) W c old
+      → IsTreeWalked hears (at_row k row) file W c r marks w.reporter.now t.reporter.now
+  row_walked keeps file code k own row named old marks w t first u r coded same is at walked W c after =
+      let root : named ≡ root_of (encoding file) k row = is ∙ ap₂ (λ x y. root_of x k y) coded same in
+      subst (λ at. IsTreeWalked hears at file W c r marks w.reporter.now t.reporter.now) (at ∙ ap (at_row k) same)
+      (walked (ap (λ (x : Root). x.encoding) root) W c (subst (λ x. IsRootAfter file x W c old) (sym root) after) (λ x. 0)
+      (λ s. absurd (no_schema_kind row.kind (ap (λ (x : Root). x.kind) (sym root) ∙ s)))).tree
+
   module _ (file : List ℕ) (V : List Reference) (survey : Survey file V) (before : S) where
     -- ---- the schema's tree
 
@@ -157,7 +192,7 @@ module _ {S : Type 0} (hears : S → Notice → S → Type 0) where
           subst (λ L. MovesBySome hears before L t) (append_assoc h.notices its others ∙ h.rest)
           (some_first hears before t (h.notices ++ its) others (some_after hears before s t h.notices its h.told d.told))
 
-      pub root_told : (rows : List SchemaRow) (i : ℕ) (r : Result (Unit {0}) RunError) → i < length rows
+      root_told : (rows : List SchemaRow) (i : ℕ) (r : Result (Unit {0}) RunError) → i < length rows
           → IsBetweenStarts hears file V before (enumerate_from (i + 1) (drop i rows)) marks s
           → ((row : SchemaRow) → slice_get rows (i + 1 - 1) ≡ Some row → (U : List Reference) (d : Reference)
           → IsRootAfter file (root_of (encoding file) (i + 1) row) U d marks
@@ -173,6 +208,21 @@ module _ {S : Type 0} (hears : S → Notice → S → Type 0) where
           subst (λ l. IsBetweenStarts hears file V before (enumerate_from (i + 1) l) marks s) here h in
           let next = root_next file V left.visits marks (encoding file) (i + 1) there.0 (errands_left file rest) (survey_below_starts file V survey) left.at in
           next_told (i + 1) there.0 rest left r (walked there.0 (ap (slice_get rows) n ∙ there.1) left.visits (root_reference file (i + 1) there.0) next)
+
+    -- by the walk over its tree
+    pub next_row : (marks marks' : List Mark) (s : S) {T : Type 0} (keeps : T → SchemaRow → Taken → T → Type 0) (rows : List SchemaRow) (i : ℕ)
+        (r : Result (Unit {0}) RunError)
+        (code : Encoding) (own : SchemaRow) (named : Root) (w t : Teller S) (first u : T)
+        → i < length rows → IsBetweenStarts hears file V before (enumerate_from (i + 1) (drop i rows)) marks s
+        → code ≡ encoding file → slice_get rows (i + 1 - 1) ≡ Some own → named ≡ root_of code (i + 1) own → w.start.now ≡ at_row (i + 1) own
+        → w.reporter.now ≡ s
+        → (named.encoding ≡ encoding file → (W : List Reference) (c : Reference) → IsRootAfter file named W c marks → (held : T → ℕ)
+        → (named.kind ≡ Schema → StartsEmpty keeps held first) → IsWalkedOver hears keeps file W c r marks' w t first u)
+        → StopsTelling hears file V before (enumerate_from (i + 1 + 1) (drop (i + 1) rows)) r marks' t.reporter.now
+    next_row marks marks' s keeps rows i r code own named w t first u l h coded there is at from walked =
+        root_told marks marks' s t.reporter.now rows i r l h (λ row e W c after.
+        subst (λ x. IsTreeWalked {A = Unit {0}} hears (at_row (i + 1) row) file W c r marks' x t.reporter.now) from
+        (row_walked keeps file code (i + 1) own row named marks marks' w t first u r coded (some_is (sym there ∙ e)) is at walked W c after))
 
     -- ---- the freelist, which is the last
 

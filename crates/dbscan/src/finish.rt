@@ -1,14 +1,6 @@
 // A run over a desk: a reporter hears all of a file, and ends its report.
-ghost use Rattle.std.specs.Prelude.{◌≡◌, List, false};
-ghost use Rattle.dbformat.specs.Log.{IsPageLog};
-ghost use Rattle.dbformat.specs.Reference.{Reference};
-ghost use Rattle.dbformat.specs.Survey.{Survey};
-ghost use Rattle.dbsource.specs.Errors.{is_read_failed};
-ghost use Rattle.dbsource.specs.Headers.{IsHeaderOf};
-ghost use Rattle.dbsource.specs.Sources.{Asks};
-ghost use Rattle.dbscan.specs.Desks.{IsFresh, shape_of};
+ghost use Rattle.std.specs.Prelude.{◌≡◌, false};
 ghost use Rattle.dbscan.specs.Finishes.{HasFinished, HasReported, Leaves};
-ghost use Rattle.dbscan.specs.Kept.{KeepsHeader};
 
 use crate::Desk;
 use crate::reporter::Reporter;
@@ -51,23 +43,6 @@ pub trait Finish<D: Viewed>: Reporter {
             (source.old, self.old) (source.new, self.new) };
 }
 
-// Tells a reporter all that is found in a file, and has it end its report.
-fn report<A: Allocator, S: Source, K: Finish<Desk<A>>>(
-    desk: &mut Desk<A>,
-    source: &mut S,
-    reporter: &mut K,
-) -> Result<Verdict, RunError>
-    requires fresh { IsFresh desk.old }
-    requires open { (K.held reporter.old).is_shut ≡ false }
-    ensures asks { Asks S.step (IsPageLog (shape_of desk.old)) (λ file. IsHeaderOf desk.old.header file → (V : List Reference) → Survey file V
-        → Leaves K.hears K.leaves file V result reporter.old reporter.new)
-        is_read_failed result (S.held source.old) (S.held source.new) }
-    ensures keeps { KeepsHeader result desk.old desk.new (K.held reporter.old) (K.held reporter.new) }
-{
-    scan(desk, source, reporter)?;
-    reporter.finish(desk, source)
-}
-
 /// Tells a reporter all that is found in the file whose header is on the desk, and has it end its report. The header is not
 /// read again, and a desk may be used any number of times. Only the list of roots takes memory.
 ///
@@ -86,5 +61,6 @@ pub fn run_over<A: Allocator, S: Source, K: Finish<Desk<A>>>(
     desk.renew();
     let header = *desk.header();
     let mut headed = HeadedSource::new(&header, source);
-    report(desk, &mut headed, reporter)
+    scan(desk, &mut headed, reporter)?;
+    reporter.finish(desk, &mut headed)
 }

@@ -25,13 +25,12 @@ ghost use Rattle.dbscan.specs.Walks.{AreTold, AreWalked, IsSchemaWalked, IsBetwe
 use crate::Desk;
 use crate::no_rows::NoRows;
 use crate::reporter::Reporter;
-use crate::roots::RootList;
 use crate::start::Start;
 use crate::teller::Teller;
 use dbbytes::SchemaRow;
 use dbformat::{Encoding, RowKind};
-use dbsource::{Bench, RunError, Source};
-use dbwalk::{Marks, Root, RootKind, Taker, walk_freelist, walk_tree};
+use dbsource::{RunError, Source};
+use dbwalk::{Root, RootKind, walk_freelist, walk_tree};
 use std::alloc::Allocator;
 
 // The root of the schema.
@@ -71,33 +70,6 @@ fn root_of(row: &SchemaRow<'_>, start: u32, encoding: Encoding) -> Root
     }
 }
 
-// Walks over the tree of a root, to its end.
-fn walk_over<A: Allocator, S: Source, T: Taker, K: Reporter>(
-    source: &mut S,
-    bench: &mut Bench<A>,
-    marks: &mut Marks<A>,
-    root: Root,
-    taker: &mut T,
-    teller: &mut Teller<'_, K>,
-) -> Result<(), RunError>
-    requires schema { (root.kind ≡ root_kind.Schema) ↔ (root.start ≡ schema_start) }
-    requires open { (K.held teller.old.reporter.now).is_shut ≡ false }
-    ensures same_reporter { teller.new.reporter.ghost_name ≡ teller.old.reporter.ghost_name }
-    ensures shape { bench.new.geometry ≡ bench.old.geometry }
-    ensures asks { Asks S.step (Reads bench.old.geometry.page_size marks.old marks.new) (λ file. bench.old.geometry ≡ geometry file
-        → root.encoding ≡ encoding_of file → (W : List Reference) (c : Reference) → IsRootAfter file root W c marks.old
-        → (held : T → ℕ) → (root.kind ≡ root_kind.Schema → StartsEmpty T.takes held taker.old)
-        → IsWalkedOver K.hears T.takes file W c result marks.new teller.old teller.new taker.old taker.new)
-        is_read_failed result (S.held source.old) (S.held source.new) }
-    ensures writes { SinkAfter is_write_failed result (K.held teller.old.reporter.now) (K.held teller.new.reporter.now) }
-    ensures refusals { T.refusals taker.new ≡ failures_after is_out_of_memory result (T.refusals taker.old) }
-    ensures only { IfErr result IsReadWriteOrMemory }
-    ensures later { 1 ≤ root.start → IfErr result IsReadOrWrite }
-{
-    walk_tree(source, bench, marks, root, taker, teller)?;
-    teller.end()
-}
-
 // Walks over the schema's tree, to its end. The list takes its rows. It answers whether there are any.
 fn walk_schema<A: Allocator, S: Source, K: Reporter>(
     desk: &mut Desk<A>,
@@ -114,49 +86,13 @@ fn walk_schema<A: Allocator, S: Source, K: Reporter>(
     let root = schema_root(desk.header.encoding());
     let start = Start::schema();
     let mut teller = Teller::new(reporter, &start);
-    walk_over(
-        source,
-        &mut desk.bench,
-        &mut desk.marks,
-        root,
-        &mut desk.roots,
-        &mut teller,
-    )?;
+    let (bench, marks) = (&mut desk.bench, &mut desk.marks);
+    walk_tree(source, bench, marks, root, &mut desk.roots, &mut teller)?;
+    teller.end()?;
     Ok(teller.has_rows())
 }
 
-// Walks over the tree of a row of a list, to its end. The reporter is given its name, borrowed from the list.
-fn walk_row<A: Allocator, S: Source, K: Reporter>(
-    source: &mut S,
-    bench: &mut Bench<A>,
-    marks: &mut Marks<A>,
-    roots: &RootList<A>,
-    encoding: Encoding,
-    number: u32,
-    reporter: &mut K,
-) -> Result<(), RunError>
-    requires within { (1 ≤ number) × (number ≤ length roots.now.rows) }
-    requires most { number ≤ 65536 }
-    requires open { (K.held reporter.old).is_shut ≡ false }
-    ensures shape { bench.new.geometry ≡ bench.old.geometry }
-    ensures asks { Asks S.step (Reads bench.old.geometry.page_size marks.old marks.new) (λ file. bench.old.geometry ≡ geometry file
-        → encoding ≡ encoding_of file → (row : NamingRow) → slice_get roots.now.rows (number - 1) ≡ Some row
-        → (W : List Reference) (c : Reference) → IsRootAfter file (root_of encoding number row) W c marks.old
-        → IsTreeWalked K.hears (at_row number row) file W c result marks.new reporter.old reporter.new)
-        is_read_failed result (S.held source.old) (S.held source.new) }
-    ensures writes { SinkAfter is_write_failed result (K.held reporter.old) (K.held reporter.new) }
-    ensures only { IfErr result IsReadOrWrite }
-{
-    let Some(row) = roots.get(number) else {
-        unreachable!()
-    };
-    let root = root_of(&row, number, encoding);
-    let start = Start::tree(number, row.name);
-    let mut teller = Teller::new(reporter, &start);
-    walk_over(source, bench, marks, root, &mut NoRows, &mut teller)
-}
-
-// Walks over the trees of the list, one after another.
+// Walks over the trees of the list, one after another. The reporter is given the name of each, borrowed from the list.
 fn walk_roots<A: Allocator, S: Source, K: Reporter>(
     desk: &mut Desk<A>,
     source: &mut S,
@@ -171,15 +107,16 @@ fn walk_roots<A: Allocator, S: Source, K: Reporter>(
 {
     let encoding = desk.header.encoding();
     for index in 0..desk.roots.len() {
-        walk_row(
-            source,
-            &mut desk.bench,
-            &mut desk.marks,
-            &desk.roots,
-            encoding,
-            index + 1,
-            reporter,
-        )?;
+        let number = index + 1;
+        let Some(row) = desk.roots.get(number) else {
+            unreachable!()
+        };
+        let root = root_of(&row, number, encoding);
+        let start = Start::tree(number, row.name);
+        let mut teller = Teller::new(reporter, &start);
+        let (bench, marks) = (&mut desk.bench, &mut desk.marks);
+        walk_tree(source, bench, marks, root, &mut NoRows, &mut teller)?;
+        teller.end()?;
     }
     Ok(())
 }
@@ -206,24 +143,6 @@ fn walk_trunks<A: Allocator, S: Source, K: Reporter>(
     walk_freelist(source, &mut desk.bench, &mut desk.marks, first, teller)
 }
 
-// Walks over the trees of the list, one after another, and then along the freelist.
-fn walk_later<A: Allocator, S: Source, K: Reporter>(
-    desk: &mut Desk<A>,
-    source: &mut S,
-    reporter: &mut K,
-) -> Result<(), RunError>
-    requires { (K.held reporter.old).is_shut ≡ false }
-    ensures asks { AsksOver S.step desk.old desk.new (λ file. (V : List Reference) → Survey file V → (before : K)
-        → IsBetweenStarts K.hears file V before (enumerate_from 1 desk.old.roots.rows) desk.old.marks reporter.old
-        → AreTold K.hears file V result desk.new.marks before reporter.new)
-        result (S.held source.old) (S.held source.new) }
-    ensures keeps { KeepsRoots result desk.old desk.new (K.held reporter.old) (K.held reporter.new) }
-{
-    walk_roots(desk, source, reporter)?;
-    let start = Start::freelist();
-    walk_trunks(desk, source, &mut Teller::new(reporter, &start))
-}
-
 /// Walks from all starts: over the schema's tree and the trees that it names, and along the freelist. The list takes the
 /// rows of the schema; the answer is whether there are any. The reporter hears that a tree has ended
 /// before the next page is read.
@@ -245,6 +164,8 @@ pub fn walk_starts<A: Allocator, S: Source, K: Reporter>(
     ensures keeps { KeepsHeader result desk.old desk.new (K.held reporter.old) (K.held reporter.new) }
 {
     let any_rows = walk_schema(desk, source, reporter)?;
-    walk_later(desk, source, reporter)?;
+    walk_roots(desk, source, reporter)?;
+    let start = Start::freelist();
+    walk_trunks(desk, source, &mut Teller::new(reporter, &start))?;
     Ok(any_rows)
 }

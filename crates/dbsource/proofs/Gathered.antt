@@ -5,7 +5,7 @@ use Rattle.std.proofs.lemmas.Bool.Decides.{nat_tests}
 use Rattle.std.proofs.lemmas.List.{take-append-drop}
 use Rattle.std.specs.Io.KnownBytes.{Appends, Keeps, append_known}
 use Rattle.dbsource.proofs.Beginnings.{all_begun, begins_after, begins_more}
-use Rattle.dbsource.proofs.Puts.{appends_append, appends_kept, appends_nothing}
+use Rattle.dbsource.proofs.Puts.{appends_append}
 use Rattle.dbsource.specs.Gathers.{gathered_most, kept_line}
 use Rattle.dbsource.specs.Outs.{Begins, Writes}
 
@@ -35,13 +35,3 @@ pub begins_written : {A E : Type 0} (r : Result A E) (o m n : Option (List ℕ))
     → Appends o m a → Writes r m n b → Begins o n (a ++ b)
 begins_written (Ok x) o m n a b h k = all_begun o n (a ++ b) (appends_append o m n a b h k)
 begins_written (Err e) o m n a b h k = begins_after o m n a b (a ++ b) refl h k
-
--- a failure that loses nothing
-pub kept_fails : {A E : Type 0} {r : Result A E} (o n : Option (List ℕ)) (bytes : List ℕ) (x : E)
-    → r ≡ Err x → Keeps o n → Writes r o n bytes
-kept_fails o n bytes x p h = rw p (record {
-  part = [];
-  rest = bytes;
-  whole = refl;
-  added = appends_kept o o n [] (appends_nothing o) h;
-})

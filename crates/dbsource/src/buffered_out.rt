@@ -157,44 +157,6 @@ fn make_room<W: Write, A: Allocator>(
     hand_on(writer, gathered, handed)
 }
 
-// Gathers a piece that has room in the buffer.
-fn gather<A: Allocator>(gathered: &mut Vec<u8, A>, piece: &[u8])
-    requires { vec_len gathered.old + length piece.now ≤ vec_capacity gathered.old }
-    ensures items { gathered.new.items ≡ gathered.old.items ++ piece.now }
-    ensures capacity { vec_capacity gathered.old ≤ vec_capacity gathered.new }
-{
-    let Ok(()) = gathered.extend_from_slice(piece) else {
-        unreachable!()
-    };
-}
-
-// Gathers the piece, or writes it where it is longer than the buffer.
-fn take_piece<W: Write, A: Allocator>(
-    writer: &mut W,
-    gathered: &mut Vec<u8, A>,
-    piece: &[u8],
-) -> Result<(), WriteFailed>
-    requires bound { vec_len gathered.old ≤ gathered_most }
-    requires room { gathered_most ≤ vec_capacity gathered.old }
-    ensures bound { vec_len gathered.new ≤ gathered_most }
-    ensures room { gathered_most ≤ vec_capacity gathered.new }
-    ensures writes { Writes result (append_known (W.contents writer.old) gathered.old.items)
-        (append_known (W.contents writer.new) gathered.new.items) piece.now }
-    ensures grows { Begins (W.contents writer.old) (W.contents writer.new) (gathered.old.items ++ piece.now) }
-    ensures fits { vec_len gathered.old + length piece.now ≤ gathered_most → IsOk result }
-    ensures unwritten { vec_len gathered.old + length piece.now ≤ gathered_most → writer.new ≡ writer.old }
-    ensures rest { OnOk result (gathered.new.items ≡ gathered_with gathered.old.items piece.now) }
-{
-    if piece.len() > CAPACITY - gathered.len() {
-        make_room(writer, gathered, piece.len())?;
-        if piece.len() > CAPACITY {
-            return write_whole(writer, piece).1;
-        }
-    }
-    gather(gathered, piece);
-    Ok(())
-}
-
 impl<W: Write, A: Allocator> Out for BufferedOut<W, A> {
     ghost held = { told };
 
@@ -206,11 +168,24 @@ impl<W: Write, A: Allocator> Out for BufferedOut<W, A> {
             → self.new ≡ record self.old { gathered = self.old.gathered ++ piece.now } }
         ensures rest { OnOk result (self.new.gathered ≡ gathered_with self.old.gathered piece.now) }
     {
-        let taken = take_piece(&mut self.writer, &mut self.gathered, piece);
-        if taken.is_err() {
-            self.failures.add();
+        if piece.len() > CAPACITY - self.gathered.len() {
+            let handed = make_room(&mut self.writer, &mut self.gathered, piece.len());
+            if handed.is_err() {
+                self.failures.add();
+                return handed;
+            }
+            if piece.len() > CAPACITY {
+                let written = write_whole(&mut self.writer, piece).1;
+                if written.is_err() {
+                    self.failures.add();
+                }
+                return written;
+            }
         }
-        taken
+        let Ok(()) = self.gathered.extend_from_slice(piece) else {
+            unreachable!()
+        };
+        Ok(())
     }
 
     fn flush(&mut self) -> Result<(), WriteFailed>

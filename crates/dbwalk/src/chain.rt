@@ -49,32 +49,30 @@ pub(crate) struct Chain<'a> {
     pub(crate) left: u32,
 }
 
-// A place along a chain: the number of the next page in it, the bytes that are left, the reference to that page, and whether this
-// is in an overflow page of zeros.
+/// A place along a chain: the number of the next page in it, the bytes that are left, the reference to that page, and whether this
+/// is in an overflow page of zeros.
 #[derive(Clone, Copy)]
-struct ChainPlace {
-    number: u32,
-    left: u32,
-    step: Step,
-    is_in_zeros: bool,
+pub(crate) struct ChainPlace {
+    pub(crate) number: u32,
+    pub(crate) left: u32,
+    pub(crate) step: Step,
+    pub(crate) is_in_zeros: bool,
 }
 
-// Reads a page of a chain, feeds its payload bytes to a sieve, reports its row and its fault, and answers the next page that it
+// Reads the page at a place of a chain, feeds its payload bytes to a sieve, reports its row and its fault, and answers the next page that it
 // names.
 fn visit_overflow<S: Source, K: Sink, A: Allocator>(
     source: &mut S,
     bench: &mut Bench<A>,
     chain: &Chain<'_>,
-    number: u32,
-    page: u32,
-    left: u32,
+    place: ChainPlace,
     sieve: &mut Option<RowSieve>,
     sink: &mut K,
 ) -> Result<NextPage, RunError>
-    requires within { (1 ≤ page) × (number + left ≤ most_payload) }
+    requires within { (1 ≤ place.step.page) × (place.number + place.left ≤ most_payload) }
     requires open { (K.held sink.old).is_shut ≡ false }
-    ensures log { HasLog S.step (λ log. log ≡ page_range bench.old.geometry.page_size page ∷ []) (λ file. bench.old.geometry ≡ geometry file
-        → IsOverflowVisited K.takes file chain.now number page left result sieve.old sieve.new sink.old sink.new)
+    ensures log { HasLog S.step (λ log. log ≡ page_range bench.old.geometry.page_size place.step.page ∷ []) (λ file. bench.old.geometry ≡ geometry file
+        → IsOverflowVisited K.takes file chain.now place.number place.step.page place.left result sieve.old sieve.new sink.old sink.new)
         (S.held source.old) (S.held source.new) }
     ensures reads { (S.held source.new).failures ≡ failures_after is_read_failed result (S.held source.old).failures }
     ensures writes { SinkWalks result (K.held sink.old) (K.held sink.new) }
@@ -82,13 +80,14 @@ fn visit_overflow<S: Source, K: Sink, A: Allocator>(
     ensures bench { bench.new ≡ record bench.old { chain = bench.new.chain } }
     ensures kept { is_some sieve.new ≡ is_some sieve.old }
 {
+    let (page, left) = (place.step.page, place.left);
     bench.load(CHAIN, source, page)?;
     let usable = bench.geometry().usable;
     let next = next_page(bench.page(CHAIN), usable, left);
     feed_page(bench.page(CHAIN), usable, left, sieve);
-    let row = overflow_row(chain, number, page, usable, left);
+    let row = overflow_row(chain, place, usable);
     let fault = last_fault(usable, left, page, next.page);
-    tell(&row, fault, chain, number, usable, left, sink);
+    tell(&row, fault, chain, place, usable, sink);
     Ok(next)
 }
 
@@ -131,25 +130,15 @@ fn enter_overflow<S: Source, K: Sink, A: Allocator>(
     if !enter(marks, place.step, cause, sink)? {
         return Ok(None);
     }
-    let page = place.step.page;
     let room = usable - 4;
-    let next = visit_overflow(
-        source,
-        bench,
-        chain,
-        place.number,
-        page,
-        place.left,
-        sieve,
-        sink,
-    )?;
+    let next = visit_overflow(source, bench, chain, place, sieve, sink)?;
     if place.left <= room {
         return Ok(None);
     }
     let step = Step {
         page: next.page,
-        mark: Mark::LaterOverflow(page),
-        from: page,
+        mark: Mark::LaterOverflow(place.step.page),
+        from: place.step.page,
         item: 0,
         is_too_deep: false,
     };

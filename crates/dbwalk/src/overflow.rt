@@ -13,7 +13,7 @@ ghost use Rattle.dbtrace.specs.Finding.{told_row, told_fault};
 ghost use Rattle.dbwalk.specs.Telling.{IsReportedTo};
 ghost use Rattle.dbwalk.specs.Rows.{row_of};
 
-use crate::chain::Chain;
+use crate::chain::{Chain, ChainPlace};
 use crate::{Cause, CellChain, Fault, PageType, Row, Sink};
 use dbbytes::RowSieve;
 use dbformat::{Counts, FaultCode, u32_at};
@@ -40,27 +40,21 @@ pub(crate) fn next_page(bytes: &[u8], usable: u32, left: u32) -> NextPage
 }
 
 // The row of an overflow page in the statistics.
-pub(crate) fn overflow_row<'a>(
-    chain: &Chain<'a>,
-    number: u32,
-    page: u32,
-    usable: u32,
-    left: u32,
-) -> Row<'a>
+pub(crate) fn overflow_row<'a>(chain: &Chain<'a>, place: ChainPlace, usable: u32) -> Row<'a>
     requires { 4 ≤ usable }
     ensures start { result.start ≡ chain.now.start }
     ensures path { result.path.now ≡ chain.now.path.now }
-    ensures chain { result.chain ≡ Some (chain.now.cell, number) }
-    ensures page { (result.page ≡ page) × (result.pagetype ≡ page_type.Overflow) }
-    ensures counts { result.counts ≡ overflow_counts usable left }
+    ensures chain { result.chain ≡ Some (chain.now.cell, place.number) }
+    ensures page { (result.page ≡ place.step.page) × (result.pagetype ≡ page_type.Overflow) }
+    ensures counts { result.counts ≡ overflow_counts usable place.left }
 {
     let room = usable - 4;
-    let payload = left.min(room);
+    let payload = place.left.min(room);
     Row {
         start: chain.start,
         path: chain.path,
-        chain: Some((chain.cell, number)),
-        page,
+        chain: Some((chain.cell, place.number)),
+        page: place.step.page,
         pagetype: PageType::Overflow,
         counts: Counts {
             payload: u64::from(payload),
@@ -107,24 +101,24 @@ pub(crate) fn chain_cause(
     })
 }
 
-// Reports the row of page `number` of a chain, where `left` bytes are left, and then its fault with the cause, if there is one.
+// Reports the row of the page at a place of a chain, and then its fault with the cause, if there is one.
 pub(crate) fn tell<K: Sink>(
     row: &Row<'_>,
     fault: Option<Fault>,
     chain: &Chain<'_>,
-    number: u32,
+    place: ChainPlace,
     usable: u32,
-    left: u32,
     sink: &mut K,
 )
     requires usable { (480 ≤ usable) × (usable ≤ 65536) }
-    requires counted { number + left ≤ most_payload }
+    requires counted { place.number + place.left ≤ most_payload }
     ensures { IsReportedTo K.takes K.held sink.old (told_row (row_of row.now)
-        ∷ map (λ f. told_fault f (cause.Chain (walked_chain chain.now number usable left (number + 1) false))) (option_to_list fault)) sink.new }
+        ∷ map (λ f. told_fault f (cause.Chain (walked_chain chain.now place.number usable place.left (place.number + 1) false))) (option_to_list fault)) sink.new }
 {
     sink.row(row);
     if let Some(fault) = fault {
-        let cause = chain_cause(chain, number, usable, left, number + 1, false);
+        let number = place.number;
+        let cause = chain_cause(chain, number, usable, place.left, number + 1, false);
         sink.fault(&fault, &cause);
     }
 }

@@ -6,8 +6,7 @@ ghost use Rattle.dbformat.specs.Rows.{StatRow};
 ghost use Rattle.dbsource.specs.Failures.{CountsAfter, failures_after, is_any};
 ghost use Rattle.dbsource.specs.Outs.{Puts};
 ghost use Rattle.dbwalk.specs.Rows.{row_of};
-ghost use Rattle.dbscan.specs.Notices.{notice_of};
-ghost use Rattle.dbreport.specs.StatReporter.{AreSameOuts, CutsEnd, CutsStatFault, CutsOthers, CutsRow, CutsStat, EndsTree, HearsStat, PutsOthers, TakesFault};
+ghost use Rattle.dbreport.specs.StatReporter.{AreSameOuts, CutsEnd, CutsStatFault, CutsOthers, CutsRow, EndsTree, PutsOthers, TakesFault};
 ghost use Rattle.dbreport.specs.StatReporter.{TakesStatRow, tree_end_text, failures_of_each};
 ghost use Rattle.dbreport.specs.Sums.{sums_of};
 ghost use Rattle.dbreport.specs.TreeNames.{tree_label_text};
@@ -151,21 +150,6 @@ impl<'a, O: Out, E: Out> StatReporter<'a, O, E> {
         Ok(())
     }
 
-    // Takes a notice.
-    fn take(&mut self, notice: &Notice<'_>) -> Result<(), WriteFailed>
-        ensures item { MatchResult result (λ _. HearsStat O.held E.held self.old (notice_of notice.now) self.new)
-            (λ _. CutsStat O.held E.held self.old (notice_of notice.now) self.new) }
-        ensures same { AreSameOuts self.old self.new }
-        ensures count { CountsAfter is_any result (failures_of_each (O.held self.old.out.now) (E.held self.old.err.now))
-            (failures_of_each (O.held self.new.out.now) (E.held self.new.err.now)) }
-    {
-        match notice {
-            Notice::Fault(told) => self.fault(&told.fault),
-            Notice::Row(start, row) => self.row(start, row),
-            Notice::Ended(start) => self.end_tree(start),
-        }
-    }
-
     // What was found.
     pub(crate) fn verdict(&self) -> Verdict
         ensures { result ≡ verdict_of self.now.found }
@@ -182,9 +166,15 @@ impl<O: Out, E: Out> Reporter for StatReporter<'_, O, E> {
     ghost held = { stat_held O.held E.held };
 
     fn hear(&mut self, notice: &Notice<'_>) {
-        if !self.is_shut {
-            self.is_shut = self.take(notice).is_err();
+        if self.is_shut {
+            return;
         }
+        let taken = match notice {
+            Notice::Fault(told) => self.fault(&told.fault),
+            Notice::Row(start, row) => self.row(start, row),
+            Notice::Ended(start) => self.end_tree(start),
+        };
+        self.is_shut = taken.is_err();
     }
 
     fn walked<A: Allocator>(&mut self, geometry: Geometry, marks: &Marks<A>) {

@@ -1,38 +1,39 @@
-use Rattle.std.proofs.Common.{rules, ◌≡◌, ℕ, List, ap, subst, ◌∙◌}
-use Rattle.dbformat.specs.FixedPages.{geometry_of}
-use Rattle.dbformat.specs.Log.{IsPageLog}
-use Rattle.dbformat.specs.Reference.{Reference}
-use Rattle.dbformat.specs.Survey.{Survey}
-use Rattle.dbsource.specs.Errors.{is_out_of_memory, is_read_failed}
-use Rattle.dbsource.specs.Failures.{failures_after}
-use Rattle.dbsource.specs.HeaderBytes.{HeaderBytes}
-use Rattle.dbsource.specs.Snapshots.{HasReadAfterHeader}
+use Rattle.std.proofs.Common.{rules, Err, subst, sym, ◌∙◌}
+use Rattle.std.proofs.lemmas.Result.{err_from_is_err_and}
+use Rattle.dbsource.specs.Headed.{HeadedStep}
 use Rattle.dbsource.proofs.Runs.{same_front}
-use Rattle.dbscan.specs.Finishes.{Leaves}
-use Rattle.dbscan.proofs.AfterHeader.{after_headed}
+use Rattle.dbscan.specs.Finishes.{HasReported, Leaves}
+use Rattle.dbscan.proofs.Keeping.{keeps_error, keeps_then}
+use Rattle.dbscan.proofs.Reported.{run_reported, scan_finished, scan_stopped}
 use Rattle.dbscan.proofs.finish.run_over.Goals as goal
+
+pub returns-in_err-scan : goal.returns-in_err-scan
+returns-in_err-scan g c =
+    let q = err_from_is_err_and c.from_residual.result c.from_residual.ensures.1 in
+    let e = c.in_err-scan.field-0.0 in
+    let held = g.K.Reporter.held in
+    let leaves = Leaves g.K.Reporter.hears g.K.Finish.leaves in
+    let end = c.scan.new in
+    let old : g.row.S.Denot × g.row.K.Denot = (c.args.source.now, c.args.reporter.now) in
+    let asks = scan_stopped g.K.Reporter.hears g.K.Finish.leaves (HeadedStep g.S.Source.step) c.renew.new.self end.desk c.args.reporter.now end.reporter e
+    c.in_err-scan.ensures.asks in
+    let same = (same_front g.S.Source.step _ _ _ _ _ _ _ _ asks.log).0 in
+    rw q.1 (rw q.2 (subst (λ x. HasReported g.S.Source held leaves (Err e) c.args.desk.now end.desk old (x, end.reporter)) (search (rules, same))
+    (run_reported g.S.Source held leaves (Err e) c.args.desk.now c.renew.new.self end.desk c.new-headed.result.header.now old
+    (end.source.source.now, end.reporter) c.renew.ensures.header c.renew.ensures.refusals (c.new-headed.ensures.header ∙ c.header.ensures.value)
+    c.new-headed.ensures.source c.header.ensures.accepted asks (keeps_error c.in_err-scan.ensures.keeps))))
 
 pub returns : goal.returns
 returns g c =
-    let h = c.renew.new.self.header in
-    let r = c.report.result in
-    let keeps = c.report.ensures.keeps in
-    let same = (same_front g.S.Source.step _ _ _ _ _ _ _ _ c.report.ensures.asks.log).0 in
-    let k : c.source-1.given.0 ≡ c.report.new.source.source.now = search (rules, same) in
-    let T = λ (file : List ℕ). (V : List Reference) → Survey file V
-    → Leaves g.K.Reporter.hears g.K.Finish.leaves file V r c.args.reporter.now c.report.new.reporter in
-    record {
-      read = subst (λ (x : HeaderBytes). HasReadAfterHeader g.S.Source.step (IsPageLog (geometry_of x.bytes x.file_len)) x T (g.S.Source.held c.args.source.now)
-          (g.S.Source.held c.source-1.given.0)) c.renew.ensures.header
-          (after_headed g.S.Source.held h c.new-headed.result.header.now (c.new-headed.ensures.header ∙ c.header.ensures.value) c.new-headed.ensures.source k
-          c.header.ensures.accepted c.report.ensures.asks.log);
-      reads = rw k (c.report.ensures.asks.count ∙ ap (λ s. failures_after is_read_failed r (g.S.Source.held s).failures) c.new-headed.ensures.source);
-      keeps = record {
-        desk = record {
-          header = keeps.desk.header ∙ c.renew.ensures.header;
-          memory = keeps.desk.memory ∙ ap (failures_after is_out_of_memory r) c.renew.ensures.refusals;
-          only = keeps.desk.only;
-        };
-        writes = keeps.writes;
-      };
-    }
+    let held = g.K.Reporter.held in
+    let leaves = Leaves g.K.Reporter.hears g.K.Finish.leaves in
+    let end = c.finish.new in
+    let old : g.row.S.Denot × g.row.K.Denot = (c.args.source.now, c.args.reporter.now) in
+    let asks = scan_finished g.K.Reporter.hears g.K.Finish.leaves (HeadedStep g.S.Source.step) c.renew.new.self c.scan.new.desk c.args.reporter.now
+    c.scan.new.reporter end.self c.finish.result c.in_ok-scan.ensures.keeps.desk.header c.in_ok-scan.ensures.asks c.finish.ensures.asks in
+    let first = (same_front g.S.Source.step _ _ _ _ _ _ _ _ c.in_ok-scan.ensures.asks.log).0 in
+    let last = (same_front g.S.Source.step _ _ _ _ _ _ _ _ c.finish.ensures.asks.log).0 in
+    subst (λ x. HasReported g.S.Source held leaves c.finish.result c.args.desk.now end.desk old (x, end.self)) (sym (search (rules, last ∙ first)))
+    (run_reported g.S.Source held leaves c.finish.result c.args.desk.now c.renew.new.self end.desk c.new-headed.result.header.now old
+    (end.source.source.now, end.self) c.renew.ensures.header c.renew.ensures.refusals (c.new-headed.ensures.header ∙ c.header.ensures.value)
+    c.new-headed.ensures.source c.header.ensures.accepted asks (keeps_then c.in_ok-scan.ensures.keeps c.finish.ensures.keeps))

@@ -1,22 +1,24 @@
 use Rattle.std.proofs.Common.{rules, ◌≡◌, ◌+◌, ◌-◌, ℕ, List, [], drop, length, Err, Ok, refl, sym, ap, subst, ◌∙◌, arith}
-use Rattle.std.specs.Prelude.{slice_get}
+use Rattle.std.specs.Prelude.{option_map, slice_get}
 use Rattle.std.specs.List.{enumerate_from}
+use Rattle.std.proofs.lemmas.Option.{none-some}
 use Rattle.std.proofs.lemmas.Result.{err_from_is_err_and}
+use Rattle.dbformat.specs.File.{geometry}
 use Rattle.dbformat.specs.Header.{encoding}
 use Rattle.dbformat.specs.Reference.{Reference}
 use Rattle.dbformat.specs.Survey.{Survey}
-use Rattle.dbformat.specs.declared.Encoding.{Encoding}
 use Rattle.dbformat.specs.declared.Geometry.{Geometry}
 use Rattle.dbformat.proofs.HeaderPrefix.{encoding_within}
+use Rattle.dbsource.proofs.Logs.{asks_weaker}
 use Rattle.dbmarks.proofs.Readings.{asks_then, log_none}
 use Rattle.dbscan.specs.Desks.{DeskView, desk_view}
 use Rattle.dbscan.specs.Roots.{Listed}
-use Rattle.dbwalk.specs.Roots.{IsRootAfter}
-use Rattle.dbscan.specs.Starts.{root_of}
+use Rattle.dbwalk.specs.Rows.{schema_row_of}
 use Rattle.dbscan.specs.Walks.{IsBetweenStarts, StopsTelling}
 use Rattle.dbscan.proofs.DeskWalks.{desk_asks}
-use Rattle.dbscan.proofs.Starts.{drop_none}
-use Rattle.dbscan.proofs.TreeWalks.{root_told}
+use Rattle.dbscan.proofs.Starts.{drop_none, row_there}
+use Rattle.dbscan.proofs.Tellers.{unread}
+use Rattle.dbscan.proofs.TreeWalks.{from_ended, from_stopped, next_row}
 use Rattle.dbscan.proofs.walks.walk_roots.Goals as goal
 
 pub loop-index-init : goal.loop-index-init
@@ -33,42 +35,96 @@ loop-index-init g c = record {
   writes = refl;
 }
 
-pub returns-in_err-walk_row-clause-asks : goal.returns-in_err-walk_row-clause-asks
-returns-in_err-walk_row-clause-asks g c =
+pub unreachable-requires : goal.unreachable-requires
+unreachable-requires g c =
+    let rows = c.loop-index.desk-inside.roots.rows in
+    let there = row_there rows (c.loop-index.index + 1 - 1)
+    (omega (arith, ap (λ (l : Listed). length l.rows) c.loop-index.invariant.roots)) in
+    none-some _ (ap (option_map schema_row_of) (sym c.in_default.is) ∙ c.get.ensures ∙ there.1)
+
+pub returns-in_err-walk_tree-clause-asks : goal.returns-in_err-walk_tree-clause-asks
+returns-in_err-walk_tree-clause-asks g c =
     let q = err_from_is_err_and c.from_residual.result c.from_residual.ensures.1 in
     let at = c.loop-index in
     let d = c.desk.inside in
-    let marks = c.walk_row.new.marks in
-    let e = c.in_err-walk_row.field-0.0 in
-    let stops = λ (o : DeskView) (file : List ℕ). (V : List Reference) → Survey file V → (before : g.row.K.Denot)
-    → IsBetweenStarts g.K.Reporter.hears file V before (enumerate_from 1 o.roots.rows) o.marks c.args.reporter.now
-    → StopsTelling g.K.Reporter.hears file V before [] (Err e) marks c.walk_row.new.reporter in
-    rw q.1 (rw q.2 (desk_asks g.S.Source.step d c.args.desk.now marks (λ file. c.encoding-encoding.result ≡ encoding file → stops (desk_view d) file) stops
-    (Err e) c.desk.invariant c.desk.view_is (λ n. refl)
-    (asks_then _ _ (ap (λ (s : Geometry). s.page_size) at.invariant.shape) at.invariant.asks c.in_err-walk_row.ensures.asks
+    let marks = c.walk_tree.new.marks in
+    let end = c.walk_tree.new.sink in
+    let e = c.in_err-walk_tree.field-0.0 in
+    let hears = g.K.Reporter.hears in
+    let stops = λ (u : g.row.K.Denot) (o : DeskView) (file : List ℕ). (V : List Reference) → Survey file V → (before : g.row.K.Denot)
+    → IsBetweenStarts hears file V before (enumerate_from 1 o.roots.rows) o.marks c.args.reporter.now
+    → StopsTelling hears file V before [] (Err e) marks u in
+    rw q.1 (rw q.2 (asks_weaker {A = Unit {0}} _ _ (Err e) (λ n. refl)
+    (desk_asks {B = Unit {0}} g.S.Source.step d c.args.desk.now marks (λ file. c.encoding-encoding.result ≡ encoding file → stops end.reporter.now (desk_view d) file)
+    (stops end.reporter.now) (Err e) c.desk.invariant c.desk.view_is (λ n. refl)
+    (asks_then _ _ (ap (λ (s : Geometry). s.page_size) at.invariant.shape) at.invariant.asks c.in_err-walk_tree.ensures.asks
     (λ file left walked same code V s before h.
-    root_told g.K.Reporter.hears file V s before at.desk-inside.marks marks at.reporter c.walk_row.new.reporter d.roots.rows at.index (Err e)
-    (omega arith) (left same code V s before h)
-    (λ row is W r after. walked (at.invariant.shape ∙ same) code row (ap (λ (l : Listed). slice_get l.rows (at.index + 1 - 1)) at.invariant.roots ∙ is) W r
-    (subst (λ (x : Encoding). IsRootAfter file (root_of x (at.index + 1) row) W r at.desk-inside.marks) (sym code) after))))
-    (λ file is told. told (c.encoding-encoding.ensures ∙ ap encoding is.begins ∙ encoding_within file))))
+    next_row hears file V s before at.desk-inside.marks marks at.reporter _ d.roots.rows at.index (Err e) c.encoding-encoding.result
+    (schema_row_of c.in-Some.row) c.root_of-root.result c.new-teller.result end _ _ (omega arith) (left same code V s before h) code
+    (ap (λ (l : Listed). slice_get l.rows (at.index + 1 - 1)) (sym at.invariant.roots) ∙ sym c.get.ensures ∙ ap (option_map schema_row_of) c.in-Some.is)
+    c.root_of-root.ensures.root (c.new-teller.ensures.start ∙ c.tree-start.ensures) c.new-teller.ensures.reporter
+    (from_stopped hears _ _ file c.root_of-root.result at.desk-inside.marks marks c.new-teller.result end _ _ c.root_of-root.ensures.own e
+    (walked (at.invariant.shape ∙ same)))))
+    (λ file is told. told (c.encoding-encoding.ensures ∙ ap encoding is.begins ∙ encoding_within file)))
+    (λ log r. r) (λ file done is. subst (λ u. stops u c.args.desk.now file) (search rules) (done is))))
+
+pub returns-in_err-end-clause-asks : goal.returns-in_err-end-clause-asks
+returns-in_err-end-clause-asks g c =
+    let q = err_from_is_err_and c.from_residual-in_err-end.result c.from_residual-in_err-end.ensures.1 in
+    let at = c.loop-index in
+    let d = c.desk.inside in
+    let marks = c.walk_tree.new.marks in
+    let end = c.end.new.self in
+    let e = c.in_err-end.field-0.0 in
+    let hears = g.K.Reporter.hears in
+    let stops = λ (u : g.row.K.Denot) (o : DeskView) (file : List ℕ). (V : List Reference) → Survey file V → (before : g.row.K.Denot)
+    → IsBetweenStarts hears file V before (enumerate_from 1 o.roots.rows) o.marks c.args.reporter.now
+    → StopsTelling hears file V before [] (Err e) marks u in
+    rw q.1 (rw q.2 (asks_weaker {A = Unit {0}} _ _ (Err e) (λ n. refl)
+    (desk_asks {B = Unit {0}} g.S.Source.step d c.args.desk.now marks (λ file. c.encoding-encoding.result ≡ encoding file → stops end.reporter.now (desk_view d) file)
+    (stops end.reporter.now) (Err e) c.desk.invariant c.desk.view_is (λ n. refl)
+    (asks_then _ _ (ap (λ (s : Geometry). s.page_size) at.invariant.shape) at.invariant.asks
+    (asks_weaker {A = Unit {0}} _ _ (Err e) (unread {A = Unit {0}} (Err e) c.in_err-end.ensures.only) c.in_ok-walk_tree.ensures.asks (λ log reads. reads) (λ file done. done))
+    (λ file left walked same code V s before h.
+    next_row hears file V s before at.desk-inside.marks marks at.reporter _ d.roots.rows at.index (Err e) c.encoding-encoding.result
+    (schema_row_of c.in-Some.row) c.root_of-root.result c.new-teller.result end _ _ (omega arith) (left same code V s before h) code
+    (ap (λ (l : Listed). slice_get l.rows (at.index + 1 - 1)) (sym at.invariant.roots) ∙ sym c.get.ensures ∙ ap (option_map schema_row_of) c.in-Some.is)
+    c.root_of-root.ensures.root (c.new-teller.ensures.start ∙ c.tree-start.ensures) c.new-teller.ensures.reporter
+    (from_ended hears _ _ file c.root_of-root.result at.desk-inside.marks marks c.new-teller.result c.walk_tree.new.sink _ _ c.root_of-root.ensures.own
+    end c.in_err-end.ensures.ends c.in_err-end.ensures.rows (Err e)
+    (walked (at.invariant.shape ∙ same)))))
+    (λ file is told. told (c.encoding-encoding.ensures ∙ ap encoding is.begins ∙ encoding_within file)))
+    (λ log r. r) (λ file done is. subst (λ u. stops u c.args.desk.now file) (search rules) (done is))))
 
 pub loop-index-preserved : goal.loop-index-preserved
 loop-index-preserved g c =
     let at = c.loop-index in
-    let marks = c.walk_row.new.marks in record {
+    let marks = c.walk_tree.new.marks in
+    let end = c.end.new.self in
+    let hears = g.K.Reporter.hears in
+    let d = c.desk.inside in
+    record {
       header = at.invariant.header;
       roots = at.invariant.roots;
-      shape = c.in_ok-walk_row.ensures.shape ∙ at.invariant.shape;
+      shape = c.in_ok-walk_tree.ensures.shape ∙ at.invariant.shape;
       marks = search rules;
-      asks = asks_then _ _ (ap (λ (s : Geometry). s.page_size) at.invariant.shape) at.invariant.asks c.in_ok-walk_row.ensures.asks
+      asks = asks_weaker {A = Unit {0}} _ _ (Ok tt) (λ n. refl)
+          (asks_then _ _ {T = λ file. d.bench.geometry ≡ geometry file → c.encoding-encoding.result ≡ encoding file → (V : List Reference) → Survey file V
+          → (before : g.row.K.Denot) → IsBetweenStarts hears file V before (enumerate_from 1 d.roots.rows) d.marks c.args.reporter.now
+          → IsBetweenStarts hears file V before (enumerate_from (at.index + 1 + 1) (drop (at.index + 1) d.roots.rows)) marks end.reporter.now}
+          (ap (λ (s : Geometry). s.page_size) at.invariant.shape) at.invariant.asks c.in_ok-walk_tree.ensures.asks
           (λ file left walked same code V s before h.
-          root_told g.K.Reporter.hears file V s before at.desk-inside.marks marks at.reporter c.walk_row.new.reporter c.desk.inside.roots.rows
-          at.index (Ok tt) (omega arith) (left same code V s before h)
-          (λ row is W r after. walked (at.invariant.shape ∙ same) code row (ap (λ (l : Listed). slice_get l.rows (at.index + 1 - 1)) at.invariant.roots ∙ is) W
-          r
-          (subst (λ (x : Encoding). IsRootAfter file (root_of x (at.index + 1) row) W r at.desk-inside.marks) (sym code) after)));
-      writes = c.in_ok-walk_row.ensures.writes ∙ at.invariant.writes;
+          next_row hears file V s before at.desk-inside.marks marks at.reporter _ d.roots.rows at.index (Ok tt) c.encoding-encoding.result
+          (schema_row_of c.in-Some.row) c.root_of-root.result c.new-teller.result end _ _ (omega arith) (left same code V s before h) code
+          (ap (λ (l : Listed). slice_get l.rows (at.index + 1 - 1)) (sym at.invariant.roots) ∙ sym c.get.ensures ∙ ap (option_map schema_row_of) c.in-Some.is)
+          c.root_of-root.ensures.root (c.new-teller.ensures.start ∙ c.tree-start.ensures) c.new-teller.ensures.reporter
+          (from_ended hears _ _ file c.root_of-root.result at.desk-inside.marks marks c.new-teller.result c.walk_tree.new.sink _ _
+          c.root_of-root.ensures.own end c.in_ok-end.ensures.ends c.in_ok-end.ensures.rows (Ok tt)
+          (walked (at.invariant.shape ∙ same)))))
+          (λ log r. r) (λ file done same code V s before h.
+          subst (λ u. IsBetweenStarts hears file V before (enumerate_from (at.index + 1 + 1) (drop (at.index + 1) d.roots.rows)) marks u) (search rules)
+          (done same code V s before h));
+      writes = search rules;
     }
 
 pub returns-clause-asks : goal.returns-clause-asks
