@@ -5,7 +5,8 @@ ghost use Rattle.dbformat.specs.Log.{IsPageLog, IsSomeRunLog};
 ghost use Rattle.dbformat.specs.Sound.{Sound};
 ghost use Rattle.dbscan.specs.DeskSizes.{DeskFitsInMemory};
 ghost use Rattle.dbscan.specs.Kept.{HasUsed};
-ghost use Rattle.dbreport.specs.Runs.{FailsAsAnswered, HasRun, HasRunAfterHeader, IsCheck, IsLeftAlone, SaysOkWhereSound, ToldReportsAreRead, ToldRunsAreRead, ToldRunsOnAreRead};
+ghost use Rattle.dbreport.specs.Runs.{FailsAsAnswered, HasRun, HasRunAfterHeader, IsCheck, IsLeftAlone, SaysOkWhereSound};
+ghost use Rattle.dbreport.specs.Runs.{ToldReportsAreRead, ToldRunsAreRead, ToldRunsOnAreRead};
 ghost use Rattle.dbsource.specs.Headers.{IsHeaderOf};
 ghost use Rattle.dbsource.specs.Snapshots.{HasRead, HasReadAfterHeader};
 

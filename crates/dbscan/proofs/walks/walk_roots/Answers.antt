@@ -55,7 +55,8 @@ returns-in_err-walk_tree-clause-asks g c =
     → IsBetweenStarts hears file V before (enumerate_from 1 o.roots.rows) o.marks c.args.reporter.now
     → StopsTelling hears file V before [] (Err e) marks u in
     rw q.1 (rw q.2 (asks_weaker {A = Unit {0}} _ _ (Err e) (λ n. refl)
-    (desk_asks {B = Unit {0}} g.S.Source.step d c.args.desk.now marks (λ file. c.encoding-encoding.result ≡ encoding file → stops end.reporter.now (desk_view d) file)
+    (desk_asks {B = Unit {0}} g.S.Source.step d c.args.desk.now marks
+    (λ file. c.encoding-encoding.result ≡ encoding file → stops end.reporter.now (desk_view d) file)
     (stops end.reporter.now) (Err e) c.desk.invariant c.desk.view_is (λ n. refl)
     (asks_then _ _ (ap (λ (s : Geometry). s.page_size) at.invariant.shape) at.invariant.asks c.in_err-walk_tree.ensures.asks
     (λ file left walked same code V s before h.
@@ -81,10 +82,12 @@ returns-in_err-end-clause-asks g c =
     → IsBetweenStarts hears file V before (enumerate_from 1 o.roots.rows) o.marks c.args.reporter.now
     → StopsTelling hears file V before [] (Err e) marks u in
     rw q.1 (rw q.2 (asks_weaker {A = Unit {0}} _ _ (Err e) (λ n. refl)
-    (desk_asks {B = Unit {0}} g.S.Source.step d c.args.desk.now marks (λ file. c.encoding-encoding.result ≡ encoding file → stops end.reporter.now (desk_view d) file)
+    (desk_asks {B = Unit {0}} g.S.Source.step d c.args.desk.now marks
+    (λ file. c.encoding-encoding.result ≡ encoding file → stops end.reporter.now (desk_view d) file)
     (stops end.reporter.now) (Err e) c.desk.invariant c.desk.view_is (λ n. refl)
     (asks_then _ _ (ap (λ (s : Geometry). s.page_size) at.invariant.shape) at.invariant.asks
-    (asks_weaker {A = Unit {0}} _ _ (Err e) (unread {A = Unit {0}} (Err e) c.in_err-end.ensures.only) c.in_ok-walk_tree.ensures.asks (λ log reads. reads) (λ file done. done))
+    (asks_weaker {A = Unit {0}} _ _ (Err e) (unread {A = Unit {0}} (Err e) c.in_err-end.ensures.only) c.in_ok-walk_tree.ensures.asks
+    (λ log reads. reads) (λ file done. done))
     (λ file left walked same code V s before h.
     next_row hears file V s before at.desk-inside.marks marks at.reporter _ d.roots.rows at.index (Err e) c.encoding-encoding.result
     (schema_row_of c.in-Some.row) c.root_of-root.result c.new-teller.result end _ _ (omega arith) (left same code V s before h) code

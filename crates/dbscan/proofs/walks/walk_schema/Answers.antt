@@ -22,7 +22,8 @@ returns-in_err-walk_tree-clause-asks g c =
     let end = c.walk_tree.new.sink in
     let schema = schema_own c.encoding.result c.schema_root-root.result c.schema_root-root.ensures in
     rw q.1 (rw q.2 (asks_weaker {A = Unit {0}} _ _ (Err e) (λ n. refl)
-    (desk_asks {B = Unit {0}} g.S.Source.step c.desk.inside d marks _ (λ o file. IsSchemaWalked hears file (Err e) marks rows c.args.reporter.now end.reporter.now) (Err e)
+    (desk_asks {B = Unit {0}} g.S.Source.step c.desk.inside d marks _
+    (λ o file. IsSchemaWalked hears file (Err e) marks rows c.args.reporter.now end.reporter.now) (Err e)
     c.desk.invariant c.desk.view_is (λ n. refl) c.in_err-walk_tree.ensures.asks
     (λ file is walked.
     let fresh = ap (λ (d : DeskView). d.marks) c.desk.view_is ∙ c.requires.fresh.marks
@@ -46,9 +47,11 @@ returns-in_err-end-clause-asks g c =
     let end = c.end.new.self in
     let schema = schema_own c.encoding.result c.schema_root-root.result c.schema_root-root.ensures in
     rw q.1 (rw q.2 (asks_weaker {A = Unit {0}} _ _ (Err e) (λ n. refl)
-    (desk_asks {B = Unit {0}} g.S.Source.step c.desk.inside d marks _ (λ o file. IsSchemaWalked hears file (Err e) marks rows c.args.reporter.now end.reporter.now) (Err e)
+    (desk_asks {B = Unit {0}} g.S.Source.step c.desk.inside d marks _
+    (λ o file. IsSchemaWalked hears file (Err e) marks rows c.args.reporter.now end.reporter.now) (Err e)
     c.desk.invariant c.desk.view_is (λ n. refl)
-    (asks_weaker {A = Unit {0}} _ _ (Err e) (unread {A = Unit {0}} (Err e) c.in_err-end.ensures.only) c.in_ok-walk_tree.ensures.asks (λ log reads. reads) (λ file done. done))
+    (asks_weaker {A = Unit {0}} _ _ (Err e) (unread {A = Unit {0}} (Err e) c.in_err-end.ensures.only) c.in_ok-walk_tree.ensures.asks
+    (λ log reads. reads) (λ file done. done))
     (λ file is walked.
     let fresh = ap (λ (d : DeskView). d.marks) c.desk.view_is ∙ c.requires.fresh.marks
     ∙ ap (λ g. marks_of g []) (subst (λ (d : DeskView). IsHeaderOf d.header file) c.desk.view_is is).shape in
@@ -71,7 +74,8 @@ returns-clause-asks g c =
     let end = c.end.new.self in
     let schema = schema_own c.encoding.result c.schema_root-root.result c.schema_root-root.ensures in
     (asks_weaker _ _ (Ok any) (λ n. refl)
-    (desk_asks g.S.Source.step c.desk.inside d marks _ (λ o file. IsSchemaWalked hears file (Ok any) marks rows c.args.reporter.now end.reporter.now) (Ok any)
+    (desk_asks g.S.Source.step c.desk.inside d marks _
+    (λ o file. IsSchemaWalked hears file (Ok any) marks rows c.args.reporter.now end.reporter.now) (Ok any)
     c.desk.invariant c.desk.view_is (λ n. refl) c.in_ok-walk_tree.ensures.asks
     (λ file is walked.
     let fresh = ap (λ (d : DeskView). d.marks) c.desk.view_is ∙ c.requires.fresh.marks
@@ -80,7 +84,8 @@ returns-clause-asks g c =
     subst (λ x. IsSchemaWalked hears file (Ok any) marks rows x end.reporter.now) c.new-teller.ensures.reporter
     (schema_walked hears file marks c.new-teller.result end c.desk.inside.roots c.walk_tree.new.taker
     (c.new-teller.ensures.start ∙ c.schema-start.ensures) c.new-teller.ensures.none empty
-    c.desk.inside.header is c.encoding.result c.encoding.ensures c.schema_root-root.result c.schema_root-root.ensures c.desk.inside.marks fresh any c.has_rows.ensures
+    c.desk.inside.header is c.encoding.result c.encoding.ensures c.schema_root-root.result c.schema_root-root.ensures c.desk.inside.marks fresh
+    any c.has_rows.ensures
     (from_ended hears _ _ file c.schema_root-root.result c.desk.inside.marks marks c.new-teller.result c.walk_tree.new.sink _ _ schema end
     c.in_ok-end.ensures.ends c.in_ok-end.ensures.rows (Ok tt) walked))))
     (λ log r. r) (λ file done is. subst (λ x. IsSchemaWalked hears file (Ok any) marks rows c.args.reporter.now x) (search rules) (done is)))

@@ -21,11 +21,12 @@ use Rattle.dbwalk.proofs.chain.visit_overflow.Goals as goal
 
 pub returns-in_err-load-clause-log : goal.returns-in_err-load-clause-log
 returns-in_err-load-clause-log g c =
+    let at = c.args.place in
     let read = c.in_err-load.ensures.level in
     let q = err_from_is_err_and c.from_residual.result c.from_residual.ensures.1 in
-    has_weaker _ _ (log_load c.args.bench.now.geometry.page_size c.args.place.step.page read.bytes (Err c.in_err-load.field-0.0) c.load.ensures.told read.size read.holds)
+    has_weaker _ _ (log_load c.args.bench.now.geometry.page_size at.step.page read.bytes (Err c.in_err-load.field-0.0) c.load.ensures.told read.size read.holds)
     (λ log l. l)
-    (λ file h e. subst (λ r. IsOverflowVisited g.K.Sink.takes file c.args.chain.now c.args.place.number c.args.place.step.page c.args.place.left r c.args.sieve.now
+    (λ file h e. subst (λ r. IsOverflowVisited g.K.Sink.takes file c.args.chain.now at.number at.step.page at.left r c.args.sieve.now
     c.args.sieve.now c.args.sink.now c.args.sink.now) (sym (q.1 ∙ ap Err q.2)) (record {
       next = tt;
       told = λ U d p l on head. moves_none g.K.Sink.takes c.args.sink.now (told_at file U (at_page d));
@@ -34,28 +35,29 @@ returns-in_err-load-clause-log g c =
 
 pub returns-clause-log : goal.returns-clause-log
 returns-clause-log g c =
+    let at = c.args.place in
     let read = c.in_ok-load.ensures.level in
-    has_weaker _ _ (log_load c.args.bench.now.geometry.page_size c.args.place.step.page read.bytes (Ok tt) c.load.ensures.told read.size read.holds) (λ log l. l)
+    has_weaker _ _ (log_load c.args.bench.now.geometry.page_size at.step.page read.bytes (Ok tt) c.load.ensures.told read.size read.holds) (λ log l. l)
     (λ file h e.
-    let k = page_read file read.bytes c.args.bench.now.geometry.page_size c.args.place.step.page read.size h (sym (ap (λ g. g.page_size) e)) in
+    let k = page_read file read.bytes c.args.bench.now.geometry.page_size at.step.page read.size h (sym (ap (λ g. g.page_size) e)) in
     let bytes = c.page.ensures.bytes ∙ ap (λ b. b.chain) read.only ∙ k in
     let n = c.next_page-next.ensures.page ∙ ap overflow_next bytes in
     let u = ap (λ g. g.usable) (c.geometry-usable.ensures.value ∙ ap (λ b. b.geometry) read.only ∙ e) in
     let r = c.overflow_row-row.ensures in
     record {
-      next = record { number = n; zeros = λ l. c.next_page-next.ensures.zeros (subst (λ x. x - 4 < c.args.place.left) (sym u) l) ∙ ap₂ is_zeros u bytes };
+      next = record { number = n; zeros = λ l. c.next_page-next.ensures.zeros (subst (λ x. x - 4 < at.left) (sym u) l) ∙ ap₂ is_zeros u bytes };
       told = λ U d p l on head. subst (λ L. Moves g.K.Sink.takes c.args.sink.now L c.tell.new.sink)
-          (told_is file U d c.args.chain.now c.args.place.number c.args.place.step.page c.geometry-usable.result.usable c.args.place.left c.next_page-next.result.page
+          (told_is file U d c.args.chain.now at.number at.step.page c.geometry-usable.result.usable at.left c.next_page-next.result.page
           c.overflow_row-row.result c.last_fault-fault.result
           u n p l on r.start r.path r.chain r.page.0 r.page.1 r.counts c.last_fault-fault.ensures _
-          (ap (λ x. cause.Chain (walked_chain c.args.chain.now c.args.place.number x c.args.place.left (c.args.place.number + 1) false)) u
-          ∙ sym (head_cause file U c.args.chain.now c.args.place.number c.args.place.left 1 false d l on head)))
+          (ap (λ x. cause.Chain (walked_chain c.args.chain.now at.number x at.left (at.number + 1) false)) u
+          ∙ sym (head_cause file U c.args.chain.now at.number at.left 1 false d l on head)))
           c.tell.ensures.items;
       fed = λ d p l.
           let b = c.page-2.ensures.bytes ∙ ap (λ b. b.chain) read.only ∙ k ∙ ap (page_bytes file) (sym p) in
           subst (λ l. Feeds c.args.sieve.now l c.feed_page.new.sieve)
-          (ap (λ u. overflow_bytes u c.args.place.left c.page-2.result.now) u ∙ ap (overflow_bytes (usable_size file) c.args.place.left) b
-          ∙ sym (held_is file d c.args.place.left l))
+          (ap (λ u. overflow_bytes u at.left c.page-2.result.now) u ∙ ap (overflow_bytes (usable_size file) at.left) b
+          ∙ sym (held_is file d at.left l))
           c.feed_page.ensures.fed;
     })
 
