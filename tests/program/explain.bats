@@ -37,6 +37,45 @@ is_explained() {
     [ "$rows" = 14 ]
 }
 
+@test 'of a reference past the stated end explain says whether its page is in the file' {
+    needs python3
+    # Each file has 7 pages, of which the header states 6; the note is on the seventh.
+    cat > "$work/ends.txt" << 'END'
+== whole: 1 28 00000006
+R01 page 5 item 1 value 7: page number out of range
+    page 5 at byte 2048: root of table order
+    page 7 is in the file, after its stated end
+1 fault
+    1 R01 page number out of range
+    1 in table order (root page 5), on 1 of its 2 pages
+        rows not reached: rowids above 200
+    1 of 2 tables and 0 of 0 indexes without a fault
+== whole: 1 28 00000006, 5 8 00000008
+R01 page 5 item 1 value 8: page number out of range
+    page 5 at byte 2048: root of table order
+1 fault
+    1 R01 page number out of range
+    1 in table order (root page 5), on 1 of its 2 pages
+        rows not reached: rowids above 200
+    1 of 2 tables and 0 of 0 indexes without a fault
+== whole: 1 28 00000006, 5 8 00000000
+R01 page 5 item 1 value 0: page number out of range
+    page 5 at byte 2048: root of table order
+1 fault
+    1 R01 page number out of range
+    1 in table order (root page 5), on 1 of its 2 pages
+        rows not reached: rowids above 200
+    1 of 2 tables and 0 of 0 indexes without a fault
+END
+    tests/small/make.py "$work/ends.txt" "$work/small" > "$work/list"
+    while IFS='|' read -r number limit name; do
+        dbck explain --limit "$limit" "$work/small/$number.db"
+        row "explain $name" diff "$work/small/$number.text" "$work/out"
+        row "the note on $name" ended 1 '*' $'dbck: note: 512 bytes after page 6 are not read, 1 whole page among them\n'
+    done < "$work/list"
+    [ "$rows" = 6 ]
+}
+
 # sums FILE: the summary that a text ends with.
 sums() {
     sed -n '/^[0-9]* faults*$/,$p' "$1"

@@ -24,7 +24,7 @@ use Rattle.dbmarks.proofs.EndMarking.{found_in}
 use Rattle.dbscan.specs.Roots.{AreListed}
 use Rattle.dbformat.proofs.HeaderPrefix.{encoding_within}
 use Rattle.dbscan.specs.Texts.{tree_of_row, tree_text}
-use Rattle.dbexplain.specs.Below.{own_line, both_lines, header_line, line_of_entry, entry_line, lines_below, place_line, value_page}
+use Rattle.dbexplain.specs.Below.{own_line, both_lines, outside_lines, header_line, line_of_entry, entry_line, lines_below, place_line, value_page}
 use Rattle.dbexplain.specs.Notes.{below_of, page_or_none, wanted_entry}
 use Rattle.dbexplain.specs.declared.owners.Below.{Below}
 use Rattle.dbexplain.specs.declared.owners.Below.TheVariants as below
@@ -40,6 +40,7 @@ module _ (file : List ℕ) (V : List Reference) (f : Fault) where
   lines_by below.GreatestRoot = header_line (greatest_root file)
   lines_by below.FreelistCount = header_line (freelist_count file)
   lines_by below.Own = own_line file V f
+  lines_by below.Outside = outside_lines file V f
   lines_by below.Both = both_lines file V f
   lines_by below.Entry = own_line file V f ++ entry_line (visit_of V f.page)
 

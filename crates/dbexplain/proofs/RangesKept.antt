@@ -51,9 +51,6 @@ at_same : (xs : List RangeCount) (i : ℕ) (x d : RangeCount) → i < length xs 
 at_same xs i x d l = get_or-set_same xs i x d l
 
 module _ (rs : List RowRange) (s : RowRange) (kept : List RowRange) (more : List RangeCount) (is : AreKept rs kept more) where
-  abbrev state : KeptRanges
-  state = record { kept = kept; last = None; more = more }
-
   -- there is room
   room : length kept < 1000 → AreKept (rs ++ s ∷ []) (kept ++ s ∷ []) more
   room l =

@@ -8,7 +8,7 @@ use Rattle.dbformat.specs.Lines.{line_feed}
 use Rattle.dbformat.specs.Reference.{Reference}
 use Rattle.dbformat.specs.Survey.{Survey}
 use Rattle.dbformat.specs.declared.FaultCode.{FaultCode}
-use Rattle.dbformat.specs.declared.FaultCode.TheVariants.{H01, H02, H03, H04, H05, H06, H07, H08, H09, H10, R02, R03, T04, O01, M01, M02}
+use Rattle.dbformat.specs.declared.FaultCode.TheVariants.{H01, H02, H03, H04, H05, H06, H07, H08, H09, H10, R01, R02, R03, T04, O01, M01, M02}
 use Rattle.dbformat.specs.declared.Geometry.{Geometry}
 use Rattle.dbsource.specs.Headers.{IsHeaderOf}
 use Rattle.dbmarks.specs.EndMarks.{mark_entry}
@@ -61,6 +61,7 @@ below_of H07 = below.Nothing
 below_of H08 = below.Nothing
 below_of H09 = below.GreatestRoot
 below_of H10 = below.FreelistCount
+below_of R01 = below.Outside
 below_of R02 = below.Both
 below_of R03 = below.Both
 below_of T04 = below.Both

@@ -10,6 +10,7 @@
 //! specs/Explained defines the report, over the bytes of a file and its survey, and specs/Runs says what a run leaves of it.
 #![tactic(auto)]
 
+mod after_end;
 mod entry_lines;
 mod facts;
 mod indexes;

@@ -8,6 +8,7 @@ ghost use Rattle.dblines.specs.Writing.{Wrote, WroteOf};
 ghost use Rattle.dbexplain.specs.Below.{entry_line, header_line, line_of_entry, lines_below, own_line, place_line};
 ghost use Rattle.dbexplain.specs.Notes.{AreOwnersOf, below_of, page_or_none, wanted_entry};
 
+use crate::after_end::{after_end_line, named_page};
 use crate::page_lines::{page_front, place_end, put_line, put_start_line};
 use arrayvec::ArrayVec;
 use dbformat::{Fault, FaultCode};
@@ -40,6 +41,8 @@ pub(crate) enum Below {
     FreelistCount,
     /// Where the fault is.
     Own,
+    /// Where the fault is, and whether the page that its value names is after the end that the header states.
+    Outside,
     /// Where the fault is, and where the page is that its value names.
     Both,
     /// Where the page is, and the entry of the pointer map that it should have.
@@ -61,6 +64,7 @@ fn below_of(code: FaultCode) -> Below
         | FaultCode::H05
         | FaultCode::H07
         | FaultCode::H08 => Below::Nothing,
+        FaultCode::R01 => Below::Outside,
         FaultCode::R02 | FaultCode::R03 | FaultCode::T04 | FaultCode::O01 | FaultCode::M02 => {
             Below::Both
         }
@@ -169,7 +173,7 @@ impl<A: Allocator> Owners<'_, A> {
     }
 
     /// Writes the lines below a fault: the number of the header that is wrong, or where its page is, and with it the page that
-    /// it names, or the entry that was wanted.
+    /// it names, that this is after the stated end, or the entry that was wanted.
     pub(crate) fn put_below<O: Out>(&self, writer: &mut Writer<'_, O>, fault: &Fault)
         ensures { WroteOf O.held writer.old (AreOwnersOf self.now) (λ file V. lines_below file V fault.now fault.now.code) writer.new }
     {
@@ -181,6 +185,15 @@ impl<A: Allocator> Owners<'_, A> {
                 self.header.freelist_count(),
             ).as_slice()),
             Below::Own => self.put_own(writer, fault),
+            Below::Outside => {
+                self.put_own(writer, fault);
+                writer.put(after_end_line(
+                    self.header.geometry(),
+                    self.header.file_len(),
+                    named_page(fault),
+                )
+                .as_slice());
+            }
             Below::Both => {
                 self.put_own(writer, fault);
                 self.put_page(writer, self.value_page(fault));

@@ -1,9 +1,11 @@
 -- How the squares of a picture are laid out.
-use Rattle.std.specs.Prelude.{ℕ, zero, suc, ◌+◌, ◌*◌, ◌/◌, ◌%◌, ◌-◌, min, max, Bool, ◌&&◌, nat_le, nat_lt, ◌==◌, if◌then◌else◌}
+use Rattle.std.specs.Prelude.{ℕ, zero, suc, ◌+◌, ◌*◌, ◌/◌, ◌%◌, ◌-◌, min, max, Bool, true, false, ◌&&◌, nat_le, nat_lt, ◌==◌, if◌then◌else◌}
 use Rattle.std.specs.Int.{div_ceil}
 use Rattle.dbformat.specs.Lines.{counted}
+use Rattle.dbformat.specs.declared.Geometry.{Geometry}
 use Rattle.dbpicture.specs.Owners.{capped_pages}
 use Rattle.dbpicture.specs.declared.grid.Grid.{Grid}
+use Rattle.dbpicture.specs.declared.grid.Outside.{Outside}
 use Rattle.dbpicture.specs.declared.grid.Width.{Width}
 use Rattle.dbpicture.specs.declared.grid.Width.TheVariants.{Medium, Narrow, Wide}
 
@@ -20,11 +22,18 @@ run_for pages = run_after pages 18
 abbrev pub width_of : ℕ → Width
 width_of squares = if nat_le squares 512 then Narrow else (if nat_le squares 2048 then Medium else Wide)
 
--- the grid of a file of `pages` pages whose header states `stated`
-abbrev pub grid_of : ℕ → ℕ → Grid
-grid_of pages stated = record {
+-- Which pages are outlined, of a file of this shape and length whose header states `stated` pages: those that it states and the file does
+-- not have; or, where the file goes on after the end that it states, those that are whole after that.
+abbrev pub outside_by : Geometry → ℕ → ℕ → Outside
+outside_by g stated len =
+    if nat_lt g.pages (capped_pages (len / g.page_size)) then record { last = capped_pages (len / g.page_size); are_after = true }
+    else record { last = stated; are_after = false }
+
+-- the grid of a file of `pages` pages, with these outlines
+abbrev pub grid_of : ℕ → Outside → Grid
+grid_of pages outside = record {
   pages = pages;
-  stated = stated;
+  outside = outside;
   run = run_for pages;
   squares = div_ceil pages (run_for pages);
   width = width_of (div_ceil pages (run_for pages));
@@ -48,11 +57,11 @@ columns_of Wide = 128
 abbrev pub side_of : Width → ℕ
 side_of w = 896 / columns_of w
 
--- how many squares and outlines there are: an outline at least where pages are missing, and no more rows of outlines alone than the file
+-- how many squares and outlines there are: an outline at least where a page is outlined, and no more rows of outlines alone than the file
 -- has rows
 abbrev pub places : Grid → ℕ
-places g = max (min (div_ceil g.stated (max g.run 1)) (div_ceil g.squares (columns_of g.width) * 2 * columns_of g.width))
-    (capped_pages (g.squares + (if g.stated - g.pages == 0 then 0 else 1)))
+places g = max (min (div_ceil g.outside.last (max g.run 1)) (div_ceil g.squares (columns_of g.width) * 2 * columns_of g.width))
+    (capped_pages (g.squares + (if g.outside.last - g.pages == 0 then 0 else 1)))
 
 -- how many rows there are
 abbrev pub rows : Grid → ℕ
@@ -69,7 +78,7 @@ run_of g place pages = (min (place * g.run + 1) pages, min (place * g.run + g.ru
 -- the first and the last page of an outline: the first outline also has those that the last square would cover
 abbrev pub missing_of : Grid → ℕ → ℕ × ℕ
 missing_of g place =
-    (if place == g.squares then capped_pages (g.pages + 1) else (run_of g place g.stated).0, (run_of g place g.stated).1)
+    (if place == g.squares then capped_pages (g.pages + 1) else (run_of g place g.outside.last).0, (run_of g place g.outside.last).1)
 
 -- where a square begins in its row, and where a row begins, in pixels
 abbrev pub x_of : Grid → ℕ → ℕ

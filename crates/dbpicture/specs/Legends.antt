@@ -1,6 +1,7 @@
 -- The legend of a picture: which lines it has, how many pages each is of, and how they are drawn. There is a line for each of the largest
 -- trees, and then one for all other trees, for the freelist, for pages of fixed use, for pages that are nobody's, for pages that are zeros, for
--- pages with each frame, and for pages that the header states and the file does not have; each only where it has a page.
+-- pages with each frame, and for pages that the header states and the file does not have, or that it has after the end that the header
+-- states; each only where it has a page.
 use Rattle.std.specs.Prelude.{ℕ, ◌+◌, ◌-◌, ◌*◌, Bool, true, false, List, [], ◌∷◌, ◌++◌, length, Option, Some, None, codes, decimal, ◌==◌, if◌then◌else◌}
 use Rattle.std.specs.Prelude.{◌/◌, get_or, max, nat_lt, slice_index_or}
 use Rattle.std.specs.Option.{option_map_or}
@@ -12,7 +13,7 @@ use Rattle.dbpicture.specs.Runs.{name_text}
 use Rattle.dbformat.specs.Lines.{counted}
 use Rattle.dbpicture.specs.declared.owner_shares.Share.{Share}
 use Rattle.dbpicture.specs.declared.legend.Label.{Label}
-use Rattle.dbpicture.specs.declared.legend.Label.TheVariants.{Blank, Fixed, Freelist, Missing, Nobody, Others, Strong, Tree, Weak}
+use Rattle.dbpicture.specs.declared.legend.Label.TheVariants.{After, Blank, Fixed, Freelist, Missing, Nobody, Others, Strong, Tree, Weak}
 use Rattle.dbpicture.specs.declared.legend.LegendLine.{LegendLine}
 use Rattle.dbpicture.specs.declared.legend.NotedPages.{NotedPages}
 use Rattle.dbformat.specs.Address.{freelist_start}
@@ -65,6 +66,7 @@ share_text share page_size y =
 -- how many of all pages a line is of, in tenths of a per cent, rounded, where these are in the file
 abbrev pub percent_text : Label → ℕ → ℕ → ℕ → List ℕ
 percent_text Missing pages all y = []
+percent_text After pages all y = []
 percent_text label pages all y = right_text 860 y (tenths_text ((pages * 2000 + max all 1) / (2 * max all 1))) []
 
 -- a square of the legend, in the colour of the owner with a number, or in the shade of overflow pages
@@ -81,6 +83,7 @@ label_owner Freelist = Some 13
 label_owner Fixed = Some 14
 label_owner Nobody = Some 15
 label_owner Missing = Some 16
+label_owner After = Some 16
 label_owner Blank = Some 17
 label_owner _ = None
 
@@ -121,6 +124,7 @@ label_words Blank = codes "all zeros"
 label_words Strong = codes "injuries that explain shows, what they name or go back to"
 label_words Weak = codes "other pages with a fault"
 label_words Missing = codes "stated in the header, not in the file"
+label_words After = codes "in the file, after the stated end"
 
 -- what a line is of
 unfoldable pub label_text : List (List ℕ) → Label → ℕ → List ℕ
@@ -154,6 +158,10 @@ line_if label share = if share.pages == 0 then [] else record { label = label; s
 abbrev pub tree_line : List SchemaRow → List Share → List ℕ → ℕ → List LegendLine
 tree_line rows starts largest rank = line_if (Tree rank (root_page rows (get_or largest rank 0))) (share_at starts (get_or largest rank 0))
 
+-- that of the pages that are outlined
+abbrev pub outside_label : Bool → Label
+outside_label are_after = if are_after then After else Missing
+
 -- The legend's lines, by the rows of the schema, what each start has, the largest trees, and the numbers of noted pages.
 unfoldable pub legend_lines : List SchemaRow → PagesTallied → List ℕ → NotedPages → List LegendLine
 legend_lines rows t largest n =
@@ -161,4 +169,4 @@ legend_lines rows t largest n =
     ++ line_if (Others (others t.starts largest (length rows + 1)).0) (others t.starts largest (length rows + 1)).1
     ++ line_if Freelist (share_at t.starts freelist_start) ++ line_if Fixed (no_overflow t.fixed) ++ line_if Nobody (no_overflow t.nobody)
     ++ line_if Blank (no_overflow n.zeros) ++ line_if Strong (no_overflow n.strong) ++ line_if Weak (no_overflow n.weak)
-    ++ line_if Missing (no_overflow n.missing)
+    ++ line_if (outside_label n.are_after) (no_overflow n.outside)

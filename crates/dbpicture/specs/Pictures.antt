@@ -4,10 +4,11 @@ use Rattle.std.specs.List.{concat, flat_map, range_with_len}
 use Rattle.dbformat.specs.declared.Geometry.{Geometry}
 use Rattle.dbpicture.specs.Pieces.{shown_text, tenths_text}
 use Rattle.dbpicture.specs.Marks.{later_overflow_colours, later_tree_colours, other_colours, overflow_colours, tree_colours}
-use Rattle.dbpicture.specs.Grids.{grid_of, is_of_square, page_of_row, rows, side_of, top_of}
+use Rattle.dbpicture.specs.Grids.{grid_of, is_of_square, outside_by, page_of_row, rows, side_of, top_of}
 use Rattle.dbpicture.specs.Legends.{height, legend_lines, legend_text, size_tenths, size_unit}
 use Rattle.dbpicture.specs.Squares.{Drawn, rows_text}
 use Rattle.dbpicture.specs.declared.grid.Grid.{Grid}
+use Rattle.dbpicture.specs.declared.grid.Outside.{Outside}
 use Rattle.dbpicture.specs.declared.legend.LegendLine.{LegendLine}
 use Rattle.dbpicture.specs.declared.legend.NotedPages.{NotedPages}
 use Rattle.dbentries.specs.Zeros.{zero_pages}
@@ -96,10 +97,14 @@ picture_text h g lines =
 abbrev pub stated_of : List ℕ → ℕ
 stated_of header = if is_size_valid header then stated_pages header else 0
 
+-- which pages of a file are outlined
+abbrev pub outside_of : List ℕ → Outside
+outside_of file = outside_by (geometry file) (stated_of (take 100 file)) (length file)
+
 -- what the squares are drawn by: a page is what its visit says, and belongs to the start of it
 abbrev pub drawn_of : List ℕ → List Reference → Drawn
 drawn_of file V = record {
-  grid = grid_of (geometry file).pages (stated_of (take 100 file));
+  grid = grid_of (geometry file).pages (outside_of file);
   shape = geometry file;
   place = place_of file V;
   start = start_at V;
@@ -109,13 +114,14 @@ drawn_of file V = record {
   faults = λ index. shows (signs_of file V) (is_of_square (geometry file).pages index);
 }
 
--- how many pages are zeros, have each frame, and are missing
+-- how many pages are zeros, have each frame, and are outlined
 abbrev pub noted_of : List ℕ → List Reference → NotedPages
 noted_of file V = record {
   zeros = length (zero_pages file V);
   strong = count_by (page_shows file V Framed) (range_with_len 1 (geometry file).pages);
   weak = count_by (is_weak (page_shows file V Faulty) (page_shows file V Framed)) (range_with_len 1 (geometry file).pages);
-  missing = stated_of (take 100 file) - (geometry file).pages;
+  outside = (outside_of file).last - (geometry file).pages;
+  are_after = (outside_of file).are_after;
 }
 
 -- the lines of the legend

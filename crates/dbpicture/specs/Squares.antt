@@ -1,4 +1,4 @@
--- The squares of a picture, row by row, and the outlines of pages that the header states and the file does not have.
+-- The squares of a picture, row by row, and the outlines of pages that only the header states, or only the file has.
 use Rattle.std.specs.Prelude.{ℕ, ◌+◌, Bool, not, ◌&&◌, List, [], ◌∷◌, ◌++◌, codes, decimal, ◌-◌, max, nat_lt, ◌==◌, if◌then◌else◌, Option}
 use Rattle.std.specs.Option.{option_map_or}
 use Rattle.std.specs.List.{concat, flat_map, range_with_len}
@@ -14,6 +14,7 @@ use Rattle.dbpicture.specs.declared.grid.Width.{Width}
 use Rattle.dbpicture.specs.declared.page.PageSquare.{PageSquare}
 use Rattle.dbpicture.specs.Grids.{missing_of, places, places_of, rows, run_of, top_of, x_of}
 use Rattle.dbpicture.specs.declared.grid.Grid.{Grid}
+use Rattle.dbpicture.specs.declared.grid.Outside.{Outside}
 use Rattle.dbformat.specs.FixedPages.{fixed_use}
 use Rattle.dbformat.specs.declared.Geometry.{Geometry}
 use Rattle.dbpicture.specs.Runs.{run_text}
@@ -44,10 +45,14 @@ page_text s width tree f =
 abbrev pub outline_pages : Grid → ℕ × ℕ → List ℕ
 outline_pages g p = if g.run == 1 then codes " " ++ decimal p.0 else run_pages_text p.0 p.1
 
+-- why these have no square
+abbrev pub outside_words : Outside → List ℕ
+outside_words outside = if outside.are_after then codes ": after the stated end" else codes ": not in the file"
+
 abbrev pub outline_text : Grid → ℕ → List ℕ
 outline_text g place =
     concat (codes "<rect x=\"" ∷ decimal (x_of g place) ∷ outline_tail g.width ∷ [])
-    ++ (outline_pages g (missing_of g place) ++ codes ": not in the file</title></rect>\n")
+    ++ (outline_pages g (missing_of g place) ++ (outside_words g.outside ++ codes "</title></rect>\n"))
 
 -- those from a place to another, in their group, if there are any
 abbrev pub outlines_between : Grid → ℕ → ℕ → List ℕ

@@ -4,7 +4,7 @@ ghost use Rattle.dblines.specs.Writing.{PutsOf};
 ghost use Rattle.dbpicture.specs.Keeping.{HasAll};
 ghost use Rattle.dbpicture.specs.Pictures.{map_picture, stated_of};
 
-use crate::grid::Grid;
+use crate::grid::{Grid, Outside};
 use crate::kept::KeptFaults;
 use crate::labels::Labels;
 use crate::legend::{Legend, NotedPages};
@@ -53,14 +53,16 @@ pub fn put_map<A: Allocator, O: Out>(
         encoding: header.encoding(),
         roots,
     };
-    let grid = Grid::new(geometry.pages, stated_pages(header));
+    let outside = Outside::of(geometry, stated_pages(header), header.file_len());
+    let grid = Grid::new(geometry.pages, outside);
     let labels = Labels::new(&names, largest.as_slice());
     let (strong, weak) = kept.notes.framed();
     let noted = NotedPages {
         zeros,
         strong,
         weak,
-        missing: grid.missing(),
+        outside: grid.missing(),
+        are_after: outside.are_after,
     };
     let legend = Legend::new(&kept.tally, largest.as_slice(), roots, noted);
     let heading = Heading {

@@ -8,7 +8,7 @@ ghost use Rattle.dbpicture.specs.Faults.{is_weak, shown, sign_added};
 ghost use Rattle.dbpicture.specs.Grids.{square_of};
 
 use crate::faults::{Sign, SquareFaults};
-use crate::grid::Grid;
+use crate::grid::{Grid, Outside};
 use dbentries::PageBits;
 use dbsource::NoMemory;
 use dbsource::memory::filled;
@@ -34,7 +34,7 @@ impl<A: Allocator + Copy> FaultNotes<A> {
     pub(crate) fn new_in(alloc: A, pages: u32) -> Result<FaultNotes<A>, NoMemory>
         ensures { IfOk result (AreNoted pages []) }
     {
-        let grid = Grid::new(pages, 0);
+        let grid = Grid::new(pages, Outside::NONE);
         let squares = filled(alloc, SquareFaults::default(), grid.squares as usize)?;
         let faulty = PageBits::new_in(alloc, pages)?;
         let framed = PageBits::new_in(alloc, pages)?;

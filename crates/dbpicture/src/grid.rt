@@ -1,7 +1,10 @@
 // How the squares of the picture are laid out.
 ghost use Rattle.std.specs.Prelude.{◌≡◌, ◌+◌, ◌*◌, ◌-◌, ◌%◌, ◌≤◌, ◌^◌, min};
 ghost use Rattle.std.specs.Int.{div_ceil};
+ghost use Rattle.dbformat.specs.FixedPages.{IsInRange};
 ghost use Rattle.dbpicture.specs.Grids as grids;
+
+use dbformat::Geometry;
 
 // Where the first row of squares begins.
 const TOP: u64 = 64;
@@ -20,11 +23,19 @@ pub(crate) enum Width {
     Wide,
 }
 
-/// The squares of a file, and the outlines of the pages that its header states and it does not have.
+/// The last page that is outlined, and whether these pages are in the file, after the end that its header states; else the header states
+/// them, and the file does not have them.
+#[derive(Clone, Copy)]
+pub(crate) struct Outside {
+    pub(crate) last: u32,
+    pub(crate) are_after: bool,
+}
+
+/// The squares of a file, and the outlines of pages that only its header states, or only the file has.
 #[derive(Clone, Copy)]
 pub(crate) struct Grid {
     pub(crate) pages: u32,
-    stated: u32,
+    pub(crate) outside: Outside,
     pub(crate) run: u32,
     pub(crate) squares: u32,
     pub(crate) width: Width,
@@ -55,16 +66,43 @@ fn run_for(pages: u32) -> u32
     run
 }
 
+impl Outside {
+    /// No page is outlined.
+    pub(crate) const NONE: Outside = Outside {
+        last: 0,
+        are_after: false,
+    };
+
+    /// Those of a file of this shape and length whose header states `stated` pages.
+    pub(crate) fn of(shape: Geometry, stated: u32, len: u64) -> Outside
+        requires { IsInRange shape }
+        ensures { result ≡ grids.outside_by shape stated len }
+    {
+        let whole = (len / u64::from(shape.page_size)).min(u64::from(u32::MAX)) as u32;
+        if shape.pages < whole {
+            Outside {
+                last: whole,
+                are_after: true,
+            }
+        } else {
+            Outside {
+                last: stated,
+                are_after: false,
+            }
+        }
+    }
+}
+
 impl Grid {
-    /// The grid of a file of `pages` pages whose header states `stated`.
-    pub(crate) fn new(pages: u32, stated: u32) -> Grid
-        ensures { result ≡ grids.grid_of pages stated }
+    /// The grid of a file of `pages` pages, with these outlines.
+    pub(crate) fn new(pages: u32, outside: Outside) -> Grid
+        ensures { result ≡ grids.grid_of pages outside }
     {
         let run = run_for(pages);
         let squares = pages.div_ceil(run);
         Grid {
             pages,
-            stated,
+            outside,
             run,
             squares,
             width: width_of(squares),
@@ -91,23 +129,23 @@ impl Grid {
         ROW / self.columns()
     }
 
-    /// How many pages the header states that the file does not have.
+    /// How many pages are outlined.
     pub(crate) fn missing(&self) -> u32
-        ensures { result ≡ self.now.stated - self.now.pages }
+        ensures { result ≡ self.now.outside.last - self.now.pages }
     {
-        self.stated.saturating_sub(self.pages)
+        self.outside.last.saturating_sub(self.pages)
     }
 
-    /// How many squares and outlines there are. Where pages are missing there is an outline, and there are no more rows of outlines alone
+    /// How many squares and outlines there are. Where a page is outlined there is an outline, and there are no more rows of outlines alone
     /// than the file has rows.
     pub(crate) fn places(&self) -> u32
         ensures { result ≡ grids.places self.now }
     {
         let rows = self.squares.div_ceil(self.columns());
         let most = u64::from(rows) * 2 * u64::from(self.columns());
-        let stated = self.stated.div_ceil(self.run.max(1));
+        let ends = self.outside.last.div_ceil(self.run.max(1));
         let least = self.squares.saturating_add(u32::from(self.missing() != 0));
-        (u64::from(stated).min(most) as u32).max(least)
+        (u64::from(ends).min(most) as u32).max(least)
     }
 
     /// How many rows there are.
@@ -150,7 +188,7 @@ impl Grid {
     pub(crate) fn missing_of(&self, place: u32) -> (u32, u32)
         ensures { result ≡ grids.missing_of self.now place }
     {
-        let (first, last) = self.run_of(place, self.stated);
+        let (first, last) = self.run_of(place, self.outside.last);
         if place == self.squares {
             (self.pages.saturating_add(1), last)
         } else {

@@ -41,6 +41,8 @@ pub(crate) enum Label {
     Weak,
     /// Pages that the header states and the file does not have.
     Missing,
+    /// Pages that the file has after the end that the header states.
+    After,
 }
 
 /// A line, with the number of its pages.
@@ -50,13 +52,14 @@ pub(crate) struct LegendLine {
     pub(crate) share: Share,
 }
 
-/// How many pages are zeros, and have each frame, and how many are missing.
+/// How many pages are zeros, and have each frame, and how many are outlined, and whether these are in the file.
 #[derive(Clone, Copy)]
 pub(crate) struct NotedPages {
     pub(crate) zeros: u32,
     pub(crate) strong: u32,
     pub(crate) weak: u32,
-    pub(crate) missing: u32,
+    pub(crate) outside: u32,
+    pub(crate) are_after: bool,
 }
 
 /// The lines of the legend.
@@ -70,6 +73,17 @@ pub(crate) fn no_overflow(pages: u32) -> Share
     ensures { result ≡ legends.no_overflow pages }
 {
     Share { pages, overflow: 0 }
+}
+
+// What the line of the pages that are outlined counts.
+fn outside_label(are_after: bool) -> Label
+    ensures { result ≡ legends.outside_label are_after }
+{
+    if are_after {
+        Label::After
+    } else {
+        Label::Missing
+    }
 }
 
 impl Legend {
@@ -101,7 +115,7 @@ impl Legend {
         legend.add(Label::Blank, no_overflow(noted.zeros));
         legend.add(Label::Strong, no_overflow(noted.strong));
         legend.add(Label::Weak, no_overflow(noted.weak));
-        legend.add(Label::Missing, no_overflow(noted.missing));
+        legend.add(outside_label(noted.are_after), no_overflow(noted.outside));
         legend
     }
 

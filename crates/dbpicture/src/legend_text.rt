@@ -111,12 +111,12 @@ fn draw_overflow<O: Out>(writer: &mut Writer<'_, O>, pages: u32, y: u32)
     }
 }
 
-// Draws the share of all pages that a line has; missing pages are none of them.
+// Draws the share of all pages that a line has; those that are outlined are none of them.
 fn draw_percent<O: Out>(writer: &mut Writer<'_, O>, line: &LegendLine, all: u32, y: u32)
     ensures { Wrote O.held writer.old (legends.percent_text line.now.label line.now.share.pages all y) writer.new }
 {
     match line.label {
-        Label::Missing => {}
+        Label::Missing | Label::After => {}
         _ => {
             let all = u64::from(all).max(1);
             let tenths = (u64::from(line.share.pages) * 2000 + all) / (2 * all);
@@ -151,7 +151,7 @@ fn owner_of(label: Label) -> Option<usize>
         Label::Freelist => Some(FREELIST),
         Label::Fixed => Some(FIXED),
         Label::Nobody => Some(NOBODY),
-        Label::Missing => Some(MISSING),
+        Label::Missing | Label::After => Some(MISSING),
         Label::Blank => Some(ZEROS),
         Label::Strong | Label::Weak => None,
     }
@@ -245,5 +245,6 @@ fn words(label: Label) -> &'static str
         Label::Strong => "injuries that explain shows, what they name or go back to",
         Label::Weak => "other pages with a fault",
         Label::Missing => "stated in the header, not in the file",
+        Label::After => "in the file, after the stated end",
     }
 }

@@ -1,16 +1,27 @@
-// The outlines of pages that the header states and the file does not have.
-ghost use Rattle.std.specs.Prelude.{◌-◌, ◌≤◌};
+// The outlines of pages that only the header states, or only the file has.
+ghost use Rattle.std.specs.Prelude.{◌≡◌, ◌-◌, ◌≤◌};
 ghost use Rattle.std.specs.List.{flat_map, range_with_len};
 ghost use Rattle.dblines.specs.Writing.{Wrote};
 ghost use Rattle.dbpicture.specs.Grids.{missing_of};
-ghost use Rattle.dbpicture.specs.Squares.{outline_pages, outline_text, outlines_text};
+ghost use Rattle.dbpicture.specs.Squares.{outline_pages, outline_text, outlines_text, outside_words};
 
 use crate::frame::outline_tail;
-use crate::grid::Grid;
+use crate::grid::{Grid, Outside};
 use crate::pieces::{Piece, WritePieces};
 use crate::run::draw_run_pages;
 use dblines::Writer;
 use dbsource::Out;
+
+// Why pages that are outlined have no square.
+fn outside_words(outside: Outside) -> &'static str
+    ensures { result.now ≡ outside_words outside }
+{
+    if outside.are_after {
+        ": after the stated end"
+    } else {
+        ": not in the file"
+    }
+}
 
 // Draws an outline.
 fn draw_outline<O: Out>(writer: &mut Writer<'_, O>, grid: &Grid, place: u32)
@@ -22,7 +33,10 @@ fn draw_outline<O: Out>(writer: &mut Writer<'_, O>, grid: &Grid, place: u32)
         Piece::Markup(outline_tail(grid.width)),
     ]);
     draw_pages(writer, grid, place);
-    writer.write_all(&[Piece::Markup(": not in the file</title></rect>\n")]);
+    writer.write_all(&[
+        Piece::Markup(outside_words(grid.outside)),
+        Piece::Markup("</title></rect>\n"),
+    ]);
 }
 
 // Draws which pages an outline is of.

@@ -21,9 +21,9 @@ use Rattle.dbpicture.specs.Keeping.{AreNoted, marked_place, shown_tree}
 use Rattle.dbpicture.specs.Faults.{entry_signs, fault_signs, is_weak, page_shows, signs_of, zero_signs}
 use Rattle.dbpicture.specs.declared.faults.Sign.{Sign}
 use Rattle.dbpicture.specs.declared.faults.Sign.TheVariants.{Faulty, Framed}
-use Rattle.dbpicture.specs.Grids.{grid_of}
+use Rattle.dbpicture.specs.Grids.{grid_of, outside_by}
 use Rattle.dbpicture.specs.Legends.{legend_lines}
-use Rattle.dbpicture.specs.Pictures.{map_picture, noted_of, picture_text, stated_of}
+use Rattle.dbpicture.specs.Pictures.{map_picture, noted_of, outside_of, picture_text, stated_of}
 use Rattle.dbpicture.specs.Tallies.{largest_of, largest_trees, pages_at, PagesTallied, tally_of}
 use Rattle.dbpicture.specs.declared.grid.Grid.{Grid}
 use Rattle.dbpicture.specs.declared.legend.NotedPages.{NotedPages}
@@ -60,8 +60,11 @@ returns g c =
           let largest : c.largest-largest.result.items ≡ largest_of file V = c.largest-largest.ensures
           ∙ ap₂ (λ (t : PagesTallied) n. largest_trees (pages_at t.starts) n 12) tally
           (ap (λ n. n + 1) c.len.ensures.count ∙ ap (λ (rows : List SchemaRow). length rows + 1) rows) in
-          let grid = c.new-grid.ensures ∙ ap₂ grid_of (ap (λ (s : Geometry). s.pages) shape)
-          (c.stated_pages.ensures ∙ ap (λ (h : HeaderBytes). stated_of h.bytes) c.header-header.ensures.value ∙ ap stated_of desk.header.begins) in
+          let stated = c.stated_pages.ensures ∙ ap (λ (h : HeaderBytes). stated_of h.bytes) c.header-header.ensures.value
+          ∙ ap stated_of desk.header.begins in
+          let len = c.file_len.ensures ∙ ap (λ (h : HeaderBytes). h.file_len) c.header-header.ensures.value ∙ desk.header.whole in
+          let outside : c.of-outside.result ≡ outside_of file = c.of-outside.ensures ∙ (λ i. outside_by (shape i) (stated i) (len i)) in
+          let grid = c.new-grid.ensures ∙ ap₂ grid_of (ap (λ (s : Geometry). s.pages) shape) outside in
           let shorten : (ℕ → List ℕ) → ℕ → List ℕ = λ names start. short_text (names start) in
           let tree = ap shorten (ap₂ tree_of_row (c.encoding.ensures ∙ ap (λ (h : HeaderBytes). encoding h.bytes) c.header-header.ensures.value)
           (ap (λ (l : Listed). l.rows) c.roots-roots.ensures) ∙ known_trees file V c.args.desk.now.header c.args.desk.now.roots.rows desk.header desk.rows) in
@@ -73,14 +76,21 @@ returns g c =
           ∙ ap (λ n. count_by (is_weak (has_bit notes.faulty) (has_bit notes.framed)) (range_with_len 1 n)) noted.pages
           ∙ same_count (is_weak (has_bit notes.faulty) (has_bit notes.framed)) (is_weak (page_shows file V Faulty) (page_shows file V Framed))
           (geometry file).pages (λ p l m. ap₂ (λ a b. a && not b) (noted.faulty.are p l m) (noted.framed.are p l m)) in
-          let missing = c.missing.ensures ∙ ap (λ (g : Grid). g.stated - g.pages) grid in
+          let missing = c.missing.ensures ∙ ap (λ (g : Grid). g.outside.last - g.pages) grid in
           let noted_pages : NotedPages = record {
             zeros = c.note_zeros-zeros.result;
             strong = c.framed-strong.result.0;
             weak = c.framed-strong.result.1;
-            missing = c.missing.result;
+            outside = c.missing.result;
+            are_after = c.of-outside.result.are_after;
           } in
-          let pages : noted_pages ≡ noted_of file V = λ i. record { zeros = blank i; strong = strong i; weak = weak i; missing = missing i } in
+          let pages : noted_pages ≡ noted_of file V = λ i. record {
+            zeros = blank i;
+            strong = strong i;
+            weak = weak i;
+            outside = missing i;
+            are_after = (outside i).are_after;
+          } in
           let lines = c.new-legend.ensures
           ∙ ap₂ (λ (t : PagesTallied) ks. legend_lines kept t ks noted_pages) tally (c.as_slice-2.ensures.value ∙ largest)
           ∙ ap₂ (λ rows n. legend_lines rows (tally_of file V) (largest_of file V) n) rows pages in

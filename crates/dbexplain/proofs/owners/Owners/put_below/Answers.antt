@@ -1,8 +1,8 @@
-use Rattle.std.proofs.Common.{◌++◌, [], sym, ap, ◌∙◌}
+use Rattle.std.proofs.Common.{◌++◌, [], length, sym, ap, ◌∙◌}
 use Rattle.dbformat.specs.Header.{stated_pages, greatest_root, freelist_count}
 use Rattle.dbformat.proofs.HeaderPrefix.{stated_pages_within, greatest_root_within, freelist_count_within}
 use Rattle.dblines.proofs.Writing.{of_all, of_as, of_then, wrote_nothing}
-use Rattle.dbexplain.specs.Below.{header_line, own_line, place_line}
+use Rattle.dbexplain.specs.Below.{after_end_text, header_line, own_line, place_line, value_page}
 use Rattle.dbexplain.specs.declared.owners.Below.TheVariants as below
 use Rattle.dbexplain.proofs.Below.{lines_of, value_line}
 use Rattle.dbexplain.proofs.owners.Owners.put_below.Goals as goal
@@ -35,6 +35,15 @@ returns-in-FreelistCount g c =
 pub returns-in-Own : goal.returns-in-Own
 returns-in-Own g c =
     of_as (λ file V h. lines_of file V c.args.fault.now below.Own (sym c.in-Own.is ∙ c.below_of.ensures)) c.put_own.ensures
+
+pub returns-in-Outside : goal.returns-in-Outside
+returns-in-Outside g c =
+    let f = c.args.fault.now in
+    of_as (λ file V h. ap (λ w. own_line file V f ++ w) (c.as_slice-in-Outside.ensures.value ∙ c.after_end_line.ensures
+    ∙ ap (after_end_text c.geometry.result c.file_len.result) c.named_page.ensures
+    ∙ ap (λ n. after_end_text c.geometry.result n (value_page f.value)) (c.file_len.ensures ∙ h.header.whole)
+    ∙ ap (λ s. after_end_text s (length file) (value_page f.value)) (c.geometry.ensures.shape ∙ h.header.shape))
+    ∙ lines_of file V f below.Outside (sym c.in-Outside.is ∙ c.below_of.ensures)) (of_then c.put_own-in-Outside.ensures (of_all c.put-in-Outside.ensures))
 
 pub returns-in-Both : goal.returns-in-Both
 returns-in-Both g c =

@@ -1,8 +1,8 @@
 use Rattle.std.proofs.Common.{◌≡◌, ℕ, ◌+◌, ◌++◌, length, refl, ap, ap₂, ◌∙◌, arith}
 use Rattle.std.specs.List.{flat_map, range_with_len}
-use Rattle.dbpicture.specs.Legends.{legend_lines, line_if, no_overflow, tree_line}
+use Rattle.dbpicture.specs.Legends.{legend_lines, line_if, no_overflow, outside_label, tree_line}
 use Rattle.dbpicture.specs.Tallies.{others}
-use Rattle.dbpicture.specs.declared.legend.Label.TheVariants.{Blank, Fixed, Freelist, Missing, Nobody, Others, Strong, Tree, Weak}
+use Rattle.dbpicture.specs.declared.legend.Label.TheVariants.{Blank, Fixed, Freelist, Nobody, Others, Strong, Tree, Weak}
 use Rattle.dbpicture.specs.declared.owner_shares.Share.{Share}
 use Rattle.dbpicture.proofs.Steps.{flat_more}
 use Rattle.dbpicture.proofs.legend.Legend.new.Goals as goal
@@ -32,7 +32,8 @@ returns g c =
     let starts = c.args.tally.now.starts in
     let largest = c.args.largest.now in
     let end : c.loop-rank.rank ≡ length largest = omega arith in
-    c.add-9.ensures.line ∙ ap₂ (λ l s. l ++ line_if Missing s) (
+    c.add-9.ensures.line ∙ ap (λ label. c.add-8.new.self.lines.items ++ line_if label c.no_overflow-6.result) c.outside_label.ensures
+    ∙ ap₂ (λ l s. l ++ line_if (outside_label c.args.noted.are_after) s) (
     c.add-8.ensures.line ∙ ap₂ (λ l s. l ++ line_if Weak s) (
     c.add-7.ensures.line ∙ ap₂ (λ l s. l ++ line_if Strong s) (
     c.add-6.ensures.line ∙ ap₂ (λ l s. l ++ line_if Blank s) (
