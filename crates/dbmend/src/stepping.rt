@@ -4,10 +4,11 @@ ghost use Rattle.dbmend.specs.Deeds.{HasDone, runs_in};
 ghost use Rattle.dbmend.specs.Sizes.{SearchFitsInMemory};
 ghost use Rattle.dbmend.specs.Trials.{IsStep, WasThere};
 
-use crate::choosing::{Tries, candidates};
+use crate::choosing::candidates;
 use crate::counting::Findings;
 use crate::edit::{Edit, Edits};
 use crate::looking::look_at;
+use crate::ranked::Tries;
 use crate::trying::best_of;
 use dbsource::{ReadFailed, RunError, Source};
 use std::alloc::Allocator;
