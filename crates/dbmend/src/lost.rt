@@ -36,7 +36,7 @@ pub(crate) struct Lost<A: Allocator> {
 }
 
 impl<A: Allocator + Copy> Lost<A> {
-    // Nothing is known of so many pages.
+    // Nothing is known of the pages of a file.
     pub(crate) fn new_in(alloc: A, pages: u32) -> Result<Lost<A>, NoMemory> {
         let named = PageBits::new_in(alloc, pages)?;
         let tables = PageBits::new_in(alloc, pages)?;

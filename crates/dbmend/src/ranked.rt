@@ -84,7 +84,7 @@ fn has(tries: &Tries, offset: u64, bytes: &[u8]) -> bool {
         .any(|edit| edit.offset() == offset && edit.bytes() == bytes)
 }
 
-// Adds one with so many points.
+// Adds one that has no page beside it, with its points.
 pub(crate) fn add_try(tries: &mut Ranked, offset: u64, bytes: &[u8], points: u32) {
     tries.add(offset, bytes, Fit::new(points, 0));
 }

@@ -95,8 +95,8 @@ fn root_fit(view: &PageView<'_>, item: u32, place: &RootPlace, root: &Root) -> F
     }
 }
 
-// Adds what may have been the root page of the row of a cell: each lost page that no other one names. Those of a row that no fault names
-// come later.
+// Adds what may have been the root page of the row of a cell: each lost page that no other one names. In a row that no fault names,
+// only those that fit well, and later.
 pub(crate) fn add_root<A: Allocator>(
     tries: &mut Ranked,
     lost: &Lost<A>,
@@ -116,8 +116,11 @@ pub(crate) fn add_root<A: Allocator>(
             let bytes = root.page.to_be_bytes();
             let first = 4u64.saturating_sub(place.len) as usize;
             let fit = root_fit(view, item, &place, root);
-            let fit = if is_named { fit } else { fit.less(8) };
-            tries.add(offset, &bytes[first..], fit);
+            if is_named {
+                tries.add(offset, &bytes[first..], fit);
+            } else if fit.is_better(&Fit::new(12, 0)) {
+                tries.add(offset, &bytes[first..], fit.less(8));
+            }
         }
     }
 }

@@ -45,7 +45,7 @@ fn tries_of<A: Allocator + Copy, S: Source>(
     candidates(alloc, before.as_slice(), &found, source)
 }
 
-// So many of them, or all.
+// The first `most` of them, or all.
 fn first_of(tries: &Tries, most: usize) -> &[Edit]
     ensures { length result.now ≤ most }
 {
@@ -53,7 +53,7 @@ fn first_of(tries: &Tries, most: usize) -> &[Edit]
     &all[..all.len().min(most)]
 }
 
-// The change that helps most after some others, by what the run with these found; at most so many are tried.
+// The change that helps most after some others, by what the run with these found; `most` edits are tried at most.
 pub(crate) fn next_step<A: Allocator + Copy, S: Source>(
     alloc: A,
     before: &Edits,

@@ -24,7 +24,8 @@ pub returns-in_err-look_at_roots : goal.returns-in_err-look_at_roots
 returns-in_err-look_at_roots g c =
     let q = err_from_is_err_and c.from_residual-in_err-look_at_roots.result c.from_residual-in_err-look_at_roots.ensures.1 in
     rw q.1 (rw q.2 (done_error g.S.Source c.in_err-look_at_roots.field-0.0
-    (done_then g.S.Source tt (Err c.in_err-look_at_roots.field-0.0) {R = λ a deeds. Unit {0}} c.in_ok-look_at_lost.ensures c.in_err-look_at_roots.ensures (λ x y p q. tt))))
+    (done_then g.S.Source tt (Err c.in_err-look_at_roots.field-0.0) {R = λ a deeds. Unit {0}}
+    c.in_ok-look_at_lost.ensures c.in_err-look_at_roots.ensures (λ x y p q. tt))))
 
 pub returns-in_err-add_roots : goal.returns-in_err-add_roots
 returns-in_err-add_roots g c =
