@@ -317,6 +317,18 @@ def whole(_):
     return two_tables(3, 7, 7)
 
 
+def two_indexes(_):
+    """Of numbers on the pages 6 and 5, and of texts on the pages 4 and 7, each with a key between them."""
+    db = Database(7)
+    db.schema(("index", "t", 2), ("index", "u", 3))
+    for root, left, right, keys in (2, 6, 5, [byte(1), byte(2), byte(10), byte(20)]), (3, 4, 7, [text(b"a"), text(b"b"), text(b"m"), text(b"z")]):
+        payloads = [record(key, byte(n)) for n, key in enumerate(keys, 1)]
+        db.leaf_index(left, *payloads[:2])
+        db.tree_page(root, INTERIOR_INDEX, [be(left) + varint(len(payloads[2])) + payloads[2]], right)
+        db.leaf_index(right, payloads[3])
+    return db
+
+
 def root_cut_off(_):
     db = Database(3)
     db.schema(("table", "early_a", 2), ("table", "early_b", 3), ("index", "late_a", 39))

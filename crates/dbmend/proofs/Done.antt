@@ -19,7 +19,7 @@ module _ {S : Type 0} (source : SourceWords S) where
   does_append [] b old mid new h k = subst (λ s. DoesAll source b s new) h k
   does_append (d ∷ a) b old mid new (m, e, h) k = (m, e, does_append a b m mid new h k)
 
-  -- nothing was done, though so many runs might have been
+  -- nothing was done, though `most` runs might have been
   pub done_none : {A : Type 0} (a : A) (most : ℕ) (s t : S) {Of : A → List Deed → Type 0} → t ≡ s → Of a [] → HasDone source (Ok a) most 0 Of s t
   done_none a most s t same of =
       record { deeds = []; done = same; runs = omega arith; of = of; reads = ap (λ x. (source.held x).failures) same; only = tt }

@@ -16,7 +16,7 @@ use Rattle.dbformat.proofs.Theory.{one_survey}
 use Rattle.dbformat.proofs.Verdicts.{verdict_counted}
 use Rattle.dbsound.proofs.Soundness.{sound_by_verdict}
 use Rattle.dbsource.specs.Answers.{Step, Trail}
-use Rattle.dbsource.specs.Errors.{is_read_failed, is_write_failed}
+use Rattle.dbsource.specs.Errors.{is_read_failed}
 use Rattle.dbsource.specs.Failures.{failures_after}
 use Rattle.dbsource.specs.HeaderBytes.{HeaderBytes}
 use Rattle.dbsource.specs.Headers.{IsHeaderOf}
@@ -25,7 +25,6 @@ use Rattle.dbsource.specs.declared.error.RunError.{RunError}
 use Rattle.dbsource.specs.declared.error.RunError.TheVariants.{OutOfMemory, ReadFailed, Refused, WriteFailed}
 use Rattle.dbsource.specs.declared.source.Source.{Ghosts as SourceWords}
 use Rattle.dbwalk.specs.Telling.{IsReadWriteOrMemory}
-use Rattle.dbwalk.specs.Telling.{SinkAfter}
 use Rattle.dbscan.specs.Finishes.{Leaves}
 use Rattle.dbscan.specs.Notices.{HearsFaults}
 use Rattle.dbscan.proofs.AfterHeader.{after_weaker}
@@ -34,7 +33,7 @@ use Rattle.dbreport.specs.Runs.{AsksHeaderAlone, IsAnswerOf}
 use Rattle.dbreport.proofs.Openings.{opened, unopened}
 use Rattle.dbreport.proofs.RunAnswers.{read_answer}
 use Rattle.dbreport.proofs.RunReports.{check_answer}
-use Rattle.dbmend.specs.Counts.{IsCountOf, LeavesCount, borrows_none}
+use Rattle.dbmend.specs.Counts.{IsCountOf, LeavesCount}
 use Rattle.dbmend.specs.Deeds.{HasCounted}
 use Rattle.dbmend.specs.declared.count.Count.{Count}
 use Rattle.dbmend.specs.declared.counter.Counter.{Counter}
@@ -116,11 +115,3 @@ module _ {S : Type 0} (source : SourceWords S) (old : S) where
         let k = opened source old {Says = λ file. IsCountOf file (Ok c)} h mid new is_opened (Ok v)
         (after_weaker h _ left (whole_count v c same size)) reads tt in
         record { read = k.read; reads = k.reads; asked = tt }
-
--- a reporter without Outs has no failed write
-pub never_written : (e : RunError) (s t : Counter) → SinkAfter {A = Verdict} is_write_failed (Err e) (borrows_none s) (borrows_none t)
-    → is_write_failed e ≡ false
-never_written (Refused r) s t h = refl
-never_written ReadFailed s t h = refl
-never_written OutOfMemory s t h = refl
-never_written WriteFailed s t h = absurd h.failures

@@ -69,10 +69,6 @@ after_more before faults xs ys {changes = changes} {left = left} h k = record {
   still = k.still ∙ ap (λ n. left_after n ys) h.still ∙ sym (left_append faults xs ys);
 }
 
--- none yet
-pub after_none : (before : List Change) (faults : ℕ) → IsAfter before faults [] before faults
-after_none before faults = record { are = sym (append-nil before); still = refl }
-
 -- ---- what was done
 
 module _ {S O : Type 0} (source : SourceWords S) (out : OutWords O) where

@@ -13,7 +13,7 @@ use Rattle.dbreport.specs.Runs.{IsAnswerOf}
 use Rattle.dbmend.specs.declared.count.Count.{Count}
 use Rattle.dbmend.specs.declared.counter.Counter.{Counter}
 
--- What a run answered is so of a file: the file has a survey, and by any survey of it so many faults; none exactly where it is sound. A
+-- What a run answered is so of a file: the file has a survey, and by any survey of it as many faults; none exactly where it is sound. A
 -- refused file is answered its refusal or a failed read, and no other a refusal.
 pub record IsCountOf (file : List ℕ) (r : Result Count RunError) : Type 0 where
   pub survey : Survey file (survey file)

@@ -11,13 +11,13 @@ use Rattle.dbwalk.specs.Telling.{IsReadWriteOrMemory}
 use Rattle.dbmend.specs.Deeds.{Deed, DoesAll, runs_in}
 use Rattle.dbmend.specs.Mended.{AreSteps, Fix, changes_of, fix_text, left_after}
 
--- after some changes these are all, and so many faults are left
+-- after some changes these are all, and this is how many faults are left
 pub record IsAfter (before : List Change) (faults : ℕ) (fixes : List Fix) (changes : List Change) (left : ℕ) : Type 0 where
   pub are : changes ≡ before ++ changes_of fixes
   pub still : left ≡ left_after faults fixes
 
 module _ {S O : Type 0} (source : SourceWords S) (out : OutWords O) where
-  -- What a call did: some deeds, with the runs that it left at most those that it had; and it wrote at most so many changes after some
+  -- What a call did: some deeds, with the runs that it left at most those that it had; and it wrote at most `most` changes after some
   -- others, each of a run, of which this is so.
   pub record HasPut {A : Type 0} (before : List Change) (faults had left most : ℕ) (r : Result A RunError)
       (Of : List Fix → Type 0) (old new : S × O) : Type 0 where

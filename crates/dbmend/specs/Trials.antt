@@ -15,7 +15,7 @@ pub record WasTried (before : List Change) (change : Change) (count : Count) (de
   pub run : Among (tried (before ++ change ∷ []) (Ok count)) deeds
   pub size : 512 ≤ count.page_size
 
--- and fewer faults than so many
+-- and fewer faults than there were
 pub record IsTrial (before : List Change) (change : Change) (count : Count) (faults : ℕ) (deeds : List Deed) : Type 0 where
   pub tried : WasTried before change count deeds
   pub fewer : count.faults < faults
@@ -30,7 +30,7 @@ pub record IsStep (before : List Change) (faults : ℕ) (change : Change) (was :
   pub trial : IsTrial before change count faults deeds
   pub there : WasThere change was deeds
 
--- The better of two trials is that of before, or the one at hand, which found fewer faults than so many.
+-- The better of two trials is that of before, or the one at hand, which found fewer faults than there were.
 abbrev pub IsBetter : {T F : Type 0} → (T → Change) → (T → F) → (F → Count) → Option T → Change → Option F → ℕ → Option T → Type 0
 IsBetter {T} {F} edit_of found_of count_of best edit found faults better =
     (better ≡ best) ⊎ ((t : T) × (better ≡ Some t) × (found ≡ Some (found_of t)) × (edit_of t ≡ edit) × ((count_of (found_of t)).faults < faults))

@@ -4,23 +4,24 @@ ghost use Rattle.dbmend.specs.Deeds.{HasDone};
 use crate::counting::Findings;
 use crate::edit::Edit;
 use crate::header_edits::add_header;
-use crate::lost::{Lost, look_at_lost};
+use crate::lost::{Lost, look_at_lost, look_at_roots};
 use crate::numbers::add_entry;
 use crate::places::add_places;
+use crate::ranked::{Ranked, Tries};
 use crate::reading::{Paper, read_page};
+use crate::schema_rows::add_roots;
 use crate::wanted::wanted_of;
-use arrayvec::ArrayVec;
 use dbformat::FaultCode;
 use dbsource::{RunError, Source};
 use std::alloc::Allocator;
 
-/// Edits to try, in their order.
-pub type Tries = ArrayVec<Edit, 60>;
-
-// Adds one, where there is room.
-pub(crate) fn add_try(tries: &mut Tries, offset: u64, bytes: &[u8]) {
-    if bytes.len() <= 8 {
-        let _ = tries.try_push(Edit::new(offset, bytes));
+// Adds what may have been in the header, and in the pointer map.
+fn add_numbers<A: Allocator>(tries: &mut Ranked, found: &Findings<A>, lost: &Lost<A>) {
+    for noted in found.counter.noted() {
+        add_header(tries, &found.desk, lost, &noted.fault);
+        if let FaultCode::M01 = noted.fault.code {
+            add_entry(tries, &found.desk, noted.fault.page);
+        }
     }
 }
 
@@ -41,17 +42,22 @@ pub fn candidates<A: Allocator + Copy, S: Source>(
     let mut paper = Paper::new_in(alloc, found.desk.geometry())?;
     let mut lost = Lost::new_in(alloc, found.desk.geometry().pages)?;
     look_at_lost(&found.desk, edits, source, &mut paper, &mut lost)?;
-    let mut tries = ArrayVec::new();
-    for fault in found.counter.noted() {
-        add_header(&mut tries, &found.desk, &lost, fault);
-        if let FaultCode::M01 = fault.code {
-            add_entry(&mut tries, &found.desk, fault.page);
-        }
-    }
+    look_at_roots(&found.desk, edits, source, &mut paper, &mut lost)?;
+    let mut tries = Ranked::new();
+    add_numbers(&mut tries, found, &lost);
     let wanted = wanted_of(&found.desk, found.counter.noted());
     for want in wanted.as_slice() {
         read_page(source, edits, want.page, &mut paper)?;
-        add_places(&mut tries, &found.desk, &lost, want, &paper);
+        add_places(&mut tries, &found.desk, &lost, want, &mut paper);
     }
-    Ok(tries)
+    let kept = (&found.desk, &lost);
+    add_roots(
+        &mut tries,
+        kept,
+        wanted.as_slice(),
+        edits,
+        source,
+        &mut paper,
+    )?;
+    Ok(tries.tries())
 }

@@ -3,26 +3,55 @@ ghost use Rattle.std.specs.Prelude.{◌≡◌, ◌≤◌, length};
 ghost use Rattle.dbmend.specs.Counts.{Counts};
 
 use dbformat::{Fault, FaultCode, Verdict};
-use dbscan::{Desk, Finish, Notice, Reporter};
+use dbscan::{Cause, Desk, Finish, Notice, Reporter};
 use dbsource::{Geometry, RunError, Source};
+use dbtrace::Reported;
 use dbwalk::Marks;
 use std::alloc::Allocator;
 
-// How many faults are noted.
-const ROOM: usize = 12;
+// How many faults are noted, and how many of one code.
+const ROOM: usize = 32;
 
-const NO_FAULT: Fault = Fault {
-    code: FaultCode::H01,
-    page: 0,
-    item: 0,
-    value: 0,
-};
+const MOST_ALIKE: usize = 8;
+
+// A fault, and the cell of the key that it is not above, if it goes back to one.
+#[derive(Clone, Copy)]
+pub(crate) struct Noted {
+    pub(crate) fault: Fault,
+    pub(crate) key_page: u32,
+    pub(crate) key_item: u32,
+}
+
+impl Noted {
+    const NONE: Noted = Noted {
+        fault: Fault {
+            code: FaultCode::H01,
+            page: 0,
+            item: 0,
+            value: 0,
+        },
+        key_page: 0,
+        key_item: 0,
+    };
+
+    fn of(told: &Reported) -> Noted {
+        let (key_page, key_item) = match told.cause {
+            Cause::Key(key, _) => (key.page, key.item),
+            _ => (0, 0),
+        };
+        Noted {
+            fault: told.fault,
+            key_page,
+            key_item,
+        }
+    }
+}
 
 /// Counts all faults, and notes the first that say where a wrong number may be.
 #[derive(Drop)]
 pub struct Counter {
     pub(crate) faults: u64,
-    noted: [Fault; 12],
+    noted: [Noted; 32],
     count: usize,
 }
 
@@ -33,42 +62,52 @@ impl Counter {
     {
         Counter {
             faults: 0,
-            noted: [NO_FAULT; ROOM],
+            noted: [Noted::NONE; ROOM],
             count: 0,
         }
     }
 
     // The noted faults.
-    pub(crate) fn noted(&self) -> &[Fault] {
+    pub(crate) fn noted(&self) -> &[Noted] {
         &self.noted[..self.count.min(ROOM)]
     }
 
     // Counts a fault.
-    fn add(&mut self, fault: &Fault)
+    fn add(&mut self, told: &Reported)
         ensures { Counts self.old 1 self.new }
     {
         self.faults = self.faults.saturating_add(1);
-        if self.count < ROOM && is_of_place(fault.code) && !self.has(fault) {
-            self.noted[self.count] = *fault;
+        if self.count < ROOM && is_of_place(told.fault.code) && !self.has(&told.fault) {
+            self.noted[self.count] = Noted::of(told);
             self.count += 1;
         }
     }
 
-    // Whether a fault is noted that says the same place.
+    // Whether a fault is noted that says the same place, or enough of its code are.
     fn has(&self, fault: &Fault) -> bool {
-        self.noted().iter().any(|noted| {
-            noted.code.index() == fault.code.index()
-                && noted.page == fault.page
-                && (noted.item == fault.item || !is_of_item(fault.code))
-        })
+        let mut alike = 0usize;
+        for noted in self.noted() {
+            if noted.fault.code.index() == fault.code.index() {
+                alike = alike.saturating_add(1);
+                if alike >= MOST_ALIKE || is_same_place(&noted.fault, fault) {
+                    return true;
+                }
+            }
+        }
+        false
     }
+}
+
+// Whether two faults of a code say the same place.
+fn is_same_place(one: &Fault, other: &Fault) -> bool {
+    one.page == other.page && (one.item == other.item || !is_of_item(one.code))
 }
 
 // Whether a fault of this code says where a wrong number may be. A lost page is what may have been there.
 fn is_of_place(code: FaultCode) -> bool {
     !matches!(
         code,
-        FaultCode::N01 | FaultCode::M02 | FaultCode::S01 | FaultCode::S02 | FaultCode::S04
+        FaultCode::N01 | FaultCode::M02 | FaultCode::S02 | FaultCode::S04
     )
 }
 
@@ -96,7 +135,7 @@ impl Reporter for Counter {
 
     fn hear(&mut self, notice: &Notice<'_>) {
         match notice {
-            Notice::Fault(told) => self.add(&told.fault),
+            Notice::Fault(told) => self.add(told),
             Notice::Row(_, _) | Notice::Ended(_) => {}
         }
     }

@@ -64,7 +64,7 @@ pub fn count_changed<A: Allocator + Copy, S: Source>(
     // The desk fits in memory, as it does unless the allocator itself is nearly that large.
     requires fits { DeskFitsInMemory A.row A.Allocator }
     // Whatever the source answers: there is a file, of the length that it answered, that agrees with every byte that the run used, and of
-    // each such file so many faults has the file with the changes; none exactly where it is sound.
+    // each such file the count is the number of faults of the file with the changes; none exactly where it is sound.
     ensures tried { MatchResult result (λ f. HasTried S.Source changes.now (Ok f.count) source.old source.new)
         (λ e. HasTried S.Source changes.now (Err e) source.old source.new) }
     ensures size { IfOk result (λ f. 512 ≤ f.count.page_size) }

@@ -1,11 +1,14 @@
 // What may have been in the header, by its faults (Database File Format, 1.3).
-use crate::choosing::{Tries, add_try};
+use crate::fit::{Around, fit_of};
 use crate::lost::{Kind, Lost};
+use crate::ranked::{Ranked, add_try};
 use dbformat::{FREELIST_START, Fault, FaultCode};
 use dbscan::Desk;
 use std::alloc::Allocator;
 
 // Where the numbers of the header are.
+const RESERVED: u64 = 20;
+
 const PAGES: u64 = 28;
 
 const FIRST_TRUNK: u64 = 32;
@@ -22,13 +25,16 @@ const INCREMENTAL: u64 = 64;
 
 const RESERVED_END: u32 = 92;
 
+// The points of a number with one right value, or a few.
+const SURE: u32 = 40;
+
 // Adds a number of four bytes.
-fn add_number(tries: &mut Tries, offset: u64, number: u32) {
-    add_try(tries, offset, &number.to_be_bytes());
+fn add_number(tries: &mut Ranked, offset: u64, number: u32) {
+    add_try(tries, offset, &number.to_be_bytes(), SURE);
 }
 
 // Adds each of some numbers.
-fn add_numbers(tries: &mut Tries, offset: u64, numbers: &[u32]) {
+fn add_numbers(tries: &mut Ranked, offset: u64, numbers: &[u32]) {
     for number in numbers {
         add_number(tries, offset, *number);
     }
@@ -58,44 +64,52 @@ fn fraction(offset: u32) -> u8 {
 }
 
 // Adds the other one of the two version numbers, and both that there are.
-fn add_versions<A: Allocator>(tries: &mut Tries, desk: &Desk<A>, offset: u32) {
+fn add_versions<A: Allocator>(tries: &mut Ranked, desk: &Desk<A>, offset: u32) {
     let other = if offset == 18 { 19 } else { 18 };
     if let Some(version) = desk.header().bytes().get(other) {
-        add_try(tries, u64::from(offset), &[*version]);
+        add_try(tries, u64::from(offset), &[*version], SURE);
     }
-    add_try(tries, u64::from(offset), &[1]);
-    add_try(tries, u64::from(offset), &[2]);
+    add_try(tries, u64::from(offset), &[1], SURE);
+    add_try(tries, u64::from(offset), &[2], SURE);
 }
 
 // Adds zeros for reserved bytes, eight at most.
-fn add_zeros(tries: &mut Tries, offset: u32) {
+fn add_zeros(tries: &mut Ranked, offset: u32) {
     let zeros = [0u8; 8];
     let count = RESERVED_END.saturating_sub(offset).min(8) as usize;
     if count > 0 {
-        add_try(tries, u64::from(offset), &zeros[..count]);
+        add_try(tries, u64::from(offset), &zeros[..count], SURE);
     }
 }
 
 // Adds what the first trunk may have been.
-fn add_first_trunk<A: Allocator>(tries: &mut Tries, desk: &Desk<A>, lost: &Lost<A>) {
-    let roots = lost.roots(desk, Kind::Other);
-    for root in roots.as_slice() {
-        add_number(tries, FIRST_TRUNK, *root);
+fn add_first_trunk<A: Allocator>(tries: &mut Ranked, lost: &Lost<A>) {
+    let around = Around::beside(Kind::Other, 0);
+    for root in lost.roots() {
+        tries.add(FIRST_TRUNK, &root.page.to_be_bytes(), fit_of(&around, root));
     }
-    add_number(tries, FIRST_TRUNK, 0);
+    add_try(tries, FIRST_TRUNK, &[0, 0, 0, 0], 1);
 }
 
 // Adds the size of the file, if it has a page that it does not state.
-fn add_size<A: Allocator>(tries: &mut Tries, desk: &Desk<A>, page: i64) {
+fn add_size<A: Allocator>(tries: &mut Ranked, desk: &Desk<A>, page: i64) {
     let whole = whole_pages(desk);
     if page > i64::from(desk.geometry().pages) && page <= i64::from(whole) {
         add_number(tries, PAGES, whole);
     }
 }
 
+// Adds that no bytes are reserved at the end of each page, if some are.
+fn add_reserved<A: Allocator>(tries: &mut Ranked, desk: &Desk<A>) {
+    let geometry = desk.geometry();
+    if geometry.usable < geometry.page_size {
+        add_try(tries, RESERVED, &[0], 30);
+    }
+}
+
 // Adds what may have been in the header, by a fault.
 pub(crate) fn add_header<A: Allocator>(
-    tries: &mut Tries,
+    tries: &mut Ranked,
     desk: &Desk<A>,
     lost: &Lost<A>,
     fault: &Fault,
@@ -103,7 +117,7 @@ pub(crate) fn add_header<A: Allocator>(
     let value = u32::try_from(fault.value).unwrap_or(0);
     match fault.code {
         FaultCode::H01 => add_versions(tries, desk, fault.item),
-        FaultCode::H02 => add_try(tries, u64::from(fault.item), &[fraction(fault.item)]),
+        FaultCode::H02 => add_try(tries, u64::from(fault.item), &[fraction(fault.item)], SURE),
         FaultCode::H03 => add_numbers(tries, SCHEMA_FORMAT, &[4, 1, 2, 3]),
         FaultCode::H04 => add_numbers(tries, ENCODING, &[1, 2, 3]),
         FaultCode::H05 => add_zeros(tries, fault.item),
@@ -119,14 +133,17 @@ pub(crate) fn add_header<A: Allocator>(
         FaultCode::H09 => add_numbers(tries, GREATEST_ROOT, &[value, 0]),
         FaultCode::H10 => {
             add_number(tries, FREE_PAGES, value);
-            add_first_trunk(tries, desk, lost);
+            add_first_trunk(tries, lost);
         }
         FaultCode::R01 | FaultCode::R02 | FaultCode::R03 => {
             if fault.page == 0 && fault.item == FREELIST_START {
-                add_first_trunk(tries, desk, lost);
+                add_first_trunk(tries, lost);
             }
             add_size(tries, desk, fault.value);
         }
+        FaultCode::P05 | FaultCode::P06 | FaultCode::P07 | FaultCode::P08 => add_reserved(
+            tries, desk,
+        ),
         _ => {}
     }
 }

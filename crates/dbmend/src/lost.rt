@@ -2,6 +2,7 @@
 ghost use Rattle.dbmend.specs.Deeds.{HasDone};
 
 use crate::edit::Edit;
+use crate::fit::{Root, Span};
 use crate::reading::{Paper, read_page};
 use arrayvec::ArrayVec;
 use dbentries::PageBits;
@@ -18,18 +19,24 @@ pub(crate) enum Kind {
     Index,
     // A page that is none of a tree.
     Other,
+    // Any page: what a trunk names as free.
+    Free,
 }
 
-// Of each lost page whether another one names it, and what it looks like.
+// How many pages of one kind are kept that no other one names.
+const MOST_ALIKE: usize = 8;
+
+// Of each lost page whether another one names it, and what it looks like. Of the first that none names the keys.
 #[derive(Drop)]
 pub(crate) struct Lost<A: Allocator> {
     named: PageBits<A>,
     tables: PageBits<A>,
     indexes: PageBits<A>,
+    roots: ArrayVec<Root, 24>,
 }
 
 impl<A: Allocator + Copy> Lost<A> {
-    // Nothing is known of so many pages.
+    // Nothing is known of the pages of a file.
     pub(crate) fn new_in(alloc: A, pages: u32) -> Result<Lost<A>, NoMemory> {
         let named = PageBits::new_in(alloc, pages)?;
         let tables = PageBits::new_in(alloc, pages)?;
@@ -38,6 +45,7 @@ impl<A: Allocator + Copy> Lost<A> {
             named,
             tables,
             indexes,
+            roots: ArrayVec::new(),
         })
     }
 }
@@ -54,30 +62,33 @@ impl<A: Allocator> Lost<A> {
         }
     }
 
-    // Whether a page is lost, and no other lost page names it.
-    fn is_root(&self, desk: &Desk<A>, page: u32) -> bool {
-        desk.is_lost(page) && !self.named.has(page)
-    }
-
-    // The first lost pages that no other one names: those that look like what is wanted, or the others.
-    fn add_roots(&self, desk: &Desk<A>, kind: Kind, alike: bool, roots: &mut ArrayVec<u32, 4>) {
-        for index in 0..desk.geometry().pages {
-            let page = index + 1;
-            if self.is_root(desk, page)
-                && (self.kind(page) == kind) == alike
-                && roots.try_push(page).is_err()
-            {
-                return;
-            }
+    // Whether a page is lost, no other lost page names it, and few that look like it are kept.
+    fn is_wanted(&self, desk: &Desk<A>, page: u32) -> bool {
+        if !desk.is_lost(page) || self.named.has(page) {
+            return false;
         }
+        let kind = self.kind(page);
+        let alike = self.roots.iter().filter(|root| root.kind == kind);
+        alike.count() < MOST_ALIKE
     }
 
-    // Four lost pages that no other one names, at most: first those that look like what is wanted.
-    pub(crate) fn roots(&self, desk: &Desk<A>, kind: Kind) -> ArrayVec<u32, 4> {
-        let mut roots = ArrayVec::new();
-        self.add_roots(desk, kind, true, &mut roots);
-        self.add_roots(desk, kind, false, &mut roots);
-        roots
+    // Keeps a page that no other one names, with its keys.
+    fn keep(&mut self, paper: &Paper<A>) {
+        let keys = match paper.view() {
+            Some(view) => Span::of(&view),
+            None => Span::UNKNOWN,
+        };
+        let root = Root {
+            page: paper.page(),
+            kind: self.kind(paper.page()),
+            keys,
+        };
+        let _ = self.roots.try_push(root);
+    }
+
+    // The first lost pages that no other one names.
+    pub(crate) fn roots(&self) -> &[Root] {
+        self.roots.as_slice()
     }
 
     // Notes what a lost page looks like, and the pages that it names.
@@ -134,7 +145,7 @@ impl<A: Allocator> Lost<A> {
 }
 
 // A leaf of a trunk.
-fn leaf_at<A: Allocator>(paper: &Paper<A>, leaf: u32) -> Option<u32> {
+pub(crate) fn leaf_at<A: Allocator>(paper: &Paper<A>, leaf: u32) -> Option<u32> {
     paper.number_at(leaf.checked_mul(4)?.checked_add(8)?)
 }
 
@@ -152,6 +163,25 @@ pub(crate) fn look_at_lost<A: Allocator, S: Source>(
         if desk.is_lost(index + 1) {
             read_page(source, edits, index + 1, paper)?;
             lost.note(desk, paper);
+        }
+    }
+    Ok(())
+}
+
+// Reads the first lost pages that no other one names again, and keeps their keys.
+pub(crate) fn look_at_roots<A: Allocator, S: Source>(
+    desk: &Desk<A>,
+    edits: &[Edit],
+    source: &mut S,
+    paper: &mut Paper<A>,
+    lost: &mut Lost<A>,
+) -> Result<(), RunError>
+    ensures { HasDone S.Source result 0 0 (λ a deeds. Unit {0}) source.old source.new }
+{
+    for index in 0..desk.geometry().pages {
+        if lost.is_wanted(desk, index + 1) {
+            read_page(source, edits, index + 1, paper)?;
+            lost.keep(paper);
         }
     }
     Ok(())

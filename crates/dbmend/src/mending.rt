@@ -48,7 +48,7 @@ fn put_step<A: Allocator, O: Out>(step: &Step<A>, out: &mut O) -> Result<(), Wri
     put_lines(change.as_slice(), page.as_slice(), still.as_slice(), out)
 }
 
-// One change more after some, if one helps, by what the run with these found; at most so many are tried.
+// One change more after some, if one helps, by what the run with these found; `most` edits are tried at most.
 fn put_next<A: Allocator + Copy, S: Source, O: Out>(
     alloc: A,
     edits: &Edits,

@@ -1,7 +1,8 @@
 // What may have been in the head of a page of a tree, in its cell pointers, and in an entry of the pointer map.
 ghost use Rattle.std.specs.Prelude.{◌≤◌};
 
-use crate::choosing::{Tries, add_try};
+use crate::pointers::longest_gap;
+use crate::ranked::{Ranked, add_try};
 use crate::reading::Paper;
 use dbpage::type_byte;
 use dbscan::{Desk, Mark};
@@ -18,20 +19,26 @@ fn head<A: Allocator>(paper: &Paper<A>) -> u32
 }
 
 // Adds some bytes at an offset of a page.
-fn add_at<A: Allocator>(tries: &mut Tries, paper: &Paper<A>, at: u32, bytes: &[u8]) {
+fn add_at<A: Allocator>(tries: &mut Ranked, paper: &Paper<A>, at: u32, bytes: &[u8], points: u32) {
     if let Some(offset) = paper.begins().checked_add(u64::from(at)) {
-        add_try(tries, offset, bytes);
+        add_try(tries, offset, bytes, points);
     }
 }
 
 // Adds a number of two bytes, where 65536 is stored as 0.
-fn add_short<A: Allocator>(tries: &mut Tries, paper: &Paper<A>, at: u32, number: u32) {
+fn add_short<A: Allocator>(
+    tries: &mut Ranked,
+    paper: &Paper<A>,
+    at: u32,
+    number: u32,
+    points: u32,
+) {
     let stored = u16::try_from(number).unwrap_or(0);
-    add_at(tries, paper, at, &stored.to_be_bytes());
+    add_at(tries, paper, at, &stored.to_be_bytes(), points);
 }
 
 // Adds each other type of the page.
-pub(crate) fn add_types<A: Allocator>(tries: &mut Tries, paper: &Paper<A>) {
+pub(crate) fn add_types<A: Allocator>(tries: &mut Ranked, paper: &Paper<A>) {
     let bytes = paper.bytes();
     if bytes.len() < 480 {
         return;
@@ -39,15 +46,16 @@ pub(crate) fn add_types<A: Allocator>(tries: &mut Tries, paper: &Paper<A>) {
     let was = type_byte(bytes, paper.page());
     for kind in TYPES {
         if kind != was {
-            add_at(tries, paper, head(paper), &[kind]);
+            add_at(tries, paper, head(paper), &[kind], 26);
         }
     }
 }
 
-// Adds a count of fragmented bytes.
-pub(crate) fn add_fragments<A: Allocator>(tries: &mut Tries, paper: &Paper<A>, count: i64) {
+// Adds a count of fragmented bytes. A fragment has at most three bytes: where more are free at one place, another number is wrong.
+pub(crate) fn add_fragments<A: Allocator>(tries: &mut Ranked, paper: &Paper<A>, count: i64) {
     if let Ok(stored) = u8::try_from(count) {
-        add_at(tries, paper, head(paper) + 7, &[stored]);
+        let points = if longest_gap(paper) <= 3 { 38 } else { 20 };
+        add_at(tries, paper, head(paper) + 7, &[stored], points);
     }
 }
 
@@ -85,7 +93,7 @@ fn pointed<A: Allocator>(paper: &Paper<A>) -> (u32, u32) {
     (count, least)
 }
 
-// Where the first cell of the page begins, of as many as it states.
+// Where the first cell of the page begins, of as many as it states, or its first freeblock.
 fn least_pointer<A: Allocator>(paper: &Paper<A>) -> Option<u32> {
     let begin = pointers(paper);
     let cells = paper.short_at(head(paper) + 3)?;
@@ -93,26 +101,65 @@ fn least_pointer<A: Allocator>(paper: &Paper<A>) -> Option<u32> {
     for i in 0..cells.min(32768) {
         least = least.min(paper.short_at(begin + 2 * i)?);
     }
-    Some(least)
-}
-
-// Adds where the content area may begin: where the first cell does.
-pub(crate) fn add_start<A: Allocator>(tries: &mut Tries, paper: &Paper<A>) {
-    if let Some(least) = least_pointer(paper) {
-        add_short(tries, paper, head(paper) + 5, least);
+    match paper.short_at(head(paper) + 1)? {
+        0 => Some(least),
+        block => Some(least.min(block)),
     }
 }
 
-// Adds how many cells there may be: as many as there are pointers.
-pub(crate) fn add_count<A: Allocator>(tries: &mut Tries, paper: &Paper<A>) {
+// Adds where the content area may begin: where the first cell or freeblock does.
+pub(crate) fn add_start<A: Allocator>(tries: &mut Ranked, paper: &Paper<A>) {
+    if let Some(least) = least_pointer(paper) {
+        add_short(tries, paper, head(paper) + 5, least, 30);
+    }
+}
+
+// With how many cells the page has as many fragmented bytes as it states, of those that it has room for.
+fn fitting_count<A: Allocator>(paper: &Paper<A>) -> Option<u32> {
+    let view = paper.view()?;
+    let mut held = u32::from(view.fragments());
+    for block in view.freeblocks() {
+        held = held.saturating_add(block.size);
+    }
+    let area = paper.usable().saturating_sub(paper.start());
+    for i in 0..view.cells() {
+        if held >= area {
+            return (held == area).then_some(i);
+        }
+        held = held.saturating_add(view.cell(i).ok()?.len.max(4));
+    }
+    (held == area).then_some(view.cells())
+}
+
+// The same, whatever count the page states.
+fn count_by_area<A: Allocator>(paper: &mut Paper<A>, stated: u32) -> Option<u32> {
+    let at = head(paper) + 3;
+    let room = paper.start().saturating_sub(pointers(paper)) / 2;
+    paper.put_short(at, u16::try_from(room).unwrap_or(0));
+    let count = fitting_count(paper);
+    paper.put_short(at, u16::try_from(stated).unwrap_or(0));
+    count
+}
+
+// Adds how many cells there may be: as many as fill the content area, and as many as there are pointers.
+pub(crate) fn add_count<A: Allocator>(tries: &mut Ranked, paper: &mut Paper<A>) {
+    let at = head(paper) + 3;
+    let Some(stated) = paper.short_at(at) else {
+        return;
+    };
+    if let Some(count) = count_by_area(paper, stated)
+        && count != stated
+    {
+        add_short(tries, paper, at, count, 36);
+    }
     let (count, _) = pointed(paper);
-    if paper.short_at(head(paper) + 3) != Some(count) {
-        add_short(tries, paper, head(paper) + 3, count);
+    if count != stated {
+        add_short(tries, paper, at, count, 24);
     }
 }
 
 // Adds the entry of a page in the pointer map, as the marks say it.
-pub(crate) fn add_entry<A: Allocator>(tries: &mut Tries, desk: &Desk<A>, page: u32) {
+pub(crate) fn add_entry<A: Allocator>(tries: &mut Ranked, desk: &Desk<A>, page: u32) {
     let geometry = desk.geometry();
     if page == 0 || page > desk.marks().pages() {
         return;
@@ -132,6 +179,6 @@ pub(crate) fn add_entry<A: Allocator>(tries: &mut Tries, desk: &Desk<A>, page: u
     let begins = u64::from(map.saturating_sub(1)) * u64::from(geometry.page_size);
     let [a, b, c, d] = u32::to_be_bytes(number);
     if let Some(offset) = begins.checked_add(5 * distance) {
-        add_try(tries, offset, &[kind, a, b, c, d]);
+        add_try(tries, offset, &[kind, a, b, c, d], 40);
     }
 }

@@ -1,29 +1,34 @@
 // Where a page names another one, and what may have been there.
-use crate::choosing::{Tries, add_try};
+use crate::fit::{Around, Span, fit_of};
+use crate::key::Key;
 use crate::lost::{Kind, Lost};
 use crate::numbers::{add_count, add_fragments, add_start, add_types};
-use crate::pointers::add_pointer;
+use crate::pointers::{add_gaps, add_pointer};
+use crate::ranked::{Ranked, add_try};
 use crate::reading::Paper;
+use crate::schema_rows::add_root;
+use crate::trunks::{add_leaves, trunk_place, trunk_place_of};
 use crate::wanted::{Number, Want};
 use dbpage::PageView;
 use dbscan::{Desk, Mark, PageKind};
 use std::alloc::Allocator;
 
-// A reference: where it is in its page, and what it may name.
+// A reference: where it is in its page, and what is around the page that it names.
 #[derive(Clone, Copy)]
-struct Place {
-    at: u32,
-    kind: Kind,
-    // Whether it may be 0.
-    may_end: bool,
+pub(crate) struct Place {
+    pub(crate) at: u32,
+    pub(crate) around: Around,
 }
 
-// That of the page after an overflow page, or of the next trunk.
-const NEXT: Place = Place {
-    at: 0,
-    kind: Kind::Other,
-    may_end: true,
-};
+impl Place {
+    // That of the page after an overflow page, or of the next trunk.
+    pub(crate) fn next(page: u32) -> Place {
+        Place {
+            at: 0,
+            around: Around::beside(Kind::Other, page.saturating_add(1)),
+        }
+    }
+}
 
 // The kind of the children of a page.
 fn child_kind(view: &PageView<'_>) -> Kind {
@@ -33,30 +38,49 @@ fn child_kind(view: &PageView<'_>) -> Kind {
     }
 }
 
+// The page of a child, or 0.
+fn child(view: &PageView<'_>, item: u32) -> u32 {
+    if item > view.cells() {
+        return 0;
+    }
+    view.child(item).unwrap_or(0)
+}
+
+// The reference to a child: the keys around this are those of the cells beside it.
+fn child_place(view: &PageView<'_>, at: u32, item: u32) -> Place {
+    let first = match item.checked_sub(1) {
+        Some(before) => Key::of(view, before),
+        None => Key::Unknown,
+    };
+    let keys = Span {
+        first,
+        last: Key::of(view, item),
+    };
+    let before = child(view, item.saturating_sub(1));
+    let behind = child(view, item.saturating_add(1));
+    Place {
+        at,
+        around: Around {
+            kind: child_kind(view),
+            keys,
+            own: Span::of(view),
+            near: [before, behind],
+        },
+    }
+}
+
 // The reference of an item of a page of a tree, if it names this page.
 fn tree_place(view: &PageView<'_>, number: u32, item: u32, page: u32) -> Option<Place> {
-    let kind = child_kind(view);
     if item > view.cells() {
         return None;
     }
     if item == view.cells() {
         let at = if number == 1 { 108 } else { 8 };
-        return match view.child(item) {
-            Some(child) if child == page => Some(Place {
-                at,
-                kind,
-                may_end: false,
-            }),
-            _ => None,
-        };
+        return (view.child(item) == Some(page)).then(|| child_place(view, at, item));
     }
     let cell = view.cell(item).ok()?;
     if cell.left == Some(page) {
-        return Some(Place {
-            at: cell.offset,
-            kind,
-            may_end: false,
-        });
+        return Some(child_place(view, cell.offset, item));
     }
     if cell.overflow != Some(page) {
         return None;
@@ -64,8 +88,7 @@ fn tree_place(view: &PageView<'_>, number: u32, item: u32, page: u32) -> Option<
     let at = cell.offset.checked_add(cell.len)?.checked_sub(4)?;
     Some(Place {
         at,
-        kind: Kind::Other,
-        may_end: false,
+        around: Around::beside(Kind::Other, number),
     })
 }
 
@@ -77,20 +100,6 @@ fn tree_place_of(view: &PageView<'_>, number: u32, page: u32) -> Option<Place> {
         }
     }
     None
-}
-
-// The reference of an item of a trunk: to a leaf, or to the next trunk.
-fn trunk_place<A: Allocator>(paper: &Paper<A>, item: u32) -> Option<Place> {
-    let leaves = paper.number_at(4)?;
-    if item >= leaves || leaves > paper.usable() / 4 {
-        return Some(NEXT);
-    }
-    let at = item.checked_mul(4)?.checked_add(8)?;
-    Some(Place {
-        at,
-        kind: Kind::Other,
-        may_end: false,
-    })
 }
 
 // The place that is wanted of a page, as it is used.
@@ -105,49 +114,61 @@ fn place_of<A: Allocator>(desk: &Desk<A>, want: &Want, paper: &Paper<A>) -> Opti
         (Mark::Root | Mark::Child(_), Number::Any(page)) => {
             tree_place_of(&paper.view()?, want.page, page)
         }
-        (Mark::FirstOverflow(_) | Mark::LaterOverflow(_), _) => Some(NEXT),
+        (Mark::FirstOverflow(_) | Mark::LaterOverflow(_), _) => Some(Place::next(want.page)),
         (Mark::Trunk, Number::Reference(item, _)) => trunk_place(paper, item),
+        (Mark::Trunk, Number::Any(page)) => trunk_place_of(paper, page),
         _ => None,
     }
 }
 
-// Adds what may have been at a place: the lost pages that no other one names, and the end.
-fn add_values<A: Allocator>(
-    tries: &mut Tries,
-    desk: &Desk<A>,
-    lost: &Lost<A>,
-    begins: u64,
-    place: Place,
-) {
+// Adds what may have been at a place: the lost pages that no other one names, and the end of a list.
+fn add_values<A: Allocator>(tries: &mut Ranked, lost: &Lost<A>, begins: u64, place: &Place) {
     let Some(offset) = begins.checked_add(u64::from(place.at)) else {
         return;
     };
-    let roots = lost.roots(desk, place.kind);
-    for root in roots.as_slice() {
-        add_try(tries, offset, &root.to_be_bytes());
+    for root in lost.roots() {
+        tries.add(
+            offset,
+            &root.page.to_be_bytes(),
+            fit_of(&place.around, root),
+        );
     }
-    if place.may_end {
-        add_try(tries, offset, &[0, 0, 0, 0]);
+    if place.at == 0 {
+        add_try(tries, offset, &[0, 0, 0, 0], 1);
+    }
+}
+
+// Adds what may have been the root page in a row of the schema.
+fn add_row<A: Allocator>(tries: &mut Ranked, lost: &Lost<A>, paper: &Paper<A>, item: u32) {
+    if let Some(view) = paper.view() {
+        add_root(tries, lost, paper, &view, item, true);
     }
 }
 
 // Adds what may have been at a place that is wanted of a page.
 pub(crate) fn add_places<A: Allocator>(
-    tries: &mut Tries,
+    tries: &mut Ranked,
     desk: &Desk<A>,
     lost: &Lost<A>,
     want: &Want,
-    paper: &Paper<A>,
+    paper: &mut Paper<A>,
 ) {
     match want.number {
         Number::Type => add_types(tries, paper),
         Number::Start => add_start(tries, paper),
-        Number::Fragments(count) => add_fragments(tries, paper, count),
+        Number::Fragments(count) => {
+            add_fragments(tries, paper, count);
+            add_gaps(tries, paper);
+        }
         Number::Cells => add_count(tries, paper),
         Number::Pointer(cell) => add_pointer(tries, paper, cell),
+        Number::Leaves => add_leaves(tries, desk, paper),
+        Number::End => add_try(tries, paper.begins(), &[0, 0, 0, 0], 40),
+        Number::Row(item) => add_row(tries, lost, paper, item),
+        Number::Root(_) => {}
         Number::Reference(_, _) | Number::Any(_) => {
             if let Some(place) = place_of(desk, want, paper) {
-                add_values(tries, desk, lost, paper.begins(), place);
+                add_values(tries, lost, paper.begins(), &place);
             }
         }
     }

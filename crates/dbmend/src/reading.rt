@@ -66,6 +66,14 @@ impl<A: Allocator> Paper<A> {
         PageView::new(self.bytes.as_slice(), self.page, usable).ok()
     }
 
+    // Puts a number of two bytes at an offset of the page, if that is in it.
+    pub(crate) fn put_short(&mut self, at: u32, number: u16) {
+        let at = at as usize;
+        if at + 2 <= self.bytes.len() {
+            self.bytes[at..at + 2].copy_from_slice(&number.to_be_bytes());
+        }
+    }
+
     // The number of two bytes at an offset of the page, if that is in it.
     pub(crate) fn short_at(&self, at: u32) -> Option<u32> {
         if at as usize + 2 <= self.bytes.len() {

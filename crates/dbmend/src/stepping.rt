@@ -4,10 +4,11 @@ ghost use Rattle.dbmend.specs.Deeds.{HasDone, runs_in};
 ghost use Rattle.dbmend.specs.Sizes.{SearchFitsInMemory};
 ghost use Rattle.dbmend.specs.Trials.{IsStep, WasThere};
 
-use crate::choosing::{Tries, candidates};
+use crate::choosing::candidates;
 use crate::counting::Findings;
 use crate::edit::{Edit, Edits};
 use crate::looking::look_at;
+use crate::ranked::Tries;
 use crate::trying::best_of;
 use dbsource::{ReadFailed, RunError, Source};
 use std::alloc::Allocator;
@@ -44,7 +45,7 @@ fn tries_of<A: Allocator + Copy, S: Source>(
     candidates(alloc, before.as_slice(), &found, source)
 }
 
-// So many of them, or all.
+// The first `most` of them, or all.
 fn first_of(tries: &Tries, most: usize) -> &[Edit]
     ensures { length result.now ≤ most }
 {
@@ -52,7 +53,7 @@ fn first_of(tries: &Tries, most: usize) -> &[Edit]
     &all[..all.len().min(most)]
 }
 
-// The change that helps most after some others, by what the run with these found; at most so many are tried.
+// The change that helps most after some others, by what the run with these found; `most` edits are tried at most.
 pub(crate) fn next_step<A: Allocator + Copy, S: Source>(
     alloc: A,
     before: &Edits,

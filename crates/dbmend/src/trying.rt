@@ -50,7 +50,7 @@ fn trial_of<A: Allocator>(edit: &Edit, found: Findings<A>) -> Trial<A>
     }
 }
 
-// How many faults a trial left, if fewer than so many.
+// How many faults a trial left, if fewer than `faults`.
 fn least_of<A: Allocator>(best: &Option<Trial<A>>, faults: u64) -> u64
     ensures { result ≤ faults }
 {
@@ -60,7 +60,7 @@ fn least_of<A: Allocator>(best: &Option<Trial<A>>, faults: u64) -> u64
     }
 }
 
-// The better of two trials: the first of them that leaves the fewest faults, if fewer than so many.
+// The better of two trials: the first of them that leaves the fewest faults, if fewer than `faults`.
 fn better<A: Allocator>(
     best: Option<Trial<A>>,
     edit: &Edit,
@@ -82,7 +82,7 @@ fn leaves_none<A: Allocator>(best: &Option<Trial<A>>) -> bool {
         .is_some_and(|trial| trial.found.count.faults == 0)
 }
 
-// Of some edits the first that leaves the fewest faults after some others, if one leaves fewer than so many. The rest is not tried after
+// Of some edits the first that leaves the fewest faults after some others, if one leaves fewer than `faults`. The rest is not tried after
 // one that leaves none.
 pub(crate) fn best_of<A: Allocator + Copy, S: Source>(
     alloc: A,

@@ -1,11 +1,12 @@
 // The pages that may have a wrong number, by the faults that were noted.
+use crate::counter::Noted;
 use arrayvec::ArrayVec;
-use dbformat::{Fault, FaultCode};
+use dbformat::{FREELIST_START, Fault, FaultCode};
 use dbscan::{Desk, Mark};
 use std::alloc::Allocator;
 
 // Which number of a page may be wrong.
-#[derive(Clone, Copy)]
+#[derive(Clone, Copy, PartialEq, Eq)]
 pub(crate) enum Number {
     // The reference of this item that names this page.
     Reference(u32, u32),
@@ -19,12 +20,20 @@ pub(crate) enum Number {
     Fragments(i64),
     // How many cells it has.
     Cells,
-    // The pointer of this cell.
+    // The pointer of this cell, or of those that overlap this item.
     Pointer(u32),
+    // How many leaves a trunk has.
+    Leaves,
+    // The page after the last overflow page, which is 0.
+    End,
+    // The root page in the row of the schema at this cell.
+    Row(u32),
+    // The root page in each row of the schema that names this page.
+    Root(u32),
 }
 
 // A page, and which of its numbers may be wrong.
-#[derive(Clone, Copy)]
+#[derive(Clone, Copy, PartialEq, Eq)]
 pub(crate) struct Want {
     pub(crate) page: u32,
     pub(crate) number: Number,
@@ -40,28 +49,39 @@ impl Default for Want {
     }
 }
 
-pub(crate) type Wanted = ArrayVec<Want, 32>;
+pub(crate) type Wanted = ArrayVec<Want, 96>;
 
-// Adds one, where there is room.
+// Adds one, where there is room, and it is not there yet.
 fn add_want(wanted: &mut Wanted, page: u32, number: Number) {
-    let _ = wanted.try_push(Want { page, number });
+    let want = Want { page, number };
+    if !wanted.as_slice().iter().any(|other| *other == want) {
+        let _ = wanted.try_push(want);
+    }
 }
 
-// The page that refers to a page in use, if it is a page.
-fn owner<A: Allocator>(desk: &Desk<A>, page: u32) -> Option<u32> {
+// The mark of a page in use, if it is a page.
+fn mark<A: Allocator>(desk: &Desk<A>, page: u32) -> Mark {
     if page == 0 || page > desk.marks().pages() {
-        return None;
+        return Mark::Unmarked;
     }
-    match desk.marks().get(page) {
-        Mark::Child(from) | Mark::FirstOverflow(from) | Mark::LaterOverflow(from) => Some(from),
-        _ => None,
+    desk.marks().get(page)
+}
+
+// Adds what refers to this page: another page, or a row of the schema.
+fn want_owner<A: Allocator>(desk: &Desk<A>, page: u32, wanted: &mut Wanted) {
+    match mark(desk, page) {
+        Mark::Child(from) | Mark::FirstOverflow(from) | Mark::LaterOverflow(from) => {
+            add_want(wanted, from, Number::Any(page));
+        }
+        Mark::Root => add_want(wanted, 1, Number::Root(page)),
+        _ => {}
     }
 }
 
-// Adds the page that refers to this one.
-fn want_owner<A: Allocator>(desk: &Desk<A>, page: u32, wanted: &mut Wanted) {
-    if let Some(from) = owner(desk, page) {
-        add_want(wanted, from, Number::Any(page));
+// Adds the count of leaves of a page, if it is a trunk.
+fn want_leaves<A: Allocator>(desk: &Desk<A>, page: u32, wanted: &mut Wanted) {
+    if let Mark::Trunk = mark(desk, page) {
+        add_want(wanted, page, Number::Leaves);
     }
 }
 
@@ -72,15 +92,43 @@ fn named(fault: &Fault) -> u32 {
 
 // What may be wrong by a fault of a reference.
 fn add_reference<A: Allocator>(desk: &Desk<A>, fault: &Fault, wanted: &mut Wanted) {
-    let number = Number::Reference(fault.item, named(fault));
-    add_want(wanted, fault.page, number);
+    if fault.page == 0 {
+        if fault.item < FREELIST_START {
+            add_want(wanted, 1, Number::Root(named(fault)));
+        }
+    } else {
+        let number = Number::Reference(fault.item, named(fault));
+        add_want(wanted, fault.page, number);
+    }
+    if let Mark::Trunk = mark(desk, fault.page) {
+        add_want(wanted, fault.page, Number::Any(named(fault)));
+        want_leaves(desk, fault.page, wanted);
+    }
     if let FaultCode::R03 = fault.code {
         want_owner(desk, named(fault), wanted);
     }
 }
 
+// What may be wrong where items of a page are: its pointers, and the numbers of its head.
+fn add_items(wanted: &mut Wanted, page: u32, number: Number) {
+    add_want(wanted, page, number);
+    add_want(wanted, page, Number::Cells);
+    add_want(wanted, page, Number::Start);
+    add_want(wanted, page, Number::Type);
+}
+
+// What may be wrong by a key out of order: a pointer of its page, or of that of the greater key, or how one of these was reached.
+fn add_keys<A: Allocator>(desk: &Desk<A>, noted: &Noted, wanted: &mut Wanted) {
+    add_want(wanted, noted.fault.page, Number::Pointer(noted.fault.item));
+    if noted.key_page > 0 {
+        add_want(wanted, noted.key_page, Number::Pointer(noted.key_item));
+        want_owner(desk, noted.key_page, wanted);
+    }
+}
+
 // What may be wrong by a fault.
-fn add_wanted<A: Allocator>(desk: &Desk<A>, fault: &Fault, wanted: &mut Wanted) {
+fn add_wanted<A: Allocator>(desk: &Desk<A>, noted: &Noted, wanted: &mut Wanted) {
+    let fault = &noted.fault;
     let page = fault.page;
     match fault.code {
         FaultCode::R01 | FaultCode::R02 | FaultCode::R03 | FaultCode::T04 => {
@@ -93,26 +141,25 @@ fn add_wanted<A: Allocator>(desk: &Desk<A>, fault: &Fault, wanted: &mut Wanted) 
             add_want(wanted, page, Number::Cells);
         }
         FaultCode::P05 | FaultCode::P06 | FaultCode::P08 => {
-            add_want(wanted, page, Number::Pointer(fault.item));
-            add_want(wanted, page, Number::Cells);
-            add_want(wanted, page, Number::Start);
+            add_items(wanted, page, Number::Pointer(fault.item));
         }
-        FaultCode::P09 => {
-            add_want(wanted, page, Number::Fragments(fault.value));
-            add_want(wanted, page, Number::Cells);
-            add_want(wanted, page, Number::Start);
-        }
+        FaultCode::P09 => add_items(wanted, page, Number::Fragments(fault.value)),
         FaultCode::P10 => add_want(wanted, page, Number::Cells),
+        FaultCode::T06 => add_keys(desk, noted, wanted),
+        FaultCode::O01 => add_want(wanted, page, Number::End),
+        FaultCode::L01 => add_want(wanted, page, Number::Leaves),
+        FaultCode::H10 => want_leaves(desk, desk.header().first_trunk(), wanted),
+        FaultCode::S03 => add_want(wanted, page, Number::Row(fault.item)),
         _ => {}
     }
     want_owner(desk, page, wanted);
 }
 
 // What may be wrong by some faults.
-pub(crate) fn wanted_of<A: Allocator>(desk: &Desk<A>, faults: &[Fault]) -> Wanted {
+pub(crate) fn wanted_of<A: Allocator>(desk: &Desk<A>, faults: &[Noted]) -> Wanted {
     let mut wanted = ArrayVec::new();
-    for fault in faults {
-        add_wanted(desk, fault, &mut wanted);
+    for noted in faults {
+        add_wanted(desk, noted, &mut wanted);
     }
     wanted
 }

@@ -1,0 +1,131 @@
+// How well a page fits a place that may have named it.
+use crate::key::{Key, Order};
+use crate::lost::Kind;
+use dbpage::PageView;
+
+// The more points, the better; then the nearer the page is to those beside it.
+#[derive(Clone, Copy)]
+pub(crate) struct Fit {
+    points: u32,
+    distance: u32,
+}
+
+impl Fit {
+    pub(crate) fn new(points: u32, distance: u32) -> Fit {
+        Fit { points, distance }
+    }
+
+    // One with fewer points.
+    pub(crate) fn less(&self, points: u32) -> Fit {
+        Fit::new(self.points.saturating_sub(points), self.distance)
+    }
+
+    pub(crate) fn is_better(&self, other: &Fit) -> bool {
+        self.points > other.points || self.points == other.points && self.distance < other.distance
+    }
+}
+
+// The first and the last key of a page, or the keys around a page.
+#[derive(Clone, Copy)]
+pub(crate) struct Span {
+    pub(crate) first: Key,
+    pub(crate) last: Key,
+}
+
+impl Span {
+    pub(crate) const UNKNOWN: Span = Span {
+        first: Key::Unknown,
+        last: Key::Unknown,
+    };
+
+    // The first and the last key of a page.
+    pub(crate) fn of(view: &PageView<'_>) -> Span {
+        Span {
+            first: Key::of(view, 0),
+            last: Key::of(view, view.cells().saturating_sub(1)),
+        }
+    }
+}
+
+// What is known of a place: the kind of page that it names, the keys around that, those of the page of the place, and pages beside it.
+#[derive(Clone, Copy)]
+pub(crate) struct Around {
+    pub(crate) kind: Kind,
+    pub(crate) keys: Span,
+    pub(crate) own: Span,
+    pub(crate) near: [u32; 2],
+}
+
+impl Around {
+    // Nothing but the kind is known, and a page beside it.
+    pub(crate) fn beside(kind: Kind, near: u32) -> Around {
+        Around {
+            kind,
+            keys: Span::UNKNOWN,
+            own: Span::UNKNOWN,
+            near: [near, near],
+        }
+    }
+}
+
+// A page that may have been named: what it looks like, and its keys.
+#[derive(Clone, Copy)]
+pub(crate) struct Root {
+    pub(crate) page: u32,
+    pub(crate) kind: Kind,
+    pub(crate) keys: Span,
+}
+
+impl Default for Root {
+    fn default() -> Root {
+        Root {
+            page: 0,
+            kind: Kind::Other,
+            keys: Span::UNKNOWN,
+        }
+    }
+}
+
+// How far a page is from the nearer of two.
+fn distance(page: u32, near: &[u32; 2]) -> u32 {
+    page.abs_diff(near[0]).min(page.abs_diff(near[1]))
+}
+
+// Whether the keys of a page and those around it go one way, and which of these are known.
+fn keys_fit(around: &Around, root: &Root, folded: bool) -> u32 {
+    let before = around.keys.first.order(&root.keys.first, folded);
+    let behind = root.keys.last.order(&around.keys.last, folded);
+    let within = root.keys.first.order(&root.keys.last, folded);
+    let own = around.own.first.order(&around.own.last, folded);
+    let orders = [before, behind, within, own];
+    let rises = orders.iter().any(|order| *order == Order::Rising) || around.kind == Kind::Table;
+    let falls = orders.iter().any(|order| *order == Order::Falling);
+    if rises && falls {
+        return 0;
+    }
+    if before == Order::Unknown && behind == Order::Unknown {
+        return 2;
+    }
+    4
+}
+
+// Whether there is no room for other rows on one side of a page.
+fn is_tight(keys: &Span, root: &Span) -> bool {
+    root.first.is_above_by(&keys.first, 1) || keys.last.is_above_by(&root.last, 0)
+}
+
+// How well a page fits a place.
+pub(crate) fn fit_of(around: &Around, root: &Root) -> Fit {
+    let keys = keys_fit(around, root, false).max(keys_fit(around, root, true));
+    let mut points = if around.kind == root.kind { 8 } else { 0 };
+    if root.keys.first.is_like(&around.keys.first) || root.keys.first.is_like(&around.keys.last) {
+        points += 2;
+    }
+    if is_tight(&around.keys, &root.keys) {
+        points += 1;
+    }
+    Fit::new(
+        keys.saturating_add(points),
+        distance(root.page, &around.near),
+    )
+}

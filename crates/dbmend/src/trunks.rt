@@ -1,0 +1,74 @@
+// What may have been in a trunk of the freelist (Database File Format, 1.5).
+use crate::fit::Around;
+use crate::lost::{Kind, leaf_at};
+use crate::places::Place;
+use crate::ranked::{Ranked, add_try};
+use crate::reading::Paper;
+use dbscan::{Desk, Mark};
+use std::alloc::Allocator;
+
+// How many leaves a trunk has room for.
+fn room<A: Allocator>(paper: &Paper<A>) -> u32 {
+    (paper.usable() / 4).saturating_sub(2)
+}
+
+// How many leaves it states, if it has room for them.
+fn stated<A: Allocator>(paper: &Paper<A>) -> u32 {
+    match paper.number_at(4) {
+        Some(leaves) if leaves <= room(paper) => leaves,
+        _ => 0,
+    }
+}
+
+// A leaf of it. The pages of the leaves beside it are often near.
+fn leaf_place<A: Allocator>(paper: &Paper<A>, leaf: u32) -> Option<Place> {
+    let at = leaf.checked_mul(4)?.checked_add(8)?;
+    let before = leaf_at(paper, leaf.saturating_sub(1))?;
+    let behind = leaf_at(paper, leaf.saturating_add(1)).unwrap_or(before);
+    let mut around = Around::beside(Kind::Free, before);
+    around.near[1] = behind;
+    Some(Place { at, around })
+}
+
+// The reference of an item: to a leaf, or to the next trunk.
+pub(crate) fn trunk_place<A: Allocator>(paper: &Paper<A>, item: u32) -> Option<Place> {
+    if item < stated(paper) {
+        leaf_place(paper, item)
+    } else {
+        Some(Place::next(paper.page()))
+    }
+}
+
+// The reference to this leaf.
+pub(crate) fn trunk_place_of<A: Allocator>(paper: &Paper<A>, page: u32) -> Option<Place> {
+    for leaf in 0..stated(paper) {
+        if leaf_at(paper, leaf) == Some(page) {
+            return leaf_place(paper, leaf);
+        }
+    }
+    None
+}
+
+// Whether a page may be the leaf of a trunk: it is one, or lost.
+fn may_be_leaf<A: Allocator>(desk: &Desk<A>, page: u32) -> bool {
+    page > 0
+        && page <= desk.marks().pages()
+        && matches!(desk.marks().get(page), Mark::FreeLeaf | Mark::Unmarked)
+}
+
+// Adds how many leaves it may have: as many of its numbers, from the first on, as may be leaves.
+pub(crate) fn add_leaves<A: Allocator>(tries: &mut Ranked, desk: &Desk<A>, paper: &Paper<A>) {
+    let mut count = 0;
+    for leaf in 0..room(paper) {
+        match leaf_at(paper, leaf) {
+            Some(page) if may_be_leaf(desk, page) => count = leaf.saturating_add(1),
+            _ => break,
+        }
+    }
+    if paper.number_at(4) == Some(count) {
+        return;
+    }
+    if let Some(offset) = paper.begins().checked_add(4) {
+        add_try(tries, offset, &count.to_be_bytes(), 34);
+    }
+}
