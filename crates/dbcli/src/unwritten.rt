@@ -4,6 +4,7 @@ ghost use Rattle.std.specs.Prelude.{◌≡◌};
 use std::alloc::{AllocError, Global};
 use std::cell::Cell;
 use std::io::{self, Write};
+use std::rc::Rc;
 
 /// What standard output is called in a note.
 pub const STANDARD_OUTPUT: &str = "standard output";
@@ -54,6 +55,18 @@ impl FailedWrites {
         }
     }
 
+    /// None yet, for several streams.
+    ///
+    /// # Errors
+    ///
+    /// [`AllocError`] where memory was refused.
+    pub fn shared(alloc: Global) -> Result<Rc<FailedWrites>, AllocError> {
+        match Rc::new(alloc, FailedWrites::new()) {
+            Ok(failed) => Ok(failed),
+            Err(_) => Err(AllocError),
+        }
+    }
+
     /// The first one, if the system said why.
     pub fn first(&self) -> Option<FailedWrite> {
         self.first.get()
@@ -69,15 +82,15 @@ impl FailedWrites {
 
 /// A writer over another writer, which takes what that one takes, and keeps why it failed.
 #[derive(Drop)]
-pub struct Stream<'f, W> {
+pub struct Stream<W> {
     writer: W,
     name: &'static str,
-    failed: &'f FailedWrites,
+    failed: Rc<FailedWrites>,
 }
 
-impl<'f, W: Write> Stream<'f, W> {
+impl<W: Write> Stream<W> {
     /// One over `writer`, which has this name in a note.
-    pub fn new(writer: W, name: &'static str, failed: &'f FailedWrites) -> Stream<'f, W>
+    pub fn new(writer: W, name: &'static str, failed: Rc<FailedWrites>) -> Stream<W>
         ensures { result.writer ≡ writer }
     {
         Stream {
@@ -88,7 +101,7 @@ impl<'f, W: Write> Stream<'f, W> {
     }
 }
 
-impl<W: Write> Write for Stream<'_, W> {
+impl<W: Write> Write for Stream<W> {
     ghost contents = { λ s. W.contents s.writer };
 
     fn write(&mut self, buf: &[u8]) -> io::Result<usize> {
