@@ -113,7 +113,8 @@ pub(crate) fn tell<K: Sink>(
     requires usable { (480 ≤ usable) × (usable ≤ 65536) }
     requires counted { place.number + place.left ≤ most_payload }
     ensures { IsReportedTo K.takes K.held sink.old (told_row (row_of row.now)
-        ∷ map (λ f. told_fault f (cause.Chain (walked_chain chain.now place.number usable place.left (place.number + 1) false))) (option_to_list fault)) sink.new }
+        ∷ map (λ f. told_fault f (cause.Chain (walked_chain chain.now place.number usable place.left (place.number + 1) false)))
+        (option_to_list fault)) sink.new }
 {
     sink.row(row);
     if let Some(fault) = fault {
