@@ -9,7 +9,7 @@ use Rattle.std.proofs.lemmas.List.{get_or-drop, get_or-map, get_or-take, get_or_
 use Rattle.std.proofs.lemmas.List.FromFn.{get_or-map-range_with_len, length-map-range_with_len}
 use Rattle.dblog.specs.Entries.{IsIndexOf, named_frame}
 use Rattle.dblog.specs.Indexes.{Indexed, Indexes}
-use Rattle.dblog.specs.Placed.{Placed, byte_through, padded_byte, page_start, placed, placed_byte, through}
+use Rattle.dblog.specs.Placed.{Placed, byte_through, padded_byte, page_start, placed, placed_byte, through, wal_pages}
 use Rattle.dblog.specs.Recovered.{byte_from, last_of, recovered, recovered_byte}
 use Rattle.dblog.specs.Sums.{sums_at}
 use Rattle.dblog.specs.declared.sums.Sums.{Sums}
@@ -182,7 +182,7 @@ header_sized h t = sized (page_size h) (third (length h == 32) (is_magic (u32_at
 
 -- a byte of a frame is one of the log
 frame_byte : (h log : List ℕ) (k r : ℕ) → r < page_size h
-    → slice_index (frame_at (frame_size h) log k) (24 + r) ≡ slice_index log (page_start (page_size h) k + r)
+    → slice_index (frame_at (frame_size h) log k) (24 + r) ≡ slice_index log (page_start 56 (24 + page_size h) k + r)
 frame_byte h log k r l =
     get_or-take (frame_size h) (drop (32 + frame_size h * k) log) (24 + r) 0 (omega arith) ∙ get_or-drop (32 + frame_size h * k) log (24 + r) 0
     ∙ ap (slice_index log) (omega arith)
@@ -190,12 +190,12 @@ frame_byte h log k r l =
 -- each byte is the one that is recovered
 same_byte : (index : Indexed) (base log : List ℕ) → (is : Indexes index log) → (t : is_header (header log) ≡ true) → index.page_size ≡ page_size (header log)
     → 0 < page_size (header log)
-    → (i : ℕ) → byte_through (placed index (length base)) base log i ≡ recovered_byte base (page_size (header log)) (used log) i
+    → (i : ℕ) → byte_through (placed (wal_pages index) (length base)) base log i ≡ recovered_byte base (page_size (header log)) (used log) i
 same_byte index base log is t z some i =
     by_place (same_last index.entries (used log) (i / index.page_size + 1) (omega arith) is.entries)
   where
     p : Placed
-    p = placed index (length base)
+    p = placed (wal_pages index) (length base)
 
     size : ℕ
     size = page_size (header log)
@@ -210,18 +210,18 @@ same_byte index base log is t z some i =
         ⊎ ((named_frame index.entries n ≡ None) × (last_of n (used log) ≡ None)) → byte_through p base log i ≡ recovered_byte base size (used log) i
     by_place (inl (k, l, named, last)) =
         ap (λ o. placed_byte p base log o i) named
-        ∙ ap (λ m. slice_index log (page_start m k + i % m)) z
+        ∙ ap (λ m. slice_index log (page_start 56 (24 + m) k + i % m)) z
         ∙ sym (frame_byte (header log) log k (i % size) (mod-lt i some))
         ∙ sym (ap (λ o. byte_from base size o i) (last_is ∙ last) ∙ ap (λ f. slice_index f (24 + i % size)) (used_at log k t l))
     by_place (inr (named, last)) =
         ap (λ o. placed_byte p base log o i) named ∙ padded_whole base i ∙ sym (ap (λ o. byte_from base size o i) (last_is ∙ last))
 
 pub index_recovers : (index : Indexed) (base log : List ℕ) → Indexes index log → 0 < index.pages → 0 < length base
-    → through (placed index (length base)) base log ≡ recovered base log
+    → through (placed (wal_pages index) (length base)) base log ≡ recovered base log
 index_recovers index base log is some long =
     let t = header_of log (omega (arith, is.pages)) in
     let z : index.page_size ≡ page_size (header log) = is.page_size t in
     let e : (length base == 0) ≡ false = grind (arith, nat_tests) in
     let u : (stated_pages (used log) == 0) ≡ false = (let q : 0 < stated_pages (used log) = omega (arith, is.pages) in grind (arith, nat_tests)) in
-    rw (e, u) (ap₂ (λ a b. map (byte_through (placed index (length base)) base log) (range_with_len 0 (a * b))) is.pages z
+    rw (e, u) (ap₂ (λ a b. map (byte_through (placed (wal_pages index) (length base)) base log) (range_with_len 0 (a * b))) is.pages z
     ∙ map_each _ _ (range_with_len 0 (stated_pages (used log) * page_size (header log))) (same_byte index base log is t z (header_sized (header log) t)))

@@ -7,13 +7,13 @@ use Rattle.dbsource.specs.Snapshots.{HasRead}
 use Rattle.dbsource.specs.Sources.{SourceState}
 use Rattle.dblog.specs.Beside.{AsksBoth, BesideLength, BesideStep, Both, beside, tolds, trails}
 use Rattle.dblog.specs.Indexes.{Indexed, Indexes}
-use Rattle.dblog.specs.Placed.{IsInOnePage, Placed, base_ranges, log_ranges, placed, placed_len, through}
+use Rattle.dblog.specs.Placed.{IsInOnePage, Placed, base_ranges, log_ranges, placed, placed_len, through, wal_pages}
 use Rattle.dblog.specs.Recovered.{recovered}
 
 -- Beside a file that has bytes, a log of which something is used gives through its index what SQLite recovers.
 abbrev pub IndexRecovers : Type 0
 IndexRecovers = (index : Indexed) (base log : List ℕ) → Indexes index log → 0 < index.pages → 0 < length base
-    → through (placed index (length base)) base log ≡ recovered base log
+    → through (placed (wal_pages index) (length base)) base log ≡ recovered base log
 
 -- What a call read of a file and a log, by what it asked of the database, and what it answered.
 pub record HasReadBoth (base_step log_step : Step) (p : Placed) (P : List ByteRange → Type 0) (Q : List ℕ → List ByteRange → Type 0)
