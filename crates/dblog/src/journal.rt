@@ -139,6 +139,19 @@ impl Shape {
         self.page_size as usize + 8
     }
 
+    pub(crate) fn page_size(self) -> u32
+        ensures { result ≡ self.page_size }
+    {
+        self.page_size
+    }
+
+    // The pages that the database had.
+    pub(crate) fn pages(self) -> u32
+        ensures { result ≡ self.pages }
+    {
+        self.pages
+    }
+
     pub(crate) fn sector(self) -> u32
         ensures { result ≡ self.sector }
     {
