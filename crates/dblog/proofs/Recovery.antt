@@ -18,7 +18,7 @@ use Rattle.dbformat.specs.Numbers.{u32_at}
 use Rattle.dblog.specs.Wal.{commits, committed, frame_at, frame_size, frames, header, is_header, is_valid}
 use Rattle.dblog.specs.Wal.{page_number, page_size, stated_pages, used, valid, valid_frames, whole_frames}
 use Rattle.dblog.specs.declared.entry.Entry.{Entry}
-use Rattle.dblog.proofs.Named.{any_default, named_none, named_some, no_entry}
+use Rattle.dblog.proofs.LastOf.{IsIndexed, index_at, last_at, last_none}
 
 -- ---- the used frames of a log are its first ones
 
@@ -48,57 +48,13 @@ used_at log k t l =
     let n : k < whole_frames h (length log) = omega (arith, b.1, length-map-range_with_len (frame_at (frame_size h) log) 0 (whole_frames h (length log))) in
     a.0 ∙ ap (λ fs. get_or fs k []) v ∙ b.0 ∙ get_or-map-range_with_len (frame_at (frame_size h) log) 0 (whole_frames h (length log)) k k [] n (omega arith)
 
--- ---- the last frame of a page
-
-last_none : (page : ℕ) (fs : List (List ℕ)) (found : Option (List ℕ)) → ((k : ℕ) → k < length fs → page_number (get_or fs k []) ≡ page → ⊥)
-    → fold (λ found f. cond (page_number f == page) (Some f) found) found fs ≡ found
-last_none page [] found h = refl
-last_none page (f ∷ fs) found h =
-    let other : page_number f ≡ page → ⊥ = h 0 (omega arith) in
-    let test : (page_number f == page) ≡ false = grind (arith, nat_tests) in
-    rw test (last_none page fs found (λ k l. h (suc k) (omega arith)))
-
-last_at : (page k : ℕ) (fs : List (List ℕ)) (found : Option (List ℕ)) → k < length fs → page_number (get_or fs k []) ≡ page
-    → ((j : ℕ) → k < j → j < length fs → page_number (get_or fs j []) ≡ page → ⊥)
-    → fold (λ found f. cond (page_number f == page) (Some f) found) found fs ≡ Some (get_or fs k [])
-last_at page k [] found l is h = absurd (omega arith)
-last_at page zero (f ∷ fs) found l is h =
-    let test : (page_number f == page) ≡ true = grind (arith, nat_tests) in
-    rw test (last_none page fs (Some f) (λ j m. h (suc j) (omega arith) (omega arith)))
-last_at page (suc k) (f ∷ fs) found l is h =
-    last_at page k fs (cond (page_number f == page) (Some f) found) (omega arith) is (λ j m n. h (suc j) (omega arith) (omega arith))
-
--- ---- the entry of a page
-
-abbrev IsPlace : ℕ → List Entry → ℕ → Type 0
-IsPlace page es i = (i < length es) × ((get_or es i no_entry).page ≡ page) × ((k : ℕ) → k < i → (get_or es k no_entry).page ≡ page → ⊥)
-
-abbrev HasNone : ℕ → List Entry → Type 0
-HasNone page es = (k : ℕ) → k < length es → (get_or es k no_entry).page ≡ page → ⊥
-
-place_of : (page : ℕ) (es : List Entry) → ((i : ℕ) × IsPlace page es i) ⊎ HasNone page es
-place_of page [] = inr (λ k l. absurd (omega arith))
-place_of page (e ∷ es) = by_test (e.page == page) refl (place_of page es)
-  where
-    one_later : (k : ℕ) → (e.page ≡ page → ⊥) → ((j : ℕ) → j < k → (get_or es j no_entry).page ≡ page → ⊥)
-        → (j : ℕ) → j < suc k → (get_or (e ∷ es) j no_entry).page ≡ page → ⊥
-    one_later k n h zero l is = n is
-    one_later k n h (suc j) l is = h j (omega arith) is
-
-    by_test : (b : Bool) → b ≡ (e.page == page) → ((i : ℕ) × IsPlace page es i) ⊎ HasNone page es
-        → ((i : ℕ) × IsPlace page (e ∷ es) i) ⊎ HasNone page (e ∷ es)
-    by_test true t r = let is : e.page ≡ page = grind (arith, nat_tests) in inl (0, (omega arith, is, λ k l. absurd (omega arith)))
-    by_test false t (inl (i, (l, is, h))) =
-        let n : e.page ≡ page → ⊥ = λ z. grind (arith, nat_tests) in inl (suc i, (omega arith, is, one_later i n h))
-    by_test false t (inr h) = let n : e.page ≡ page → ⊥ = λ z. grind (arith, nat_tests) in inr (one_later (length es) n h)
-
 -- ---- a byte
 
 -- the frame that the index names for a page is its last one
 same_last : (es : List Entry) (fs : List (List ℕ)) (page : ℕ) → 0 < page → IsIndexOf es (map page_number fs)
-    → ((k : ℕ) × (k < length fs) × (named_frame es page ≡ Some k) × (last_of page fs ≡ Some (get_or fs k [])))
-    ⊎ ((named_frame es page ≡ None) × (last_of page fs ≡ None))
-same_last es fs page some is = by_place (place_of page es)
+    → ((k : ℕ) × (k < length fs) × (named_frame es page ≡ Some k) × (last_of page_number page fs ≡ Some (get_or fs k [])))
+    ⊎ ((named_frame es page ≡ None) × (last_of page_number page fs ≡ None))
+same_last es fs page some is = by_place (index_at es (map page_number fs) page some is)
   where
     number : (j : ℕ) → j < length fs → slice_index (map page_number fs) j ≡ page_number (get_or fs j [])
     number j l = get_or-map page_number fs j [] 0 l
@@ -106,48 +62,22 @@ same_last es fs page some is = by_place (place_of page es)
     size : length (map page_number fs) ≡ length fs
     size = length-map fs page_number
 
-    by_place : ((i : ℕ) × IsPlace page es i) ⊎ HasNone page es
-        → ((k : ℕ) × (k < length fs) × (named_frame es page ≡ Some k) × (last_of page fs ≡ Some (get_or fs k [])))
-        ⊎ ((named_frame es page ≡ None) × (last_of page fs ≡ None))
-    by_place (inl (i, (l, here, before))) =
-        let e = get_or es i no_entry in
-        let names = is.names i no_entry l in
-        let k : e.frame < length fs = omega (arith, names.0, size) in
-        inl (e.frame, k, named_some page i es l here before, last_at page e.frame fs None k (sym (number e.frame k) ∙ names.1 ∙ here) after)
-      where
-        after : (j : ℕ) → (get_or es i no_entry).frame < j → j < length fs → page_number (get_or fs j []) ≡ page → ⊥
-        after j m n z =
-            let (q, x, inside, at, (xp, xf)) = is.last j (omega (arith, n, size)) (omega (arith, number j n, z, some)) in
-            let here_too : x.page ≡ page = xp ∙ number j n ∙ z in
-            let same : get_or es q no_entry ≡ x = sym (any_default es q x inside) ∙ at in
-            by_order {q = q} (cases_order q i) x inside same here_too j xf m
-          where
-            cases_order : (a b : ℕ) → (a < b) ⊎ ((a ≡ b) ⊎ (b < a))
-            cases_order a b = grind arith
+    by_place : IsIndexed es (map page_number fs) page
+        → ((k : ℕ) × (k < length fs) × (named_frame es page ≡ Some k) × (last_of page_number page fs ≡ Some (get_or fs k [])))
+        ⊎ ((named_frame es page ≡ None) × (last_of page_number page fs ≡ None))
+    by_place (inl (k, l, named, here, after)) =
+        let m : k < length fs = omega (arith, l, size) in
+        inl (k, m, named, last_at page_number [] page k fs None m (sym (number k m) ∙ here)
+        (λ j n o z. after j n (omega (arith, o, size)) (number j o ∙ z)))
+    by_place (inr (named, none)) =
+        inr (named, last_none page_number [] page fs None (λ j n z. none j (omega (arith, n, size)) (number j n ∙ z)))
 
-            by_order : {q : ℕ} → (q < i) ⊎ ((q ≡ i) ⊎ (i < q)) → (x : Entry) → q < length es → get_or es q no_entry ≡ x → x.page ≡ page
-                → (j : ℕ) → j ≤ x.frame → (get_or es i no_entry).frame < j → ⊥
-            by_order {q} (inl m) x inside same z j f n = before q m (ap (λ (y : Entry). y.page) same ∙ z)
-            by_order {q} (inr (inl m)) x inside same z j f n =
-                let e : (get_or es i no_entry).frame ≡ x.frame = ap (λ k. (get_or es k no_entry).frame) (sym m) ∙ ap (λ (y : Entry). y.frame) same in
-                omega arith
-            by_order {q} (inr (inr m)) x inside same z j f n =
-                let r = is.rising i q no_entry m inside in
-                let e : (get_or es q no_entry).page ≡ page = ap (λ (y : Entry). y.page) same ∙ z in
-                omega (arith, here)
-    by_place (inr none) = inr (
-      named_none page es none,
-      last_none page fs None (λ j n z.
-          let (q, x, inside, at, (xp, xf)) = is.last j (omega (arith, n, size)) (omega (arith, number j n, z, some)) in
-          none q inside (ap (λ (y : Entry). y.page) (sym (any_default es q x inside) ∙ at) ∙ xp ∙ number j n ∙ z)),
-    )
-
-map_each : (f g : ℕ → ℕ) (xs : List ℕ) → ((x : ℕ) → f x ≡ g x) → map f xs ≡ map g xs
+pub map_each : (f g : ℕ → ℕ) (xs : List ℕ) → ((x : ℕ) → f x ≡ g x) → map f xs ≡ map g xs
 map_each f g [] h = refl
 map_each f g (x ∷ xs) h = ap₂ (λ a b. a ∷ b) (h x) (map_each f g xs h)
 
 -- past the end of a file there is 0
-padded_whole : (base : List ℕ) (i : ℕ) → padded_byte (length base) base i ≡ slice_index base i
+pub padded_whole : (base : List ℕ) (i : ℕ) → padded_byte (length base) base i ≡ slice_index base i
 padded_whole base i = by_test (nat_lt i (length base)) refl
   where
     by_test : (b : Bool) → b ≡ nat_lt i (length base) → cond b (slice_index base i) 0 ≡ slice_index base i
@@ -203,11 +133,11 @@ same_byte index base log is t z some i =
     n : ℕ
     n = i / index.page_size + 1
 
-    last_is : last_of (i / size + 1) (used log) ≡ last_of n (used log)
-    last_is = ap (λ m. last_of (i / m + 1) (used log)) (sym z)
+    last_is : last_of page_number (i / size + 1) (used log) ≡ last_of page_number n (used log)
+    last_is = ap (λ m. last_of page_number (i / m + 1) (used log)) (sym z)
 
-    by_place : ((k : ℕ) × (k < length (used log)) × (named_frame index.entries n ≡ Some k) × (last_of n (used log) ≡ Some (get_or (used log) k [])))
-        ⊎ ((named_frame index.entries n ≡ None) × (last_of n (used log) ≡ None)) → byte_through p base log i ≡ recovered_byte base size (used log) i
+    by_place : ((k : ℕ) × (k < length (used log)) × (named_frame index.entries n ≡ Some k) × (last_of page_number n (used log) ≡ Some (get_or (used log) k [])))
+        ⊎ ((named_frame index.entries n ≡ None) × (last_of page_number n (used log) ≡ None)) → byte_through p base log i ≡ recovered_byte base size (used log) i
     by_place (inl (k, l, named, last)) =
         ap (λ o. placed_byte p base log o i) named
         ∙ ap (λ m. slice_index log (page_start 56 (24 + m) k + i % m)) z

@@ -23,6 +23,6 @@ pub use error::LogError;
 pub use index::{Counts, Index};
 pub use journal_error::JournalError;
 pub use journal_reading::Journal;
-pub use laws::{both_are_read, index_recovers};
+pub use laws::{both_are_read, both_logs_recover, index_recovers, journal_rolls_back};
 pub use log_pages::LogPages;
 pub use logged::Logged;
