@@ -15,6 +15,7 @@ pub mod BothRuns
 pub mod LastOf
 pub mod Recovery
 pub mod RolledBack
+pub mod StatedSteps
 pub mod Answered
 pub mod JournalSteps
 pub mod JournalRuns

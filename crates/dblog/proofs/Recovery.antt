@@ -1,8 +1,8 @@
 -- By its index a log gives what SQLite recovers of it.
 use Rattle.std.proofs.Common.{◌≡◌, ℕ, suc, zero, ◌<◌, ◌≤◌, ◌+◌, ◌*◌, ◌/◌, ◌%◌, Bool, true, false, cond, List, [], ◌∷◌, length, map, drop, get_or}
 use Rattle.std.proofs.Common.{refl, sym, ap, ap₂, subst, ◌∙◌, arith, inl, inr}
-use Rattle.std.specs.Prelude.{◌⊎◌, ◌==◌, ◌&&◌, Option, Some, None, nat_lt, slice_index}
-use Rattle.std.specs.List.{fold, list_any, range_with_len}
+use Rattle.std.specs.Prelude.{◌⊎◌, ◌==◌, ◌&&◌, Some, None, nat_lt, slice_index}
+use Rattle.std.specs.List.{list_any, range_with_len}
 use Rattle.std.proofs.Math.Nat.{mod-lt}
 use Rattle.std.proofs.lemmas.Bool.Decides.{nat_tests}
 use Rattle.std.proofs.lemmas.List.{get_or-drop, get_or-map, get_or-take, get_or_past, length-map}
@@ -67,8 +67,13 @@ same_last es fs page some is = by_place (index_at es (map page_number fs) page s
         ⊎ ((named_frame es page ≡ None) × (last_of page_number page fs ≡ None))
     by_place (inl (k, l, named, here, after)) =
         let m : k < length fs = omega (arith, l, size) in
-        inl (k, m, named, last_at page_number [] page k fs None m (sym (number k m) ∙ here)
-        (λ j n o z. after j n (omega (arith, o, size)) (number j o ∙ z)))
+        inl (
+          k,
+          m,
+          named,
+          last_at page_number [] page k fs None m (sym (number k m) ∙ here)
+              (λ j n o z. after j n (omega (arith, o, size)) (number j o ∙ z)),
+        )
     by_place (inr (named, none)) =
         inr (named, last_none page_number [] page fs None (λ j n z. none j (omega (arith, n, size)) (number j n ∙ z)))
 

@@ -1,18 +1,17 @@
 -- By its index a rollback journal gives what SQLite rolls back.
 use Rattle.std.proofs.Common.{◌≡◌, ℕ, suc, zero, ◌<◌, ◌≤◌, ◌+◌, ◌-◌, ◌*◌, ◌/◌, ◌%◌, Bool, true, false, cond, List, [], ◌∷◌, ◌++◌, length, map, get_or}
-use Rattle.std.proofs.Common.{refl, sym, ap, ap₂, subst, ◌∙◌, arith, inl, inr}
+use Rattle.std.proofs.Common.{refl, sym, ap, ◌∙◌, arith, inl, inr}
 use Rattle.std.specs.Prelude.{◌⊎◌, ◌==◌, ◌&&◌, not, Option, Some, None, nat_le, nat_lt, slice_index}
 use Rattle.std.specs.List.{range_with_len}
 use Rattle.std.proofs.lemmas.Bool.Decides.{nat_tests}
-use Rattle.std.proofs.lemmas.List.FromFn.{length-map-range_with_len}
 use Rattle.dbformat.specs.Numbers.{u32_at}
-use Rattle.dblog.specs.Entries.{IsIndexOf, named_frame}
+use Rattle.dblog.specs.Entries.{named_frame}
 use Rattle.dblog.specs.Indexes.{Indexed, Indexes}
 use Rattle.dblog.specs.Journal.{Kept, after_gap, after_head, after_record, after_segment, first_head, gap, has_magic, is_record, is_used, names_super}
 use Rattle.dblog.specs.Journal.{next_place, record_at, records_from, sector_at, used_records, with_next, kept_at, place_after, shape}
-use Rattle.dblog.specs.JournalReading.{AreUnits, IndexesRecords, IsJournalOf, JournalIndexed}
+use Rattle.dblog.specs.JournalReading.{IndexesRecords, IsJournalOf, JournalIndexed}
 use Rattle.dblog.specs.Placed.{Placed, byte_through, journal_pages, page_start, placed, placed_byte, placed_len, through, wal_pages}
-use Rattle.dblog.specs.Recovered.{byte_before, last_of, recovered, recovered_by_both, rolled_back, rolled_byte, shape_beside, stored_size}
+use Rattle.dblog.specs.Recovered.{byte_before, last_of, recovered, recovered_by_both, rolled_back, rolled_byte, stored_size}
 use Rattle.dblog.specs.declared.entry.Entry.{Entry}
 use Rattle.dblog.specs.declared.journal.Place.{Place}
 use Rattle.dblog.specs.declared.journal.Shape.{Shape}

@@ -135,7 +135,7 @@ has_name len t = nat_lt 0 (u32_at 0 t) && (nat_le (u32_at 0 t) 512 && (nat_le (u
 
 -- the n bytes before the tail
 abbrev pub before_tail : ℕ → List ℕ → List ℕ
-before_tail n journal = take n (drop (length journal - 16 - n) journal)
+before_tail n journal = take n (drop (length journal - (16 + n)) journal)
 
 -- a name is summed by its bytes as signed numbers
 abbrev pub with_letter : ℕ → ℕ → ℕ
@@ -152,6 +152,10 @@ is_name t name = nat_lt 0 (slice_index name 0) && (name_sum name == u32_at 4 t)
 abbrev pub names_super : List ℕ → Bool
 names_super journal = nat_le 16 (length journal) && (has_name (length journal) (tail journal)
     && is_name (tail journal) (before_tail (u32_at 0 (tail journal)) journal))
+
+-- that name
+abbrev pub super_name : List ℕ → Option (List ℕ)
+super_name journal = if names_super journal then Some (before_tail (u32_at 0 (tail journal)) journal) else None
 
 -- ---- what is used
 

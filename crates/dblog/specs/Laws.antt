@@ -29,7 +29,7 @@ abbrev pub BothLogsRecover : Type 0
 BothLogsRecover = (found : JournalIndexed) (index : Indexed) (base journal log : List ℕ) → IsJournalOf (stored_size base) (Some found) journal
     → 0 < length base → names_super journal ≡ false → Indexes index log → 0 < index.pages → 0 < placed_len (placed (journal_pages found) (length base))
     → let p = placed (journal_pages found) (length base) in
-      through (placed (wal_pages index) (placed_len p)) (through p base journal) log ≡ recovered_by_both base journal log
+    through (placed (wal_pages index) (placed_len p)) (through p base journal) log ≡ recovered_by_both base journal log
 
 -- What a call read of a file and a log, by what it asked of the database, and what it answered.
 pub record HasReadBoth (base_step log_step : Step) (p : Placed) (P : List ByteRange → Type 0) (Q : List ℕ → List ByteRange → Type 0)

@@ -1,8 +1,8 @@
 -- The database that a write-ahead log (Database File Format, 4.3 and 4.4) and a rollback journal (3) leave: byte by byte.
-use Rattle.std.specs.Prelude.{ℕ, ◌+◌, ◌*◌, ◌/◌, ◌%◌, ◌==◌, Bool, ◌&&◌, ◌||◌, not, List, length, map, nat_lt, slice_index, Option, Some, None}
+use Rattle.std.specs.Prelude.{ℕ, ◌+◌, ◌*◌, ◌/◌, ◌%◌, ◌==◌, Bool, ◌&&◌, ◌||◌, not, List, drop, take, length, map, nat_lt, slice_index, Option, Some, None}
 use Rattle.std.specs.Prelude.{if◌then◌else◌}
 use Rattle.std.specs.List.{fold, range_with_len}
-use Rattle.dbformat.specs.Header.{page_size as header_size}
+use Rattle.dbformat.specs.Numbers.{u16_at}
 use Rattle.dblog.specs.Journal.{Kept, first_head, is_used, names_super, shape, used_records}
 use Rattle.dblog.specs.Wal.{header, page_number, page_size, stated_pages, used}
 use Rattle.dblog.specs.declared.journal.Shape.{Shape}
@@ -31,9 +31,13 @@ recovered db log =
 
 -- ---- the rollback journal
 
--- the size of a page that the header of a database states (1.3.2), or 0 where it is not whole up to there
+-- the size of a page that two bytes of a header state: 1 is 65536
+abbrev pub size_in : List ℕ → ℕ
+size_in two = if u16_at 0 two == 1 then 65536 else u16_at 0 two
+
+-- the one that the header of a database states, at byte 16 (1.3.2), or 0 where the file ends before
 abbrev pub stored_size : List ℕ → ℕ
-stored_size db = if nat_lt (length db) 18 then 0 else header_size db
+stored_size db = if nat_lt (length db) 18 then 0 else size_in (take 2 (drop 16 db))
 
 -- what the first head of a journal says beside a database
 abbrev pub shape_beside : List ℕ → List ℕ → Shape

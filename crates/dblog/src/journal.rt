@@ -34,7 +34,7 @@ pub struct Place {
 }
 
 pub(crate) fn has_magic(head: &[u8]) -> bool
-    requires { 28 ≤ length head.now }
+    requires { 8 ≤ length head.now }
     ensures { result ≡ has_magic head.now }
 {
     u32_at(head, 0) == 0xd9d5_05f9 && u32_at(head, 4) == 0x20a1_63d7

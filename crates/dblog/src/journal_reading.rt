@@ -277,6 +277,13 @@ impl<A: Allocator + Copy> Journal<A> {
 }
 
 impl<A: Allocator> Journal<A> {
+    /// Its length in bytes.
+    pub fn len(&self) -> u64
+        ensures { result ≡ self.now.shape.len }
+    {
+        self.shape.len()
+    }
+
     /// The pages that the database had.
     pub fn pages(&self) -> u32
         ensures { result ≡ self.now.shape.pages }

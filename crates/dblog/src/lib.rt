@@ -11,8 +11,11 @@ mod journal_reading;
 mod laws;
 mod log_pages;
 mod logged;
+mod names;
 mod reading;
+mod rollback;
 mod scan;
+mod stated;
 mod sums;
 #[cfg(test)]
 mod tests;
@@ -26,3 +29,6 @@ pub use journal_reading::Journal;
 pub use laws::{both_are_read, both_logs_recover, index_recovers, journal_rolls_back};
 pub use log_pages::LogPages;
 pub use logged::Logged;
+pub use names::{SuperName, super_name};
+pub use rollback::Rollback;
+pub use stated::measure;
