@@ -2,7 +2,7 @@
 use Rattle.std.specs.Prelude.{◌≡◌, ℕ, length, IfSome, ◌==◌, ◌&&◌, Bool, true, false, nat_lt, List, codes, Option, Some, None, Result, Ok, Err, IsErr}
 use Rattle.dblog.specs.Beside.{Beside, BesideLength, BesideStep, beside}
 use Rattle.dblog.specs.Indexes.{Indexed}
-use Rattle.dblog.specs.Placed.{placed}
+use Rattle.dblog.specs.Placed.{Located, placed, wal_pages}
 use Rattle.dblog.specs.Reading.{ReadsLog}
 use Rattle.dblog.specs.declared.error.LogError.{LogError}
 use Rattle.dblog.specs.declared.error.LogError.TheVariants as log_error
@@ -78,8 +78,8 @@ FitsHeader size (Ok h) r = r ≡ Ok ((geometry_of h.bytes h.file_len).page_size 
 FitsHeader size (Err e) r = FitsError e r
 
 -- the two as one
-abbrev pub joined : {S : Type 0} → Indexed → ℕ → S × S → Beside S S
-joined index len both = record { placed = placed index len; base = both.0; log = both.1; past_end = 0 }
+abbrev pub joined : {S : Type 0} → Located → ℕ → S × S → Beside S S
+joined pages len both = record { placed = placed pages len; base = both.0; log = both.1; past_end = 0 }
 
 -- something of the log is used
 abbrev pub is_used : Indexed → ℕ → Bool
@@ -145,7 +145,7 @@ module _ {S O E : Type 0} (source : SourceWords S) (out : OutWords O) (err : Out
   -- Where something of the log is used, both as one are run; else the file alone.
   abbrev pub RunsUsed : List Change → Task → ℕ → Bool → Indexed → ℕ → (S × S) × O × E → (S × S) × O × E → Type 0
   RunsUsed changes asked status true index len old new = (left : Beside S S) × (new.0 ≡ (left.base, left.log))
-      × RunsLogged changes asked status (joined index len old.0, old.1, old.2) (left, new.1, new.2)
+      × RunsLogged changes asked status (joined (wal_pages index) len old.0, old.1, old.2) (left, new.1, new.2)
   RunsUsed changes asked status false index len old new =
       RunsInside source out err changes (DoesWith source out err changes asked status) status (old.0.0, old.1, old.2) (new.0.0, new.1, new.2)
       × (new.0.1 ≡ old.0.1)

@@ -173,7 +173,7 @@ fn run_beside<R: Lookup + AllocGlobal, S: Source + Drop, O: Out, E: Out, N: Out,
     match found {
         Ok((index, len)) => {
             if is_used(&index, len) {
-                let both = Logged::new(index, base, len, log);
+                let both = Logged::new(index.into_pages(), base, len, log);
                 let (status, both) = run_logged(line, both, out, err, notes, progress);
                 return (status, both.into_inner());
             }

@@ -50,8 +50,9 @@ next_at s file p q e = by_left (p.left == 0) refl e
         let z : p.left ≡ 0 = grind (arith, nat_tests) in
         (by_sector (p.at % s.sector == 0) e, λ l. absurd (omega (arith, z, l)))
     by_left false t e =
-        let x = some_if (is_record s p.nonce (record_at s file p.at)) (let y : Place = record { at = p.at + (s.page_size + 8); left = p.left - 1; nonce = p.nonce } in y)
-        q (some_when (nat_le (p.at + (s.page_size + 8)) s.len) _ q e) in
+        let next : Place = record { at = p.at + (s.page_size + 8); left = p.left - 1; nonce = p.nonce } in
+        let x = some_if (is_record s p.nonce (record_at s file p.at)) next q
+        (some_when (nat_le (p.at + (s.page_size + 8)) s.len) _ q e) in
         let at : p.at + (s.page_size + 8) ≡ q.at = ap (λ (y : Place). y.at) x in
         (omega (arith, at), λ l. omega (arith, at))
 
@@ -188,7 +189,8 @@ journal_rolls_back found base journal (used, shaped, is) some alone =
     let t : (nat_lt 0 (length base) && (not (names_super journal) && is_used (stored_size base) (first_head journal) (length journal))) ≡ true =
     rw (e, alone, used) refl in
     rw t (map_each _ _ (range_with_len 0 (placed_len (placed (journal_pages found) (length base)))) (same_byte found base journal is)
-    ∙ ap (λ (s : Shape). map (rolled_byte base journal s.page_size (used_records (stored_size base) journal)) (range_with_len 0 (s.pages * s.page_size))) shaped)
+    ∙ ap (λ (s : Shape). map (rolled_byte base journal s.page_size (used_records (stored_size base) journal)) (range_with_len 0 (s.pages * s.page_size)))
+    shaped)
 
 pub both_logs_recover : (found : JournalIndexed) (index : Indexed) (base journal log : List ℕ) → IsJournalOf (stored_size base) (Some found) journal
     → 0 < length base → names_super journal ≡ false → Indexes index log → 0 < index.pages → 0 < placed_len (placed (journal_pages found) (length base))

@@ -1,5 +1,5 @@
 use Rattle.std.proofs.Common.{rules, ◌≡◌, ◌∙◌, ap, refl, sym, subst, true, false, Ok, Err}
-use Rattle.dbcli.specs.Beside.{FindsLog, RunsLogged}
+use Rattle.dbcli.specs.Beside.{FindsLog, RunsLogged, joined}
 use Rattle.dbcli.proofs.beside.run_beside.Goals as goal
 
 pub returns-then-is_used : goal.returns-then-is_used
@@ -21,7 +21,8 @@ returns-then-is_used g c =
           c.into_inner.ensures,
           subst (λ x. RunsLogged g.S.Source g.O.Out g.E.Out c.args.line.now.changes c.args.line.now.task c.run_logged-status.result.0
               (x, c.args.out.now, c.args.err.now) (c.run_logged-status.result.1, c.run_logged-status.new.out, c.run_logged-status.new.err))
-              c.new-both.ensures c.run_logged-status.ensures,
+              (c.new-both.ensures ∙ ap (λ p. joined p c.in-Ok.len (c.find_log-found.new.base, c.find_log-found.new.log)) c.into_pages.ensures)
+              c.run_logged-status.ensures,
         ),
       );
     }
