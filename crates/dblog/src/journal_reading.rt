@@ -1,6 +1,7 @@
 // Reading a rollback journal: once, in order, from its start.
-ghost use Rattle.std.specs.Prelude.{◌≡◌, ◌+◌, ◌%◌, ◌^◌, ◌<◌, ◌≤◌, ◌&&◌, IfOk, IsTrue, length};
+ghost use Rattle.std.specs.Prelude.{◌≡◌, ◌+◌, ◌%◌, ◌^◌, ◌<◌, ◌≤◌, ◌&&◌, IfOk, IfSome, IsTrue, length};
 ghost use Rattle.std.specs.List.{AllPairs};
+ghost use Rattle.dbsource.specs.Sources.{AreBytes};
 ghost use Rattle.dblog.specs.Journal.{IsSized, has_magic, is_shape};
 ghost use Rattle.dblog.specs.JournalReading.{FindsPlace, KeepsRecord, MovesOn, ReadsAfterHead, ReadsJournal, ReadsPlaces, ReadsRecords, ReadsWithin};
 ghost use Rattle.dblog.specs.Placed.{journal_pages};
@@ -262,6 +263,7 @@ impl<A: Allocator + Copy> Journal<A> {
         stored: u32,
     ) -> Result<Option<Journal<A>>, JournalError>
         ensures reads { ReadsJournal S.step S.lengths stored result (S.held journal.old) (S.held journal.new) }
+        ensures bytes { IfSome (S.held journal.old).bytes AreBytes }
     {
         let len = journal.len()?;
         if len < LEAST_LEN {

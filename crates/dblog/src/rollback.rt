@@ -36,7 +36,8 @@ fn read_named<L: Source, A: Allocator + Copy>(
     len: u64,
     stored: u32,
 ) -> Result<Rollback<A>, JournalError>
-    ensures { ReadsNamed L.step L.lengths len stored result (L.held log.old) (L.held log.new) }
+    ensures named { ReadsNamed L.step L.lengths len stored result (L.held log.old) (L.held log.new) }
+    ensures bytes { IfSome (L.held log.old).bytes AreBytes }
 {
     match Journal::read(alloc, log, stored) {
         Ok(Some(journal)) => match super_name(log, journal.len()) {
@@ -70,6 +71,8 @@ impl<A: Allocator + Copy> Rollback<A> {
     ) -> Result<Rollback<A>, JournalError>
         ensures found { FindsJournal B.step B.lengths L.step L.lengths result (record { base = B.held base.old; log = L.held log.old })
             (record { base = B.held base.new; log = L.held log.new }) }
+        ensures base { IfSome (B.held base.new).bytes AreBytes }
+        ensures log { OnOk result (IfSome (L.held log.new).bytes AreBytes) }
     {
         match measure(base) {
             Ok((len, stored)) => read_named(alloc, log, len, stored),

@@ -1,5 +1,6 @@
 // The size of a page that the header of a database states.
-ghost use Rattle.std.specs.Prelude.{◌≡◌, length};
+ghost use Rattle.std.specs.Prelude.{◌≡◌, IfSome, length};
+ghost use Rattle.dbsource.specs.Sources.{AreBytes};
 ghost use Rattle.dblog.specs.Recovered.{size_in};
 ghost use Rattle.dblog.specs.Stated.{Measures};
 
@@ -29,6 +30,7 @@ fn size_in(two: &[u8]) -> u32
 /// [`ReadFailed`] exactly where the source failed.
 pub fn measure<S: Source>(base: &mut S) -> Result<(u64, u32), ReadFailed>
     ensures size { Measures S.step S.lengths result (S.held base.old) (S.held base.new) }
+    ensures bytes { IfSome (S.held base.new).bytes AreBytes }
 {
     let len = base.len()?;
     if len < LEAST_LEN {

@@ -3,8 +3,8 @@ use Rattle.dblog.specs.JournalReading.{ReadsJournal}
 use Rattle.dblog.specs.Stated.{ReadsName}
 use Rattle.dblog.proofs.rollback.read_named.Goals as goal
 
-pub returns-in-Err-super_name : goal.returns-in-Err-super_name
-returns-in-Err-super_name g c =
+pub returns-in-Err-super_name-clause-named : goal.returns-in-Err-super_name-clause-named
+returns-in-Err-super_name-clause-named g c =
     let a = c.in-Ok-Some.is in
     let b = c.in-Ok-Some.field-0-is in
     let d = c.in-Ok-Some.journal-is in
