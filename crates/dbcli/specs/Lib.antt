@@ -6,6 +6,7 @@ pub mod Exit
 pub mod Finishing
 pub mod Handing
 pub mod NoteLines
+pub mod OpeningFiles
 pub mod Requests
 pub mod Rest
 pub mod Running
