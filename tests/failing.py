@@ -1,5 +1,5 @@
 #!/usr/bin/env python3
-"""What a run over a database and its log answers where a read fails, or memory is refused: each call in turn.
+"""What a run over a database and a log of it answers where a read fails, or memory is refused: each call in turn.
 
     tests/failing.py DBCK FOLDER
 
@@ -101,11 +101,11 @@ def run(dbck, folder):
     library = folder + "/failing.so"
     logs.put(folder + "/failing.c", LIBRARY.encode())
     subprocess.run(["cc", "-shared", "-fPIC", "-O1", "-o", library, folder + "/failing.c", "-ldl"], check=True)
-    # without and with a fault
-    for more in ([], ["--with", "100=07"]):
+    # beside each log, without and with a fault
+    for more, suffix in ((more, suffix) for suffix in ("-wal", "-journal") for more in ([], ["--with", "100=07"])):
         os.makedirs(folder + "/pair")
-        logs.wal_pair(folder + "/pair", rnd)
-        pair = (folder + "/pair/kept", folder + "/pair/kept-wal")
+        (logs.wal_pair if suffix == "-wal" else logs.hot_pair)(folder + "/pair", rnd)
+        pair = (folder + "/pair/kept", folder + "/pair/kept" + suffix)
         before = logs.seen(pair)
         for command in COMMANDS:
             words = [dbck] + command + more + ["--recovered", pair[0]]

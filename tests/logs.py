@@ -5,8 +5,8 @@
 
 Makes PAIRS pairs of a database and a log (500 if it is not said) in FOLDER, whole and damaged. SQLite recovers a copy of each; the
 definitions of `dblog`, written here once more from SQLite's document on its file format (sections 3 and 4), have to give the same bytes.
-Beside a write-ahead log the program has to print of the pair, with `--recovered`, what it prints of the recovered file, and end so; and
-the pair has to be as it was. A rollback journal is not read by it yet: there its definitions alone are compared.
+The program has to print of the pair, with `--recovered`, what it prints of the recovered file, and end so; and the pair has to be as it
+was. Some pairs are of a transaction over two databases: their journals name a super-journal, and are not rolled back where that is gone.
 """
 
 import os
@@ -16,6 +16,7 @@ import signal
 import sqlite3
 import subprocess
 import sys
+import threading
 
 WAL_MAGIC = (0x377F0682, 0x377F0683)
 JOURNAL_MAGIC = bytes.fromhex("d9d505f920a163d7")
@@ -115,19 +116,35 @@ def is_record(journal, at, nonce, size):
     return u32(journal, at) not in (0, lock) and total & 0xFFFFFFFF == u32(journal, at + 4 + size)
 
 
+def names_super(journal):
+    """Whether a journal ends in the name of a super-journal, as SQLite writes it: the name, its length, its sum, the magic."""
+    size = u32(journal, len(journal) - 16) if len(journal) >= 16 else 0
+    if not 0 < size <= min(512, len(journal) - 16) or journal[-8:] != JOURNAL_MAGIC:
+        return False
+    name = journal[len(journal) - 16 - size : len(journal) - 16]
+    total = sum(letter - 256 * (letter > 127) for letter in name)
+    return name[0] > 0 and total & 0xFFFFFFFF == u32(journal, len(journal) - 12)
+
+
+def journal_shape(db, journal):
+    """The sizes of a sector and of a page, and the pages that the database had; or None where the journal is not rolled back."""
+    if not db or len(journal) < 512 or journal[:8] != JOURNAL_MAGIC or names_super(journal):
+        return None
+    pages, sector, size = (u32(journal, at) for at in (16, 20, 24))
+    size = size or stored_size(db)
+    is_shape = is_power(size, 512, 65536) and is_power(sector, 32, 65536) and sector <= len(journal)
+    return (sector, size, pages) if is_shape else None
+
+
 def after_journal(db, journal):
     """The file that the journal makes of the database."""
-    if not db or not journal or journal[0] == 0:
+    shape = journal_shape(db, journal)
+    if shape is None:
         return db
-    sector, size, pages, at, out = 512, 0, None, 0, bytearray(db)
+    sector, size, pages = shape
+    out, at = bytearray(db[: pages * size].ljust(pages * size, b"\0")), 0
     while at + sector <= len(journal) and journal[at : at + 8] == JOURNAL_MAGIC:
-        count, nonce, before = (u32(journal, at + k) for k in (8, 12, 16))
-        if at == 0:
-            sector, size = u32(journal, 20), u32(journal, 24) or stored_size(db)
-            if not (is_power(size, 512, 65536) and is_power(sector, 32, 65536)) or sector > len(journal):
-                return db
-            pages = before
-            out = bytearray(db[: pages * size].ljust(pages * size, b"\0"))
+        count, nonce = (u32(journal, at + k) for k in (8, 12))
         if count == 0xFFFFFFFF:
             count = (len(journal) - sector) // (size + 8)
         at += sector
@@ -209,17 +226,63 @@ def wal_pair(folder, rnd):
 
 
 def journal_pair(folder, rnd):
+    kind = rnd.random()
+    if kind < 0.1:
+        return shared_pair(folder, rnd)
+    return hot_pair(folder, rnd, kind < 0.2)
+
+
+def hot_pair(folder, rnd, is_cold=False):
+    """A pair in a transaction, or after it."""
     path = folder + "/made"
     db = begun(path, rnd, rnd.choice(("DELETE", "PERSIST", "TRUNCATE")))
     db.execute("PRAGMA synchronous = %s" % rnd.choice(("FULL", "NORMAL", "OFF")))
     transactions(db, rnd, 4)
     db.execute("PRAGMA cache_size = 5")
     db.execute("PRAGMA cache_spill = 1")
+    if is_cold:
+        kept(path, "-journal", folder)
+        return db.close()
     db.execute("BEGIN")
     for _ in range(rnd.randrange(2, 8)):
         change(db, rnd)
     kept(path, "-journal", folder)
-    db.close()
+    return db.close()
+
+
+def shared_pair(folder, rnd):
+    """A pair that a writer left that was killed as it committed a transaction over two databases; its super-journal is gone."""
+    path = folder + "/made"
+    begun(path, rnd, "DELETE").close()
+    begun(folder + "/other", rnd, "DELETE").close()
+    child = os.fork()
+    if child == 0:
+        db = connect(path)
+        db.execute("ATTACH ? AS other", (folder + "/other",))
+        db.execute("PRAGMA synchronous = FULL")
+        db.execute("BEGIN")
+        change(db, rnd)
+        db.execute("UPDATE other.t SET a = 'x'")
+        db.execute("INSERT INTO other.t(a) VALUES ('y')")
+        threading.Thread(target=kill_when, args=(path + "-journal",), daemon=True).start()
+        db.execute("COMMIT")
+        os.kill(os.getpid(), signal.SIGKILL)
+    os.waitpid(child, 0)
+    kept(path, "-journal", folder)
+    for name in os.listdir(folder):
+        if "-mj" in name:
+            os.remove(os.path.join(folder, name))
+
+
+def kill_when(journal):
+    """Ends this process as soon as a journal names a super-journal."""
+    while True:
+        try:
+            with open(journal, "rb") as data:
+                if names_super(data.read()):
+                    os.kill(os.getpid(), signal.SIGKILL)
+        except OSError:
+            pass
 
 
 def with_other_order(wal):
@@ -326,29 +389,39 @@ def seen(paths):
     return found
 
 
-def reports(dbck, folder, db, wal, recovered):
+def reports(dbck, folder, db, log, suffix, recovered):
     """What the program says of the pair that it does not say of the recovered file; None is that the log does not fit."""
     pair, whole = folder + "/pair", folder + "/whole"
     put(pair, db)
-    put(pair + "-wal", wal)
+    put(pair + suffix, log)
     put(whole, recovered or b"")
-    before = seen((pair, pair + "-wal"))
+    before = seen((pair, pair + suffix))
     wrong = []
     for command in COMMANDS:
         got = ran(dbck, command + ["--recovered", pair])
         wanted = (3, b"", UNFIT) if recovered is None else ran(dbck, command + [whole])
         if got != wanted:
             wrong.append("%s: status %d, and not %d" % (" ".join(command), got[0], wanted[0]))
-    if seen((pair, pair + "-wal")) != before:
+    if seen((pair, pair + suffix)) != before:
         wrong.append("the pair was changed")
     return wrong
 
 
-def fits(wal, recovered):
-    """Whether the recovered file states the page size of the log, or none."""
-    stated_size = stored_size(recovered)
-    is_database = recovered[:16] == b"SQLite format 3\0" and is_power(stated_size, 512, 65536)
-    return not used_frames(wal) or not is_database or stated_size == u32(wal, 8)
+def fits(size, recovered):
+    """Whether the recovered file states the page size of the log, or is refused."""
+    stated = stored_size(recovered)
+    usable = stated - (recovered[20] if len(recovered) > 20 else 0)
+    is_database = recovered[:16] == b"SQLite format 3\0" and is_power(stated, 512, 65536) and usable >= 480
+    return len(recovered) < max(100, stated) or not is_database or stated == size
+
+
+def is_fit(db, log, is_wal, recovered):
+    """Whether the program is to report of the pair: SQLite opens the log, and its pages have the size that the recovered file states."""
+    if is_wal:
+        known = not is_log(log) or u32(log, 4) == VERSION
+        return known and (not used_frames(log) or not db or fits(u32(log, 8), recovered))
+    shape = journal_shape(db, log)
+    return shape is None or fits(shape[1], recovered)
 
 
 def killed_pair(folder, rnd):
@@ -395,12 +468,10 @@ def run(dbck, folder, pairs, seed):
         if theirs is not None and ours != theirs:
             wrong += 1
             print("pair %d: %s, %s: %s bytes, by SQLite %d" % (number, suffix, way, ours and len(ours), len(theirs)))
-        if is_wal:
-            known = not is_log(log) or u32(log, 4) == VERSION
-            said = reports(dbck, folder, db, log, ours if known and fits(log, ours) else None)
-            wrong += bool(said)
-            for line in said:
-                print("pair %d: %s, %s: %s" % (number, suffix, way, line))
+        said = reports(dbck, folder, db, log, suffix, ours if ours is not None and is_fit(db, log, is_wal, ours) else None)
+        wrong += bool(said)
+        for line in said:
+            print("pair %d: %s, %s: %s" % (number, suffix, way, line))
     for key in sorted(counts):
         print("%5d  %s" % (counts[key], ", ".join(key)))
     print("%d pairs, %d differ" % (pairs, wrong))

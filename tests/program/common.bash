@@ -193,7 +193,7 @@ at_first_note() {
 log_notes() {
     local rest='is not read, and may hold changes;'
     wal="dbck: note: $1-wal $rest --recovered reads it"$'\n'
-    journal="dbck: note: $1-journal $rest let SQLite open a copy of both files to recover it, and check that copy"$'\n'
+    journal="dbck: note: $1-journal $rest --recovered reads it"$'\n'
 }
 
 # changed_note FILE: the note on a file that was written meanwhile.

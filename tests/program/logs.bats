@@ -6,7 +6,7 @@ load common
 noted() {
     cp "$data/empty.db" "$work/noted.db"
     wal="dbck: note: $work/noted.db-wal is not read, and may hold changes; --recovered reads it"$'\n'
-    journal="dbck: note: $work/noted.db-journal is not read, and may hold changes; let SQLite open a copy of both files to recover it, and check that copy"$'\n'
+    journal="dbck: note: $work/noted.db-journal is not read, and may hold changes; --recovered reads it"$'\n'
 }
 
 @test 'an empty log holds nothing, and a folder is none' {

@@ -1,5 +1,5 @@
 #!/usr/bin/env bats
-# `--recovered`: the report of the database that SQLite would recover from a file and its write-ahead log; neither is written.
+# `--recovered`: the report of the database that SQLite would recover from a file and its logs; none is written.
 load common
 
 @test 'the report of a pair is that of what SQLite recovers, and neither file is written' {
@@ -36,6 +36,69 @@ load common
     cp "$data/whole.db" "$work/x.db"
     mkdir "$work/x.db-wal"
     exactly 4 '' "dbck: note: $work/x.db-wal: a directory"$'\n'"$unread" check --recovered "$work/x.db"
+}
+
+# journaled: makes before.db, and then.db in a transaction, with its journal, of which some pages were written.
+journaled() {
+    python3 - "$work" << 'END'
+import shutil, sqlite3, sys
+made = sys.argv[1] + "/made.db"
+db = sqlite3.connect(made, isolation_level=None)
+db.execute("PRAGMA page_size = 512")
+db.execute("CREATE TABLE t(id INTEGER PRIMARY KEY, a)")
+db.executemany("INSERT INTO t(a) VALUES (?)", (("x" * 100,) for _ in range(200)))
+shutil.copy(made, sys.argv[1] + "/before.db")
+db.execute("PRAGMA cache_size = 5")
+db.execute("BEGIN")
+db.execute("UPDATE t SET a = 'y'")
+for suffix in ("", "-journal"):
+    shutil.copy(made + suffix, sys.argv[1] + "/then.db" + suffix)
+END
+}
+
+@test 'a hot journal is rolled back, and neither file is written' {
+    local command
+    needs python3
+    journaled
+    cp "$work/then.db" "$work/kept.db"
+    cp "$work/then.db-journal" "$work/kept.db-journal"
+    for command in check 'stat --all' explain; do
+        # shellcheck disable=SC2086
+        dbck $command "$work/before.db"
+        cp "$work/out" "$work/wanted"
+        # shellcheck disable=SC2086
+        dbck $command --recovered "$work/then.db"
+        row "what $command writes beside a journal" cmp "$work/out" "$work/wanted"
+        row "the note of $command on a journal" grep -q "then.db-journal: [0-9]* pages are read from it; the database had [0-9]* pages" "$work/err"
+    done
+    cmp "$work/then.db" "$work/kept.db"
+    cmp "$work/then.db-journal" "$work/kept.db-journal"
+}
+
+@test 'a journal that is not hot, or names a super-journal, is not rolled back' {
+    needs python3
+    journaled
+    dbck check "$work/then.db"
+    cp "$work/out" "$work/alone"
+    python3 - "$work/then.db-journal" << 'END'
+import sys
+with open(sys.argv[1], "ab") as journal:
+    name = b"/none/main.db-mj1"
+    journal.write(name + len(name).to_bytes(4, "big") + sum(name).to_bytes(4, "big") + bytes.fromhex("d9d505f920a163d7"))
+END
+    dbck check --recovered "$work/then.db"
+    cmp "$work/out" "$work/alone"
+    grep -q 'then.db-journal names the super-journal /none/main.db-mj1, and is not rolled back' "$work/err"
+    printf '\0' | dd of="$work/then.db-journal" conv=notrunc status=none
+    dbck check --recovered "$work/then.db"
+    cmp "$work/out" "$work/alone"
+    grep -q 'then.db-journal is not hot, and is not rolled back: it begins with 0, or its header is not one' "$work/err"
+}
+
+@test 'a journal that cannot be opened is E8, with its name' {
+    cp "$data/whole.db" "$work/x.db"
+    mkdir "$work/x.db-journal"
+    exactly 4 '' "dbck: note: $work/x.db-journal: a directory"$'\n'"$unread" check --recovered "$work/x.db"
 }
 
 @test 'a log of another version does not fit' {

@@ -1,9 +1,12 @@
--- A file and the log beside it: how they are opened, read, run and given back.
-use Rattle.std.specs.Prelude.{◌≡◌, ℕ, length, IfSome, ◌==◌, ◌&&◌, Bool, true, false, nat_lt, List, codes, Option, Some, None, Result, Ok, Err, IsErr}
-use Rattle.dblog.specs.Beside.{Beside, BesideLength, BesideStep, beside}
+-- A file and the logs beside it: how they are read, and run.
+use Rattle.std.specs.Prelude.{◌≡◌, ℕ, length, IfSome, ◌==◌, ◌&&◌, Bool, true, false, nat_lt, List, Option, Some, None, Result, Ok, Err, IsErr}
+use Rattle.dblog.specs.Beside.{Beside, BesideLength, BesideStep, Both, beside}
 use Rattle.dblog.specs.Indexes.{Indexed}
-use Rattle.dblog.specs.Placed.{placed}
+use Rattle.dblog.specs.Placed.{Located, placed, wal_pages}
 use Rattle.dblog.specs.Reading.{ReadsLog}
+use Rattle.dblog.specs.Rollbacks.{FindsJournal, Found, used_pages}
+use Rattle.dblog.specs.declared.journal_error.JournalError.{JournalError}
+use Rattle.dblog.specs.declared.journal_error.JournalError.TheVariants as journal_error
 use Rattle.dblog.specs.declared.error.LogError.{LogError}
 use Rattle.dblog.specs.declared.error.LogError.TheVariants as log_error
 use Rattle.dbformat.specs.FixedPages.{geometry_of}
@@ -26,36 +29,6 @@ use Rattle.dbcli.specs.Tasks.{DoesWith}
 use Rattle.dbcli.specs.declared.error_lines.Unrun.TheVariants.{Version, PageSize}
 use Rattle.dbcli.specs.declared.task.Task.{Task}
 
--- what a write-ahead log's name has after that of its database
-abbrev pub wal_suffix : List ℕ
-wal_suffix = codes "-wal"
-
-module _ {F S : Type 0} (opens : F → List ℕ → Result S Unread → F → Type 0)
-    (opens_log : F → List ℕ → List ℕ → Result (Option S) RunError → F → Type 0) (closes : F → S → F → Type 0) where
-  -- What became of a file that was opened, after its log was opened too: where that failed, it was given back.
-  abbrev pub KeepsBoth : S → Result (Option S) RunError → Result (S × Option S) RunError → F → F → Type 0
-  KeepsBoth base (Ok log) r old new = (r ≡ Ok (base, log)) × (new ≡ old)
-  KeepsBoth base (Err e) r old new = (r ≡ Err e) × closes old base new
-
-  -- The log was opened after the file, once, if the line asks for it.
-  abbrev pub OpensLog : Bool → List ℕ → Result S Unread → Result (S × Option S) RunError → F → F → Type 0
-  OpensLog recovered path (Err e) r old new = (r ≡ Err ReadFailed) × (new ≡ old)
-  OpensLog false path (Ok base) r old new = (r ≡ Ok (base, None)) × (new ≡ old)
-  OpensLog true path (Ok base) r old new =
-      (log : Result (Option S) RunError) × (mid : F) × opens_log old path wal_suffix log mid × KeepsBoth base log r mid new
-
-  -- What was opened of a path: the file, once, and then perhaps its log, and nothing else.
-  pub record OpensFiles (recovered : Bool) (path : List ℕ) (r : Result (S × Option S) RunError) (old new : F) : Type 0 where
-    pub base : Result S Unread
-    pub between : F
-    pub opened : opens old path base between
-    pub log : OpensLog recovered path base r between new
-
-  -- What was opened is given back: the file, and then the log.
-  abbrev pub ClosesFiles : S × Option S → F → F → Type 0
-  ClosesFiles (base, None) old new = closes old base new
-  ClosesFiles (base, Some log) old new = (mid : F) × closes old base mid × closes mid log new
-
 -- the status and the line of a log that was not read
 abbrev pub log_status : LogError → ℕ
 log_status log_error.ReadFailed = exit_status (Err ReadFailed)
@@ -66,6 +39,12 @@ abbrev pub log_line : LogError → List ℕ
 log_line log_error.ReadFailed = error_line ReadFailed
 log_line (log_error.OutOfMemory refused) = error_line OutOfMemory
 log_line log_error.Version = unrun_line Version
+
+-- the error that ends a run where a journal was not read: one that is too long is none that can be read
+abbrev pub journal_run_error : JournalError → RunError
+journal_run_error journal_error.ReadFailed = ReadFailed
+journal_run_error (journal_error.OutOfMemory refused) = OutOfMemory
+journal_run_error journal_error.TooLong = ReadFailed
 
 -- a header that is refused is left to the run
 abbrev pub FitsError : OpenError → Result Bool Unread → Type 0
@@ -78,28 +57,29 @@ FitsHeader size (Ok h) r = r ≡ Ok ((geometry_of h.bytes h.file_len).page_size 
 FitsHeader size (Err e) r = FitsError e r
 
 -- the two as one
-abbrev pub joined : {S : Type 0} → Indexed → ℕ → S × S → Beside S S
-joined index len both = record { placed = placed index len; base = both.0; log = both.1; past_end = 0 }
+abbrev pub joined : {B L : Type 0} → Located → ℕ → B × L → Beside B L
+joined pages len both = record { placed = placed pages len; base = both.0; log = both.1; past_end = 0 }
 
 -- something of the log is used
 abbrev pub is_used : Indexed → ℕ → Bool
 is_used index len = nat_lt 0 index.pages && nat_lt 0 len
 
-module _ {S : Type 0} (source : SourceWords S) where
+module _ {B L : Type 0} (base : SourceWords B) (log : SourceWords L) where
   -- a source over both
-  abbrev pub both_words : SourceWords (Beside S S)
+  abbrev pub both_words : SourceWords (Beside B L)
   both_words = record {
-    held = λ s. beside s.placed s.past_end (source.held s.base) (source.held s.log);
-    step = BesideStep source.step source.step;
+    held = λ s. beside s.placed s.past_end (base.held s.base) (log.held s.log);
+    step = BesideStep base.step log.step;
     lengths = BesideLength;
   }
 
   -- The header of both as one was looked at.
-  pub record LooksAtHeader (r : Result Bool Unread) (old new : Beside S S) : Type 0 where
+  pub record LooksAtHeader (r : Result Bool Unread) (old new : Beside B L) : Type 0 where
     pub header : Result HeaderBytes OpenError
     pub opens : Opens both_words.step both_words.lengths header (both_words.held old) (both_words.held new)
     pub fits : FitsHeader old.placed.page_size header r
 
+module _ {S : Type 0} (source : SourceWords S) where
   -- a length that a source answered: that of its told bytes
   pub record HasLength (len : ℕ) (old : S) : Type 0 where
     pub answered : source.lengths (source.held old).trail len
@@ -113,61 +93,100 @@ module _ {S : Type 0} (source : SourceWords S) where
   MeasuresBase (Ok index) (Err e) old new =
       (e ≡ log_error.ReadFailed) × (source.held new ≡ (record (source.held old) { failures = one_more (source.held old).failures }))
 
+module _ {B L : Type 0} (base : SourceWords B) (log : SourceWords L) where
   -- What was found of both: the log was read, once, in order, from its start, and then the length of the file was asked for.
-  pub record FindsLog (r : Result (Indexed × ℕ) LogError) (old new : S × S) : Type 0 where
+  pub record FindsLog (r : Result (Indexed × ℕ) LogError) (old new : B × L) : Type 0 where
     pub index : Result Indexed LogError
-    pub reads : ReadsLog source.step source.lengths index (source.held old.1) (source.held new.1)
-    pub base : MeasuresBase index r old.0 new.0
+    pub reads : ReadsLog log.step log.lengths index (log.held old.1) (log.held new.1)
+    pub measured : MeasuresBase base index r old.0 new.0
 
-module _ {S O E : Type 0} (source : SourceWords S) (out : OutWords O) (err : OutWords E) where
+module _ {O E : Type 0} (err : OutWords E) where
   -- Where there is no run: nothing was done to the first Out, and the second got this line, which was handed on, if it could be.
   pub record EndsSo (line : List ℕ) (old new : O × E) : Type 0 where
     pub first : new.0 ≡ old.0
     pub second : EndsWithLine line 2 (err.held old.1) (err.held new.1)
 
-  -- ---- and then there is a run
+  -- What came after a header was looked at: the run, if it fits.
+  abbrev pub RunsFitting : {X : Type 0} → (X × O × E → X × O × E → Type 0) → ℕ → Result Bool Unread → X × O × E → X × O × E → Type 0
+  RunsFitting Ran status (Ok true) old new = Ran old new
+  RunsFitting Ran status (Ok false) old new = (new.0 ≡ old.0) × (status ≡ 3) × EndsSo (unrun_line PageSize) (old.1, old.2) (new.1, new.2)
+  RunsFitting Ran status (Err e) old new = (new.0 ≡ old.0) × (status ≡ 4) × EndsSo (error_line ReadFailed) (old.1, old.2) (new.1, new.2)
 
-  -- A run of both as one, if the header fits.
-  abbrev pub RunsFitting : List Change → Task → ℕ → Result Bool Unread → Beside S S × O × E → Beside S S × O × E → Type 0
-  RunsFitting changes asked status (Ok true) old new =
-      RunsInside (both_words source) out err changes (DoesWith (both_words source) out err changes asked status) status old new
-  RunsFitting changes asked status (Ok false) old new =
-      (new.0 ≡ old.0) × (status ≡ 3) × EndsSo (unrun_line PageSize) (old.1, old.2) (new.1, new.2)
-  RunsFitting changes asked status (Err e) old new =
-      (new.0 ≡ old.0) × (status ≡ 4) × EndsSo (error_line ReadFailed) (old.1, old.2) (new.1, new.2)
-
-  pub record RunsLogged (changes : List Change) (asked : Task) (status : ℕ) (old new : Beside S S × O × E) : Type 0 where
+module _ {B L O E : Type 0} (base : SourceWords B) (log : SourceWords L) (out : OutWords O) (err : OutWords E) where
+  -- A run of a file and its log as one, if the header fits.
+  pub record RunsLogged (changes : List Change) (asked : Task) (status : ℕ) (old new : Beside B L × O × E) : Type 0 where
     pub fits : Result Bool Unread
-    pub mid : Beside S S
-    pub looked : LooksAtHeader source fits old.0 mid
-    pub ran : RunsFitting changes asked status fits (mid, old.1, old.2) new
+    pub mid : Beside B L
+    pub looked : LooksAtHeader base log fits old.0 mid
+    pub ran : RunsFitting err (RunsInside (both_words base log) out err changes (DoesWith (both_words base log) out err changes asked status) status)
+        status fits (mid, old.1, old.2) new
 
   -- Where something of the log is used, both as one are run; else the file alone.
-  abbrev pub RunsUsed : List Change → Task → ℕ → Bool → Indexed → ℕ → (S × S) × O × E → (S × S) × O × E → Type 0
-  RunsUsed changes asked status true index len old new = (left : Beside S S) × (new.0 ≡ (left.base, left.log))
-      × RunsLogged changes asked status (joined index len old.0, old.1, old.2) (left, new.1, new.2)
+  abbrev pub RunsUsed : List Change → Task → ℕ → Bool → Indexed → ℕ → (B × L) × O × E → (B × L) × O × E → Type 0
+  RunsUsed changes asked status true index len old new = (left : Beside B L) × (new.0 ≡ (left.base, left.log))
+      × RunsLogged changes asked status (joined (wal_pages index) len old.0, old.1, old.2) (left, new.1, new.2)
   RunsUsed changes asked status false index len old new =
-      RunsInside source out err changes (DoesWith source out err changes asked status) status (old.0.0, old.1, old.2) (new.0.0, new.1, new.2)
+      RunsInside base out err changes (DoesWith base out err changes asked status) status (old.0.0, old.1, old.2) (new.0.0, new.1, new.2)
       × (new.0.1 ≡ old.0.1)
 
-  abbrev pub RunsFound : List Change → Task → ℕ → Result (Indexed × ℕ) LogError → (S × S) × O × E → (S × S) × O × E → Type 0
+  abbrev pub RunsFound : List Change → Task → ℕ → Result (Indexed × ℕ) LogError → (B × L) × O × E → (B × L) × O × E → Type 0
   RunsFound changes asked status (Err e) old new =
-      (new.0 ≡ old.0) × (status ≡ log_status e) × EndsSo (log_line e) (old.1, old.2) (new.1, new.2)
+      (new.0 ≡ old.0) × (status ≡ log_status e) × EndsSo err (log_line e) (old.1, old.2) (new.1, new.2)
   RunsFound changes asked status (Ok (index, len)) old new =
       (used : Bool) × (used ≡ is_used index len) × RunsUsed changes asked status used index len old new
 
-  -- What became of a file and its log.
-  pub record RunsBeside (changes : List Change) (asked : Task) (status : ℕ) (old new : (S × S) × O × E) : Type 0 where
+  -- What became of a file and its write-ahead log.
+  pub record RunsBeside (changes : List Change) (asked : Task) (status : ℕ) (old new : (B × L) × O × E) : Type 0 where
     pub found : Result (Indexed × ℕ) LogError
-    pub mid : S × S
-    pub looked : FindsLog source found old.0 mid
+    pub mid : B × L
+    pub looked : FindsLog base log found old.0 mid
     pub ran : RunsFound changes asked status found (mid, old.1, old.2) new
 
-  -- What became of what was opened: of the file alone, or of both.
-  abbrev pub RunsFiles : List Change → Task → ℕ → S × Option S → S × Option S → O × E → O × E → Type 0
-  RunsFiles changes asked status (base, None) (left, None) old new =
-      RunsInside source out err changes (DoesWith source out err changes asked status) status (base, old.0, old.1) (left, new.0, new.1)
-  RunsFiles changes asked status (base, Some log) (left, Some rest) old new =
-      RunsBeside changes asked status ((base, log), old.0, old.1) ((left, rest), new.0, new.1)
-  RunsFiles changes asked status (base, None) (left, Some rest) old new = ⊥
-  RunsFiles changes asked status (base, Some log) (left, None) old new = ⊥
+  -- What became of a file and of its write-ahead log, if it has one: of the file alone, or of both.
+  abbrev pub RunsBase : List Change → Task → ℕ → (B × Option L) × O × E → (B × Option L) × O × E → Type 0
+  RunsBase changes asked status ((file, None), o, e) ((left, None), p, f) =
+      RunsInside base out err changes (DoesWith base out err changes asked status) status (file, o, e) (left, p, f)
+  RunsBase changes asked status ((file, Some wal), o, e) ((left, Some rest), p, f) =
+      RunsBeside changes asked status ((file, wal), o, e) ((left, rest), p, f)
+  RunsBase changes asked status ((file, None), o, e) ((left, Some rest), p, f) = ⊥
+  RunsBase changes asked status ((file, Some wal), o, e) ((left, None), p, f) = ⊥
+
+module _ {S O E : Type 0} (source : SourceWords S) (out : OutWords O) (err : OutWords E) where
+  -- A run of what a journal makes of a file, if the header fits; with the write-ahead log, if there is one.
+  pub record RunsRolled (changes : List Change) (asked : Task) (status : ℕ) (old new : (Beside S S × Option S) × O × E) : Type 0 where
+    pub fits : Result Bool Unread
+    pub mid : Beside S S
+    pub looked : LooksAtHeader source source fits old.0.0 mid
+    pub ran : RunsFitting err (RunsBase (both_words source source) source out err changes asked status) status fits
+        ((mid, old.0.1), old.1, old.2) new
+
+  -- Where the journal is rolled back, what it makes of the file is run; else the file as it is.
+  abbrev pub RunsPages : List Change → Task → ℕ → Option Located → ℕ → (S × S × Option S) × O × E → (S × S × Option S) × O × E → Type 0
+  RunsPages changes asked status (Some pages) len old new =
+      (left : Beside S S × Option S) × (new.0 ≡ (left.0.base, left.0.log, left.1))
+      × RunsRolled changes asked status ((joined pages len (old.0.0, old.0.1), old.0.2), old.1, old.2) (left, new.1, new.2)
+  RunsPages changes asked status None len old new = (new.0.1 ≡ old.0.1)
+      × RunsBase source source out err changes asked status ((old.0.0, old.0.2), old.1, old.2) ((new.0.0, new.0.2), new.1, new.2)
+
+  abbrev pub RunsRollback : List Change → Task → ℕ → Result Found JournalError → (S × S × Option S) × O × E → (S × S × Option S) × O × E → Type 0
+  RunsRollback changes asked status (Err e) old new = (new.0 ≡ old.0) × (status ≡ exit_status (Err (journal_run_error e)))
+      × EndsSo err (error_line (journal_run_error e)) (old.1, old.2) (new.1, new.2)
+  RunsRollback changes asked status (Ok found) old new =
+      (pages : Option Located) × (pages ≡ used_pages found) × RunsPages changes asked status pages found.len old new
+
+  -- What became of a file, its journal, and perhaps its write-ahead log.
+  pub record RunsJournal (changes : List Change) (asked : Task) (status : ℕ) (old new : (S × S × Option S) × O × E) : Type 0 where
+    pub found : Result Found JournalError
+    pub mid : S × S
+    pub looked : FindsJournal source.step source.lengths source.step source.lengths found
+        (record { base = source.held old.0.0; log = source.held old.0.1 }) (record { base = source.held mid.0; log = source.held mid.1 })
+    pub ran : RunsRollback changes asked status found ((mid.0, mid.1, old.0.2), old.1, old.2) new
+
+  -- What became of what was opened: of the file, with the logs that there are.
+  abbrev pub RunsFiles : List Change → Task → ℕ → S × Option S × Option S → S × Option S × Option S → O × E → O × E → Type 0
+  RunsFiles changes asked status (base, None, wal) (left, None, rest) old new =
+      RunsBase source source out err changes asked status ((base, wal), old.0, old.1) ((left, rest), new.0, new.1)
+  RunsFiles changes asked status (base, Some journal, wal) (left, Some cold, rest) old new =
+      RunsJournal changes asked status ((base, journal, wal), old.0, old.1) ((left, cold, rest), new.0, new.1)
+  RunsFiles changes asked status (base, None, wal) (left, Some cold, rest) old new = ⊥
+  RunsFiles changes asked status (base, Some journal, wal) (left, None, rest) old new = ⊥

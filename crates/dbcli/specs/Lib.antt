@@ -7,6 +7,7 @@ pub mod Finishing
 pub mod Formats
 pub mod Handing
 pub mod NoteLines
+pub mod OpeningFiles
 pub mod Requests
 pub mod Rest
 pub mod Running

@@ -6,9 +6,10 @@ use Rattle.dbsource.specs.declared.error.RunError.{RunError}
 use Rattle.dbsource.specs.declared.out.Out.{Ghosts as OutWords}
 use Rattle.dbsource.specs.declared.source.ReadFailed.{ReadFailed as Unread}
 use Rattle.dbsource.specs.declared.source.Source.{Ghosts as SourceWords}
-use Rattle.dbcli.specs.Beside.{ClosesFiles, EndsSo, OpensFiles, RunsFiles}
+use Rattle.dbcli.specs.Beside.{EndsSo, RunsFiles}
 use Rattle.dbcli.specs.CommandLine.{AreSpelled, AsksFor, HasLimit, IsErrorOf, IsRecoveredOf, dbck_app}
 use Rattle.dbcli.specs.ErrorLines.{error_line}
+use Rattle.dbcli.specs.OpeningFiles.{ClosesFiles, OpensFiles}
 use Rattle.dbcli.specs.Status.{exit_status, line_status}
 use Rattle.dbcli.specs.declared.command_line.LineError.{LineError}
 use Rattle.dbcli.specs.declared.task.Task.{Task}
@@ -21,17 +22,17 @@ module _ {F S O E : Type 0} (opens : F → List ℕ → Result S Unread → F �
     (opens_log : F → List ℕ → List ℕ → Result (Option S) RunError → F → Type 0) (closes : F → S → F → Type 0)
     (source : SourceWords S) (out : OutWords O) (err : OutWords E) where
   -- What was opened was run with these changes, and was given back as that left it: nothing else was asked of it. Or nothing is open.
-  abbrev pub RunsOpened : List Change → Task → ℕ → Result (S × Option S) RunError → F × O × E → F × O × E → Type 0
-  RunsOpened changes asked status (Ok opened) old new = (left : S × Option S)
+  abbrev pub RunsOpened : List Change → Task → ℕ → Result (S × Option S × Option S) RunError → F × O × E → F × O × E → Type 0
+  RunsOpened changes asked status (Ok opened) old new = (left : S × Option S × Option S)
       × RunsFiles source out err changes asked status opened left (old.1, old.2) (new.1, new.2)
       × ClosesFiles opens opens_log closes left old.0 new.0
   RunsOpened changes asked status (Err e) old new =
-      (status ≡ exit_status (Err e)) × EndsSo source out err (error_line e) (old.1, old.2) (new.1, new.2) × (new.0 ≡ old.0)
+      (status ≡ exit_status (Err e)) × EndsSo err (error_line e) (old.1, old.2) (new.1, new.2) × (new.0 ≡ old.0)
 
-  -- What became of a line that asks this of the file at this path, with its log or without, and with these changes.
+  -- What became of a line that asks this of the file at this path, with its logs or without, and with these changes.
   pub record RunsLine (recovered : Bool) (changes : List Change) (asked : Task) (path : Text) (status : ℕ) (old new : F × O × E) : Type 0 where
-    -- that file was opened, and its log, if the line asks for it, or could not be, and no other
-    pub answer : Result (S × Option S) RunError
+    -- that file was opened, and its logs, if the line asks for them, or could not be, and no other
+    pub answer : Result (S × Option S × Option S) RunError
     pub between : F
     pub opened : OpensFiles opens opens_log closes recovered path answer old.0 between
     -- and what was opened was run

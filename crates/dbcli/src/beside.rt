@@ -1,7 +1,7 @@
-// A file, and the log beside it.
+// A file, and the write-ahead log beside it.
 ghost use Rattle.std.specs.Prelude.{◌≡◌, IfSome, OnOk};
 ghost use Rattle.dbsource.specs.Sources.{AreBytes};
-ghost use Rattle.dbcli.specs.Beside.{ClosesFiles, FindsLog, FitsError, LooksAtHeader, OpensFiles, RunsBeside, RunsFiles, RunsLogged, is_used, log_line, log_status};
+ghost use Rattle.dbcli.specs.Beside.{FindsLog, FitsError, LooksAtHeader, RunsBase, RunsBeside, RunsLogged, is_used, log_line, log_status};
 ghost use Rattle.dbcli.specs.Exit.{EndsWithLine};
 ghost use Rattle.dbcli.specs.Finishing.{RunsInside};
 ghost use Rattle.dbcli.specs.Tasks.{DoesWith};
@@ -11,50 +11,11 @@ use crate::error_lines::Unrun;
 use crate::finishing::{Notes, end, finish_line, put_unrun};
 use crate::lookup::Lookup;
 use crate::notes::FileNotes;
-use crate::opening::Opener;
 use crate::progress::Progress;
 use crate::watched::Watched;
 use dblog::{Index, LogError, Logged};
 use dbsource::{Header, OpenError, Out, Patched, ReadFailed, RunError, Source};
 use std::alloc::Global;
-
-/// What a write-ahead log's name has after that of its database.
-pub(crate) const WAL: &str = "-wal";
-
-/// Opens the file of a line, and its log, if the line asks for it and there is one. Where the log cannot be opened, the file is given
-/// back.
-pub(crate) fn open_files<F: Opener>(
-    files: &mut F,
-    line: &Line<'_>,
-) -> Result<(F::File, Option<F::File>), RunError>
-    ensures { OpensFiles F.opens F.opens_log F.closes line.now.recovered line.now.file.now result files.old files.new }
-{
-    let base = match files.open(line.file) {
-        Ok(base) => base,
-        Err(error) => return Err(RunError::from(error)),
-    };
-    if !line.recovered {
-        return Ok((base, None));
-    }
-    match files.open_log(line.file, WAL) {
-        Ok(log) => Ok((base, log)),
-        Err(error) => {
-            files.close(base);
-            Err(error)
-        }
-    }
-}
-
-/// Gives back what was opened.
-pub(crate) fn close_files<F: Opener>(files: &mut F, opened: (F::File, Option<F::File>))
-    ensures { ClosesFiles F.opens F.opens_log F.closes opened files.old files.new }
-{
-    let (base, log) = opened;
-    files.close(base);
-    if let Some(log) = log {
-        files.close(log);
-    }
-}
 
 // Runs a line over a source, and answers the exit status, and the source.
 fn run_over<R: Lookup + AllocGlobal, S: Source + Drop, O: Out, E: Out, N: Out, W: Print>(
@@ -76,10 +37,14 @@ fn run_over<R: Lookup + AllocGlobal, S: Source + Drop, O: Out, E: Out, N: Out, W
 }
 
 // Reads a log, and then asks for the length of its file.
-fn find_log<S: Source>(alloc: Global, base: &mut S, log: &mut S) -> Result<(Index, u64), LogError>
-    ensures found { FindsLog S.Source result (base.old, log.old) (base.new, log.new) }
-    ensures log { IfSome (S.held log.new).bytes AreBytes }
-    ensures base { OnOk result (IfSome (S.held base.new).bytes AreBytes) }
+fn find_log<B: Source, L: Source>(
+    alloc: Global,
+    base: &mut B,
+    log: &mut L,
+) -> Result<(Index, u64), LogError>
+    ensures found { FindsLog B.Source L.Source result (base.old, log.old) (base.new, log.new) }
+    ensures log { IfSome (L.held log.new).bytes AreBytes }
+    ensures base { OnOk result (IfSome (B.held base.new).bytes AreBytes) }
 {
     let index = Index::read(alloc, log)?;
     match base.len() {
@@ -114,8 +79,8 @@ fn unless_unread(error: OpenError) -> Result<bool, ReadFailed>
 }
 
 // Whether the header of the database states the page size of the log. One that is refused is left to the run.
-fn fits<S: Source>(both: &mut Logged<S, S>) -> Result<bool, ReadFailed>
-    ensures { LooksAtHeader S.Source result both.old both.new }
+pub(crate) fn fits<B: Source, L: Source>(both: &mut Logged<B, L>) -> Result<bool, ReadFailed>
+    ensures { LooksAtHeader B.Source L.Source result both.old both.new }
 {
     let size = both.page_size();
     match Header::read(both) {
@@ -125,15 +90,23 @@ fn fits<S: Source>(both: &mut Logged<S, S>) -> Result<bool, ReadFailed>
 }
 
 // Runs a line over a file and its log as one, if they fit.
-fn run_logged<R: Lookup + AllocGlobal, S: Source + Drop, O: Out, E: Out, N: Out, W: Print>(
+fn run_logged<
+    R: Lookup + AllocGlobal,
+    B: Source + Drop,
+    L: Source + Drop,
+    O: Out,
+    E: Out,
+    N: Out,
+    W: Print,
+>(
     line: &Line<'_>,
-    both: Logged<S, S>,
+    both: Logged<B, L>,
     out: &mut O,
     err: &mut E,
     notes: &mut FileNotes<'_, R, N>,
     progress: &Progress<W>,
-) -> (u8, Logged<S, S>)
-    ensures { RunsLogged S.Source O.Out E.Out line.now.changes line.now.task result.0 (both, out.old, err.old) (result.1, out.new, err.new) }
+) -> (u8, Logged<B, L>)
+    ensures { RunsLogged B.Source L.Source O.Out E.Out line.now.changes line.now.task result.0 (both, out.old, err.old) (result.1, out.new, err.new) }
 {
     let mut both = both;
     match fits(&mut both) {
@@ -157,15 +130,23 @@ fn is_used(index: &Index, len: u64) -> bool
 }
 
 // Runs a line over a file and its log: over both as one, if something of the log is used.
-fn run_beside<R: Lookup + AllocGlobal, S: Source + Drop, O: Out, E: Out, N: Out, W: Print>(
+fn run_beside<
+    R: Lookup + AllocGlobal,
+    B: Source + Drop,
+    L: Source + Drop,
+    O: Out,
+    E: Out,
+    N: Out,
+    W: Print,
+>(
     line: &Line<'_>,
-    opened: (S, S),
+    opened: (B, L),
     out: &mut O,
     err: &mut E,
     notes: &mut FileNotes<'_, R, N>,
     progress: &Progress<W>,
-) -> (u8, (S, S))
-    ensures { RunsBeside S.Source O.Out E.Out line.now.changes line.now.task result.0 (opened, out.old, err.old) (result.1, out.new, err.new) }
+) -> (u8, (B, L))
+    ensures { RunsBeside B.Source L.Source O.Out E.Out line.now.changes line.now.task result.0 (opened, out.old, err.old) (result.1, out.new, err.new) }
 {
     let (mut base, mut log) = opened;
     let found = find_log(notes.alloc(), &mut base, &mut log);
@@ -173,7 +154,7 @@ fn run_beside<R: Lookup + AllocGlobal, S: Source + Drop, O: Out, E: Out, N: Out,
     match found {
         Ok((index, len)) => {
             if is_used(&index, len) {
-                let both = Logged::new(index, base, len, log);
+                let both = Logged::new(index.into_pages(), base, len, log);
                 let (status, both) = run_logged(line, both, out, err, notes, progress);
                 return (status, both.into_inner());
             }
@@ -184,23 +165,24 @@ fn run_beside<R: Lookup + AllocGlobal, S: Source + Drop, O: Out, E: Out, N: Out,
     }
 }
 
-/// Runs a line over what was opened, and answers the exit status, and what is to be given back.
-pub(crate) fn run_files<
+/// Runs a line over a file and its write-ahead log, if it has one, and answers the exit status, and both.
+pub(crate) fn run_base<
     R: Lookup + AllocGlobal,
-    S: Source + Drop,
+    B: Source + Drop,
+    L: Source + Drop,
     O: Out,
     E: Out,
     N: Out,
     W: Print,
 >(
     line: &Line<'_>,
-    opened: (S, Option<S>),
+    opened: (B, Option<L>),
     out: &mut O,
     err: &mut E,
     notes: &mut FileNotes<'_, R, N>,
     progress: &Progress<W>,
-) -> (u8, (S, Option<S>))
-    ensures { RunsFiles S.Source O.Out E.Out line.now.changes line.now.task result.0 opened result.1 (out.old, err.old) (out.new, err.new) }
+) -> (u8, (B, Option<L>))
+    ensures { RunsBase B.Source L.Source O.Out E.Out line.now.changes line.now.task result.0 (opened, out.old, err.old) (result.1, out.new, err.new) }
 {
     let (base, log) = opened;
     match log {

@@ -1,14 +1,9 @@
 // The notes on a write-ahead log that was read.
 
-use crate::note::{NoteOut, Piece};
+use crate::note::{NoteOut, Piece, by_number};
 use crate::shown::Shown;
 use dblog::{Counts, Index, LogError};
 use dbsource::Out;
-
-// One of two words, by a number.
-fn by_number(number: u64, one: &'static str, more: &'static str) -> Piece {
-    Piece::Words(if number == 1 { one } else { more })
-}
 
 // How many pages the log gives.
 fn given_pages(index: &Index) -> u64 {

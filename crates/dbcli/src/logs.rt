@@ -1,19 +1,13 @@
 // The logs of SQLite beside a database that are not read.
-use crate::beside::WAL;
 use crate::lookup::Lookup;
 use crate::note::{NoteOut, Piece};
+use crate::opened_files::{JOURNAL, WAL};
 use crate::shown::Shown;
 use dbsource::Out;
 use std::alloc::AllocError;
 
-// What a log's name has after that of its database, and what may be done with it.
-const LOGS: [(&str, &'static str); 2] = [
-    ("-wal", "--recovered reads it"),
-    (
-        "-journal",
-        "let SQLite open a copy of both files to recover it, and check that copy",
-    ),
-];
+// What a log's name has after that of its database.
+const LOGS: [&str; 2] = [WAL, JOURNAL];
 
 // Whether there is a file at this path that is not empty.
 fn has_bytes<R: Lookup>(rt: &R, path: &str) -> bool {
@@ -27,27 +21,25 @@ fn has_bytes<R: Lookup>(rt: &R, path: &str) -> bool {
 fn put_note<R: Lookup + AllocGlobal, N: Out>(
     rt: &R,
     database: &str,
-    (suffix, duty): (&str, &'static str),
+    suffix: &str,
     notes: &mut NoteOut<'_, N>,
 ) -> Result<(), AllocError> {
     let path = format!(in rt.alloc(); "{database}{suffix}")?;
     if has_bytes(rt, path.as_str()) {
         let name = Shown::of(rt.alloc(), path.as_str())?;
-        let said = [
-            Piece::Words(" is not read, and may hold changes; "),
-            Piece::Words(duty),
-        ];
-        notes.put(&name, &said);
+        notes.put(
+            &name,
+            &[Piece::Words(" is not read, and may hold changes; --recovered reads it")],
+        );
     }
     Ok(())
 }
 
-/// Puts a note for each log of SQLite beside the database at `file` that is not read, and not empty: beside the database itself, where
-/// `file` is a link to it. An error in looking for one is ignored, and so is a line that cannot be put.
+/// Puts a note for each log of SQLite beside the database at `file` that is not empty: beside the database itself, where `file` is a link
+/// to it. An error in looking for one is ignored, and so is a line that cannot be put.
 pub(crate) fn put_log_notes<R: Lookup + AllocGlobal, N: Out>(
     rt: &R,
     file: &str,
-    recovered: bool,
     notes: &mut NoteOut<'_, N>,
 ) {
     let Ok(target) = rt.link_target(file) else {
@@ -55,9 +47,6 @@ pub(crate) fn put_log_notes<R: Lookup + AllocGlobal, N: Out>(
     };
     let database = target.as_deref().unwrap_or(file);
     for log in LOGS {
-        if recovered && log.0 == WAL {
-            continue;
-        }
         let _ = put_note(rt, database, log, notes);
     }
 }

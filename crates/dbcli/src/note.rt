@@ -20,6 +20,11 @@ pub(crate) enum Piece {
     First([u8; 16]),
 }
 
+/// One of two words, by a number.
+pub(crate) fn by_number(number: u64, one: &'static str, more: &'static str) -> Piece {
+    Piece::Words(if number == 1 { one } else { more })
+}
+
 /// An Out for notes alone.
 #[derive(Drop)]
 pub(crate) struct NoteOut<'a, N> {

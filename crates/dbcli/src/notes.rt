@@ -3,21 +3,22 @@ ghost use Rattle.std.specs.Prelude.{◌≡◌, ◌==◌, ◌<◌, ◌%◌, ◌�
 ghost use Rattle.std.specs.List.{list_all};
 ghost use Rattle.dbcli.specs.NoteLines.{beginning_text, piece_text};
 
-use crate::beside::WAL;
 use crate::error_lines::Unrun;
 use crate::finishing::Notes;
 use crate::format::Format;
+use crate::journal_notes::put_journal;
 use crate::log_notes::put_found;
 use crate::logs::put_log_notes;
 use crate::lookup::Lookup;
 use crate::note::{NoteOut, Piece};
+use crate::opened_files::{JOURNAL, WAL};
 use crate::rest::put_rest;
 use crate::shown::Shown;
 use crate::stamp::Stamp;
 use crate::task::Task;
 use crate::unwritten::FailedWrites;
 use crate::watched::Watch;
-use dblog::{Index, LogError};
+use dblog::{Index, JournalError, LogError, Rollback};
 use dbreport::Verdict;
 use dbsource::{Changes, Out, Refusal, RunError};
 use std::alloc::Global;
@@ -72,10 +73,12 @@ impl<'a, R: Lookup + AllocGlobal, N: Out> FileNotes<'a, R, N> {
         self.watch
     }
 
-    /// Says that the file was opened, and its write-ahead log too, if that is read. A note is put on each log beside it that is not.
+    /// Says that the file was opened, and its logs too, if those are read. A note is put on each log beside it that is not.
     pub fn opened(&mut self, recovered: bool) {
         self.is_open = true;
-        put_log_notes(self.rt, self.file, recovered, &mut self.notes);
+        if !recovered {
+            put_log_notes(self.rt, self.file, &mut self.notes);
+        }
     }
 
     /// Says that the file could not be opened, or a log of it, and why, if that is known.
@@ -95,6 +98,15 @@ impl<'a, R: Lookup + AllocGlobal, N: Out> FileNotes<'a, R, N> {
             && let Ok(name) = Shown::of(alloc, name.as_str())
         {
             put_found(&mut self.notes, &name, found);
+        }
+        self.is_read = found.is_ok();
+    }
+
+    /// Says what was found in the rollback journal, and of the file before that: a note is put on it.
+    pub fn journal_read(&mut self, found: &Result<Rollback, JournalError>) {
+        let (alloc, file) = (self.rt.alloc(), self.file);
+        if let Ok(name) = format!(in alloc; "{file}{JOURNAL}") {
+            put_journal(alloc, &mut self.notes, name.as_str(), found);
         }
         self.is_read = found.is_ok();
     }

@@ -2,14 +2,15 @@
 ghost use Rattle.std.specs.Prelude.{◌≡◌, map};
 ghost use Rattle.dbcli.specs.Running.{AnswersWords, IsErrorStatus, RunsLine};
 
-use crate::beside::{close_files, open_files, run_files};
 use crate::command_line::{Line, LineError, line_of};
 use crate::error_lines::{error_line, no_memory_line};
 use crate::finishing::end;
 use crate::lookup::Lookup;
 use crate::notes::FileNotes;
+use crate::opened_files::{close_files, open_files};
 use crate::opening::Opener;
 use crate::progress::Progress;
+use crate::rolled::run_files;
 use crate::status::line_status;
 use crate::unwritten::{FailedWrite, FailedWrites, StreamName};
 use crate::watched::Watch;
@@ -38,7 +39,7 @@ impl<'a, R, F> System<'a, R, F> {
     }
 }
 
-/// Runs what a line asks for, on its file, with its log if the line asks for that, and with its changes, and answers the exit status.
+/// Runs what a line asks for, on its file, with its logs if the line asks for that, and with its changes, and answers the exit status.
 /// What is reported of the file beside the report is put to `notes`, and the progress is wiped at the end.
 pub fn run_line<R: Lookup + AllocGlobal, F: Opener, O: Out, E: Out, N: Out, W: Print>(
     system: &mut System<'_, R, F>,

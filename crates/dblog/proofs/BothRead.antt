@@ -31,14 +31,14 @@ no_failure (Err x) m n n' e = inr (refl, inl (e, refl))
 -- the log gives it
 log_gives : {E : Type 0} (r : Result (Unit {0}) E) (p : Placed) (offset frame : ℕ) (buf : List ℕ) → 0 < p.page_size
     → IsInOnePage p (range offset (length buf)) → frame_for p offset ≡ Some frame
-    → IsThrough p (answer r offset buf) [] (answer r (page_start p.page_size frame + offset % p.page_size) buf ∷ [])
+    → IsThrough p (answer r offset buf) [] (answer r (page_start p.first p.stride frame + offset % p.page_size) buf ∷ [])
 log_gives (Err e) p offset frame buf some one at f g h k = tt
 log_gives (Ok x) p offset frame buf some one at f g h k = page_range p f g offset (Some frame) buf some one at (λ i l.
-    byte_of_range g (page_start p.page_size frame + offset % p.page_size) buf k.0 i l
+    byte_of_range g (page_start p.first p.stride frame + offset % p.page_size) buf k.0 i l
     ∙ ap (slice_index g) (place i l))
   where
     place : (i : ℕ) → i < length buf
-        → page_start p.page_size frame + offset % p.page_size + i ≡ page_start p.page_size frame + (offset + i) % p.page_size
+        → page_start p.first p.stride frame + offset % p.page_size + i ≡ page_start p.first p.stride frame + (offset + i) % p.page_size
     place i l = let e = page_place p.page_size offset i some (omega (arith, one.one)) in omega (arith, e)
 
 fails_by_log : {E : Type 0} (r : Result (Unit {0}) E) (p : Placed) (offset place : ℕ) (buf : List ℕ)
@@ -48,12 +48,12 @@ fails_by_log (Err e) p offset place buf = λ l. refl
 
 pub read_from_log : {E : Type 0} {bs ls : Step} (p : Placed) (offset frame : ℕ) (r : Result (Unit {0}) E) (buf : List ℕ) (b l l' : SourceState)
     → 0 < p.page_size → IsInOnePage p (range offset (length buf)) → frame_for p offset ≡ Some frame
-    → l'.bytes ≡ l.bytes → ls l.trail (answer r (page_start p.page_size frame + offset % p.page_size) buf) l'.trail
+    → l'.bytes ≡ l.bytes → ls l.trail (answer r (page_start p.first p.stride frame + offset % p.page_size) buf) l'.trail
     → l'.failures ≡ failures_after is_any r l.failures
-    → OnOk r (IfSome l.bytes (λ file. IsRangeOf file (page_start p.page_size frame + offset % p.page_size) buf))
+    → OnOk r (IfSome l.bytes (λ file. IsRangeOf file (page_start p.first p.stride frame + offset % p.page_size) buf))
     → ReadsBoth bs ls p offset r buf (record { base = b; log = l }) (record { base = b; log = l' })
 read_from_log p offset frame r buf b l l' some one at told step count fits =
-    let place = page_start p.page_size frame + offset % p.page_size in
+    let place = page_start p.first p.stride frame + offset % p.page_size in
     record {
       told_base = refl;
       told_log = told;

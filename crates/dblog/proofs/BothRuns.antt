@@ -33,16 +33,21 @@ same_entries (d ∷ es) (f ∷ fs) e =
 
 same_placed : (p q : Placed) → placed_numbers p ≡ placed_numbers q → p ≡ q
 same_placed p q e =
-    let first : numbers p.page_size (p.pages ∷ p.base_len ∷ []) ≡ numbers q.page_size (q.pages ∷ q.base_len ∷ []) = cc in
+    let head : numbers p.page_size (p.pages ∷ p.first ∷ p.stride ∷ p.base_len ∷ [])
+    ≡ numbers q.page_size (q.pages ∷ q.first ∷ q.stride ∷ q.base_len ∷ []) = cc in
     let rest : map entry_numbers p.entries ≡ map entry_numbers q.entries = cc in
-    let size : p.page_size ≡ q.page_size = ap (λ (c : Change). c.offset) first in
-    let two : p.pages ∷ p.base_len ∷ [] ≡ q.pages ∷ q.base_len ∷ [] = ap (λ (c : Change). c.bytes) first in
+    let size : p.page_size ≡ q.page_size = ap (λ (c : Change). c.offset) head in
+    let four : p.pages ∷ p.first ∷ p.stride ∷ p.base_len ∷ [] ≡ q.pages ∷ q.first ∷ q.stride ∷ q.base_len ∷ [] = ap (λ (c : Change). c.bytes) head in
     let pages : p.pages ≡ q.pages = cc in
+    let first : p.first ≡ q.first = cc in
+    let stride : p.stride ≡ q.stride = cc in
     let len : p.base_len ≡ q.base_len = cc in
     let entries = same_entries p.entries q.entries rest in
     ap (λ n. let r : Placed = record p { page_size = n } in r) size ∙ ap (λ n. let r : Placed = record p { page_size = q.page_size; pages = n } in r) pages
-    ∙ ap (λ n. let r : Placed = record { page_size = q.page_size; pages = q.pages; entries = p.entries; base_len = n } in r) len
-    ∙ ap (λ es. let r : Placed = record { page_size = q.page_size; pages = q.pages; entries = es; base_len = q.base_len } in r) entries
+    ∙ ap (λ n. let r : Placed = record p { page_size = q.page_size; pages = q.pages; first = n } in r) first
+    ∙ ap (λ n. let r : Placed = record q { stride = n; entries = p.entries; base_len = p.base_len } in r) stride
+    ∙ ap (λ n. let r : Placed = record q { entries = p.entries; base_len = n } in r) len
+    ∙ ap (λ es. let r : Placed = record q { entries = es } in r) entries
 
 same_front : {A : Type 0} (a b c d : List A) → length a ≡ length c → a ++ b ≡ c ++ d → (a ≡ c) × (b ≡ d)
 same_front a b c d l e = (

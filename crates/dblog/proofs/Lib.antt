@@ -12,7 +12,10 @@ pub mod BothRead
 pub mod ByPages
 pub mod Besides
 pub mod BothRuns
+pub mod LastOf
 pub mod Recovery
+pub mod RolledBack
+pub mod StatedSteps
 pub mod Answered
 pub mod JournalSteps
 pub mod JournalRuns

@@ -1,15 +1,15 @@
 -- By its index a log gives what SQLite recovers of it.
 use Rattle.std.proofs.Common.{◌≡◌, ℕ, suc, zero, ◌<◌, ◌≤◌, ◌+◌, ◌*◌, ◌/◌, ◌%◌, Bool, true, false, cond, List, [], ◌∷◌, length, map, drop, get_or}
 use Rattle.std.proofs.Common.{refl, sym, ap, ap₂, subst, ◌∙◌, arith, inl, inr}
-use Rattle.std.specs.Prelude.{◌⊎◌, ◌==◌, ◌&&◌, Option, Some, None, nat_lt, slice_index}
-use Rattle.std.specs.List.{fold, list_any, range_with_len}
+use Rattle.std.specs.Prelude.{◌⊎◌, ◌==◌, ◌&&◌, Some, None, nat_lt, slice_index}
+use Rattle.std.specs.List.{list_any, range_with_len}
 use Rattle.std.proofs.Math.Nat.{mod-lt}
 use Rattle.std.proofs.lemmas.Bool.Decides.{nat_tests}
 use Rattle.std.proofs.lemmas.List.{get_or-drop, get_or-map, get_or-take, get_or_past, length-map}
 use Rattle.std.proofs.lemmas.List.FromFn.{get_or-map-range_with_len, length-map-range_with_len}
 use Rattle.dblog.specs.Entries.{IsIndexOf, named_frame}
 use Rattle.dblog.specs.Indexes.{Indexed, Indexes}
-use Rattle.dblog.specs.Placed.{Placed, byte_through, padded_byte, page_start, placed, placed_byte, through}
+use Rattle.dblog.specs.Placed.{Placed, byte_through, padded_byte, page_start, placed, placed_byte, through, wal_pages}
 use Rattle.dblog.specs.Recovered.{byte_from, last_of, recovered, recovered_byte}
 use Rattle.dblog.specs.Sums.{sums_at}
 use Rattle.dblog.specs.declared.sums.Sums.{Sums}
@@ -18,7 +18,7 @@ use Rattle.dbformat.specs.Numbers.{u32_at}
 use Rattle.dblog.specs.Wal.{commits, committed, frame_at, frame_size, frames, header, is_header, is_valid}
 use Rattle.dblog.specs.Wal.{page_number, page_size, stated_pages, used, valid, valid_frames, whole_frames}
 use Rattle.dblog.specs.declared.entry.Entry.{Entry}
-use Rattle.dblog.proofs.Named.{any_default, named_none, named_some, no_entry}
+use Rattle.dblog.proofs.LastOf.{IsIndexed, index_at, last_at, last_none}
 
 -- ---- the used frames of a log are its first ones
 
@@ -48,57 +48,13 @@ used_at log k t l =
     let n : k < whole_frames h (length log) = omega (arith, b.1, length-map-range_with_len (frame_at (frame_size h) log) 0 (whole_frames h (length log))) in
     a.0 ∙ ap (λ fs. get_or fs k []) v ∙ b.0 ∙ get_or-map-range_with_len (frame_at (frame_size h) log) 0 (whole_frames h (length log)) k k [] n (omega arith)
 
--- ---- the last frame of a page
-
-last_none : (page : ℕ) (fs : List (List ℕ)) (found : Option (List ℕ)) → ((k : ℕ) → k < length fs → page_number (get_or fs k []) ≡ page → ⊥)
-    → fold (λ found f. cond (page_number f == page) (Some f) found) found fs ≡ found
-last_none page [] found h = refl
-last_none page (f ∷ fs) found h =
-    let other : page_number f ≡ page → ⊥ = h 0 (omega arith) in
-    let test : (page_number f == page) ≡ false = grind (arith, nat_tests) in
-    rw test (last_none page fs found (λ k l. h (suc k) (omega arith)))
-
-last_at : (page k : ℕ) (fs : List (List ℕ)) (found : Option (List ℕ)) → k < length fs → page_number (get_or fs k []) ≡ page
-    → ((j : ℕ) → k < j → j < length fs → page_number (get_or fs j []) ≡ page → ⊥)
-    → fold (λ found f. cond (page_number f == page) (Some f) found) found fs ≡ Some (get_or fs k [])
-last_at page k [] found l is h = absurd (omega arith)
-last_at page zero (f ∷ fs) found l is h =
-    let test : (page_number f == page) ≡ true = grind (arith, nat_tests) in
-    rw test (last_none page fs (Some f) (λ j m. h (suc j) (omega arith) (omega arith)))
-last_at page (suc k) (f ∷ fs) found l is h =
-    last_at page k fs (cond (page_number f == page) (Some f) found) (omega arith) is (λ j m n. h (suc j) (omega arith) (omega arith))
-
--- ---- the entry of a page
-
-abbrev IsPlace : ℕ → List Entry → ℕ → Type 0
-IsPlace page es i = (i < length es) × ((get_or es i no_entry).page ≡ page) × ((k : ℕ) → k < i → (get_or es k no_entry).page ≡ page → ⊥)
-
-abbrev HasNone : ℕ → List Entry → Type 0
-HasNone page es = (k : ℕ) → k < length es → (get_or es k no_entry).page ≡ page → ⊥
-
-place_of : (page : ℕ) (es : List Entry) → ((i : ℕ) × IsPlace page es i) ⊎ HasNone page es
-place_of page [] = inr (λ k l. absurd (omega arith))
-place_of page (e ∷ es) = by_test (e.page == page) refl (place_of page es)
-  where
-    one_later : (k : ℕ) → (e.page ≡ page → ⊥) → ((j : ℕ) → j < k → (get_or es j no_entry).page ≡ page → ⊥)
-        → (j : ℕ) → j < suc k → (get_or (e ∷ es) j no_entry).page ≡ page → ⊥
-    one_later k n h zero l is = n is
-    one_later k n h (suc j) l is = h j (omega arith) is
-
-    by_test : (b : Bool) → b ≡ (e.page == page) → ((i : ℕ) × IsPlace page es i) ⊎ HasNone page es
-        → ((i : ℕ) × IsPlace page (e ∷ es) i) ⊎ HasNone page (e ∷ es)
-    by_test true t r = let is : e.page ≡ page = grind (arith, nat_tests) in inl (0, (omega arith, is, λ k l. absurd (omega arith)))
-    by_test false t (inl (i, (l, is, h))) =
-        let n : e.page ≡ page → ⊥ = λ z. grind (arith, nat_tests) in inl (suc i, (omega arith, is, one_later i n h))
-    by_test false t (inr h) = let n : e.page ≡ page → ⊥ = λ z. grind (arith, nat_tests) in inr (one_later (length es) n h)
-
 -- ---- a byte
 
 -- the frame that the index names for a page is its last one
 same_last : (es : List Entry) (fs : List (List ℕ)) (page : ℕ) → 0 < page → IsIndexOf es (map page_number fs)
-    → ((k : ℕ) × (k < length fs) × (named_frame es page ≡ Some k) × (last_of page fs ≡ Some (get_or fs k [])))
-    ⊎ ((named_frame es page ≡ None) × (last_of page fs ≡ None))
-same_last es fs page some is = by_place (place_of page es)
+    → ((k : ℕ) × (k < length fs) × (named_frame es page ≡ Some k) × (last_of page_number page fs ≡ Some (get_or fs k [])))
+    ⊎ ((named_frame es page ≡ None) × (last_of page_number page fs ≡ None))
+same_last es fs page some is = by_place (index_at es (map page_number fs) page some is)
   where
     number : (j : ℕ) → j < length fs → slice_index (map page_number fs) j ≡ page_number (get_or fs j [])
     number j l = get_or-map page_number fs j [] 0 l
@@ -106,48 +62,27 @@ same_last es fs page some is = by_place (place_of page es)
     size : length (map page_number fs) ≡ length fs
     size = length-map fs page_number
 
-    by_place : ((i : ℕ) × IsPlace page es i) ⊎ HasNone page es
-        → ((k : ℕ) × (k < length fs) × (named_frame es page ≡ Some k) × (last_of page fs ≡ Some (get_or fs k [])))
-        ⊎ ((named_frame es page ≡ None) × (last_of page fs ≡ None))
-    by_place (inl (i, (l, here, before))) =
-        let e = get_or es i no_entry in
-        let names = is.names i no_entry l in
-        let k : e.frame < length fs = omega (arith, names.0, size) in
-        inl (e.frame, k, named_some page i es l here before, last_at page e.frame fs None k (sym (number e.frame k) ∙ names.1 ∙ here) after)
-      where
-        after : (j : ℕ) → (get_or es i no_entry).frame < j → j < length fs → page_number (get_or fs j []) ≡ page → ⊥
-        after j m n z =
-            let (q, x, inside, at, (xp, xf)) = is.last j (omega (arith, n, size)) (omega (arith, number j n, z, some)) in
-            let here_too : x.page ≡ page = xp ∙ number j n ∙ z in
-            let same : get_or es q no_entry ≡ x = sym (any_default es q x inside) ∙ at in
-            by_order {q = q} (cases_order q i) x inside same here_too j xf m
-          where
-            cases_order : (a b : ℕ) → (a < b) ⊎ ((a ≡ b) ⊎ (b < a))
-            cases_order a b = grind arith
+    by_place : IsIndexed es (map page_number fs) page
+        → ((k : ℕ) × (k < length fs) × (named_frame es page ≡ Some k) × (last_of page_number page fs ≡ Some (get_or fs k [])))
+        ⊎ ((named_frame es page ≡ None) × (last_of page_number page fs ≡ None))
+    by_place (inl (k, l, named, here, after)) =
+        let m : k < length fs = omega (arith, l, size) in
+        inl (
+          k,
+          m,
+          named,
+          last_at page_number [] page k fs None m (sym (number k m) ∙ here)
+              (λ j n o z. after j n (omega (arith, o, size)) (number j o ∙ z)),
+        )
+    by_place (inr (named, none)) =
+        inr (named, last_none page_number [] page fs None (λ j n z. none j (omega (arith, n, size)) (number j n ∙ z)))
 
-            by_order : {q : ℕ} → (q < i) ⊎ ((q ≡ i) ⊎ (i < q)) → (x : Entry) → q < length es → get_or es q no_entry ≡ x → x.page ≡ page
-                → (j : ℕ) → j ≤ x.frame → (get_or es i no_entry).frame < j → ⊥
-            by_order {q} (inl m) x inside same z j f n = before q m (ap (λ (y : Entry). y.page) same ∙ z)
-            by_order {q} (inr (inl m)) x inside same z j f n =
-                let e : (get_or es i no_entry).frame ≡ x.frame = ap (λ k. (get_or es k no_entry).frame) (sym m) ∙ ap (λ (y : Entry). y.frame) same in
-                omega arith
-            by_order {q} (inr (inr m)) x inside same z j f n =
-                let r = is.rising i q no_entry m inside in
-                let e : (get_or es q no_entry).page ≡ page = ap (λ (y : Entry). y.page) same ∙ z in
-                omega (arith, here)
-    by_place (inr none) = inr (
-      named_none page es none,
-      last_none page fs None (λ j n z.
-          let (q, x, inside, at, (xp, xf)) = is.last j (omega (arith, n, size)) (omega (arith, number j n, z, some)) in
-          none q inside (ap (λ (y : Entry). y.page) (sym (any_default es q x inside) ∙ at) ∙ xp ∙ number j n ∙ z)),
-    )
-
-map_each : (f g : ℕ → ℕ) (xs : List ℕ) → ((x : ℕ) → f x ≡ g x) → map f xs ≡ map g xs
+pub map_each : (f g : ℕ → ℕ) (xs : List ℕ) → ((x : ℕ) → f x ≡ g x) → map f xs ≡ map g xs
 map_each f g [] h = refl
 map_each f g (x ∷ xs) h = ap₂ (λ a b. a ∷ b) (h x) (map_each f g xs h)
 
 -- past the end of a file there is 0
-padded_whole : (base : List ℕ) (i : ℕ) → padded_byte (length base) base i ≡ slice_index base i
+pub padded_whole : (base : List ℕ) (i : ℕ) → padded_byte (length base) base i ≡ slice_index base i
 padded_whole base i = by_test (nat_lt i (length base)) refl
   where
     by_test : (b : Bool) → b ≡ nat_lt i (length base) → cond b (slice_index base i) 0 ≡ slice_index base i
@@ -182,7 +117,7 @@ header_sized h t = sized (page_size h) (third (length h == 32) (is_magic (u32_at
 
 -- a byte of a frame is one of the log
 frame_byte : (h log : List ℕ) (k r : ℕ) → r < page_size h
-    → slice_index (frame_at (frame_size h) log k) (24 + r) ≡ slice_index log (page_start (page_size h) k + r)
+    → slice_index (frame_at (frame_size h) log k) (24 + r) ≡ slice_index log (page_start 56 (24 + page_size h) k + r)
 frame_byte h log k r l =
     get_or-take (frame_size h) (drop (32 + frame_size h * k) log) (24 + r) 0 (omega arith) ∙ get_or-drop (32 + frame_size h * k) log (24 + r) 0
     ∙ ap (slice_index log) (omega arith)
@@ -190,12 +125,12 @@ frame_byte h log k r l =
 -- each byte is the one that is recovered
 same_byte : (index : Indexed) (base log : List ℕ) → (is : Indexes index log) → (t : is_header (header log) ≡ true) → index.page_size ≡ page_size (header log)
     → 0 < page_size (header log)
-    → (i : ℕ) → byte_through (placed index (length base)) base log i ≡ recovered_byte base (page_size (header log)) (used log) i
+    → (i : ℕ) → byte_through (placed (wal_pages index) (length base)) base log i ≡ recovered_byte base (page_size (header log)) (used log) i
 same_byte index base log is t z some i =
     by_place (same_last index.entries (used log) (i / index.page_size + 1) (omega arith) is.entries)
   where
     p : Placed
-    p = placed index (length base)
+    p = placed (wal_pages index) (length base)
 
     size : ℕ
     size = page_size (header log)
@@ -203,25 +138,25 @@ same_byte index base log is t z some i =
     n : ℕ
     n = i / index.page_size + 1
 
-    last_is : last_of (i / size + 1) (used log) ≡ last_of n (used log)
-    last_is = ap (λ m. last_of (i / m + 1) (used log)) (sym z)
+    last_is : last_of page_number (i / size + 1) (used log) ≡ last_of page_number n (used log)
+    last_is = ap (λ m. last_of page_number (i / m + 1) (used log)) (sym z)
 
-    by_place : ((k : ℕ) × (k < length (used log)) × (named_frame index.entries n ≡ Some k) × (last_of n (used log) ≡ Some (get_or (used log) k [])))
-        ⊎ ((named_frame index.entries n ≡ None) × (last_of n (used log) ≡ None)) → byte_through p base log i ≡ recovered_byte base size (used log) i
+    by_place : ((k : ℕ) × (k < length (used log)) × (named_frame index.entries n ≡ Some k) × (last_of page_number n (used log) ≡ Some (get_or (used log) k [])))
+        ⊎ ((named_frame index.entries n ≡ None) × (last_of page_number n (used log) ≡ None)) → byte_through p base log i ≡ recovered_byte base size (used log) i
     by_place (inl (k, l, named, last)) =
         ap (λ o. placed_byte p base log o i) named
-        ∙ ap (λ m. slice_index log (page_start m k + i % m)) z
+        ∙ ap (λ m. slice_index log (page_start 56 (24 + m) k + i % m)) z
         ∙ sym (frame_byte (header log) log k (i % size) (mod-lt i some))
         ∙ sym (ap (λ o. byte_from base size o i) (last_is ∙ last) ∙ ap (λ f. slice_index f (24 + i % size)) (used_at log k t l))
     by_place (inr (named, last)) =
         ap (λ o. placed_byte p base log o i) named ∙ padded_whole base i ∙ sym (ap (λ o. byte_from base size o i) (last_is ∙ last))
 
 pub index_recovers : (index : Indexed) (base log : List ℕ) → Indexes index log → 0 < index.pages → 0 < length base
-    → through (placed index (length base)) base log ≡ recovered base log
+    → through (placed (wal_pages index) (length base)) base log ≡ recovered base log
 index_recovers index base log is some long =
     let t = header_of log (omega (arith, is.pages)) in
     let z : index.page_size ≡ page_size (header log) = is.page_size t in
     let e : (length base == 0) ≡ false = grind (arith, nat_tests) in
     let u : (stated_pages (used log) == 0) ≡ false = (let q : 0 < stated_pages (used log) = omega (arith, is.pages) in grind (arith, nat_tests)) in
-    rw (e, u) (ap₂ (λ a b. map (byte_through (placed index (length base)) base log) (range_with_len 0 (a * b))) is.pages z
+    rw (e, u) (ap₂ (λ a b. map (byte_through (placed (wal_pages index) (length base)) base log) (range_with_len 0 (a * b))) is.pages z
     ∙ map_each _ _ (range_with_len 0 (stated_pages (used log) * page_size (header log))) (same_byte index base log is t z (header_sized (header log) t)))

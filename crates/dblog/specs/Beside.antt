@@ -34,7 +34,7 @@ abbrev pub entry_numbers : Entry → Change
 entry_numbers e = numbers e.page (e.frame ∷ [])
 
 abbrev pub placed_numbers : Placed → List Change
-placed_numbers p = numbers p.page_size (p.pages ∷ p.base_len ∷ []) ∷ map entry_numbers p.entries
+placed_numbers p = numbers p.page_size (p.pages ∷ p.first ∷ p.stride ∷ p.base_len ∷ []) ∷ map entry_numbers p.entries
 
 abbrev pub both_fronts : Placed → Both (Option (List ℕ)) → Both Trail → List Front
 both_fronts p told t =

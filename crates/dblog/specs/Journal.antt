@@ -123,6 +123,40 @@ after_segment s journal p = if p.at % s.sector == 0 then after_head s journal p.
 abbrev pub next_place : Shape → List ℕ → Place → Option Place
 next_place s journal p = if p.left == 0 then after_segment s journal p else after_record s journal p
 
+-- ---- the name of a super-journal
+
+-- the last 16 bytes of a journal: how long a name is, its sum, and the magic
+abbrev pub tail : List ℕ → List ℕ
+tail journal = drop (length journal - 16) journal
+
+-- whether the tail t of a journal of `len` bytes says that there is a name before it, of 512 bytes at most
+abbrev pub has_name : ℕ → List ℕ → Bool
+has_name len t = nat_lt 0 (u32_at 0 t) && (nat_le (u32_at 0 t) 512 && (nat_le (u32_at 0 t + 16) len && has_magic (drop 8 t)))
+
+-- the n bytes before the tail
+abbrev pub before_tail : ℕ → List ℕ → List ℕ
+before_tail n journal = take n (drop (length journal - (16 + n)) journal)
+
+-- a name is summed by its bytes as signed numbers
+abbrev pub with_letter : ℕ → ℕ → ℕ
+with_letter sum byte = plus sum (if nat_lt byte 128 then byte else byte + (2 ^ 32 - 256))
+
+abbrev pub name_sum : List ℕ → ℕ
+name_sum name = fold with_letter 0 name
+
+-- whether these bytes are the name that the tail t states
+abbrev pub is_name : List ℕ → List ℕ → Bool
+is_name t name = nat_lt 0 (slice_index name 0) && (name_sum name == u32_at 4 t)
+
+-- whether a journal names a super-journal: it is one of several of a transaction over more than one database
+abbrev pub names_super : List ℕ → Bool
+names_super journal = nat_le 16 (length journal) && (has_name (length journal) (tail journal)
+    && is_name (tail journal) (before_tail (u32_at 0 (tail journal)) journal))
+
+-- that name
+abbrev pub super_name : List ℕ → Option (List ℕ)
+super_name journal = if names_super journal then Some (before_tail (u32_at 0 (tail journal)) journal) else None
+
 -- ---- what is used
 
 -- a page, and the byte where its record begins

@@ -1,5 +1,5 @@
 -- Laws of logs.
-use Rattle.std.specs.Prelude.{◌≡◌, ◌<◌, ◌⊎◌, ℕ, List, [], length, map}
+use Rattle.std.specs.Prelude.{◌≡◌, ◌<◌, ◌⊎◌, ℕ, false, List, [], Some, length, map}
 use Rattle.std.specs.List.{All, flat_map}
 use Rattle.dbformat.specs.declared.ByteRange.{ByteRange}
 use Rattle.dbsource.specs.Answers.{Fits, Step, asked}
@@ -7,13 +7,29 @@ use Rattle.dbsource.specs.Snapshots.{HasRead}
 use Rattle.dbsource.specs.Sources.{SourceState}
 use Rattle.dblog.specs.Beside.{AsksBoth, BesideLength, BesideStep, Both, beside, tolds, trails}
 use Rattle.dblog.specs.Indexes.{Indexed, Indexes}
-use Rattle.dblog.specs.Placed.{IsInOnePage, Placed, base_ranges, log_ranges, placed, placed_len, through}
-use Rattle.dblog.specs.Recovered.{recovered}
+use Rattle.dblog.specs.Placed.{IsInOnePage, Placed, base_ranges, log_ranges, journal_pages, placed, placed_len, through, wal_pages}
+use Rattle.dblog.specs.Recovered.{recovered, recovered_by_both, rolled_back, stored_size}
+use Rattle.dblog.specs.JournalReading.{IsJournalOf, JournalIndexed}
+use Rattle.dblog.specs.Journal.{names_super}
 
 -- Beside a file that has bytes, a log of which something is used gives through its index what SQLite recovers.
 abbrev pub IndexRecovers : Type 0
 IndexRecovers = (index : Indexed) (base log : List ℕ) → Indexes index log → 0 < index.pages → 0 < length base
-    → through (placed index (length base)) base log ≡ recovered base log
+    → through (placed (wal_pages index) (length base)) base log ≡ recovered base log
+
+-- Beside a file that has bytes, a journal that names no super-journal and of which something is used gives through its index what SQLite
+-- rolls back, where the size of a page that the file states was known when the journal was read.
+abbrev pub JournalRollsBack : Type 0
+JournalRollsBack = (found : JournalIndexed) (base journal : List ℕ) → IsJournalOf (stored_size base) (Some found) journal
+    → 0 < length base → names_super journal ≡ false
+    → through (placed (journal_pages found) (length base)) base journal ≡ rolled_back base journal
+
+-- A log over a file over a journal, each through its index, gives what SQLite makes of all three, if the rolled back database has bytes.
+abbrev pub BothLogsRecover : Type 0
+BothLogsRecover = (found : JournalIndexed) (index : Indexed) (base journal log : List ℕ) → IsJournalOf (stored_size base) (Some found) journal
+    → 0 < length base → names_super journal ≡ false → Indexes index log → 0 < index.pages → 0 < placed_len (placed (journal_pages found) (length base))
+    → let p = placed (journal_pages found) (length base) in
+    through (placed (wal_pages index) (placed_len p)) (through p base journal) log ≡ recovered_by_both base journal log
 
 -- What a call read of a file and a log, by what it asked of the database, and what it answered.
 pub record HasReadBoth (base_step log_step : Step) (p : Placed) (P : List ByteRange → Type 0) (Q : List ℕ → List ByteRange → Type 0)

@@ -5,7 +5,9 @@ pub mod Laws
 pub mod Placed
 pub mod Reading
 pub mod Recovered
+pub mod Rollbacks
 pub mod Scanning
+pub mod Stated
 pub mod Sums
 pub mod Wal
 pub mod Journal

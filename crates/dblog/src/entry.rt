@@ -1,8 +1,10 @@
 // The entries of an index.
 ghost use Rattle.std.specs.Prelude.{◌≡◌, ◌+◌, ◌<◌, ◌≤◌, length, drop, take, slice_index_or};
-ghost use Rattle.dblog.specs.Entries.{is_replaced, is_replaced_by_first, latest};
+ghost use Rattle.std.specs.List.{AllPairs};
+ghost use Rattle.dblog.specs.Entries.{is_replaced, is_replaced_by_first, latest, named_frame};
 
-/// From which frame of a log a page is read, where the first frame is 0.
+/// From which frame of a log a page is read, where the first frame is 0. Of a rollback journal the number is that of the unit of eight
+/// bytes where the record of the page begins.
 #[derive(Clone, Copy, Debug, PartialEq, Eq, PartialOrd, Ord)]
 pub struct Entry {
     page: u32,
@@ -64,4 +66,16 @@ pub(crate) fn keep_latest(entries: &mut [Entry], committed: u32) -> usize
         }
     }
     count
+}
+
+// The frame that is named for a page, if one is: the pages rise.
+pub(crate) fn named_frame(entries: &[Entry], page: u64) -> Option<u32>
+    requires { AllPairs (λ d e. d.page < e.page) entries.now }
+    ensures { result ≡ named_frame entries.now page }
+{
+    let place = entries.partition_point(|entry| u64::from(entry.page()) < page);
+    match entries.get(place) {
+        Some(entry) if u64::from(entry.page()) == page => Some(entry.frame()),
+        _ => None,
+    }
 }

@@ -1,11 +1,14 @@
 // The index of a write-ahead log.
 ghost use Rattle.std.specs.Prelude.{◌≡◌, ◌+◌, ◌*◌, ◌<◌, ◌≤◌, List, ℕ, [], None, Some, length, map, OnOk, IfOk};
 ghost use Rattle.std.specs.List.{AllPairs};
-ghost use Rattle.dblog.specs.Entries.{IsIndexOf, named_frame};
+ghost use Rattle.dblog.specs.Entries.{IsIndexOf};
 ghost use Rattle.dblog.specs.Indexes.{IndexesFrames, broken_at, no_counts};
+ghost use Rattle.dblog.specs.Placed.{wal_pages};
 ghost use Rattle.dblog.specs.Wal.{frame_size, page_size};
 
 use crate::entry::Entry;
+use crate::log_pages::LogPages;
+use crate::wal_header::{HEAD_LEN, HEADER_LEN};
 use std::alloc::{Allocator, Global};
 use std::marker::Model;
 
@@ -115,11 +118,25 @@ impl<A: Allocator> Index<A> {
         self.entries.as_slice()
     }
 
-    /// The last used frame of a page, if it has one.
-    pub fn frame_of(&self, page: u64) -> Option<u32>
-        ensures { result ≡ named_frame self.now.entries page }
+    /// Where the log has its pages: something of it is used.
+    pub fn into_pages(self) -> LogPages<A>
+        requires { 0 < self.pages }
+        ensures { result ≡ wal_pages self }
     {
-        named_frame(self.entries.as_slice(), page)
+        let Index {
+            page_size,
+            pages,
+            entries,
+            counts: _,
+        } = self;
+        let head = HEAD_LEN as u32;
+        LogPages::new(
+            page_size,
+            pages,
+            HEADER_LEN as u32 + head,
+            head + page_size,
+            entries,
+        )
     }
 
     /// What was found in the log.
@@ -127,18 +144,6 @@ impl<A: Allocator> Index<A> {
         ensures { result ≡ self.now.counts }
     {
         self.counts
-    }
-}
-
-// The frame that is named for a page, if one is: the pages rise.
-fn named_frame(entries: &[Entry], page: u64) -> Option<u32>
-    requires { AllPairs (λ d e. d.page < e.page) entries.now }
-    ensures { result ≡ named_frame entries.now page }
-{
-    let place = entries.partition_point(|entry| u64::from(entry.page()) < page);
-    match entries.get(place) {
-        Some(entry) if u64::from(entry.page()) == page => Some(entry.frame()),
-        _ => None,
     }
 }
 

@@ -34,7 +34,7 @@ pub struct Place {
 }
 
 pub(crate) fn has_magic(head: &[u8]) -> bool
-    requires { 28 ≤ length head.now }
+    requires { 8 ≤ length head.now }
     ensures { result ≡ has_magic head.now }
 {
     u32_at(head, 0) == 0xd9d5_05f9 && u32_at(head, 4) == 0x20a1_63d7
@@ -137,6 +137,19 @@ impl Shape {
         ensures { result ≡ self.page_size + 8 }
     {
         self.page_size as usize + 8
+    }
+
+    pub(crate) fn page_size(self) -> u32
+        ensures { result ≡ self.page_size }
+    {
+        self.page_size
+    }
+
+    // The pages that the database had.
+    pub(crate) fn pages(self) -> u32
+        ensures { result ≡ self.pages }
+    {
+        self.pages
     }
 
     pub(crate) fn sector(self) -> u32

@@ -1,13 +1,17 @@
 // Reading a rollback journal: once, in order, from its start.
-ghost use Rattle.std.specs.Prelude.{◌≡◌, ◌+◌, ◌%◌, ◌^◌, ◌<◌, ◌≤◌, ◌&&◌, IsTrue, length};
+ghost use Rattle.std.specs.Prelude.{◌≡◌, ◌+◌, ◌%◌, ◌^◌, ◌<◌, ◌≤◌, ◌&&◌, IfOk, IfSome, IsTrue, length};
+ghost use Rattle.std.specs.List.{AllPairs};
+ghost use Rattle.dbsource.specs.Sources.{AreBytes};
 ghost use Rattle.dblog.specs.Journal.{IsSized, has_magic, is_shape};
 ghost use Rattle.dblog.specs.JournalReading.{FindsPlace, KeepsRecord, MovesOn, ReadsAfterHead, ReadsJournal, ReadsPlaces, ReadsRecords, ReadsWithin};
+ghost use Rattle.dblog.specs.Placed.{journal_pages};
 ghost use Rattle.dblog.specs.Reading.{longest_read};
 
 use crate::entry::Entry;
 use crate::gathered::Gathered;
 use crate::journal::{HEAD_LEN, Place, Shape, has_magic};
 use crate::journal_error::JournalError;
+use crate::log_pages::LogPages;
 use dbformat::u32_at;
 use dbsource::{Source, memory};
 use std::alloc::{Allocator, Global};
@@ -17,6 +21,12 @@ use std::marker::Model;
 const LEAST_LEN: u64 = 512;
 
 const MOST_LEN: u64 = 1 << 35;
+
+// In a record the page comes after its number.
+const NUMBER_LEN: u32 = 4;
+
+// The places of records are kept in units of eight bytes.
+const UNIT_LEN: u32 = 8;
 
 // Reads these bytes from byte `at` on, if the journal has them, and answers whether it has.
 fn read_within<S: Source>(
@@ -175,7 +185,8 @@ fn read_records<S: Source, A: Allocator + Copy>(
     requires head { 28 ≤ length head.now }
     requires sized { IsSized shape }
     requires fits { shape.len < 2 ^ 35 }
-    ensures { ReadsRecords S.step shape head.now result (λ v. v.items) (S.held journal.old) (S.held journal.new) }
+    ensures reads { ReadsRecords S.step shape head.now result (λ v. v.items) (S.held journal.old) (S.held journal.new) }
+    ensures rising { IfOk result (λ v. AllPairs (λ d e. d.page < e.page) v.items) }
 {
     let sector = shape.sector() as usize;
     let mut bytes = memory::filled(alloc, 0u8, sector.max(shape.record_len()))?;
@@ -196,11 +207,16 @@ pub struct Journal<A: Allocator = Global> {
 }
 
 impl<A: Allocator> Model for Journal<A> {
+    ghost use Rattle.std.specs.Prelude.{◌<◌};
+    ghost use Rattle.std.specs.List.{AllPairs};
+    ghost use Rattle.dblog.specs.Journal.{IsSized};
     ghost use Rattle.dblog.specs.JournalReading.{JournalIndexed};
 
     ghost Value = { JournalIndexed };
 
     ghost view = { λ j. record { shape = j.shape; entries = j.entries.items } };
+
+    ghost invariant = { λ j. IsSized j.shape × AllPairs (λ d e. d.page < e.page) j.entries.items };
 }
 
 // Whether this is the first head of a journal of this shape.
@@ -247,6 +263,7 @@ impl<A: Allocator + Copy> Journal<A> {
         stored: u32,
     ) -> Result<Option<Journal<A>>, JournalError>
         ensures reads { ReadsJournal S.step S.lengths stored result (S.held journal.old) (S.held journal.new) }
+        ensures bytes { IfSome (S.held journal.old).bytes AreBytes }
     {
         let len = journal.len()?;
         if len < LEAST_LEN {
@@ -258,5 +275,42 @@ impl<A: Allocator + Copy> Journal<A> {
         let mut head = [0u8; HEAD_LEN];
         journal.read_at(0, &mut head)?;
         read_after_head(alloc, journal, &head, len, stored)
+    }
+}
+
+impl<A: Allocator> Journal<A> {
+    /// Its length in bytes.
+    pub fn len(&self) -> u64
+        ensures { result ≡ self.now.shape.len }
+    {
+        self.shape.len()
+    }
+
+    /// The pages that the database had.
+    pub fn pages(&self) -> u32
+        ensures { result ≡ self.now.shape.pages }
+    {
+        self.shape.pages()
+    }
+
+    /// The entries, by their pages, which rise.
+    pub fn entries(&self) -> &[Entry]
+        ensures { result.now ≡ self.now.entries }
+    {
+        self.entries.as_slice()
+    }
+
+    /// Where the journal has its pages.
+    pub fn into_pages(self) -> LogPages<A>
+        ensures { result ≡ journal_pages self }
+    {
+        let Journal { shape, entries } = self;
+        LogPages::new(
+            shape.page_size(),
+            shape.pages(),
+            NUMBER_LEN,
+            UNIT_LEN,
+            entries,
+        )
     }
 }

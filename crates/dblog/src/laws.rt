@@ -1,11 +1,21 @@
 // What is so of every log.
-ghost use Rattle.dblog.specs.Laws.{BothAreRead, IndexRecovers};
+ghost use Rattle.dblog.specs.Laws.{BothAreRead, BothLogsRecover, IndexRecovers, JournalRollsBack};
 
 use dbsource::{Claim, Source};
 
 /// By its index a log gives the database that SQLite recovers of it.
 pub fn index_recovers()
     ensures { IndexRecovers }
+{}
+
+/// By its index a rollback journal gives the database that SQLite rolls back by it.
+pub fn journal_rolls_back()
+    ensures { JournalRollsBack }
+{}
+
+/// A log over a file over a journal gives the database that SQLite makes of all three.
+pub fn both_logs_recover()
+    ensures { BothLogsRecover }
 {}
 
 /// What a run over [`Logged`](crate::Logged) read, it read of the file and of the log: of each file and each log that agree with what

@@ -3,19 +3,19 @@ ghost use Rattle.std.specs.Prelude.{◌≡◌, ℕ, ◌+◌, ◌*◌, ◌%◌, �
 ghost use Rattle.dbformat.specs.Log.{range};
 ghost use Rattle.dbsource.specs.Sources.{AreBytes};
 ghost use Rattle.dblog.specs.Beside.{Both, ReadsBoth, ReadsPadded};
-ghost use Rattle.dblog.specs.Placed.{IsInOnePage, page_start, placed, placed_len};
+ghost use Rattle.dblog.specs.Placed.{IsInOnePage, placed, placed_len};
 
-use crate::index::Index;
+use crate::log_pages::LogPages;
 use dbsource::{Failures, ReadFailed, Source};
 use std::alloc::{Allocator, Global};
 use std::marker::Model;
 
-/// A source over two: a database file, and a write-ahead log beside it. It gives the bytes of the database that SQLite would
-/// recover: each page is that of the log, if the index has it, or that of the file, with zeros past its end. A range in one page
+/// A source over two: a database file, and a log beside it. It gives the bytes of the database that SQLite would recover: each page is
+/// that of the log, if the log gives it, or that of the file, with zeros past its end. A range in one page
 /// is read from one of them, by one read; a longer one page by page. Its length is that of the recovered database.
 #[derive(Drop)]
 pub struct Logged<B: Source, L: Source, A: Allocator = Global> {
-    index: Index<A>,
+    pages: LogPages<A>,
     base: B,
     base_len: u64,
     log: L,
@@ -30,21 +30,20 @@ impl<B: Source, L: Source, A: Allocator> Model for Logged<B, L, A> {
 
     ghost Value = { Beside B L };
 
-    ghost view = { λ s. record { placed = placed s.index s.base_len; base = s.base; log = s.log; past_end = s.past_end } };
+    ghost view = { λ s. record { placed = placed s.pages s.base_len; base = s.base; log = s.log; past_end = s.past_end } };
 
-    ghost invariant = { λ s. (0 < s.index.pages) × IfSome (B.held s.base).bytes AreBytes × IfSome (L.held s.log).bytes AreBytes };
+    ghost invariant = { λ s. IfSome (B.held s.base).bytes AreBytes × IfSome (L.held s.log).bytes AreBytes };
 }
 
 impl<B: Source, L: Source, A: Allocator> Logged<B, L, A> {
-    /// A file of `base_len` bytes, and a log with this index, of which something is used.
-    pub fn new(index: Index<A>, base: B, base_len: u64, log: L) -> Logged<B, L, A>
-        requires used { 0 < index.pages }
+    /// A file of `base_len` bytes, and a log that has these pages.
+    pub fn new(pages: LogPages<A>, base: B, base_len: u64, log: L) -> Logged<B, L, A>
         requires base { IfSome (B.held base).bytes AreBytes }
         requires log { IfSome (L.held log).bytes AreBytes }
-        ensures { result ≡ record { placed = placed index base_len; base = base; log = log; past_end = 0 } }
+        ensures { result ≡ record { placed = placed pages base_len; base = base; log = log; past_end = 0 } }
     {
         Logged {
-            index,
+            pages,
             base,
             base_len,
             log,
@@ -56,7 +55,7 @@ impl<B: Source, L: Source, A: Allocator> Logged<B, L, A> {
     pub fn page_size(&self) -> u32
         ensures { result ≡ self.now.placed.page_size }
     {
-        self.index.page_size()
+        self.pages.page_size()
     }
 
     /// The file, and the log.
@@ -98,55 +97,45 @@ fn read_padded<B: Source>(
 
 // Reads a range that lies in one page.
 fn read_in_page<B: Source, L: Source, A: Allocator>(
-    index: &Index<A>,
+    pages: &LogPages<A>,
     base: &mut B,
     base_len: u64,
     log: &mut L,
     offset: u64,
     buf: &mut [u8],
 ) -> Result<(), ReadFailed>
-    requires used { 0 < index.now.pages }
-    requires one { IsInOnePage (placed index.now base_len) (range offset (length buf.old)) }
-    ensures { ReadsBoth B.step L.step (placed index.now base_len) offset result buf.new
+    requires one { IsInOnePage (placed pages.now base_len) (range offset (length buf.old)) }
+    ensures { ReadsBoth B.step L.step (placed pages.now base_len) offset result buf.new
         (record { base = B.held base.old; log = L.held log.old }) (record { base = B.held base.new; log = L.held log.new }) }
 {
-    let size = u64::from(index.page_size());
-    match index.frame_of(offset / size + 1) {
-        Some(frame) => log.read_at(start_of(size, frame) + offset % size, buf),
+    let size = u64::from(pages.page_size());
+    match pages.frame_of(offset / size + 1) {
+        Some(frame) => log.read_at(pages.start_of(frame) + offset % size, buf),
         None => read_padded(base, base_len, offset, buf),
     }
 }
 
-// Where the page of a frame begins in a log.
-fn start_of(size: u64, frame: u32) -> u64
-    requires { size ≤ 65536 }
-    ensures { result ≡ page_start size frame }
-{
-    56 + (24 + size) * u64::from(frame)
-}
-
 // Reads a range that lies in more than one page, page by page.
 fn read_by_pages<B: Source, L: Source, A: Allocator>(
-    index: &Index<A>,
+    pages: &LogPages<A>,
     base: &mut B,
     base_len: u64,
     log: &mut L,
     offset: u64,
     buf: &mut [u8],
 ) -> Result<(), ReadFailed>
-    requires used { 0 < index.now.pages }
-    requires more { index.now.page_size < offset % index.now.page_size + length buf.old }
-    requires within { offset + length buf.old ≤ placed_len (placed index.now base_len) }
+    requires more { pages.now.page_size < offset % pages.now.page_size + length buf.old }
+    requires within { offset + length buf.old ≤ placed_len (placed pages.now base_len) }
     requires fits { offset + length buf.old < 2 ^ 64 }
-    ensures { ReadsBoth B.step L.step (placed index.now base_len) offset result buf.new
+    ensures { ReadsBoth B.step L.step (placed pages.now base_len) offset result buf.new
         (record { base = B.held base.old; log = L.held log.old }) (record { base = B.held base.new; log = L.held log.new }) }
 {
-    let size = u64::from(index.page_size());
+    let size = u64::from(pages.page_size());
     let mut done = 0;
     while done < buf.len() {
         let at = offset + done as u64;
         let count = ((size - at % size) as usize).min(buf.len() - done);
-        read_in_page(index, base, base_len, log, at, &mut buf[done..done + count])?;
+        read_in_page(pages, base, base_len, log, at, &mut buf[done..done + count])?;
         done += count;
     }
     Ok(())
@@ -154,32 +143,24 @@ fn read_by_pages<B: Source, L: Source, A: Allocator>(
 
 // Reads a range of the database.
 fn read_range<B: Source, L: Source, A: Allocator>(
-    index: &Index<A>,
+    pages: &LogPages<A>,
     base: &mut B,
     base_len: u64,
     log: &mut L,
     offset: u64,
     buf: &mut [u8],
 ) -> Result<(), ReadFailed>
-    requires used { 0 < index.now.pages }
-    requires within { offset + length buf.old ≤ placed_len (placed index.now base_len) }
+    requires within { offset + length buf.old ≤ placed_len (placed pages.now base_len) }
     requires fits { offset + length buf.old < 2 ^ 64 }
-    ensures { ReadsBoth B.step L.step (placed index.now base_len) offset result buf.new
+    ensures { ReadsBoth B.step L.step (placed pages.now base_len) offset result buf.new
         (record { base = B.held base.old; log = L.held log.old }) (record { base = B.held base.new; log = L.held log.new }) }
 {
-    let size = u64::from(index.page_size());
+    let size = u64::from(pages.page_size());
     if buf.len() as u64 <= size - offset % size {
-        read_in_page(index, base, base_len, log, offset, buf)
+        read_in_page(pages, base, base_len, log, offset, buf)
     } else {
-        read_by_pages(index, base, base_len, log, offset, buf)
+        read_by_pages(pages, base, base_len, log, offset, buf)
     }
-}
-
-// The bytes of the database.
-fn byte_count<A: Allocator>(index: &Index<A>) -> u64
-    ensures { result ≡ index.now.pages * index.now.page_size }
-{
-    u64::from(index.pages()) * u64::from(index.page_size())
 }
 
 impl<B: Source, L: Source, A: Allocator> Source for Logged<B, L, A> {
@@ -192,17 +173,17 @@ impl<B: Source, L: Source, A: Allocator> Source for Logged<B, L, A> {
     ghost lengths = { BesideLength };
 
     fn len(&mut self) -> Result<u64, ReadFailed> {
-        Ok(byte_count(&self.index))
+        Ok(self.pages.byte_count())
     }
 
     fn read_at(&mut self, offset: u64, buf: &mut [u8]) -> Result<(), ReadFailed> {
-        let len = byte_count(&self.index);
+        let len = self.pages.byte_count();
         let count = buf.len() as u64;
         if offset > len || count > len - offset {
             self.past_end.add();
             return Err(ReadFailed);
         }
         let (base, base_len, log) = (&mut self.base, self.base_len, &mut self.log);
-        read_range(&self.index, base, base_len, log, offset, buf)
+        read_range(&self.pages, base, base_len, log, offset, buf)
     }
 }

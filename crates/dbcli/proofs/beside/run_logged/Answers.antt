@@ -10,7 +10,7 @@ returns-then-is_fit g c =
     record {
       fits = Ok true;
       mid = c.fits.new.both;
-      looked = subst (λ r. LooksAtHeader g.S.Source r c.args.both c.fits.new.both) is c.fits.ensures;
+      looked = subst (λ r. LooksAtHeader g.B.Source g.L.Source r c.args.both c.fits.new.both) is c.fits.ensures;
       ran = c.run_over.ensures;
     }
 
@@ -22,7 +22,7 @@ returns-else-is_fit g c =
     record {
       fits = Ok false;
       mid = c.fits.new.both;
-      looked = subst (λ r. LooksAtHeader g.S.Source r c.args.both c.fits.new.both) is c.fits.ensures;
+      looked = subst (λ r. LooksAtHeader g.B.Source g.L.Source r c.args.both c.fits.new.both) is c.fits.ensures;
       ran = (refl, refl, record { first = refl; second = c.put_unrun.ensures });
     }
 
@@ -36,6 +36,6 @@ returns-in-Err g c =
     record {
       fits = Err c.in-Err.error;
       mid = c.fits.new.both;
-      looked = subst (λ r. LooksAtHeader g.S.Source r c.args.both c.fits.new.both) is c.fits.ensures;
+      looked = subst (λ r. LooksAtHeader g.B.Source g.L.Source r c.args.both c.fits.new.both) is c.fits.ensures;
       ran = (refl, search rules, record { first = refl; second = search rules });
     }

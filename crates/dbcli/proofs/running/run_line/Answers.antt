@@ -1,5 +1,5 @@
 use Rattle.std.proofs.Common.{◌≡◌, Ok, Err, refl, subst}
-use Rattle.dbcli.specs.Beside.{OpensFiles}
+use Rattle.dbcli.specs.OpeningFiles.{OpensFiles}
 use Rattle.dbcli.proofs.running.run_line.Goals as goal
 
 pub returns-in-Ok : goal.returns-in-Ok

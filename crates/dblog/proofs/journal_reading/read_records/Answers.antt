@@ -5,13 +5,13 @@ use Rattle.dblog.proofs.JournalRuns.{records_failed, records_read, records_refus
 use Rattle.dblog.proofs.ReadSteps.{reads_given}
 use Rattle.dblog.proofs.journal_reading.read_records.Goals as goal
 
-pub returns-in_err-bytes : goal.returns-in_err-bytes
-returns-in_err-bytes g c =
+pub returns-in_err-bytes-clause-reads : goal.returns-in_err-bytes-clause-reads
+returns-in_err-bytes-clause-reads g c =
     let p = err_from_is_err_and c.from_residual.result c.from_residual.ensures.1 in
     rw p.1 (rw p.2 (records_refused _ c.args.shape c.args.head.now _ _ (omega (arith, c.requires.sized.sector, c.requires.sized.within))))
 
-pub returns-in_err-read_at : goal.returns-in_err-read_at
-returns-in_err-read_at g c =
+pub returns-in_err-read_at-clause-reads : goal.returns-in_err-read_at-clause-reads
+returns-in_err-read_at-clause-reads g c =
     let p = err_from_is_err_and c.from_residual-in_err-read_at.result c.from_residual-in_err-read_at.ensures.1 in
     let size : 28 + length c.read_at.new.buf ≡ c.args.shape.sector =
     omega (
@@ -28,8 +28,8 @@ returns-in_err-read_at g c =
     (omega (arith, size, c.requires.sized.most_sector))
     c.in_err-read_at.ensures.told c.in_err-read_at.ensures.trail c.in_err-read_at.ensures.count))
 
-pub returns-in_err-read_places : goal.returns-in_err-read_places
-returns-in_err-read_places g c =
+pub returns-in_err-read_places-clause-reads : goal.returns-in_err-read_places-clause-reads
+returns-in_err-read_places-clause-reads g c =
     let p = err_from_is_err_and c.from_residual-in_err-read_places.result c.from_residual-in_err-read_places.ensures.1 in
     let size : 28 + length c.read_at.new.buf ≡ c.args.shape.sector =
     omega (
@@ -48,8 +48,8 @@ returns-in_err-read_places g c =
     c.in_ok-read_at.ensures.told c.in_ok-read_at.ensures.trail c.in_ok-read_at.ensures.count c.in_ok-read_at.ensures.bytes)
     c.in_err-read_places.ensures))
 
-pub returns : goal.returns
-returns g c =
+pub returns-clause-reads : goal.returns-clause-reads
+returns-clause-reads g c =
     let size : 28 + length c.read_at.new.buf ≡ c.args.shape.sector =
     omega (
       arith,

@@ -10,12 +10,12 @@ returns-clause-length g c = rw (← c.self.view_is) (record { placed = _; told =
 
 pub returns-clause-number : goal.returns-clause-number
 returns-clause-number g c = rw (← c.self.view_is) (told_through_all (λ bytes. c.byte_count.result ≡ length bytes)
-    (placed c.self.inside.index c.self.inside.base_len) (g.B.Source.held c.self.inside.base).bytes (g.L.Source.held c.self.inside.log).bytes
-    (λ f h. c.byte_count.ensures ∙ sym (through_length (placed c.self.inside.index c.self.inside.base_len) f h)))
+    (placed c.self.inside.pages c.self.inside.base_len) (g.B.Source.held c.self.inside.base).bytes (g.L.Source.held c.self.inside.log).bytes
+    (λ f h. c.byte_count.ensures ∙ sym (through_length (placed c.self.inside.pages c.self.inside.base_len) f h)))
 
 pub returns-clause-bytes : goal.returns-clause-bytes
 returns-clause-bytes g c =
-    let p = placed c.self.inside.index c.self.inside.base_len in
+    let p = placed c.self.inside.pages c.self.inside.base_len in
     let small : placed_len p < 2 ^ 64 = subst (λ n. n < 2 ^ 64) c.byte_count.ensures c.byte_count.type_inv in
     rw (← c.self.view_is) (told_both AreBytes AreBytes AreBytes p (g.B.Source.held c.self.inside.base).bytes (g.L.Source.held c.self.inside.log).bytes
-    (λ f h x y. through_bytes p f h small x y) c.self.invariant.1 c.self.invariant.2)
+    (λ f h x y. through_bytes p f h small x y) c.self.invariant.0 c.self.invariant.1)

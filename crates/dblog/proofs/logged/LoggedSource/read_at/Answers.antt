@@ -6,7 +6,7 @@ use Rattle.dblog.proofs.logged.LoggedSource.read_at.Goals.{then-offset-len-via-t
 
 pub returns-then-offset-len-clause-trail : goal.returns-then-offset-len-clause-trail
 returns-then-offset-len-clause-trail g c =
-    let p = placed c.self.inside.index c.self.inside.base_len in
+    let p = placed c.self.inside.pages c.self.inside.base_len in
     let len : c.byte_count-len.result ≡ placed_len p = c.byte_count-len.ensures in
     rw (← c.self.view_is) (step_past_end p (record { base = g.B.Source.held c.self.inside.base; log = g.L.Source.held c.self.inside.log })
     c.args.offset (length c.args.buf.now) (elim c.then-offset-len.branch [
@@ -15,10 +15,10 @@ returns-then-offset-len-clause-trail g c =
     ]))
 
 pub returns-clause-trail : goal.returns-clause-trail
-returns-clause-trail g c = rw (← c.self.view_is) (step_read (placed c.self.inside.index c.self.inside.base_len)
+returns-clause-trail g c = rw (← c.self.view_is) (step_read (placed c.self.inside.pages c.self.inside.base_len)
     c.args.offset c.read_range.result c.read_range.new.buf _ _
     c.read_range.ensures)
 
 pub returns-clause-bytes : goal.returns-clause-bytes
-returns-clause-bytes g c = rw (← c.self.view_is) (told_read (placed c.self.inside.index c.self.inside.base_len) c.args.offset c.read_range.result
+returns-clause-bytes g c = rw (← c.self.view_is) (told_read (placed c.self.inside.pages c.self.inside.base_len) c.args.offset c.read_range.result
     c.read_range.new.buf _ _ c.read_range.ensures)

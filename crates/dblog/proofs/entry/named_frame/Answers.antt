@@ -4,7 +4,7 @@ use Rattle.std.proofs.lemmas.Bool.Decides.{nat_tests}
 use Rattle.std.proofs.lemmas.List.Sorted.{IsPartitionPoint-from_clause, IsPartitionedBy-ltb}
 use Rattle.dblog.proofs.Named.{no_entry, rising_pages, searched_at, searched_none}
 use Rattle.dblog.specs.declared.entry.Entry.{Entry}
-use Rattle.dblog.proofs.index.named_frame.Goals as goal
+use Rattle.dblog.proofs.entry.named_frame.Goals as goal
 
 pub returns-in-Some : goal.returns-in-Some
 returns-in-Some c =
