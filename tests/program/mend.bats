@@ -52,7 +52,7 @@ are_put() {
             row "$name with these bytes in a copy" are_put "$work/small/$number.db" "$work/lines"
         fi
     done < "$work/list"
-    [ "$rows" -gt 90 ]
+    [ "$rows" -gt 140 ]
 }
 
 @test 'of databases of which numbers were overwritten, what mend calls ok is sound' {
