@@ -6,7 +6,7 @@ DBCK=$(realpath "${DBCK:-$root/crates/dbck/out/dbck}")
 export DBCK LC_ALL=C.UTF-8
 data=crates/dbck/data
 
-# A fault line, a row, the beginning of a picture, and two errors.
+# A fault line, a row, the beginning of a picture, two errors, and a note before the second.
 unused=$'N01 page 8 item 0 value 0: page is not in use\n'
 twice=$'R03 page 2 item 2 value 7: page is already in use\n'
 page=$'sqlite_schema\t/\t1\tleaf\t0\t0\t404\t0\t0\t512\n'
@@ -14,6 +14,7 @@ tree=$'sqlite_schema\t-\t1\t-\t0\t0\t404\t0\t-\t512\n'
 picture='<svg xmlns=*<title>Pages of'
 unread=$'dbck: E8 the file cannot be read\n'
 unwritten=$'dbck: E10 the output cannot be written\n'
+full=$'dbck: note: standard output: No space left on device\n'
 five=(check explain map mend stat)
 
 # Each test begins at the top of the repository, with a folder of its own that is gone after it.

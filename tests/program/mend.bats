@@ -103,7 +103,7 @@ dbck: note: $work/pair.db: the changes are of the database that SQLite would rec
         status=0
         "$DBCK" mend "$data/$file.db" > /dev/full 2> "$work/err" < /dev/null 3>&- || status=$?
         : > "$work/out"
-        row "mend $file.db to a full disk" ended 6 '' "$unwritten"
+        row "mend $file.db to a full disk" ended 6 '' "$full$unwritten"
     done
     # Who reads the first line alone.
     status=0

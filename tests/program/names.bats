@@ -194,9 +194,9 @@ END
         word=$(printf '%b' "$bytes")
         cp "$data/empty.db" "$work/$word"
         for command in "${five[@]}"; do
-            exactly 2 '' $'dbck: a word of the command line is not UTF-8\n' "$command" "$work/$word"
+            exactly 2 '' $'dbck: word 2 of the command line is not UTF-8\n' "$command" "$work/$word"
         done
-        exactly 2 '' $'dbck: a word of the command line is not UTF-8\n' "$word"
+        exactly 2 '' $'dbck: word 1 of the command line is not UTF-8\n' "$word"
     done
 }
 

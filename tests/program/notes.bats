@@ -184,6 +184,33 @@ END
     exactly 3 '' "dbck: note: $work/refused.db is not checked"$'\n'"dbck: note: $work/refused.db begins with 0d 0a 0d 0a 0d 0a 61 0a 6f 72 6d 61 74 20 33 00  ......a.ormat 3."$'\ndbck: E2 file is not a SQLite 3 database\n' check "$work/refused.db"
 }
 
+taken='dbck: note: the first page has 0a where 0d belongs, and no 0d: perhaps carriage returns were taken away (see the manual)'$'\n'
+
+# no_returns: a database of one page in which each carriage return became a line feed.
+no_returns() {
+    changed returned 100 '\012'
+    tr '\r' '\n' < "$work/returned.db" > "$work/x.db"
+}
+
+@test 'a page without carriage returns was copied as text if it begins with a line feed' {
+    no_returns
+    for command in check explain map stat; do
+        expect 1 '*' "*$taken" "$command" "$work/x.db"
+    done
+    # Also where it is longer than its pages, or cut; and the ends of lines and letters are looked at first.
+    printf 'sevenby' >> "$work/x.db"
+    expect 1 '*' "$taken$rest" check "$work/x.db"
+    put_at "$work/x.db" 300 '\0303\0251\0303\0251\0303\0251\0303\0251'
+    expect 1 '*' "$letters$rest" check "$work/x.db"
+    no_returns
+    # A carriage return anywhere on the page, or another type, and it was not.
+    put_at "$work/x.db" 511 '\r'
+    expect 1 '*' '' check "$work/x.db"
+    no_returns
+    put_at "$work/x.db" 100 '\02'
+    expect 1 '*' '' check "$work/x.db"
+}
+
 @test 'bytes after the last page are counted, in each command' {
     # Whole.db has 13 pages of 512 bytes.
     while read -r more text; do

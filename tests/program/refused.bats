@@ -42,6 +42,37 @@ END
     done
 }
 
+@test 'of a refused file a note names the format that it begins with' {
+    while read -r name bytes text; do
+        printf '%b' "$bytes" > "$work/$name"
+        truncate -s 600 "$work/$name"
+        for command in "${five[@]}"; do
+            expect 3 '' "dbck: note: $work/$name is not checked"$'\n'"dbck: note: $work/$name begins as $text"$'\ndbck: E2 file is not a SQLite 3 database\n' "$command" "$work/$name"
+        done
+    done << 'END'
+x.gz \x1f\x8b\x08 a gzip file does; unpack it first
+x.zip PK\x03\x04 a ZIP archive does; unpack it first
+x.xz \xfd7zXZ\x00 an xz file does; unpack it first
+x.zst \x28\xb5\x2f\xfd a zstd file does; unpack it first
+x.pdf %PDF-1.7 a PDF document does
+END
+}
+
+@test 'of other beginnings no format is named' {
+    while read -r bytes shown; do
+        printf '%b' "$bytes" > "$work/x"
+        truncate -s 600 "$work/x"
+        expect 3 '' "dbck: note: $work/x is not checked"$'\n'"dbck: note: $work/x begins with $shown*"$'\ndbck: E2 file is not a SQLite 3 database\n' check "$work/x"
+    done << 'END'
+\x1f\x8c 1f 8c 00
+PK\x05\x06 50 4b 05 06 00
+\xfd7zXZ\x01 fd 37 7a 58 5a 01 00
+\x28\xb5\x2f\xfc 28 b5 2f fc 00
+%PDF 25 50 44 46 00
+\x00\x1f\x8b 00 1f 8b 00
+END
+}
+
 @test 'a file with a page too many is refused, and one whose pointer map would be at the lock-byte page' {
     cp "$data/empty.db" "$work/many-pages.db"
     sparse "$work/many-pages.db" 34359738880

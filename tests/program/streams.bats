@@ -52,7 +52,7 @@ to_full_disk() {
     for words in check explain map mend stat 'stat --all' 'stat --aggregate'; do
         # shellcheck disable=SC2086
         to_full_disk $words "$data/whole.db"
-        row "$words to a full disk" ended 6 '' "$unwritten"
+        row "$words to a full disk" ended 6 '' "$full$unwritten"
     done
 }
 
@@ -60,8 +60,43 @@ to_full_disk() {
     for words in --help --version help 'check --help'; do
         # shellcheck disable=SC2086
         to_full_disk $words
-        row "$words to a full disk" ended 6 '' "$unwritten"
+        row "$words to a full disk" ended 6 '' "$full$unwritten"
     done
+}
+
+# to_closed WORDS..: runs the program with an output that is closed.
+to_closed() {
+    status=0
+    "$DBCK" "$@" >&- 2> "$work/err" < /dev/null 3>&- || status=$?
+    : > "$work/out"
+}
+
+@test 'of a closed output a note says so' {
+    for words in "check $data/two-owners.db" "stat $data/whole.db" --version; do
+        # shellcheck disable=SC2086
+        to_closed $words
+        row "$words to a closed output" ended 6 '' $'dbck: note: standard output: it is closed\n'"$unwritten"
+    done
+}
+
+# to_closed_pipe WORDS..: runs the program with a pipe that nobody reads, where the signal of that is ignored.
+to_closed_pipe() {
+    status=0
+    (
+        trap '' PIPE
+        "$DBCK" "$@" 2> "$work/err" < /dev/null 3>&-
+        echo $? > "$work/status"
+    ) | :
+    status=$(< "$work/status")
+    : > "$work/out"
+}
+
+@test 'of a pipe that nobody reads a note says so' {
+    many_rows=$work/rows.db
+    cp "$data/empty.db" "$many_rows"
+    truncate -s $((512 * 6001)) "$many_rows"
+    to_closed_pipe check --limit 6000 "$many_rows"
+    row 'a closed pipe' ended 6 '' $'dbck: note: standard output: Broken pipe\n'"$unwritten"
 }
 
 @test 'notes that cannot be written change no status' {

@@ -2,7 +2,8 @@
 #![tactic(auto)]
 
 use dbcli::{
-    LineError, LineOut, Progress, System, SystemFiles, answer_words, tell, texts_of, words_of,
+    FailedWrites, LineError, LineOut, Progress, STANDARD_ERROR, STANDARD_OUTPUT, Stream, System,
+    SystemFiles, answer_words, tell, texts_of, words_of,
 };
 use dbsource::{BufferedOut, StreamOut};
 use std::io::IsTerminal;
@@ -14,12 +15,15 @@ fn run(rt: &HostRuntime) -> Result<u8, LineError> {
     let texts = texts_of(rt.alloc(), words.as_slice())?;
     let is_terminal = rt.stderr().is_terminal();
     let progress = Progress::new(rt.stderr(), is_terminal);
-    let out = BufferedOut::new(rt.alloc(), rt.stdout())?;
-    let err = BufferedOut::new(rt.alloc(), rt.stderr())?;
+    let writes = FailedWrites::shared(rt.alloc())?;
+    let stdout = Stream::new(rt.stdout(), STANDARD_OUTPUT, writes.clone()?);
+    let stderr = Stream::new(rt.stderr(), STANDARD_ERROR, writes.clone()?);
+    let out = BufferedOut::new(rt.alloc(), stdout)?;
+    let err = BufferedOut::new(rt.alloc(), stderr)?;
     let mut out = LineOut::new(out, rt.stdout().is_terminal(), &progress);
     let mut err = LineOut::new(err, is_terminal, &progress);
     let mut notes = LineOut::new(StreamOut::new(rt.stderr()), is_terminal, &progress);
-    let mut system = System::new(rt, SystemFiles::new(rt));
+    let mut system = System::new(rt, &*writes, SystemFiles::new(rt));
     Ok(answer_words(
         &mut system,
         texts.as_slice(),

@@ -66,7 +66,7 @@ pub error_in_words : (error : LineError) (words : List Text) (met : Option (Text
 error_in_words (Words e) words met taken same h = inl h
 error_in_words Limit words met taken same h = (taken, subst AsksForNone same h)
 error_in_words (With e) words met taken same h = (taken, subst SpellsNone same h)
-error_in_words NotText words met taken same h = h
+error_in_words (NotText number) words met taken same h = h
 
 pub error_is_in_words : {A : Type 0} (r : Result A LineError) (words : List Text) (met : Option (Text × List Row)) → fault_of dbck_app words ≡ []
     → met ≡ subcommand_of dbck_app words → IfErr r (λ error. IsErrorIn error met) → IfErr r (λ error. IsErrorOf error words)

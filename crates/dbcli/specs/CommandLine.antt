@@ -185,7 +185,7 @@ abbrev pub IsErrorIn : LineError → Option (Text × List Row) → Type 0
 IsErrorIn (Words kind) met = kind ≡ OutOfMemory
 IsErrorIn Limit met = AsksForNone met
 IsErrorIn (With e) met = SpellsNone met
-IsErrorIn NotText met = ⊥
+IsErrorIn (NotText number) met = ⊥
 
 -- Why the words are not taken: one of the kinds of fault that `clap` finds in them, or want of memory. Where it finds
 -- none, only words are refused that ask for nothing with a limit in range, or that spell no changes that are taken.
@@ -193,4 +193,4 @@ abbrev pub IsErrorOf : LineError → List Text → Type 0
 IsErrorOf (Words kind) words = IsKindOf kind words
 IsErrorOf Limit words = (fault_of dbck_app words ≡ []) × AsksForNone (subcommand_of dbck_app words)
 IsErrorOf (With e) words = (fault_of dbck_app words ≡ []) × SpellsNone (subcommand_of dbck_app words)
-IsErrorOf NotText words = ⊥
+IsErrorOf (NotText number) words = ⊥

@@ -4,6 +4,7 @@ pub mod Copies
 pub mod ErrorLines
 pub mod Exit
 pub mod Finishing
+pub mod Formats
 pub mod Handing
 pub mod NoteLines
 pub mod Requests

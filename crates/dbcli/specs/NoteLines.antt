@@ -1,9 +1,11 @@
 -- The lines of notes.
 use Rattle.std.specs.Prelude.{◌≡◌, ◌⊎◌, ℕ, ◌==◌, if◌then◌else◌, List, ◌++◌, Result, codes, decimal}
 use Rattle.std.specs.List.{flat_map, list_all}
+use Rattle.std.specs.Option.{option_map_or}
 use Rattle.dbformat.specs.FirstBytes.{begins_with}
 use Rattle.dbsource.specs.Outs.{OutState, Puts}
 use Rattle.dbsource.specs.declared.out.WriteFailed.{WriteFailed}
+use Rattle.dbcli.specs.Formats.{format_of, format_text}
 use Rattle.dbcli.specs.declared.note.Piece.{Piece}
 use Rattle.dbcli.specs.declared.note.Piece.TheVariants.{Words, Number, First}
 
@@ -29,9 +31,11 @@ note_line name pieces = codes "dbck: note: " ++ name ++ pieces_text pieces ++ co
 abbrev pub said_line : List ℕ → List (List ℕ) → List ℕ
 said_line name said = codes "dbck: note: " ++ name ++ flat_map (λ text. text) said ++ codes "\n"
 
--- what the first bytes of a file are: zeros, or else these bytes
+-- what the first bytes of a file are: zeros, or the beginning of a format of other files, or else these bytes
 abbrev pub beginning_text : List ℕ → List ℕ
-beginning_text first = if list_all (λ byte. byte == 0) first then codes " begins with zeros" else first_bytes_text first
+beginning_text first =
+    if list_all (λ byte. byte == 0) first then codes " begins with zeros"
+    else option_map_or format_text (format_of first) (first_bytes_text first)
 
 -- A text was put, as far as the Out took it; or nothing, where there was no memory for the text.
 abbrev pub PutsIfRoom : OutState → OutState → List ℕ → Type 0

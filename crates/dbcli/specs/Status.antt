@@ -28,4 +28,4 @@ abbrev pub line_status : LineError → ℕ
 line_status (Words kind) = kind_status kind
 line_status Limit = 2
 line_status (With error) = 2
-line_status NotText = 2
+line_status (NotText number) = 2

@@ -69,9 +69,9 @@ pub enum LineError {
     /// The words spell no changes that are taken.
     #[error(transparent)]
     With(WithError),
-    /// A word is not UTF-8.
-    #[error("dbck: a word of the command line is not UTF-8")]
-    NotText,
+    /// The word of this number, from that of the program's name, which is 0, is not UTF-8.
+    #[error("dbck: word {0} of the command line is not UTF-8")]
+    NotText(usize),
 }
 
 impl From<AllocError> for LineError {

@@ -1,6 +1,7 @@
 // Copies of a database that were made as of a text, by what its first page has.
-ghost use Rattle.std.specs.Prelude.{◌≡◌, ◌↔◌, IsTrue, MatchOption, drop};
-ghost use Rattle.dbcli.specs.Copies.{AreAfterReturns, HasEndsOfLines, HasLetters, IsCopied, IsUncopied, IsUtf8SoFar, copied_text};
+ghost use Rattle.std.specs.Prelude.{◌≡◌, ◌↔◌, ◌==◌, IsTrue, MatchOption, drop};
+ghost use Rattle.std.specs.List.{list_any};
+ghost use Rattle.dbcli.specs.Copies.{AreAfterReturns, HasEndsOfLines, HasLetters, IsCopied, IsUncopied, IsUtf8SoFar, copied_text, keeps_length, lacks_returns};
 
 use std::str;
 
@@ -12,6 +13,9 @@ const HIGH_BYTES: usize = 8;
 // Up to here a header has no byte above 127 but in numbers.
 const NUMBERS: usize = 80;
 
+// Where page 1 has the type of its tree page: 13 if it is a leaf of a table.
+const TYPE: usize = 100;
+
 /// What a copy made of the bytes of a database.
 #[derive(Clone, Copy)]
 pub enum Copied {
@@ -19,6 +23,8 @@ pub enum Copied {
     Lines,
     /// Each byte above 127 became two, as in the change from Latin-1 to UTF-8.
     Letters,
+    /// Carriage returns became line feeds, or were taken away.
+    Returns,
 }
 
 impl Copied {
@@ -30,6 +36,8 @@ impl Copied {
             Some(Copied::Lines)
         } else if has_letters(after_numbers(bytes)) {
             Some(Copied::Letters)
+        } else if lacks_returns(bytes) {
+            Some(Copied::Returns)
         } else {
             None
         }
@@ -47,7 +55,17 @@ impl Copied {
             Copied::Letters => {
                 "the bytes of the first page from 80 on are well-formed UTF-8: perhaps converted as text (see the manual)"
             }
+            Copied::Returns => {
+                "the first page has 0a where 0d belongs, and no 0d: perhaps carriage returns were taken away (see the manual)"
+            }
         }
+    }
+
+    /// Whether a file may have as many bytes as before.
+    pub fn keeps_length(self) -> bool
+        ensures { result ≡ keeps_length self }
+    {
+        matches!(self, Copied::Returns)
     }
 }
 
@@ -60,6 +78,23 @@ fn after_numbers(bytes: &[u8]) -> &[u8]
     } else {
         &bytes[NUMBERS..]
     }
+}
+
+// Whether some byte is a carriage return.
+fn has_returns(bytes: &[u8]) -> bool
+    ensures { result ≡ list_any (λ byte. byte == 13) bytes.now }
+{
+    bytes.iter().any(|byte| *byte == b'\r')
+}
+
+// Whether a line feed is where page 1 has its type, and no byte is a carriage return.
+fn lacks_returns(bytes: &[u8]) -> bool
+    ensures { result ≡ lacks_returns bytes.now }
+{
+    if bytes.len() <= TYPE || bytes[TYPE] != b'\n' {
+        return false;
+    }
+    !has_returns(bytes)
 }
 
 // Whether each line feed comes after a carriage return.

@@ -6,6 +6,7 @@ ghost use Rattle.dbcli.specs.NoteLines.{beginning_text, piece_text};
 use crate::beside::WAL;
 use crate::error_lines::Unrun;
 use crate::finishing::Notes;
+use crate::format::Format;
 use crate::log_notes::put_found;
 use crate::logs::put_log_notes;
 use crate::lookup::Lookup;
@@ -14,18 +15,20 @@ use crate::rest::put_rest;
 use crate::shown::Shown;
 use crate::stamp::Stamp;
 use crate::task::Task;
+use crate::unwritten::FailedWrites;
 use crate::watched::Watch;
 use dblog::{Index, LogError};
 use dbreport::Verdict;
 use dbsource::{Changes, Out, Refusal, RunError};
 use std::alloc::Global;
 
-/// Puts notes on the file at a path; `watch` has what the run has seen of it.
+/// Puts notes on the file at a path; `watch` has what the run has seen of it, and `writes` of its outputs.
 #[derive(Drop)]
 pub struct FileNotes<'a, R, N> {
     rt: &'a R,
     file: &'a str,
     watch: &'a Watch,
+    writes: &'a FailedWrites,
     notes: NoteOut<'a, N>,
     before: Option<Stamp>,
     is_open: bool,
@@ -37,13 +40,20 @@ pub struct FileNotes<'a, R, N> {
 
 impl<'a, R: Lookup + AllocGlobal, N: Out> FileNotes<'a, R, N> {
     /// Notes on a file that is not yet opened.
-    pub fn new(rt: &'a R, file: &'a str, watch: &'a Watch, notes: &'a mut N) -> FileNotes<'a, R, N>
+    pub fn new(
+        rt: &'a R,
+        file: &'a str,
+        watch: &'a Watch,
+        writes: &'a FailedWrites,
+        notes: &'a mut N,
+    ) -> FileNotes<'a, R, N>
         ensures { result.notes.out.now ≡ notes.old }
     {
         FileNotes {
             rt,
             file,
             watch,
+            writes,
             notes: NoteOut::new(rt.alloc(), notes),
             before: Stamp::at(rt, file),
             is_open: false,
@@ -105,9 +115,11 @@ impl<'a, R: Lookup + AllocGlobal, N: Out> FileNotes<'a, R, N> {
         }
     }
 
-    // The note on a copy that was made as of a text.
-    fn put_copied(&mut self) {
-        if let Some(copied) = self.watch.copied() {
+    // The note on a copy that was made as of a text, if the file has no whole pages or it may have them.
+    fn put_copied(&mut self, is_cut: bool) {
+        if let Some(copied) = self.watch.copied()
+            && (is_cut || copied.keeps_length())
+        {
             let none = Shown::none(self.rt.alloc());
             self.notes.put(&none, &[Piece::Words(copied.text())]);
         }
@@ -141,6 +153,16 @@ impl<'a, R: Lookup + AllocGlobal, N: Out> FileNotes<'a, R, N> {
                 Piece::Words(" cannot be read"),
             ]),
             None => self.put_of_file(&[Piece::Words(": its length is not known")]),
+        }
+    }
+
+    // The note on an output that cannot be written, if the system said why.
+    fn put_unwritten(&mut self) {
+        if let Some(failed) = self.writes.first()
+            && let Ok(said) = failed.text(self.rt.alloc())
+            && let Ok(said) = Shown::of(self.rt.alloc(), said.as_str())
+        {
+            self.notes.put(&said, &[]);
         }
     }
 
@@ -216,18 +238,19 @@ impl<R: Lookup + AllocGlobal, N: Out> Notes for FileNotes<'_, R, N> {
     fn tell(&mut self, outcome: &Result<Verdict, RunError>) {
         match outcome {
             Ok(verdict) => {
-                if *verdict != Verdict::Clean && self.ends_in_part() {
-                    self.put_copied();
+                if *verdict != Verdict::Clean {
+                    self.put_copied(self.ends_in_part());
                 }
                 self.put_rest();
             }
             Err(RunError::Refused(refusal)) => {
                 self.put_of_file(&[Piece::Words(" is not checked")]);
-                self.put_copied();
+                self.put_copied(true);
                 self.put_known(*refusal);
             }
             Err(RunError::ReadFailed) => self.put_unread(),
-            Err(_) => {}
+            Err(RunError::WriteFailed) => self.put_unwritten(),
+            Err(RunError::OutOfMemory { .. }) => {}
         }
         if self.is_open && self.has_changed() {
             self.put_of_file(&[Piece::Words(
@@ -260,9 +283,11 @@ fn beginning(first: [u8; 16]) -> Piece
     ensures { piece_text result ≡ beginning_text first }
 {
     if are_zeros(&first) {
-        Piece::Words(" begins with zeros")
-    } else {
-        Piece::First(first)
+        return Piece::Words(" begins with zeros");
+    }
+    match Format::of(&first) {
+        Some(format) => Piece::Words(format.text()),
+        None => Piece::First(first),
     }
 }
 

@@ -1,5 +1,6 @@
 // Who opens a file, and gets it back.
 use crate::lookup::Lookup;
+use crate::unwritten::system_text;
 use dbsource::{FileSource, NoMemory, ReadFailed, RunError, Source, memory};
 use std::alloc::AllocError;
 use std::fs::{self, File};
@@ -152,20 +153,11 @@ fn reason_of<R: Files<File = File> + AllocGlobal>(
     };
     match opened {
         Ok(()) => Ok(None),
-        Err(error) => Ok(Some(text_of(rt, &error)?)),
+        Err(error) => Ok(Some(system_text(rt.alloc(), &error)?)),
     }
 }
 
 // The reason that it is none of those that are read.
 fn of_kind<R: AllocGlobal>(rt: &R, kind: &str) -> Result<Option<String>, AllocError> {
     Ok(Some(String::from_str(rt.alloc(), kind)?))
-}
-
-// What the system says of an error, without its number.
-fn text_of<R: AllocGlobal>(rt: &R, error: &io::Error) -> Result<String, AllocError> {
-    let text = error.to_string(rt.alloc())?;
-    match text.as_str().split_once(" (os error ") {
-        Some((reason, _)) => String::from_str(rt.alloc(), reason),
-        None => Ok(text),
-    }
 }

@@ -11,27 +11,30 @@ use crate::notes::FileNotes;
 use crate::opening::Opener;
 use crate::progress::Progress;
 use crate::status::line_status;
+use crate::unwritten::{FailedWrite, FailedWrites, STANDARD_OUTPUT};
 use crate::watched::Watch;
 use crate::words_error::WordsError;
 use clap::error::ErrorKind;
 use dbsource::{Out, RunError};
 use std::io;
 
-/// The system of a run: its memory, what it looks paths up by, and the opener of its files.
+/// The system of a run: its memory, what it looks paths up by, its streams, and the opener of its files.
 #[derive(Drop)]
 pub struct System<'a, R, F> {
     /// Gives memory, and what is known of a path, for the notes.
     pub rt: &'a R,
+    /// What failed of the streams that are written to, for the notes.
+    pub writes: &'a FailedWrites,
     /// Opens the file of the run.
     pub files: F,
 }
 
 impl<'a, R, F> System<'a, R, F> {
-    /// A system of these two.
-    pub fn new(rt: &'a R, files: F) -> System<'a, R, F>
+    /// A system of these three.
+    pub fn new(rt: &'a R, writes: &'a FailedWrites, files: F) -> System<'a, R, F>
         ensures { result.files ≡ files }
     {
-        System { rt, files }
+        System { rt, writes, files }
     }
 }
 
@@ -49,7 +52,7 @@ pub fn run_line<R: Lookup + AllocGlobal, F: Opener, O: Out, E: Out, N: Out, W: P
         line.entry.file.now result (system.old.files, out.old, err.old) (system.new.files, out.new, err.new) }
 {
     let watch = Watch::new();
-    let mut notes = FileNotes::new(system.rt, line.file, &watch, notes);
+    let mut notes = FileNotes::new(system.rt, line.file, &watch, system.writes, notes);
     if !line.progress {
         progress.turn_off();
     }
@@ -107,6 +110,16 @@ fn print_error<R: Eprint + AllocGlobal>(rt: &R, words: &WordsError) -> io::Resul
     }
 }
 
+// Prints that standard output cannot be written, after a note that says why, if the system said so.
+fn print_unwritten<R: Eprint + AllocGlobal>(rt: &R, error: &io::Error) {
+    if let Some(failed) = FailedWrite::of(STANDARD_OUTPUT, error)
+        && let Ok(said) = failed.text(rt.alloc())
+    {
+        let _ = eprint!(rt; "dbck: note: {said}\n");
+    }
+    let _ = rt.eprint(error_line(RunError::WriteFailed));
+}
+
 /// Prints why the words are no command line, or the help that they ask for, and answers the exit status: 6 where the
 /// help cannot be printed.
 pub fn tell<R: Print + Eprint + AllocGlobal>(rt: &R, error: &LineError) -> u8
@@ -121,9 +134,11 @@ pub fn tell<R: Print + Eprint + AllocGlobal>(rt: &R, error: &LineError) -> u8
         },
         _ => rt.eprintln(error),
     };
-    if status == 0 && printed.is_err() {
-        let _ = rt.eprint(error_line(RunError::WriteFailed));
-        return 6;
+    match printed {
+        Err(error) if status == 0 => {
+            print_unwritten(rt, &error);
+            6
+        }
+        _ => status,
     }
-    status
 }

@@ -32,6 +32,6 @@ pub fn line_status(error: &LineError) -> u8
             ErrorKind::OutOfMemory => 5,
             _ => 2,
         },
-        LineError::Limit | LineError::With(_) | LineError::NotText => 2,
+        LineError::Limit | LineError::With(_) | LineError::NotText(_) => 2,
     }
 }

@@ -1,7 +1,7 @@
 // Runs of the program over files, and what is wanted of each.
 use crate::fake_system::FakeSystem;
 use crate::stops::holds;
-use dbcli::{Progress, System, SystemFiles, answer_words};
+use dbcli::{FailedWrites, Progress, System, SystemFiles, answer_words};
 use dbsource::MemOut;
 use std::alloc::{AllocError, Global};
 use std::fs;
@@ -50,7 +50,8 @@ struct Outs {
 // Runs the program over a system, and answers its status.
 fn status_of<'w>(system: &FakeSystem<'_>, words: &'w [&'w str], outs: &mut Outs) -> u8 {
     let progress = Progress::new(system, false);
-    let mut runner = System::new(system, SystemFiles::new(system));
+    let writes = FailedWrites::new();
+    let mut runner = System::new(system, &writes, SystemFiles::new(system));
     answer_words(
         &mut runner,
         words,
