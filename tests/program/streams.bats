@@ -84,8 +84,8 @@ to_closed_pipe() {
     status=0
     (
         trap '' PIPE
-        "$DBCK" "$@" 2> "$work/err" < /dev/null 3>&-
-        echo $? > "$work/status"
+        "$DBCK" "$@" 2> "$work/err" < /dev/null 3>&- || status=$?
+        echo "$status" > "$work/status"
     ) | :
     status=$(< "$work/status")
     : > "$work/out"

@@ -2,8 +2,8 @@
 #![tactic(auto)]
 
 use dbcli::{
-    FailedWrites, LineError, LineOut, Progress, STANDARD_ERROR, STANDARD_OUTPUT, Stream, System,
-    SystemFiles, answer_words, tell, texts_of, words_of,
+    FailedWrites, LineError, LineOut, Progress, Stream, StreamName, System, SystemFiles,
+    answer_words, tell, texts_of, words_of,
 };
 use dbsource::{BufferedOut, StreamOut};
 use std::io::IsTerminal;
@@ -16,8 +16,8 @@ fn run(rt: &HostRuntime) -> Result<u8, LineError> {
     let is_terminal = rt.stderr().is_terminal();
     let progress = Progress::new(rt.stderr(), is_terminal);
     let writes = FailedWrites::shared(rt.alloc())?;
-    let stdout = Stream::new(rt.stdout(), STANDARD_OUTPUT, writes.clone()?);
-    let stderr = Stream::new(rt.stderr(), STANDARD_ERROR, writes.clone()?);
+    let stdout = Stream::new(rt.stdout(), StreamName::Output, writes.clone()?);
+    let stderr = Stream::new(rt.stderr(), StreamName::Error, writes.clone()?);
     let out = BufferedOut::new(rt.alloc(), stdout)?;
     let err = BufferedOut::new(rt.alloc(), stderr)?;
     let mut out = LineOut::new(out, rt.stdout().is_terminal(), &progress);

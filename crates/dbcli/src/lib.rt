@@ -45,6 +45,6 @@ pub use running::{System, answer_words, run_line, tell};
 pub use spelled::SpellingError;
 pub use status::{line_status, status_of};
 pub use task::Task;
-pub use unwritten::{FailedWrite, FailedWrites, STANDARD_ERROR, STANDARD_OUTPUT, Stream};
+pub use unwritten::{FailedWrite, FailedWrites, Stream, StreamName};
 pub use words::{texts_of, words_of};
 pub use words_error::WordsError;

@@ -11,7 +11,7 @@ use crate::notes::FileNotes;
 use crate::opening::Opener;
 use crate::progress::Progress;
 use crate::status::line_status;
-use crate::unwritten::{FailedWrite, FailedWrites, STANDARD_OUTPUT};
+use crate::unwritten::{FailedWrite, FailedWrites, StreamName};
 use crate::watched::Watch;
 use crate::words_error::WordsError;
 use clap::error::ErrorKind;
@@ -112,7 +112,7 @@ fn print_error<R: Eprint + AllocGlobal>(rt: &R, words: &WordsError) -> io::Resul
 
 // Prints that standard output cannot be written, after a note that says why, if the system said so.
 fn print_unwritten<R: Eprint + AllocGlobal>(rt: &R, error: &io::Error) {
-    if let Some(failed) = FailedWrite::of(STANDARD_OUTPUT, error)
+    if let Some(failed) = FailedWrite::of(StreamName::Output, error)
         && let Ok(said) = failed.text(rt.alloc())
     {
         let _ = eprint!(rt; "dbck: note: {said}\n");

@@ -6,11 +6,22 @@ use std::cell::Cell;
 use std::io::{self, Write};
 use std::rc::Rc;
 
-/// What standard output is called in a note.
-pub const STANDARD_OUTPUT: &str = "standard output";
+/// A stream that is written to.
+#[derive(Clone, Copy)]
+pub enum StreamName {
+    Output,
+    Error,
+}
 
-/// What standard error is called in a note.
-pub const STANDARD_ERROR: &str = "standard error";
+impl StreamName {
+    // What it is called in a note.
+    fn text(self) -> &'static str {
+        match self {
+            StreamName::Output => "standard output",
+            StreamName::Error => "standard error",
+        }
+    }
+}
 
 // The number of the system's error of a stream that is closed.
 const CLOSED: i32 = 9;
@@ -18,13 +29,13 @@ const CLOSED: i32 = 9;
 /// A write that failed: of which stream, and the number of the system's error.
 #[derive(Clone, Copy)]
 pub struct FailedWrite {
-    stream: &'static str,
+    stream: StreamName,
     code: i32,
 }
 
 impl FailedWrite {
     /// This error of a stream, if it is one of the system.
-    pub fn of(stream: &'static str, error: &io::Error) -> Option<FailedWrite> {
+    pub fn of(stream: StreamName, error: &io::Error) -> Option<FailedWrite> {
         let code = error.raw_os_error()?;
         Some(FailedWrite { stream, code })
     }
@@ -35,7 +46,7 @@ impl FailedWrite {
     ///
     /// [`AllocError`] where memory was refused.
     pub fn text(self, alloc: Global) -> Result<String, AllocError> {
-        let stream = self.stream;
+        let stream = self.stream.text();
         let reason = reason_of(alloc, self.code)?;
         format!(in alloc; "{stream}: {reason}")
     }
@@ -73,7 +84,7 @@ impl FailedWrites {
     }
 
     // Keeps one, if it is the first.
-    fn keep(&self, stream: &'static str, error: &io::Error) {
+    fn keep(&self, stream: StreamName, error: &io::Error) {
         if self.first.get().is_none() {
             self.first.set(FailedWrite::of(stream, error));
         }
@@ -84,13 +95,13 @@ impl FailedWrites {
 #[derive(Drop)]
 pub struct Stream<W> {
     writer: W,
-    name: &'static str,
+    name: StreamName,
     failed: Rc<FailedWrites>,
 }
 
 impl<W: Write> Stream<W> {
     /// One over `writer`, which has this name in a note.
-    pub fn new(writer: W, name: &'static str, failed: Rc<FailedWrites>) -> Stream<W>
+    pub fn new(writer: W, name: StreamName, failed: Rc<FailedWrites>) -> Stream<W>
         ensures { result.writer ≡ writer }
     {
         Stream {
