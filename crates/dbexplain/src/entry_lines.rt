@@ -28,12 +28,7 @@ fn put_after_cause<A: Allocator, O: Out>(
         Cause::Leaf(leaf, _) => owners.put_page(writer, *leaf),
         Cause::Page(page, facts) => put_facts(writer, owners.header.geometry(), *page, facts),
         Cause::Look(_, facts) => put_facts(writer, owners.header.geometry(), page, facts),
-        Cause::Chain(chain) => put_run(
-            writer,
-            owners.header.geometry(),
-            page,
-            chain.seen.run,
-        ),
+        Cause::Chain(chain) => put_run(writer, owners.header.geometry(), page, chain.seen.run),
         _ => {}
     }
 }

@@ -151,7 +151,8 @@ module _ (file : List ℕ) (U T : List Reference) (place : Address) (after : (t 
       ap (told_by (by_all (at_page r))) (page_parts file U r)
       ∙ told_by-append (by_all (at_page r)) (page_faults file [] r) (depth_fault file U r)
       ∙ ap₂ (λ a b. a ++ b)
-      (page_same (by_all (at_page r)) (by_front (at_page r)) file (chain_front r e (bytes_left (role_of r)) 1 (seen_bytes (usable_size file) (page_bytes file r.page))) refl r
+      (page_same (by_all (at_page r)) (by_front (at_page r)) file (chain_front r e (bytes_left (role_of r)) 1
+      (seen_bytes (usable_size file) (page_bytes file r.page))) refl r
       (λ kind in_tree. ap (λ rowids. map (visit_cause rowids file r) page_codes) (rowids_front r e)))
       (depth_front r e i)
       ∙ sym (ap (told_by (by_front (at_page r))) (page_parts file U r) ∙ told_by-append (by_front (at_page r)) (page_faults file [] r) (depth_fault file U r))

@@ -48,7 +48,8 @@ quiet_chain file d left h = subst (λ es. AreQuiet own_visit es) (sym (by_chain 
     (all_quiet.2 d (overflow_links d.page (usable_size file) left (page_bytes file d.page)))
 
 module _ {S : Type 0} (takes : S → Finding → S → Type 0) (file : List ℕ) (W : List Reference) (c : Reference) (before : S) (chain : Chain)
-    (place : ChainPlace) (marks : List Mark) (s : S) {first old : Option RowSieve} {read : List ℕ} (on : IsOnWay takes file W c before chain place marks s first old read) where
+    (place : ChainPlace) (marks : List Mark) (s : S) {first old : Option RowSieve} {read : List ℕ}
+    (on : IsOnWay takes file W c before chain place marks s first old read) where
   -- the next reference is refused
   pub turn_refused : (marks' : List Mark) (t : S) → Enters takes file on.visited on.d (refusal_cause file on.visited on.d) (Ok false) marks' s t
       → IsDone {A = Unit {0}} takes file W (Go c ∷ []) (Ok tt) marks' before t × FeedsChain file W c first old

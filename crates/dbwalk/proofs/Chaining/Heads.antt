@@ -47,7 +47,8 @@ chain_few chain number d on = by_address d.address on.place
     by_address (x ∷ a) e = let l = few a chain.cell number e in omega arith
 
 -- the cause of a fault along the chain
-pub head_cause : (file : List ℕ) (V : List Reference) (chain : Chain) (number left more : ℕ) (seen : SeenBytes) (d : Reference) → bytes_left (role_of d) ≡ Some left
+pub head_cause : (file : List ℕ) (V : List Reference) (chain : Chain) (number left more : ℕ) (seen : SeenBytes) (d : Reference)
+    → bytes_left (role_of d) ≡ Some left
     → IsOnChain chain number d
     → HasHead file chain V d → chain_cause file V d (bytes_left (role_of d)) more seen
     ≡ cause.Chain (walked_chain chain number (usable_size file) left (number + more) seen)

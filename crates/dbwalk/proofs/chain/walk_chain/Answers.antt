@@ -13,7 +13,8 @@ use Rattle.dbwalk.proofs.chain.walk_chain.Goals as goal
 pub loop-next-init : goal.loop-next-init
 loop-next-init g c = record {
   log = log_none c.args.bench.now.geometry.page_size c.args.marks.now c.args.marks.now (g.S.Source.held c.args.source.now) refl
-      (λ file e W d h next m. way_start g.K.Sink.takes file W d c.args.chain.now c.args.marks.now c.args.sink.now c.args.sieve.now c.args.bench.now.chain h next m);
+      (λ file e W d h next m. way_start g.K.Sink.takes file W d c.args.chain.now c.args.marks.now c.args.sink.now c.args.sieve.now
+      c.args.bench.now.chain h next m);
   reads = refl;
   writes = inl refl;
   bench = refl;
