@@ -49,7 +49,7 @@ abbrev pub broken_chain_text : CellChain → List ℕ
 broken_chain_text c = indented (codes "chain of page " ++ decimal c.page ++ codes " item " ++ decimal c.item ++ option_map_or rowid_text c.rowid []
     ++ codes ": "
     ++ decimal c.found ++ codes " of " ++ number_text c.pages (codes " page") (codes " pages"))
-    ++ (if c.is_in_zeros then blank_text 0 else [])
+    ++ (if c.seen.are_zeros then blank_text 0 else [])
 
 -- the kind of a page of a tree
 abbrev pub page_kind_text : PageKind → List ℕ

@@ -14,7 +14,7 @@ use Rattle.dbentries.specs.Bits.{bit_set, has_bit}
 -- whether the page of a fault with this cause is zeros: it is of an unknown type or lost, and blank, or its next overflow page is refused
 abbrev pub is_of_zeros : Cause → Bool
 is_of_zeros (cause.Look (look.Blank byte) facts) = byte == 0
-is_of_zeros (cause.Chain c) = c.is_in_zeros
+is_of_zeros (cause.Chain c) = c.seen.are_zeros
 is_of_zeros _ = false
 
 -- whether page p is, by some of these faults

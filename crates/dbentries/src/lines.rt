@@ -100,7 +100,7 @@ fn chain_text(chain: CellChain) -> ArrayVec<u8, 192>
     append(&mut line, " of ");
     append_count(&mut line, u64::from(chain.pages), " page", " pages");
     append(&mut line, "\n");
-    append_zeros(&mut line, chain.is_in_zeros);
+    append_zeros(&mut line, chain.seen.are_zeros);
     line
 }
 

@@ -83,7 +83,7 @@ fn is_of_zeros(cause: &Cause) -> bool
 {
     match cause {
         Cause::Look(Look::Blank(byte), _) => *byte == 0,
-        Cause::Chain(chain) => chain.is_in_zeros,
+        Cause::Chain(chain) => chain.seen.are_zeros,
         _ => false,
     }
 }

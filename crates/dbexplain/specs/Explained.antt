@@ -20,7 +20,7 @@ use Rattle.dbentries.specs.Others.{others_text}
 use Rattle.dbentries.specs.Listed.{IsBeginning, listed_entries, listed_faults}
 use Rattle.dbexplain.specs.Below.{lines_below, place_line}
 use Rattle.dbscan.specs.Placed.{told_faults}
-use Rattle.dbexplain.specs.Facts.{facts_text}
+use Rattle.dbexplain.specs.Facts.{facts_text, run_text}
 use Rattle.dbexplain.specs.Summary.{pages_text, summary}
 
 -- ---- what is written of an entry
@@ -30,12 +30,14 @@ abbrev pub missing_line : List ℕ → FaultCode → List ℕ
 missing_line file H06 = indented (pages_text ((geometry file).pages + 1) (stated_pages file) ++ codes " missing")
 missing_line file _ = []
 
--- what comes after the line of a cause of a fault of page p: of a key and a leaf where its page is, and of a page what is known of it
+-- what comes after the line of a cause of a fault of page p: of a key and a leaf where its page is, of a page what is known of it, and of a
+-- chain the longest run of one byte in the overflow page with the fault
 abbrev pub after_cause : List ℕ → List Reference → ℕ → Cause → List ℕ
 after_cause file V p (cause.Key k left) = place_line file V k.page
 after_cause file V p (cause.Leaf page rowids) = place_line file V page
 after_cause file V p (cause.Page page facts) = facts_text (geometry file).page_size page facts
 after_cause file V p (cause.Look l facts) = facts_text (geometry file).page_size p facts
+after_cause file V p (cause.Chain c) = run_text (geometry file).page_size p c.seen.run
 after_cause file V p c = []
 
 -- what a fault of page p goes back to

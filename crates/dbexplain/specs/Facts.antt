@@ -20,6 +20,10 @@ abbrev pub run_line : ℕ → ℕ → ByteRun → List ℕ
 run_line page_size p run = indented (bytes_text (page_begin page_size p + run.start) (page_begin page_size p + run.start + (run.len - 1))
     ++ (if run.byte == 0 then codes " are zeros" else codes " are all " ++ hex_text 2 run.byte))
 
+-- of the longest one, if there is one
+abbrev pub run_text : ℕ → ℕ → Option ByteRun → List ℕ
+run_text page_size p run = option_map_or (run_line page_size p) run []
+
 -- the line of rowids
 abbrev pub rowids_line : List ℕ → List ℕ
 rowids_line bounds = indented (codes "by the keys around it, its rowids are" ++ bounds)
@@ -37,4 +41,4 @@ rowids_text (Some above) (Some up_to) = rowids_line (bound_text (codes " above "
 
 -- what is known of page p: its longest run of one byte, and its rowids
 abbrev pub facts_text : ℕ → ℕ → PageFacts → List ℕ
-facts_text page_size p facts = option_map_or (run_line page_size p) facts.run [] ++ rowids_text facts.rowids.above facts.rowids.up_to
+facts_text page_size p facts = run_text page_size p facts.run ++ rowids_text facts.rowids.above facts.rowids.up_to

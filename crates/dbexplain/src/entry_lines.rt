@@ -5,7 +5,7 @@ ghost use Rattle.dbexplain.specs.Explained.{after_cause};
 ghost use Rattle.dbexplain.specs.Keeping.{kept_entry_text, lines_of};
 ghost use Rattle.dbexplain.specs.Notes.{AreOwnersOf};
 
-use crate::facts::put_facts;
+use crate::facts::{put_facts, put_run};
 use crate::missing::put_missing;
 use crate::owners::Owners;
 use dbentries::{Cause, Entry, put_cause, put_others};
@@ -13,7 +13,8 @@ use dblines::Writer;
 use dbsource::Out;
 use std::alloc::Allocator;
 
-// Writes what comes after the line of a cause: of a key and a leaf where its page is, and of a page what is known of it.
+// Writes what comes after the line of a cause: of a key and a leaf where its page is, of a page what is known of it, and of
+// a chain the longest run of one byte in the overflow page with the fault.
 fn put_after_cause<A: Allocator, O: Out>(
     writer: &mut Writer<'_, O>,
     owners: &Owners<'_, A>,
@@ -27,6 +28,7 @@ fn put_after_cause<A: Allocator, O: Out>(
         Cause::Leaf(leaf, _) => owners.put_page(writer, *leaf),
         Cause::Page(page, facts) => put_facts(writer, owners.header.geometry(), *page, facts),
         Cause::Look(_, facts) => put_facts(writer, owners.header.geometry(), page, facts),
+        Cause::Chain(chain) => put_run(writer, owners.header.geometry(), page, chain.seen.run),
         _ => {}
     }
 }

@@ -3,7 +3,7 @@ ghost use Rattle.arrayvec.specs.ArrayVec.{array_vec_len};
 ghost use Rattle.std.specs.Prelude.{◌≡◌, ◌≤◌, ◌+◌, ◌++◌, length};
 ghost use Rattle.dbformat.specs.FixedPages.{IsInRange};
 ghost use Rattle.dblines.specs.Writing.{Wrote};
-ghost use Rattle.dbexplain.specs.Facts.{bound_text, facts_text, rowids_text, run_line};
+ghost use Rattle.dbexplain.specs.Facts.{bound_text, facts_text, rowids_text, run_line, run_text};
 
 use arrayvec::ArrayVec;
 use dbentries::append_signed;
@@ -65,6 +65,21 @@ fn rowids_line(rowids: &RowidBounds) -> ArrayVec<u8, 128>
     line
 }
 
+/// Writes the longest run of one byte in a page, if there is one.
+pub(crate) fn put_run<O: Out>(
+    writer: &mut Writer<'_, O>,
+    shape: Geometry,
+    page: u32,
+    run: Option<ByteRun>,
+)
+    requires { IsInRange shape }
+    ensures { Wrote O.held writer.old (run_text shape.page_size page run) writer.new }
+{
+    if let Some(run) = run {
+        writer.put(run_line(shape, page, run).as_slice());
+    }
+}
+
 /// Writes what is known of a page with faults: its longest run of one byte, and between which rowids its rows are.
 pub(crate) fn put_facts<O: Out>(
     writer: &mut Writer<'_, O>,
@@ -75,8 +90,6 @@ pub(crate) fn put_facts<O: Out>(
     requires { IsInRange shape }
     ensures { Wrote O.held writer.old (facts_text shape.page_size page facts.now) writer.new }
 {
-    if let Some(run) = facts.run {
-        writer.put(run_line(shape, page, run).as_slice());
-    }
+    put_run(writer, shape, page, facts.run);
     writer.put(rowids_line(&facts.rowids).as_slice());
 }

@@ -8,6 +8,8 @@ use Rattle.dbsurvey.specs.InOrder.{is_before, visits_in, read_back}
 use Rattle.dbsurvey.specs.Story.{Told}
 use Rattle.dbsurvey.proofs.Order.{IsIn-right}
 use Rattle.dbsurvey.proofs.Ordering.{is_before-from}
+use Rattle.dbformat.specs.File.{page_bytes}
+use Rattle.dbformat.specs.Header.{usable_size}
 use Rattle.dbformat.specs.Address.{start_of, then_step, key_step}
 use Rattle.dbformat.specs.Cell.{Cell}
 use Rattle.dbformat.specs.Head.{View}
@@ -27,9 +29,10 @@ use Rattle.dbformat.proofs.Places.{key_place}
 use Rattle.dbformat.proofs.Theory.{no_tell, told_in_order}
 use Rattle.dbformat.specs.Schema.{starts}
 use Rattle.dbtrace.specs.Causes.{cell_key, leaf_at, top_key, top_before, first_leaf, chain_number, head_address, is_same, chain_head, chain_of, chain_cause}
-use Rattle.dbtrace.specs.Causes.{is_from_zeros, key_from, left_rows, refusal_of, refusal_cause, rowids_of, visit_cause, cause_of}
+use Rattle.dbtrace.specs.Causes.{seen_from, seen_bytes, key_from, left_rows, refusal_of, refusal_cause, rowids_of, visit_cause, cause_of}
 use Rattle.dbtrace.specs.Finding.{Finding, told_row, told_fault, told_by, told_at}
 use Rattle.dbtrace.specs.LookBack.{visits_up_to, CausesLookBack, FindingsLookBack}
+use Rattle.dbtrace.specs.declared.SeenBytes.{SeenBytes}
 use Rattle.dbtrace.specs.declared.Cause.{Cause}
 use Rattle.dbtrace.specs.declared.Cause.TheVariants as cause
 use Rattle.dbtrace.specs.declared.RowidBounds.{RowidBounds}
@@ -110,11 +113,11 @@ module _ (file : List ℕ) (U T : List Reference) (place : Address) (after : (t 
       bounds : Option ℤ → Option ℤ → RowidBounds
       bounds above up_to = record { above = above; up_to = up_to }
 
-  chain_front : (r : Reference) → r.address ≡ place → (left : Option ℕ) (more : ℕ) (in_zeros : Bool) → chain_cause file (U ++ T) r left more in_zeros
-      ≡ chain_cause file U r left more in_zeros
-  chain_front r e None more in_zeros = refl
-  chain_front r e (Some left) more in_zeros =
-      ap (λ head. option_map_or (λ head. cause.Chain (chain_of file head (chain_number r.address) left (chain_number r.address + more) in_zeros)) head
+  chain_front : (r : Reference) → r.address ≡ place → (left : Option ℕ) (more : ℕ) (seen : SeenBytes) → chain_cause file (U ++ T) r left more seen
+      ≡ chain_cause file U r left more seen
+  chain_front r e None more seen = refl
+  chain_front r e (Some left) more seen =
+      ap (λ head. option_map_or (λ head. cause.Chain (chain_of file head (chain_number r.address) left (chain_number r.address + more) seen)) head
       cause.Itself) (head_front r e)
 
   refusal_front : (r : Reference) → r.address ≡ place → refusal_cause file (U ++ T) r ≡ refusal_cause file U r
@@ -122,7 +125,7 @@ module _ (file : List ℕ) (U T : List Reference) (place : Address) (after : (t 
     where
       by_kind : (kind : Option TreeKind) → refusal_of file (U ++ T) r (rowids_of file (U ++ T) r) kind ≡ refusal_of file U r (rowids_of file U r) kind
       by_kind (Some kind) = ap cause.Rows (rowids_front r e)
-      by_kind None = chain_front r e (bytes_left (role_of r)) 0 (is_from_zeros file r)
+      by_kind None = chain_front r e (bytes_left (role_of r)) 0 (seen_from file r)
 
   abbrev by_all : Event → FaultCode → Cause
   by_all e = cause_of file (U ++ T) e
@@ -148,7 +151,8 @@ module _ (file : List ℕ) (U T : List Reference) (place : Address) (after : (t 
       ap (told_by (by_all (at_page r))) (page_parts file U r)
       ∙ told_by-append (by_all (at_page r)) (page_faults file [] r) (depth_fault file U r)
       ∙ ap₂ (λ a b. a ++ b)
-      (page_same (by_all (at_page r)) (by_front (at_page r)) file (chain_front r e (bytes_left (role_of r)) 1 false) refl r
+      (page_same (by_all (at_page r)) (by_front (at_page r)) file (chain_front r e (bytes_left (role_of r)) 1
+      (seen_bytes (usable_size file) (page_bytes file r.page))) refl r
       (λ kind in_tree. ap (λ rowids. map (visit_cause rowids file r) page_codes) (rowids_front r e)))
       (depth_front r e i)
       ∙ sym (ap (told_by (by_front (at_page r))) (page_parts file U r) ∙ told_by-append (by_front (at_page r)) (page_faults file [] r) (depth_fault file U r))

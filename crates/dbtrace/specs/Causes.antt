@@ -30,6 +30,7 @@ use Rattle.dbformat.specs.declared.TreeKind.{TreeKind}
 use Rattle.dbtrace.specs.declared.CellKey.{CellKey}
 use Rattle.dbtrace.specs.declared.TreeLeaf.{TreeLeaf}
 use Rattle.dbtrace.specs.declared.CellChain.{CellChain}
+use Rattle.dbtrace.specs.declared.SeenBytes.{SeenBytes}
 use Rattle.dbtrace.specs.declared.NamedPages.{NamedPages}
 use Rattle.dbtrace.specs.declared.PageFacts.{PageFacts}
 use Rattle.dbtrace.specs.declared.RowidBounds.{RowidBounds}
@@ -94,31 +95,39 @@ cell_rowid file p i = do
   read ← result_ok (cell v i)
   read.key
 
+-- what is seen in the usable bytes of an overflow page: whether they are zeros, and else the longest run of one byte
+abbrev pub seen_bytes : ℕ → List ℕ → SeenBytes
+seen_bytes usable page = record { are_zeros = is_zeros usable page; run = if is_zeros usable page then None else usable_run usable page }
+
+-- of a fault that is of no overflow page
+abbrev pub nothing_seen : SeenBytes
+nothing_seen = record { are_zeros = false; run = None }
+
 -- The chain that begins with this head: `left` bytes remain at page `number` of it, and `found` pages were found.
-abbrev pub chain_of : List ℕ → Reference → ℕ → ℕ → ℕ → Bool → CellChain
-chain_of file head number left found in_zeros = record {
+abbrev pub chain_of : List ℕ → Reference → ℕ → ℕ → ℕ → SeenBytes → CellChain
+chain_of file head number left found seen = record {
   page = from_of head;
   item = item_of head;
   rowid = cell_rowid file (from_of head) (item_of head);
   pages = number + pages_for (usable_size file) left;
   found = found;
-  is_in_zeros = in_zeros;
+  seen = seen;
 }
 
 -- the cause of a fault at page `number` of a chain, where this many bytes are left; `more` is 1 where this page was found
-abbrev pub chain_cause : List ℕ → List Reference → Reference → Option ℕ → ℕ → Bool → Cause
-chain_cause file V r None more in_zeros = cause.Itself
-chain_cause file V r (Some left) more in_zeros =
-    option_map_or (λ head. cause.Chain (chain_of file head (chain_number r.address) left (chain_number r.address + more) in_zeros))
+abbrev pub chain_cause : List ℕ → List Reference → Reference → Option ℕ → ℕ → SeenBytes → Cause
+chain_cause file V r None more seen = cause.Itself
+chain_cause file V r (Some left) more seen =
+    option_map_or (λ head. cause.Chain (chain_of file head (chain_number r.address) left (chain_number r.address + more) seen))
     (chain_head V r) cause.Itself
 
--- whether a reference is from an overflow page that is all zeros
-abbrev pub is_from_zeros : List ℕ → Reference → Bool
-is_from_zeros file r = of_role (role_of r)
+-- of a reference what is seen in the overflow page that it is from, if it is from one
+abbrev pub seen_from : List ℕ → Reference → SeenBytes
+seen_from file r = of_role (role_of r)
   where
-    of_role : Role → Bool
-    of_role (later_overflow left) = is_zeros (usable_size file) (page_bytes file (from_of r))
-    of_role _ = false
+    of_role : Role → SeenBytes
+    of_role (later_overflow left) = seen_bytes (usable_size file) (page_bytes file (from_of r))
+    of_role _ = nothing_seen
 
 -- Rowids.
 
@@ -169,7 +178,7 @@ no_rowids = record { above = None; up_to = None }
 -- the cause of the fault of one of this kind of tree: to a page of a tree its rows, and else the chain that it breaks
 abbrev pub refusal_of : List ℕ → List Reference → Reference → RowidBounds → Option TreeKind → Cause
 refusal_of file V r rowids (Some kind) = cause.Rows rowids
-refusal_of file V r rowids None = chain_cause file V r (bytes_left (role_of r)) 0 (is_from_zeros file r)
+refusal_of file V r rowids None = chain_cause file V r (bytes_left (role_of r)) 0 (seen_from file r)
 
 -- by the visits so far
 abbrev pub refusal_cause : List ℕ → List Reference → Reference → Cause
@@ -240,7 +249,7 @@ lost_cause_at is_lost file p = lost_cause is_lost p (geometry file).usable (page
 -- The cause of a fault of this code that is reported at an event.
 abbrev pub cause_of : List ℕ → List Reference → Event → FaultCode → Cause
 cause_of file V (at_page r) T05 = option_map_or (λ l. cause.Leaf l.page (rowids_of file V r)) (first_leaf file V r) cause.Itself
-cause_of file V (at_page r) O01 = chain_cause file V r (bytes_left (role_of r)) 1 false
+cause_of file V (at_page r) O01 = chain_cause file V r (bytes_left (role_of r)) 1 (seen_bytes (usable_size file) (page_bytes file r.page))
 cause_of file V (at_page r) code = visit_cause (rowids_of file V r) file r code
 cause_of file V (at_key r v x) T06 = option_map_or (λ k. cause.Key (cell_key k) (left_rows v x)) (top_before file V (key_of r v x)) cause.Itself
 cause_of file V (at_key r v x) _ = cause.Itself

@@ -28,6 +28,23 @@ pub struct TreeLeaf {
     pub depth: u32,
 }
 
+/// What is seen in the bytes of the overflow page that a fault is of.
+#[derive(Clone, Copy)]
+pub struct SeenBytes {
+    /// Its usable bytes are zeros.
+    pub are_zeros: bool,
+    /// Else the longest run of one byte among them, if it has 64 bytes or more.
+    pub run: Option<ByteRun>,
+}
+
+impl SeenBytes {
+    /// Of a fault that is of no overflow page.
+    pub const NONE: SeenBytes = SeenBytes {
+        are_zeros: false,
+        run: None,
+    };
+}
+
 /// The overflow chain of a cell, and how much of it was found.
 #[derive(Clone, Copy)]
 pub struct CellChain {
@@ -41,8 +58,8 @@ pub struct CellChain {
     pub pages: u32,
     /// How many of them were found.
     pub found: u32,
-    /// Whether the fault is of an overflow page, the reference to its next one, and this page is all zeros.
-    pub is_in_zeros: bool,
+    /// If the fault is of an overflow page, what is seen in that.
+    pub seen: SeenBytes,
 }
 
 /// How many pages an interior page names, each as often as it does, and how many of them are lost.

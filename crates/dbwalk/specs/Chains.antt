@@ -1,25 +1,25 @@
 -- Overflow chains as a program walks them, and what a sieve is fed on the way.
-use Rattle.std.specs.Prelude.{ℕ, ◌+◌, ◌-◌, ◌≤◌, ◌<◌, Bool, List, [], ◌∷◌, ◌++◌, flat_map, Option, Some, None, ◌≡◌, Result, Ok, Err, IfOk, OnOk}
+use Rattle.std.specs.Prelude.{ℕ, ◌+◌, ◌-◌, ◌≤◌, ◌<◌, List, [], ◌∷◌, ◌++◌, flat_map, Option, Some, None, ◌≡◌, Result, Ok, Err, IfOk, OnOk}
+use Rattle.std.specs.Prelude.{◌==◌, if◌then◌else◌}
 use Rattle.dbsurvey.specs.Story.{Go}
 use Rattle.dbformat.specs.Reference.{Reference, first_overflow, later_overflow, bytes_left, role_of, from_of, item_of}
 use Rattle.dbformat.specs.Schema.{held_bytes}
 use Rattle.dbformat.specs.declared.Encoding.{Encoding}
 use Rattle.dbbytes.specs.Sieve.{HasTaken}
 use Rattle.dbbytes.specs.declared.sieve.RowSieve.{RowSieve}
-use Rattle.dbtrace.specs.Causes.{cell_rowid, chain_head, is_from_zeros, pages_for}
+use Rattle.dbtrace.specs.Causes.{cell_rowid, chain_head, nothing_seen, pages_for, seen_bytes, seen_from}
 use Rattle.dbtrace.specs.declared.CellChain.{CellChain}
+use Rattle.dbtrace.specs.declared.SeenBytes.{SeenBytes}
 use Rattle.dbtrace.specs.Finding.{visited_below, Finding, told_at}
 use Rattle.dbformat.specs.Address.{start_of, then_step, child_path, chain_place}
 use Rattle.dbformat.specs.File.{page_bytes}
 use Rattle.dbformat.specs.FixedPages.{IsPageNumber}
 use Rattle.dbformat.specs.Header.{usable_size}
-use Rattle.dbformat.specs.Looks.{is_zeros}
 use Rattle.dbformat.specs.Payload.{most_payload, overflow_next}
 use Rattle.dbformat.specs.Story.{at_page}
 use Rattle.dbsource.specs.declared.error.RunError.{RunError}
 use Rattle.dbwalk.specs.declared.chain.Chain.{Chain}
 use Rattle.dbwalk.specs.declared.chain.ChainPlace.{ChainPlace}
-use Rattle.dbwalk.specs.declared.overflow.NextPage.{NextPage}
 use Rattle.dbmarks.specs.declared.marks.Mark.{Mark}
 use Rattle.dbwalk.specs.Entered.{IsStepOf}
 use Rattle.dbwalk.specs.Done.{IsLeft, IsDone}
@@ -58,14 +58,14 @@ pub record IsOnChain (chain : Chain) (number : ℕ) (c : Reference) : Type 0 whe
   pub place : chain_place c.address ≡ Some (chain.cell, number)
 
 -- What is known of a chain at page `number` of it, where `left` bytes are left and `found` pages were found.
-abbrev pub walked_chain : Chain → ℕ → ℕ → ℕ → ℕ → Bool → CellChain
-walked_chain chain number usable left found in_zeros = record {
+abbrev pub walked_chain : Chain → ℕ → ℕ → ℕ → ℕ → SeenBytes → CellChain
+walked_chain chain number usable left found seen = record {
   page = chain.page;
   item = chain.cell;
   rowid = chain.rowid;
   pages = number + pages_for usable left;
   found = found;
-  is_in_zeros = in_zeros;
+  seen = seen;
 }
 
 -- the reference of a cell to the first page of its chain
@@ -89,23 +89,23 @@ pub record HasHead (file : List ℕ) (chain : Chain) (V : List Reference) (d : R
   pub item : item_of head ≡ chain.cell
   pub rowid : cell_rowid file chain.page chain.cell ≡ chain.rowid
 
--- what an overflow page says of the next one, where this many bytes are left
-pub record IsNextPage (file : List ℕ) (page left : ℕ) (next : NextPage) : Type 0 where
-  pub number : next.page ≡ overflow_next (page_bytes file page)
-  pub zeros : usable_size file - 4 < left → next.is_in_zeros ≡ is_zeros (usable_size file) (page_bytes file page)
+-- What is seen in the page that was read last before page `number` of a chain: that is none of the chain before its first page.
+abbrev pub seen_before : ℕ → ℕ → List ℕ → SeenBytes
+seen_before usable number here = if number == 0 then nothing_seen else seen_bytes usable here
 
--- What the visit of a page of a chain leaves: the number of the next page, what was reported, and what a sieve was fed.
+-- What the visit of a page of a chain leaves: the number of the next page, what was reported, what a sieve was fed, and the page that was read.
 pub record IsOverflowVisited {S : Type 0} (takes : S → Finding → S → Type 0)
-    (file : List ℕ) (chain : Chain) (number page left : ℕ) (r : Result NextPage RunError) (old new : Option RowSieve)
-    (before after : S) : Type 0 where
-  pub next : IfOk r (IsNextPage file page left)
+    (file : List ℕ) (chain : Chain) (number page left : ℕ) (r : Result ℕ RunError) (old new : Option RowSieve)
+    (before after : S) (here : List ℕ) : Type 0 where
+  pub next : IfOk r (λ next. next ≡ overflow_next (page_bytes file page))
+  pub loaded : OnOk r (here ≡ page_bytes file page)
   pub told : (U : List Reference) (c : Reference) → c.page ≡ page → bytes_left (role_of c) ≡ Some left → IsOnChain chain number c
       → HasHead file chain U c → Tells takes r before (told_at file U (at_page c)) after
   pub fed : OnOk r ((c : Reference) → c.page ≡ page → bytes_left (role_of c) ≡ Some left → Feeds old (held_bytes file c) new)
 
--- Along the chain below c: the reference at this place is left, and a sieve was fed the pages so far.
+-- Along the chain below c: the reference at this place is left, a sieve was fed the pages so far, and the last one was read.
 pub record IsOnWay {S : Type 0} (takes : S → Finding → S → Type 0) (file : List ℕ) (W : List Reference) (c : Reference) (before : S) (chain : Chain)
-    (place : ChainPlace) (marks : List Mark) (now : S) (old new : Option RowSieve) : Type 0 where
+    (place : ChainPlace) (marks : List Mark) (now : S) (old new : Option RowSieve) (here : List ℕ) : Type 0 where
   pub pages : List Reference
   pub fed : FeedsPages file old pages new
   pub visited : List Reference
@@ -115,13 +115,13 @@ pub record IsOnWay {S : Type 0} (takes : S → Finding → S → Type 0) (file :
   pub left : bytes_left (role_of d) ≡ Some place.left
   pub on : IsOnChain chain place.number d
   pub head : HasHead file chain visited d
-  pub zeros : place.is_in_zeros ≡ is_from_zeros file d
+  pub seen : seen_before (usable_size file) place.number here ≡ seen_from file d
   pub rest : IsLeft takes file W (Go c ∷ []) before visited (Go d ∷ []) (marks, now)
 
 -- after a turn: at the next place, or at the end, or stopped by an error
 abbrev pub Turns : {S : Type 0} → (S → Finding → S → Type 0) → List ℕ → List Reference → Reference → S → Chain → Result (Option ChainPlace) RunError
-    → List Mark → S → Option RowSieve → Option RowSieve → Type 0
-Turns takes file W c before chain (Ok (Some place)) marks now old new = IsOnWay takes file W c before chain place marks now old new
-Turns takes file W c before chain (Ok None) marks now old new =
+    → List Mark → S → Option RowSieve → Option RowSieve → List ℕ → Type 0
+Turns takes file W c before chain (Ok (Some place)) marks now old new here = IsOnWay takes file W c before chain place marks now old new here
+Turns takes file W c before chain (Ok None) marks now old new here =
     IsDone {A = Unit {0}} takes file W (Go c ∷ []) (Ok tt) marks before now × FeedsChain file W c old new
-Turns takes file W c before chain (Err e) marks now old new = IsDone {A = Unit {0}} takes file W (Go c ∷ []) (Err e) marks before now
+Turns takes file W c before chain (Err e) marks now old new here = IsDone {A = Unit {0}} takes file W (Go c ∷ []) (Err e) marks before now

@@ -1,5 +1,5 @@
 // The walk along an overflow chain (Database File Format, 1.7).
-ghost use Rattle.std.specs.Prelude.{◌≡◌, ◌+◌, ◌≤◌, ◌<◌, ◌∷◌, List, [], Option, Some, false, IfSome, IfOk, IfErr, OnOk, is_some};
+ghost use Rattle.std.specs.Prelude.{◌≡◌, ◌+◌, ◌≤◌, ◌<◌, ◌∷◌, List, [], Option, Some, false, length, IfSome, IfOk, IfErr, OnOk, is_some};
 ghost use Rattle.dbformat.specs.FixedPages.{IsPageNumber};
 ghost use Rattle.dbsurvey.specs.Story.{Go};
 ghost use Rattle.dbformat.specs.File.{geometry};
@@ -8,7 +8,7 @@ ghost use Rattle.dbformat.specs.Payload.{most_payload};
 ghost use Rattle.dbformat.specs.Reference.{Reference};
 ghost use Rattle.dbbytes.specs.declared.sieve.RowSieve.{RowSieve};
 ghost use Rattle.dbtrace.specs.declared.Cause.TheVariants as cause;
-ghost use Rattle.dbwalk.specs.Chains.{walked_chain, IsChainOf, IsOnWay, IsOverflowVisited, Turns, FeedsChain, IsPlace};
+ghost use Rattle.dbwalk.specs.Chains.{seen_before, walked_chain, IsChainOf, IsOnWay, IsOverflowVisited, Turns, FeedsChain, IsPlace};
 ghost use Rattle.dbwalk.specs.Done.{IsDone};
 ghost use Rattle.dbwalk.specs.Entered.{IsNext};
 ghost use Rattle.dbmarks.specs.Marking.{AreMarksOf};
@@ -20,7 +20,7 @@ ghost use Rattle.dbsource.specs.Sources.{HasLog};
 
 use crate::entering::{Step, enter};
 use crate::overflow::{
-    NextPage, chain_cause, feed_page, last_fault, next_page, overflow_row, tell,
+    chain_cause, feed_page, last_fault, next_page, overflow_row, seen_before, tell,
 };
 use crate::{Mark, Marks, Sink};
 use dbbytes::RowSieve;
@@ -49,14 +49,12 @@ pub(crate) struct Chain<'a> {
     pub(crate) left: u32,
 }
 
-/// A place along a chain: the number of the next page in it, the bytes that are left, the reference to that page, and whether this
-/// is in an overflow page of zeros.
+/// A place along a chain: the number of the next page in it, the bytes that are left, and the reference to that page.
 #[derive(Clone, Copy)]
 pub(crate) struct ChainPlace {
     pub(crate) number: u32,
     pub(crate) left: u32,
     pub(crate) step: Step,
-    pub(crate) is_in_zeros: bool,
 }
 
 // Reads the page at a place of a chain, feeds its payload bytes to a sieve, reports its row and its fault, and answers the next page that it
@@ -68,11 +66,12 @@ fn visit_overflow<S: Source, K: Sink, A: Allocator>(
     place: ChainPlace,
     sieve: &mut Option<RowSieve>,
     sink: &mut K,
-) -> Result<NextPage, RunError>
+) -> Result<u32, RunError>
     requires within { (1 ≤ place.step.page) × (place.number + place.left ≤ most_payload) }
     requires open { (K.held sink.old).is_shut ≡ false }
     ensures log { HasLog S.step (λ log. log ≡ page_range bench.old.geometry.page_size place.step.page ∷ []) (λ file. bench.old.geometry ≡ geometry file
-        → IsOverflowVisited K.takes file chain.now place.number place.step.page place.left result sieve.old sieve.new sink.old sink.new)
+        → IsOverflowVisited K.takes file chain.now place.number place.step.page place.left result sieve.old sieve.new sink.old sink.new
+        bench.new.chain)
         (S.held source.old) (S.held source.new) }
     ensures reads { (S.held source.new).failures ≡ failures_after is_read_failed result (S.held source.old).failures }
     ensures writes { SinkWalks result (K.held sink.old) (K.held sink.new) }
@@ -83,11 +82,11 @@ fn visit_overflow<S: Source, K: Sink, A: Allocator>(
     let (page, left) = (place.step.page, place.left);
     bench.load(CHAIN, source, page)?;
     let usable = bench.geometry().usable;
-    let next = next_page(bench.page(CHAIN), usable, left);
+    let next = next_page(bench.page(CHAIN));
     feed_page(bench.page(CHAIN), usable, left, sieve);
     let row = overflow_row(chain, place, usable);
-    let fault = last_fault(usable, left, page, next.page);
-    tell(&row, fault, chain, place, usable, sink);
+    let fault = last_fault(usable, left, page, next);
+    tell(&row, fault, chain, place, usable, bench.page(CHAIN), sink);
     Ok(next)
 }
 
@@ -104,8 +103,8 @@ fn enter_overflow<S: Source, K: Sink, A: Allocator>(
     requires place { IsPlace place }
     ensures log { HasLog S.step (Reads bench.old.geometry.page_size marks.old marks.new) (λ file. bench.old.geometry ≡ geometry file
         → (W : List Reference) (c : Reference) (before : K) (first : Option RowSieve)
-        → IsOnWay K.takes file W c before chain.now place marks.old sink.old first sieve.old
-        → Turns K.takes file W c before chain.now result marks.new sink.new first sieve.new) (S.held source.old) (S.held source.new) }
+        → IsOnWay K.takes file W c before chain.now place marks.old sink.old first sieve.old bench.old.chain
+        → Turns K.takes file W c before chain.now result marks.new sink.new first sieve.new bench.new.chain) (S.held source.old) (S.held source.new) }
     ensures reads { (S.held source.new).failures ≡ failures_after is_read_failed result (S.held source.old).failures }
     ensures writes { SinkWalks result (K.held sink.old) (K.held sink.new) }
     ensures only { IfErr result IsReadOrWrite }
@@ -114,9 +113,11 @@ fn enter_overflow<S: Source, K: Sink, A: Allocator>(
     ensures next { IfOk result (λ o. IfSome o (λ next. IsPlace next × (next.left < place.left))) }
 {
     let usable = bench.geometry().usable;
+    let here = bench.page(CHAIN);
     let cause = ||
-        requires { (480 ≤ usable) × (usable ≤ 65536) × (place.number + place.left ≤ most_payload) }
-        ensures { result ≡ cause.Chain (walked_chain chain.entry.now place.number usable place.left place.number place.is_in_zeros) }
+        requires { (480 ≤ usable) × (usable ≤ 65536) × (place.number + place.left ≤ most_payload) × (usable ≤ length here.now) }
+        ensures { result ≡ cause.Chain (walked_chain chain.entry.now place.number usable place.left place.number
+            (seen_before usable place.number here.entry.now)) }
     {
         chain_cause(
             chain,
@@ -124,7 +125,7 @@ fn enter_overflow<S: Source, K: Sink, A: Allocator>(
             usable,
             place.left,
             place.number,
-            place.is_in_zeros,
+            seen_before(here, usable, place.number),
         )
     };
     if !enter(marks, place.step, cause, sink)? {
@@ -136,7 +137,7 @@ fn enter_overflow<S: Source, K: Sink, A: Allocator>(
         return Ok(None);
     }
     let step = Step {
-        page: next.page,
+        page: next,
         mark: Mark::LaterOverflow(place.step.page),
         from: place.step.page,
         item: 0,
@@ -146,7 +147,6 @@ fn enter_overflow<S: Source, K: Sink, A: Allocator>(
         number: place.number + 1,
         left: place.left - room,
         step,
-        is_in_zeros: next.is_in_zeros,
     }))
 }
 
@@ -187,7 +187,6 @@ pub(crate) fn walk_chain<S: Source, K: Sink, A: Allocator>(
         number: 0,
         left: chain.left,
         step,
-        is_in_zeros: false,
     };
     while let Some(next) = enter_overflow(source, bench, marks, chain, place, sieve, sink)? {
         place = next;

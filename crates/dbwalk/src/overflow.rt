@@ -2,13 +2,13 @@
 ghost use Rattle.std.specs.Prelude.{◌≡◌, ◌+◌, ◌-◌, ◌≤◌, ◌<◌, ◌&&◌, ◌==◌, ◌∷◌, length, map, false, not, nat_le, option_to_list, pos, Some, is_some};
 ghost use Rattle.dbformat.specs.Counts.{overflow_counts};
 ghost use Rattle.dbformat.specs.Faults.{fault};
-ghost use Rattle.dbformat.specs.Looks.{is_zeros};
+ghost use Rattle.dbtrace.specs.Causes.{seen_bytes};
 ghost use Rattle.dbtrace.specs.declared.Cause.TheVariants as cause;
 ghost use Rattle.dbformat.specs.Payload.{most_payload, overflow_bytes, overflow_next};
 ghost use Rattle.dbformat.specs.Tests.{told_if};
 ghost use Rattle.dbformat.specs.declared.FaultCode.TheVariants as fault_code;
 ghost use Rattle.dbformat.specs.declared.PageType.TheVariants as page_type;
-ghost use Rattle.dbwalk.specs.Chains.{Feeds, walked_chain};
+ghost use Rattle.dbwalk.specs.Chains.{Feeds, seen_before, walked_chain};
 ghost use Rattle.dbtrace.specs.Finding.{told_row, told_fault};
 ghost use Rattle.dbwalk.specs.Telling.{IsReportedTo};
 ghost use Rattle.dbwalk.specs.Rows.{row_of};
@@ -17,25 +17,45 @@ use crate::chain::{Chain, ChainPlace};
 use crate::{Cause, CellChain, Fault, PageType, Row, Sink};
 use dbbytes::RowSieve;
 use dbformat::{Counts, FaultCode, u32_at};
-use dbpage::is_zeros;
+use dbpage::{is_zeros, usable_run};
+use dbtrace::SeenBytes;
 
-/// The next page that an overflow page names, and, where the chain goes on, whether this is in a page of zeros.
-#[derive(Clone, Copy)]
-pub(crate) struct NextPage {
-    pub(crate) page: u32,
-    pub(crate) is_in_zeros: bool,
+/// The next page that an overflow page names.
+pub(crate) fn next_page(bytes: &[u8]) -> u32
+    requires { 4 ≤ length bytes.now }
+    ensures { result ≡ overflow_next bytes.now }
+{
+    u32_at(bytes, 0)
 }
 
-// The next page that an overflow page names. Only a page that names none where the chain goes on is looked at further.
-pub(crate) fn next_page(bytes: &[u8], usable: u32, left: u32) -> NextPage
-    requires { (4 ≤ usable) × (usable ≤ length bytes.now) }
-    ensures page { result.page ≡ overflow_next bytes.now }
-    ensures zeros { usable - 4 < left → result.is_in_zeros ≡ is_zeros usable bytes.now }
+// What is seen in the bytes of an overflow page.
+#[inline(never)]
+fn seen_bytes(bytes: &[u8], usable: u32) -> SeenBytes
+    requires whole { usable ≤ length bytes.now }
+    requires most { usable ≤ 65536 }
+    ensures { result ≡ seen_bytes usable bytes.now }
 {
-    let page = u32_at(bytes, 0);
-    NextPage {
-        page,
-        is_in_zeros: left > usable - 4 && page == 0 && is_zeros(bytes, usable),
+    let are_zeros = is_zeros(bytes, usable);
+    SeenBytes {
+        are_zeros,
+        run: if are_zeros {
+            None
+        } else {
+            usable_run(bytes, usable)
+        },
+    }
+}
+
+/// What is seen in the page that was read last before page `number` of a chain, if it is one of the chain.
+pub(crate) fn seen_before(bytes: &[u8], usable: u32, number: u32) -> SeenBytes
+    requires whole { usable ≤ length bytes.now }
+    requires most { usable ≤ 65536 }
+    ensures { result ≡ seen_before usable number bytes.now }
+{
+    if number == 0 {
+        SeenBytes::NONE
+    } else {
+        seen_bytes(bytes, usable)
     }
 }
 
@@ -84,11 +104,11 @@ pub(crate) fn chain_cause(
     usable: u32,
     left: u32,
     found: u32,
-    is_in_zeros: bool,
+    seen: SeenBytes,
 ) -> Cause
     requires usable { (480 ≤ usable) × (usable ≤ 65536) }
     requires counted { number + left ≤ most_payload }
-    ensures { result ≡ cause.Chain (walked_chain chain.now number usable left found is_in_zeros) }
+    ensures { result ≡ cause.Chain (walked_chain chain.now number usable left found seen) }
 {
     let room = usable - 4;
     Cause::Chain(CellChain {
@@ -97,29 +117,32 @@ pub(crate) fn chain_cause(
         rowid: chain.rowid,
         pages: number + (left + (room - 1)) / room,
         found,
-        is_in_zeros,
+        seen,
     })
 }
 
-// Reports the row of the page at a place of a chain, and then its fault with the cause, if there is one.
+// Reports the row of the page at a place of a chain, which has these bytes, and then its fault with the cause, if there is one.
 pub(crate) fn tell<K: Sink>(
     row: &Row<'_>,
     fault: Option<Fault>,
     chain: &Chain<'_>,
     place: ChainPlace,
     usable: u32,
+    bytes: &[u8],
     sink: &mut K,
 )
     requires usable { (480 ≤ usable) × (usable ≤ 65536) }
+    requires whole { usable ≤ length bytes.now }
     requires counted { place.number + place.left ≤ most_payload }
     ensures { IsReportedTo K.takes K.held sink.old (told_row (row_of row.now)
-        ∷ map (λ f. told_fault f (cause.Chain (walked_chain chain.now place.number usable place.left (place.number + 1) false)))
-        (option_to_list fault)) sink.new }
+        ∷ map (λ f. told_fault f (cause.Chain (walked_chain chain.now place.number usable place.left (place.number + 1)
+        (seen_bytes usable bytes.now)))) (option_to_list fault)) sink.new }
 {
     sink.row(row);
     if let Some(fault) = fault {
+        let seen = seen_bytes(bytes, usable);
         let number = place.number;
-        let cause = chain_cause(chain, number, usable, place.left, number + 1, false);
+        let cause = chain_cause(chain, number, usable, place.left, number + 1, seen);
         sink.fault(&fault, &cause);
     }
 }

@@ -1,6 +1,8 @@
 -- One turn of the walk along a chain.
 use Rattle.std.proofs.Common.{◌≡◌, ℕ, ◌+◌, ◌-◌, ◌≤◌, ◌<◌, true, false, List, [], ◌∷◌, ◌++◌, Option, Some, None, Ok, Err, refl, sym, ap, subst, ◌∙◌}
-use Rattle.std.proofs.Common.{append_assoc}
+use Rattle.std.proofs.Common.{append_assoc, arith, cond}
+use Rattle.std.specs.Prelude.{◌==◌}
+use Rattle.std.proofs.lemmas.Bool.Decides.{nat_tests}
 use Rattle.std.specs.Prelude.{IfSome}
 use Rattle.std.proofs.lemmas.List.{append-nil}
 use Rattle.dbsurvey.specs.Moves.{Moves, MovesBySome}
@@ -9,7 +11,6 @@ use Rattle.dbsurvey.specs.InOrder.{AreQuiet}
 use Rattle.dbformat.specs.File.{page_bytes}
 use Rattle.dbformat.specs.Header.{usable_size}
 use Rattle.dbformat.specs.Payload.{overflow_next}
-use Rattle.dbformat.specs.Looks.{is_zeros}
 use Rattle.dbformat.specs.Reference.{first_overflow, Reference, role_of, from_of, bytes_left, overflow_links}
 use Rattle.dbformat.specs.Story.{at_page, own_visit, story_of}
 use Rattle.dbformat.proofs.Looping.{by_chain, all_quiet}
@@ -18,11 +19,10 @@ use Rattle.dbbytes.specs.declared.sieve.RowSieve.{RowSieve}
 use Rattle.dbsource.specs.declared.error.RunError.{RunError}
 use Rattle.dbwalk.specs.declared.chain.Chain.{Chain}
 use Rattle.dbwalk.specs.declared.chain.ChainPlace.{ChainPlace}
-use Rattle.dbwalk.specs.declared.overflow.NextPage.{NextPage}
 use Rattle.dbmarks.specs.declared.marks.Mark.{Mark}
 use Rattle.dbmarks.specs.declared.marks.Mark.TheVariants.{FirstOverflow, LaterOverflow}
-use Rattle.dbtrace.specs.Causes.{is_from_zeros, refusal_cause}
-use Rattle.dbwalk.specs.Chains.{IsChainOf, IsNextPage, IsOnWay, next_of, Feeds, FeedsChain}
+use Rattle.dbtrace.specs.Causes.{nothing_seen, refusal_cause, seen_bytes, seen_from}
+use Rattle.dbwalk.specs.Chains.{IsChainOf, IsOnWay, seen_before, next_of, Feeds, FeedsChain}
 use Rattle.dbwalk.specs.Done.{IsDone, IsLeft}
 use Rattle.dbwalk.specs.Entered.{IsNext, Enters}
 use Rattle.dbtrace.specs.Finding.{Finding, told_at, told_below}
@@ -37,12 +37,19 @@ pub if_some_all : {X : Type 0} (Q : X → Type 0) (o : Option X) → ((x : X) �
 if_some_all Q None f = tt
 if_some_all Q (Some x) f = f x
 
+-- after a page of the chain
+seen_after : (usable number : ℕ) (here : List ℕ) → seen_before usable (number + 1) here ≡ seen_bytes usable here
+seen_after usable number here =
+    let some : ((number + 1) == 0) ≡ false = grind (arith, nat_tests) in
+    ap (λ b. cond b nothing_seen (seen_bytes usable here)) some
+
 quiet_chain : (file : List ℕ) (d : Reference) (left : ℕ) → bytes_left (role_of d) ≡ Some left → AreQuiet own_visit (errands_of (story_of file) d)
 quiet_chain file d left h = subst (λ es. AreQuiet own_visit es) (sym (by_chain file d left h))
     (all_quiet.2 d (overflow_links d.page (usable_size file) left (page_bytes file d.page)))
 
 module _ {S : Type 0} (takes : S → Finding → S → Type 0) (file : List ℕ) (W : List Reference) (c : Reference) (before : S) (chain : Chain)
-    (place : ChainPlace) (marks : List Mark) (s : S) {first old : Option RowSieve} (on : IsOnWay takes file W c before chain place marks s first old) where
+    (place : ChainPlace) (marks : List Mark) (s : S) {first old : Option RowSieve} {read : List ℕ}
+    (on : IsOnWay takes file W c before chain place marks s first old read) where
   -- the next reference is refused
   pub turn_refused : (marks' : List Mark) (t : S) → Enters takes file on.visited on.d (refusal_cause file on.visited on.d) (Ok false) marks' s t
       → IsDone {A = Unit {0}} takes file W (Go c ∷ []) (Ok tt) marks' before t × FeedsChain file W c first old
@@ -85,24 +92,24 @@ module _ {S : Type 0} (takes : S → Finding → S → Type 0) (file : List ℕ)
       )
 
   -- the next one is after it
-  pub turn_more : (marks' : List Mark) (m t : S) (next : NextPage) → Enters takes file on.visited on.d (refusal_cause file on.visited on.d) (Ok true) marks' s m
+  pub turn_more : (marks' : List Mark) (m t : S) (next : ℕ) → Enters takes file on.visited on.d (refusal_cause file on.visited on.d) (Ok true) marks' s m
       → Moves takes m (told_at file (on.visited ++ (on.d ∷ [])) (at_page on.d)) t → usable_size file - 4 < place.left
-      → IsNextPage file place.step.page place.left next
+      → next ≡ overflow_next (page_bytes file place.step.page)
       → (new : Option RowSieve) → Feeds old (held_bytes file on.d) new
+      → (here : List ℕ) → here ≡ page_bytes file place.step.page
       → IsOnWay takes file W c before chain (record {
         number = place.number + 1;
         left = place.left - (usable_size file - 4);
-        step = record { page = next.page; mark = LaterOverflow place.step.page; from = place.step.page; item = 0; is_too_deep = false };
-        is_in_zeros = next.is_in_zeros;
-      }) marks' t first new
-  turn_more marks' m t next e h l n new f = record {
+        step = record { page = next; mark = LaterOverflow place.step.page; from = place.step.page; item = 0; is_too_deep = false };
+      }) marks' t first new here
+  turn_more marks' m t next e h l n new f here q = record {
     pages = on.pages ++ on.d ∷ [];
     fed = feeds_page file first old new on.pages on.d on.fed f;
     visited = on.visited ++ (on.d ∷ []);
     since = since_more;
     d = next_of on.d (place.left - (usable_size file - 4)) (overflow_next (page_bytes file on.d.page));
     step = record {
-      page = ap (λ p. overflow_next (page_bytes file p)) on.step.page ∙ sym n.number;
+      page = ap (λ p. overflow_next (page_bytes file p)) on.step.page ∙ sym n;
       mark = ap LaterOverflow on.step.page;
       from = on.step.page;
       item = refl;
@@ -110,47 +117,46 @@ module _ {S : Type 0} (takes : S → Finding → S → Type 0) (file : List ℕ)
     };
     left = refl;
     on = next_on_chain chain place.number on.d (place.left - (usable_size file - 4)) (overflow_next (page_bytes file on.d.page)) on.on;
-    zeros = n.zeros l ∙ ap (λ p. is_zeros (usable_size file) (page_bytes file p)) (sym on.step.page);
+    seen = seen_after (usable_size file) place.number here
+        ∙ ap (seen_bytes (usable_size file)) (q ∙ ap (page_bytes file) (sym on.step.page));
     head = head_next file chain on.visited place.number on.d on.on on.head on.rest.past (chain_few chain place.number on.d on.on)
         (place.left - (usable_size file - 4)) (overflow_next (page_bytes file on.d.page));
     rest = subst (λ es. IsLeft takes file W (Go c ∷ []) before (on.visited ++ (on.d ∷ [])) es (marks', t))
         (ap (λ es. es ++ []) (more_errands file on.d place.left on.left l)) (turn_visited marks' m t e h);
   }
 
-  pub turn_more_by : (marks' : List Mark) (m t : S) (next : NextPage) (room : ℕ) → room ≡ usable_size file - 4
+  pub turn_more_by : (marks' : List Mark) (m t : S) (next : ℕ) (room : ℕ) → room ≡ usable_size file - 4
       → Enters takes file on.visited on.d (refusal_cause file on.visited on.d) (Ok true) marks' s m
       → Moves takes m (told_at file (on.visited ++ (on.d ∷ [])) (at_page on.d)) t → usable_size file - 4 < place.left
-      → IsNextPage file place.step.page place.left next
+      → next ≡ overflow_next (page_bytes file place.step.page)
       → (new : Option RowSieve) → Feeds old (held_bytes file on.d) new
+      → (here : List ℕ) → here ≡ page_bytes file place.step.page
       → IsOnWay takes file W c before chain (record {
         number = place.number + 1;
         left = place.left - room;
-        step = record { page = next.page; mark = LaterOverflow place.step.page; from = place.step.page; item = 0; is_too_deep = false };
-        is_in_zeros = next.is_in_zeros;
-      }) marks' t first new
-  turn_more_by marks' m t next room r e h l n new f = subst (λ k. IsOnWay takes file W c before chain (record {
+        step = record { page = next; mark = LaterOverflow place.step.page; from = place.step.page; item = 0; is_too_deep = false };
+      }) marks' t first new here
+  turn_more_by marks' m t next room r e h l n new f here q = subst (λ k. IsOnWay takes file W c before chain (record {
     number = place.number + 1;
     left = place.left - k;
-    step = record { page = next.page; mark = LaterOverflow place.step.page; from = place.step.page; item = 0; is_too_deep = false };
-    is_in_zeros = next.is_in_zeros;
-  }) marks' t first new) (sym r) (turn_more marks' m t next e h l n new f)
+    step = record { page = next; mark = LaterOverflow place.step.page; from = place.step.page; item = 0; is_too_deep = false };
+  }) marks' t first new here) (sym r) (turn_more marks' m t next e h l n new f here q)
 
 -- a cell is on no overflow page
-none_from : (file : List ℕ) (c : Reference) (left : ℕ) → role_of c ≡ first_overflow left → is_from_zeros file c ≡ false
+none_from : (file : List ℕ) (c : Reference) (left : ℕ) → role_of c ≡ first_overflow left → seen_from file c ≡ nothing_seen
 none_from file c left h = rw h refl
 
 -- at the first page all is left
 pub way_start : {S : Type 0} (takes : S → Finding → S → Type 0) (file : List ℕ) (W : List Reference) (c : Reference) (chain : Chain) (marks : List Mark) (s : S)
-    (sieve : Option RowSieve) → IsChainOf file chain c → IsNext W c → AreMarksOf file W marks
+    (sieve : Option RowSieve) (here : List ℕ) → IsChainOf file chain c → IsNext W c → AreMarksOf file W marks
     → IsOnWay takes file W c s chain (record {
       number = 0;
       left = chain.left;
       step =
           record { page = chain.first; mark = FirstOverflow chain.page; from = chain.page; item = chain.cell; is_too_deep = false };
-      is_in_zeros = false;
     }) marks
-    s sieve sieve
-way_start takes file W c chain marks s sieve h next m = record {
+    s sieve sieve here
+way_start takes file W c chain marks s sieve here h next m = record {
   pages = [];
   fed = feeds_none sieve;
   visited = W;
@@ -165,7 +171,7 @@ way_start takes file W c chain marks s sieve h next m = record {
   };
   left = ap bytes_left h.role;
   on = h.place;
-  zeros = sym (none_from file c chain.left h.role);
+  seen = sym (none_from file c chain.left h.role);
   head = head_start file chain W c h;
   rest = left_start takes file W (Go c ∷ []) s marks m next ((λ e i. absurd i), tt);
 }

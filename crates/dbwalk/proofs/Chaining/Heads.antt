@@ -16,9 +16,10 @@ use Rattle.dbformat.specs.Address.{then_step, chain_place, chain_on, is_child_st
 use Rattle.dbformat.specs.Header.{usable_size}
 use Rattle.dbformat.specs.Reference.{Role, root, child, first_overflow, later_overflow, trunk, free_leaf, Reference, role_of, from_of, item_of, bytes_left}
 use Rattle.dbformat.specs.Reference.{tree_kind}
-use Rattle.dbtrace.specs.Causes.{cell_rowid, chain_number, head_address, is_same, chain_head, chain_of, chain_cause, is_from_zeros, refusal_cause}
+use Rattle.dbtrace.specs.Causes.{cell_rowid, chain_number, head_address, is_same, chain_head, chain_of, chain_cause, seen_from, refusal_cause}
 use Rattle.dbtrace.specs.Causes.{refusal_of, rowids_of, pages_for}
 use Rattle.dbtrace.specs.declared.Cause.{Cause}
+use Rattle.dbtrace.specs.declared.SeenBytes.{SeenBytes}
 use Rattle.dbtrace.specs.declared.Cause.TheVariants as cause
 use Rattle.dbwalk.specs.Chains.{HasHead, IsChainOf, IsOnChain, next_of, walked_chain}
 use Rattle.dbwalk.specs.Entered.{IsNext}
@@ -46,16 +47,17 @@ chain_few chain number d on = by_address d.address on.place
     by_address (x ∷ a) e = let l = few a chain.cell number e in omega arith
 
 -- the cause of a fault along the chain
-pub head_cause : (file : List ℕ) (V : List Reference) (chain : Chain) (number left more : ℕ) (zeros : Bool) (d : Reference) → bytes_left (role_of d) ≡ Some left
+pub head_cause : (file : List ℕ) (V : List Reference) (chain : Chain) (number left more : ℕ) (seen : SeenBytes) (d : Reference)
+    → bytes_left (role_of d) ≡ Some left
     → IsOnChain chain number d
-    → HasHead file chain V d → chain_cause file V d (bytes_left (role_of d)) more zeros
-    ≡ cause.Chain (walked_chain chain number (usable_size file) left (number + more) zeros)
-head_cause file V chain number left more zeros d h on head =
-    ap (λ o. chain_cause file V d o more zeros) h
-    ∙ ap (λ n. option_map_or (λ c. cause.Chain (chain_of file c n left (n + more) zeros)) (chain_head V d) cause.Itself) (number_is chain number d on)
-    ∙ ap (λ o. option_map_or (λ c. cause.Chain (chain_of file c number left (number + more) zeros)) o cause.Itself) head.found
+    → HasHead file chain V d → chain_cause file V d (bytes_left (role_of d)) more seen
+    ≡ cause.Chain (walked_chain chain number (usable_size file) left (number + more) seen)
+head_cause file V chain number left more seen d h on head =
+    ap (λ o. chain_cause file V d o more seen) h
+    ∙ ap (λ n. option_map_or (λ c. cause.Chain (chain_of file c n left (n + more) seen)) (chain_head V d) cause.Itself) (number_is chain number d on)
+    ∙ ap (λ o. option_map_or (λ c. cause.Chain (chain_of file c number left (number + more) seen)) o cause.Itself) head.found
     ∙ ap₂ of_cell head.from head.item
-    ∙ ap (λ k. cause.Chain (record (walked_chain chain number (usable_size file) left (number + more) zeros) { rowid = k })) head.rowid
+    ∙ ap (λ k. cause.Chain (record (walked_chain chain number (usable_size file) left (number + more) seen) { rowid = k })) head.rowid
   where
     of_cell : ℕ → ℕ → Cause
     of_cell p i = cause.Chain (record {
@@ -65,20 +67,20 @@ head_cause file V chain number left more zeros d h on head =
       pages = number + pages_for (usable_size file) left;
       found = number
           + more;
-      is_in_zeros = zeros;
+      seen = seen;
     })
 
 -- that of a reference that is refused, by the numbers that a program has
 pub refusal_here : (file : List ℕ) {usable : ℕ} → usable ≡ usable_size file
-    → (chain : Chain) (number left : ℕ) (d : Reference) (V : List Reference) {zeros : Bool} → zeros ≡ is_from_zeros file d
+    → (chain : Chain) (number left : ℕ) (d : Reference) (V : List Reference) {seen : SeenBytes} → seen ≡ seen_from file d
     → bytes_left (role_of d) ≡ Some left → IsOnChain chain number d → HasHead file chain V d
-    → {why : Cause} → why ≡ cause.Chain (walked_chain chain number usable left number zeros) → refusal_cause file V d ≡ why
-refusal_here file u chain number left d V {zeros = zeros} z h on head e =
+    → {why : Cause} → why ≡ cause.Chain (walked_chain chain number usable left number seen) → refusal_cause file V d ≡ why
+refusal_here file u chain number left d V {seen = seen} z h on head e =
     let n : number + 0 ≡ number = omega arith in
     ap (refusal_of file V d (rowids_of file V d)) (no_tree (role_of d) h)
-    ∙ head_cause file V chain number left 0 (is_from_zeros file d) d h on head
-    ∙ ap (λ n. cause.Chain (walked_chain chain number (usable_size file) left n (is_from_zeros file d))) n
-    ∙ sym (e ∙ ap (λ x. cause.Chain (walked_chain chain number x left number zeros)) u
+    ∙ head_cause file V chain number left 0 (seen_from file d) d h on head
+    ∙ ap (λ n. cause.Chain (walked_chain chain number (usable_size file) left n (seen_from file d))) n
+    ∙ sym (e ∙ ap (λ x. cause.Chain (walked_chain chain number x left number seen)) u
     ∙ ap (λ b. cause.Chain (walked_chain chain number (usable_size file) left number b)) z)
   where
     no_tree : (r : Role) → bytes_left r ≡ Some left → tree_kind r ≡ None

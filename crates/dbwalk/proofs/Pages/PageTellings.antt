@@ -12,7 +12,7 @@ use Rattle.dbformat.specs.PageFaults.{coverage_fault, empty_fault, inner_faults}
 use Rattle.dbformat.specs.Rows.{tree_page_row, row_in}
 use Rattle.dbformat.specs.declared.Fault.{Fault}
 use Rattle.dbformat.specs.declared.TreeKind.{TreeKind}
-use Rattle.dbtrace.specs.Causes.{chain_cause, key_up_to, page_cause, page_facts, visit_cause}
+use Rattle.dbtrace.specs.Causes.{chain_cause, seen_bytes, key_up_to, page_cause, page_facts, visit_cause}
 use Rattle.dbformat.specs.Runs.{content_run}
 use Rattle.dbtrace.specs.Finding.{told_row, told_by, Finding}
 use Rattle.dbtrace.specs.Progress.{Progress, cause_by, depth_faults, rowids_by}
@@ -59,7 +59,8 @@ pub page_causes : (file : List ℕ) (U : List Reference) (p : Progress) (c : Ref
 page_causes file U p c {kind} role =
     told_by-append why (page_faults file [] c) (depth_faults file p.leaf c)
     ∙ ap (λ L. L ++ told_by why (depth_faults file p.leaf c))
-    (page_same why other file (ap (λ o. chain_cause file U c o 1 false) (no_chain (role_of c) role)) refl c (λ k e. refl))
+    (page_same why other file (ap (λ o. chain_cause file U c o 1 (seen_bytes (usable_size file) (page_bytes file c.page)))
+    (no_chain (role_of c) role)) refl c (λ k e. refl))
     ∙ ap (λ L. told_by other (page_faults file [] c) ++ L) (told_alike why other _ _ refl)
     ∙ sym (told_by-append other (page_faults file [] c) (depth_faults file p.leaf c))
   where

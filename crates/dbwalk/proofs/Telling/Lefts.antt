@@ -19,7 +19,7 @@ use Rattle.dbformat.proofs.Theory.{are_rules, is_story}
 use Rattle.dbsource.specs.declared.error.RunError.{RunError}
 use Rattle.dbmarks.specs.declared.marks.Mark.{Mark}
 use Rattle.dbmarks.specs.Marking.{AreMarksOf, visit_mark, page_mark, refusal_by}
-use Rattle.dbtrace.specs.Causes.{chain_cause, is_from_zeros, refusal_cause, refusal_of, rowids_of}
+use Rattle.dbtrace.specs.Causes.{chain_cause, seen_from, refusal_cause, refusal_of, rowids_of}
 use Rattle.dbtrace.specs.declared.Cause.TheVariants.{Itself}
 use Rattle.dbtrace.specs.declared.Cause.{Cause}
 use Rattle.dbtrace.specs.Finding.{Finding, told_at, told_below, visited_below, told_fault}
@@ -167,7 +167,7 @@ refusal_none (Some (Child from)) false e = absurd (cc)
 -- a reference to a page of no chain and no tree goes back to nothing else
 pub no_chain_refusal : (file : List ℕ) (W : List Reference) (c : Reference) → tree_kind (role_of c) ≡ None → bytes_left (role_of c) ≡ None
     → refusal_cause file W c ≡ Itself
-no_chain_refusal file W c h k = ap (refusal_of file W c (rowids_of file W c)) h ∙ ap (λ o. chain_cause file W c o 0 (is_from_zeros file c)) k
+no_chain_refusal file W c h k = ap (refusal_of file W c (rowids_of file W c)) h ∙ ap (λ o. chain_cause file W c o 0 (seen_from file c)) k
 
 module _ (file : List ℕ) (W : List Reference) (c : Reference) (marks : List Mark) (step : Step) (is : IsStepOf step c) (next : IsNext W c)
     (m : AreMarksOf file W marks) where

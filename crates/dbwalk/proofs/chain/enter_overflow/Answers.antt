@@ -1,10 +1,10 @@
-use Rattle.std.proofs.Common.{rules, arith, refl, ℕ, ◌≡◌, ◌+◌, ◌-◌, [], ◌∷◌, ◌++◌, Ok, Err, sym, ap, subst, ◌∙◌, ◌≤◌, ◌<◌}
+use Rattle.std.proofs.Common.{rules, arith, refl, ℕ, ◌≡◌, ◌+◌, ◌-◌, [], ◌∷◌, ◌++◌, Ok, Err, sym, ap, ap₂, subst, ◌∙◌, ◌≤◌, ◌<◌}
 use Rattle.std.proofs.lemmas.Result.{err_from_is_err_and}
 use Rattle.dbsurvey.specs.Story.{Go}
 use Rattle.dbformat.specs.Header.{usable_size}
 use Rattle.dbtrace.specs.Causes.{refusal_cause}
 use Rattle.dbwalk.specs.Entered.{Enters}
-use Rattle.dbwalk.specs.Chains.{Turns}
+use Rattle.dbwalk.specs.Chains.{Turns, seen_before}
 use Rattle.dbmarks.proofs.Readings.{log_none, log_page}
 use Rattle.dbwalk.proofs.Chaining.Heads.{head_visited, refusal_here}
 use Rattle.dbwalk.proofs.Chaining.ChainTurns.{turn_refused, turn_stopped, turn_last, turn_more_by}
@@ -21,13 +21,14 @@ pub returns-in_err-enter-clause-log : goal.returns-in_err-enter-clause-log
 returns-in_err-enter-clause-log g c = log_none c.args.bench.now.geometry.page_size c.args.marks.now c.enter.new.marks (g.S.Source.held c.args.source.now)
     c.in_err-enter.ensures.after_error.1 (λ file e W d before first on.
     let q = err_from_is_err_and c.from_residual.result c.from_residual.ensures.1 in
-    subst (λ r. Turns g.K.Sink.takes file W d before c.args.chain.now r c.enter.new.marks c.enter.new.sink first c.args.sieve.now)
+    subst (λ r. Turns g.K.Sink.takes file W d before c.args.chain.now r c.enter.new.marks c.enter.new.sink first c.args.sieve.now c.args.bench.now.chain)
     (sym (q.1 ∙ ap Err q.2))
     (left_untold g.K.Sink.takes file W (Go d ∷ []) before on.visited c.args.marks.now c.args.sink.now c.enter.new.sink c.enter.new.marks
     c.in_err-enter.field-0.0 (Go on.d ∷ []) on.rest
     (c.in_err-enter.ensures.entered file on.visited on.d (refusal_cause file on.visited on.d) on.step on.rest.past on.rest.marked
     (λ why p. refusal_here file (ap (λ s. s.usable) (c.geometry.ensures.value ∙ e)) c.args.chain.now c.args.place.number c.args.place.left on.d on.visited
-    on.zeros on.left on.on on.head p)).1))
+    (ap₂ (λ u b. seen_before u c.args.place.number b) (ap (λ s. s.usable) (c.geometry.ensures.value ∙ e)) c.page-here.ensures.bytes ∙ on.seen)
+    on.left on.on on.head p)).1))
 
 pub returns-then-not-branch-clause-log : goal.returns-then-not-branch-clause-log
 returns-then-not-branch-clause-log g c = log_none c.args.bench.now.geometry.page_size c.args.marks.now c.enter.new.marks (g.S.Source.held c.args.source.now)
@@ -38,7 +39,8 @@ returns-then-not-branch-clause-log g c = log_none c.args.bench.now.geometry.page
     (Ok b) c.enter.new.marks c.args.sink.now c.enter.new.sink) c.if-not-branch.true
     (c.in_ok-enter.ensures.entered file on.visited on.d (refusal_cause file on.visited on.d) on.step on.rest.past on.rest.marked
     (λ why p. refusal_here file (ap (λ s. s.usable) (c.geometry.ensures.value ∙ e)) c.args.chain.now c.args.place.number c.args.place.left on.d on.visited
-    on.zeros on.left on.on on.head p))))
+    (ap₂ (λ u b. seen_before u c.args.place.number b) (ap (λ s. s.usable) (c.geometry.ensures.value ∙ e)) c.page-here.ensures.bytes ∙ on.seen)
+    on.left on.on on.head p))))
 
 pub returns-in_err-next-clause-log : goal.returns-in_err-next-clause-log
 returns-in_err-next-clause-log g c =
@@ -51,9 +53,10 @@ returns-in_err-next-clause-log g c =
     c.if-not-branch.false
     (c.in_ok-enter.ensures.entered file on.visited on.d (refusal_cause file on.visited on.d) on.step on.rest.past on.rest.marked
     (λ why p. refusal_here file (ap (λ s. s.usable) (c.geometry.ensures.value ∙ e)) c.args.chain.now c.args.place.number c.args.place.left on.d on.visited
-    on.zeros on.left on.on on.head p)) in
+    (ap₂ (λ u b. seen_before u c.args.place.number b) (ap (λ s. s.usable) (c.geometry.ensures.value ∙ e)) c.page-here.ensures.bytes ∙ on.seen)
+    on.left on.on on.head p)) in
     subst (λ r. Turns g.K.Sink.takes file W d before c.args.chain.now r c.enter.new.marks c.visit_overflow.new.sink first
-    c.visit_overflow.new.sieve) (sym (q.1 ∙ ap Err q.2))
+    c.visit_overflow.new.sieve c.visit_overflow.new.bench.chain) (sym (q.1 ∙ ap Err q.2))
     (turn_stopped g.K.Sink.takes file W d before c.args.chain.now c.args.place c.args.marks.now c.args.sink.now on c.in_err-next.field-0.0
     c.enter.new.marks c.enter.new.sink c.visit_overflow.new.sink
     n ((v e).told (on.visited ++ (on.d ∷ [])) on.d on.step.page on.left on.on
@@ -69,7 +72,8 @@ returns-then-place-room-clause-log g c =
     c.if-not-branch.false
     (c.in_ok-enter.ensures.entered file on.visited on.d (refusal_cause file on.visited on.d) on.step on.rest.past on.rest.marked
     (λ why p. refusal_here file (ap (λ s. s.usable) (c.geometry.ensures.value ∙ e)) c.args.chain.now c.args.place.number c.args.place.left on.d on.visited
-    on.zeros on.left on.on on.head p)) in
+    (ap₂ (λ u b. seen_before u c.args.place.number b) (ap (λ s. s.usable) (c.geometry.ensures.value ∙ e)) c.page-here.ensures.bytes ∙ on.seen)
+    on.left on.on on.head p)) in
     let u : c.geometry.result.usable ≡ usable_size file = ap (λ s. s.usable) (c.geometry.ensures.value ∙ e) in
     let l : c.args.place.left ≤ usable_size file - 4 = subst (λ s. c.args.place.left ≤ s - 4) u c.if-place-room.true in
     turn_last g.K.Sink.takes file W d before c.args.chain.now c.args.place c.args.marks.now c.args.sink.now on c.enter.new.marks c.enter.new.sink
@@ -88,14 +92,15 @@ returns-clause-log g c =
     c.if-not-branch.false
     (c.in_ok-enter.ensures.entered file on.visited on.d (refusal_cause file on.visited on.d) on.step on.rest.past on.rest.marked
     (λ why p. refusal_here file (ap (λ s. s.usable) (c.geometry.ensures.value ∙ e)) c.args.chain.now c.args.place.number c.args.place.left on.d on.visited
-    on.zeros on.left on.on on.head p)) in
+    (ap₂ (λ u b. seen_before u c.args.place.number b) (ap (λ s. s.usable) (c.geometry.ensures.value ∙ e)) c.page-here.ensures.bytes ∙ on.seen)
+    on.left on.on on.head p)) in
     let u : c.geometry.result.usable ≡ usable_size file = ap (λ s. s.usable) (c.geometry.ensures.value ∙ e) in
     let l : usable_size file - 4 < c.args.place.left = subst (λ s. s - 4 < c.args.place.left) u c.if-place-room.false in
     turn_more_by g.K.Sink.takes file W d before c.args.chain.now c.args.place c.args.marks.now c.args.sink.now on c.enter.new.marks
     c.enter.new.sink c.visit_overflow.new.sink c.in_ok-next.next (c.geometry.result.usable - 4)
     (ap (λ s. s - 4) u) n ((v e).told (on.visited ++ (on.d ∷ [])) on.d on.step.page on.left on.on
     (head_visited file c.args.chain.now on.visited c.args.place.number on.d on.on on.head)) l (v e).next c.visit_overflow.new.sieve
-    ((v e).fed on.d on.step.page on.left))
+    ((v e).fed on.d on.step.page on.left) c.visit_overflow.new.bench.chain (v e).loaded)
 
 pub visit_overflow-requires : goal.visit_overflow-requires
 visit_overflow-requires g c = (

@@ -3,7 +3,7 @@ use Rattle.std.proofs.lemmas.Result.{err_from_is_err_and}
 use Rattle.dbsurvey.specs.Moves.{Moves}
 use Rattle.dbformat.specs.File.{page_bytes}
 use Rattle.dbformat.specs.Header.{usable_size}
-use Rattle.dbformat.specs.Looks.{is_zeros}
+use Rattle.dbtrace.specs.Causes.{seen_bytes}
 use Rattle.dbformat.specs.Payload.{overflow_bytes, overflow_next}
 use Rattle.dbformat.specs.Story.{at_page}
 use Rattle.dbsource.proofs.Logs.{has_weaker}
@@ -27,8 +27,9 @@ returns-in_err-load-clause-log g c =
     has_weaker _ _ (log_load c.args.bench.now.geometry.page_size at.step.page read.bytes (Err c.in_err-load.field-0.0) c.load.ensures.told read.size read.holds)
     (λ log l. l)
     (λ file h e. subst (λ r. IsOverflowVisited g.K.Sink.takes file c.args.chain.now at.number at.step.page at.left r c.args.sieve.now
-    c.args.sieve.now c.args.sink.now c.args.sink.now) (sym (q.1 ∙ ap Err q.2)) (record {
+    c.args.sieve.now c.args.sink.now c.args.sink.now c.load.new.self.chain) (sym (q.1 ∙ ap Err q.2)) (record {
       next = tt;
+      loaded = tt;
       told = λ U d p l on head. moves_none g.K.Sink.takes c.args.sink.now (told_at file U (at_page d));
       fed = tt;
     }))
@@ -41,17 +42,19 @@ returns-clause-log g c =
     (λ file h e.
     let k = page_read file read.bytes c.args.bench.now.geometry.page_size at.step.page read.size h (sym (ap (λ g. g.page_size) e)) in
     let bytes = c.page.ensures.bytes ∙ ap (λ b. b.chain) read.only ∙ k in
-    let n = c.next_page-next.ensures.page ∙ ap overflow_next bytes in
+    let n = c.next_page-next.ensures ∙ ap overflow_next bytes in
     let u = ap (λ g. g.usable) (c.geometry-usable.ensures.value ∙ ap (λ b. b.geometry) read.only ∙ e) in
     let r = c.overflow_row-row.ensures in
     record {
-      next = record { number = n; zeros = λ l. c.next_page-next.ensures.zeros (subst (λ x. x - 4 < at.left) (sym u) l) ∙ ap₂ is_zeros u bytes };
+      next = n;
+      loaded = ap (λ b. b.chain) read.only ∙ k;
       told = λ U d p l on head. subst (λ L. Moves g.K.Sink.takes c.args.sink.now L c.tell.new.sink)
-          (told_is file U d c.args.chain.now at.number at.step.page c.geometry-usable.result.usable at.left c.next_page-next.result.page
+          (told_is file U d c.args.chain.now at.number at.step.page c.geometry-usable.result.usable at.left c.next_page-next.result
           c.overflow_row-row.result c.last_fault-fault.result
           u n p l on r.start r.path r.chain r.page.0 r.page.1 r.counts c.last_fault-fault.ensures _
-          (ap (λ x. cause.Chain (walked_chain c.args.chain.now at.number x at.left (at.number + 1) false)) u
-          ∙ sym (head_cause file U c.args.chain.now at.number at.left 1 false d l on head)))
+          (ap₂ (λ x b. cause.Chain (walked_chain c.args.chain.now at.number x at.left (at.number + 1) (seen_bytes x b))) u
+          (c.page-3.ensures.bytes ∙ ap (λ b. b.chain) read.only ∙ k ∙ ap (page_bytes file) (sym p))
+          ∙ sym (head_cause file U c.args.chain.now at.number at.left 1 (seen_bytes (usable_size file) (page_bytes file d.page)) d l on head)))
           c.tell.ensures.items;
       fed = λ d p l.
           let b = c.page-2.ensures.bytes ∙ ap (λ b. b.chain) read.only ∙ k ∙ ap (page_bytes file) (sym p) in
@@ -72,7 +75,7 @@ returns-in_err-load-clause-writes g c =
 pub next_page-next-requires : goal.next_page-next-requires
 next_page-next-requires g c =
     let range = c.geometry-usable.ensures.range in
-    (omega (arith, range.usable), whole_page c.geometry-usable.ensures.value range c.page.ensures.len)
+    omega (arith, range.usable, whole_page c.geometry-usable.ensures.value range c.page.ensures.len)
 
 pub feed_page-requires : goal.feed_page-requires
 feed_page-requires g c =

@@ -13,7 +13,8 @@ use Rattle.dbwalk.proofs.chain.walk_chain.Goals as goal
 pub loop-next-init : goal.loop-next-init
 loop-next-init g c = record {
   log = log_none c.args.bench.now.geometry.page_size c.args.marks.now c.args.marks.now (g.S.Source.held c.args.source.now) refl
-      (λ file e W d h next m. way_start g.K.Sink.takes file W d c.args.chain.now c.args.marks.now c.args.sink.now c.args.sieve.now h next m);
+      (λ file e W d h next m. way_start g.K.Sink.takes file W d c.args.chain.now c.args.marks.now c.args.sink.now c.args.sieve.now
+      c.args.bench.now.chain h next m);
   reads = refl;
   writes = inl refl;
   bench = refl;
@@ -37,7 +38,7 @@ loop-next-preserved g c = record {
   log = log_then _ _ (ap (λ b. b.geometry.page_size) c.loop-next.invariant.bench) c.loop-next.invariant.log c.in_ok-next.ensures.log
       (λ file way turned e W d h next m.
       subst (λ o. Turns g.K.Sink.takes file W d c.args.sink.now c.args.chain.now (Ok o) c.enter_overflow.new.marks c.enter_overflow.new.sink
-      c.args.sieve.now c.enter_overflow.new.sieve) c.in-Some.is
+      c.args.sieve.now c.enter_overflow.new.sieve c.enter_overflow.new.bench.chain) c.in-Some.is
       (turned (ap (λ b. b.geometry) c.loop-next.invariant.bench ∙ e) W d c.args.sink.now c.args.sieve.now (way e W d h next m)));
   reads = c.in_ok-next.ensures.reads ∙ c.loop-next.invariant.reads;
   writes = moves_then c.loop-next.invariant.writes c.in_ok-next.ensures.writes.moves;
@@ -50,7 +51,7 @@ pub returns-clause-log : goal.returns-clause-log
 returns-clause-log g c = log_then _ _ (ap (λ b. b.geometry.page_size) c.loop-next.invariant.bench) c.loop-next.invariant.log c.in_ok-next.ensures.log
     (λ file way turned e W d h next m.
     subst (λ o. Turns g.K.Sink.takes file W d c.args.sink.now c.args.chain.now (Ok o) c.enter_overflow.new.marks c.enter_overflow.new.sink
-    c.args.sieve.now c.enter_overflow.new.sieve) c.in_default.is
+    c.args.sieve.now c.enter_overflow.new.sieve c.enter_overflow.new.bench.chain) c.in_default.is
     (turned (ap (λ b. b.geometry) c.loop-next.invariant.bench ∙ e) W d c.args.sink.now c.args.sieve.now (way e W d h next m)))
 
 pub returns-in_err-next-clause-writes : goal.returns-in_err-next-clause-writes
