@@ -1,11 +1,13 @@
 #!/usr/bin/env python3
-"""Overwrites numbers of databases, and counts how many `dbck mend` finds again: mend.py [--copies N] [--shape NAME] [--list FILE] DBCK FOLDER.
+"""Overwrites numbers of databases, and counts how many `dbck mend` finds again:
+mend.py [--copies N] [--first N] [--shape NAME] [--list FILE] DBCK FOLDER.
 
-It makes the databases of injuries.py in FOLDER, and of each N copies (3 without --copies) for each kind of number, by a fixed seed. Only
-copies with a fault are counted, and those that are refused by themselves. The changes that `mend` prints are made in a copy, by the line
-alone, as its reader would. Where `mend` says `ok`, `dbck check` has to say `ok` of that copy; the bytes that it says were there have to be
-there; and it has to end as `check` does: else the status is 1. A row of the table that is printed has, for one kind, the files, those made
-sound, and those that are byte for byte as before the injury.
+It makes the databases of injuries.py in FOLDER, and of each N copies (3 without --copies) for each kind of number, by a seed that is the
+number of the copy. --first begins at another copy than 0, for files that nobody has looked at yet. Only copies with a fault are counted, and
+those that are refused by themselves. The changes that `mend` prints are made in a copy, by the line alone, as its reader would. Where `mend`
+says `ok`, `dbck check` has to say `ok` of that copy; the bytes that it says were there have to be there; and it has to end as `check` does:
+else the status is 1. A row of the table that is printed has, for one kind, the files, those made sound, and those that are byte for byte as
+before the injury.
 """
 
 import argparse
@@ -117,6 +119,7 @@ def tried(dbck, file, kind, before, complaints):
 def main():
     words = argparse.ArgumentParser(description="Counts how many overwritten numbers dbck mend finds again.")
     words.add_argument("--copies", type=int, default=3, metavar="N", help="of each database and kind of number (3)")
+    words.add_argument("--first", type=int, default=0, metavar="N", help="the number of the first copy (0)")
     words.add_argument("--shape", action="append", metavar="NAME", help="of this database only; may be repeated")
     words.add_argument("--list", type=argparse.FileType("w"), metavar="FILE", help="where the names of files that stay damaged go")
     words.add_argument("dbck", type=pathlib.Path, metavar="DBCK")
@@ -130,7 +133,7 @@ def main():
         before, after = injuries.made(whole, shape)
         stat = run(dbck, "stat", "--all", whole).stdout
         for kind, injure in KINDS.items():
-            for copy in range(given.copies):
+            for copy in range(given.first, given.first + given.copies):
                 file = given.folder / f"{shape}-{kind.replace(' ', '-')}-{copy}.db"
                 patient = injuries.Patient(after, before, stat, file.stem)
                 if injure(patient):
