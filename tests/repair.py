@@ -126,14 +126,10 @@ class Workshop:
         return bool(done.stderr) or done.stdout.startswith(b"ROLLBACK")
 
     def mend(self):
-        """Makes the changes of `dbck mend` in the copy, and gives whether it found some and ends with ok. Else the copy is as it was."""
-        kept = self.copy.read_bytes()
+        """Makes the changes of `dbck mend` in the copy, and gives whether it found some and ends with ok. Else the recipe makes none."""
         self.run("mend")
         lines = (self.folder / "mend.txt").read_text().splitlines()
-        if len(lines) > 1 and lines[-1] == "ok":
-            return True
-        self.copy.write_bytes(kept)
-        return False
+        return len(lines) > 1 and lines[-1] == "ok"
 
     def explain(self):
         done = subprocess.run([self.dbck, "explain", "--limit", "10000", self.copy], capture_output=True, text=True, errors="replace")
