@@ -116,9 +116,6 @@ same_record : (es : List Entry) (kept : List Kept) (page : ℕ) → 0 < page →
     ⊎ ((named_frame es page ≡ None) × (last_of (λ r. r.page) page kept ≡ None))
 same_record es kept page some is rising = by_place (index_at es is.pages page some is.index)
   where
-    page_of : Kept → ℕ
-    page_of r = r.page
-
     by_place : IsIndexed es is.pages page
         → ((k : ℕ) × (r : Kept) × (named_frame es page ≡ Some k) × (last_of (λ r. r.page) page kept ≡ Some r) × (r.at ≡ 8 * k))
         ⊎ ((named_frame es page ≡ None) × (last_of (λ r. r.page) page kept ≡ None))

@@ -9,7 +9,7 @@ use Rattle.dblog.specs.JournalReading.{JournalIndexed}
 use Rattle.dblog.specs.declared.entry.Entry.{Entry}
 
 -- where the pages of a recovered database are in a log: the size of a page, how many there are, and those that the log gives. The page of
--- frame 0 begins at the first byte, and that of each later frame so many bytes after the one before.
+-- frame 0 begins at the first byte, and that of each later frame a stride after the one before.
 pub record Located : Type 0 where
   pub page_size : ℕ
   pub pages : ℕ

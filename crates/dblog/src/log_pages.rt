@@ -33,7 +33,7 @@ impl<A: Allocator> Model for LogPages<A> {
 }
 
 impl<A: Allocator> LogPages<A> {
-    // Of a database of so many pages of this size, in a log that has the pages of these entries so.
+    // Of a database with this number of pages of this size: the log has the pages of these entries.
     pub(crate) fn new(
         page_size: u32,
         pages: u32,

@@ -1,4 +1,4 @@
-// The name of a super-journal, which stands at the end of a rollback journal.
+// The name of a super-journal, which is at the end of a rollback journal.
 ghost use Rattle.std.specs.Prelude.{◌≡◌, ◌+◌, ◌≤◌, IsTrue, length, true};
 ghost use Rattle.dbformat.specs.Numbers.{u32_at};
 ghost use Rattle.dblog.specs.Journal.{has_name, is_name, name_sum, with_letter};
