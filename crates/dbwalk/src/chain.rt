@@ -57,21 +57,28 @@ pub(crate) struct ChainPlace {
     pub(crate) step: Step,
 }
 
+/// A chain, and a place along it.
+#[derive(Clone, Copy)]
+pub(crate) struct ChainPage<'a> {
+    pub(crate) chain: &'a Chain<'a>,
+    pub(crate) place: ChainPlace,
+}
+
 // Reads the page at a place of a chain, feeds its payload bytes to a sieve, reports its row and its fault, and answers the next page that it
 // names.
 fn visit_overflow<S: Source, K: Sink, A: Allocator>(
     source: &mut S,
     bench: &mut Bench<A>,
-    chain: &Chain<'_>,
-    place: ChainPlace,
+    at: ChainPage<'_>,
     sieve: &mut Option<RowSieve>,
     sink: &mut K,
 ) -> Result<u32, RunError>
-    requires within { (1 ≤ place.step.page) × (place.number + place.left ≤ most_payload) }
+    requires within { (1 ≤ at.place.step.page) × (at.place.number + at.place.left ≤ most_payload) }
     requires open { (K.held sink.old).is_shut ≡ false }
-    ensures log { HasLog S.step (λ log. log ≡ page_range bench.old.geometry.page_size place.step.page ∷ []) (λ file. bench.old.geometry ≡ geometry file
-        → IsOverflowVisited K.takes file chain.now place.number place.step.page place.left result sieve.old sieve.new sink.old sink.new
-        bench.new.chain)
+    ensures log { HasLog S.step (λ log. log ≡ page_range bench.old.geometry.page_size at.entry.place.step.page ∷ [])
+        (λ file. bench.old.geometry ≡ geometry file
+        → IsOverflowVisited K.takes file at.entry.chain.now at.entry.place.number at.entry.place.step.page at.entry.place.left result
+        sieve.old sieve.new sink.old sink.new bench.new.chain)
         (S.held source.old) (S.held source.new) }
     ensures reads { (S.held source.new).failures ≡ failures_after is_read_failed result (S.held source.old).failures }
     ensures writes { SinkWalks result (K.held sink.old) (K.held sink.new) }
@@ -79,14 +86,14 @@ fn visit_overflow<S: Source, K: Sink, A: Allocator>(
     ensures bench { bench.new ≡ record bench.old { chain = bench.new.chain } }
     ensures kept { is_some sieve.new ≡ is_some sieve.old }
 {
-    let (page, left) = (place.step.page, place.left);
+    let (page, left) = (at.place.step.page, at.place.left);
     bench.load(CHAIN, source, page)?;
     let usable = bench.geometry().usable;
     let next = next_page(bench.page(CHAIN));
     feed_page(bench.page(CHAIN), usable, left, sieve);
-    let row = overflow_row(chain, place, usable);
+    let row = overflow_row(at.chain, at.place, usable);
     let fault = last_fault(usable, left, page, next);
-    tell(&row, fault, chain, place, usable, bench.page(CHAIN), sink);
+    tell(&row, fault, at, usable, bench.page(CHAIN), sink);
     Ok(next)
 }
 
@@ -95,44 +102,39 @@ fn enter_overflow<S: Source, K: Sink, A: Allocator>(
     source: &mut S,
     bench: &mut Bench<A>,
     marks: &mut Marks<A>,
-    chain: &Chain<'_>,
-    place: ChainPlace,
+    at: ChainPage<'_>,
     sieve: &mut Option<RowSieve>,
     sink: &mut K,
 ) -> Result<Option<ChainPlace>, RunError>
-    requires place { IsPlace place }
+    requires place { IsPlace at.place }
     ensures log { HasLog S.step (Reads bench.old.geometry.page_size marks.old marks.new) (λ file. bench.old.geometry ≡ geometry file
         → (W : List Reference) (c : Reference) (before : K) (first : Option RowSieve)
-        → IsOnWay K.takes file W c before chain.now place marks.old sink.old first sieve.old bench.old.chain
-        → Turns K.takes file W c before chain.now result marks.new sink.new first sieve.new bench.new.chain) (S.held source.old) (S.held source.new) }
+        → IsOnWay K.takes file W c before at.entry.chain.now at.entry.place marks.old sink.old first sieve.old bench.old.chain
+        → Turns K.takes file W c before at.entry.chain.now result marks.new sink.new first sieve.new bench.new.chain)
+        (S.held source.old) (S.held source.new) }
     ensures reads { (S.held source.new).failures ≡ failures_after is_read_failed result (S.held source.old).failures }
     ensures writes { SinkWalks result (K.held sink.old) (K.held sink.new) }
     ensures only { IfErr result IsReadOrWrite }
     ensures bench { bench.new ≡ record bench.old { chain = bench.new.chain } }
     ensures kept { is_some sieve.new ≡ is_some sieve.old }
-    ensures next { IfOk result (λ o. IfSome o (λ next. IsPlace next × (next.left < place.left))) }
+    ensures next { IfOk result (λ o. IfSome o (λ next. IsPlace next × (next.left < at.entry.place.left))) }
 {
+    let place = at.place;
     let usable = bench.geometry().usable;
     let here = bench.page(CHAIN);
     let cause = ||
-        requires { (480 ≤ usable) × (usable ≤ 65536) × (place.number + place.left ≤ most_payload) × (usable ≤ length here.now) }
-        ensures { result ≡ cause.Chain (walked_chain chain.entry.now place.number usable place.left place.number
-            (seen_before usable place.number here.entry.now)) }
+        requires { (480 ≤ usable) × (usable ≤ 65536) × (at.place.number + at.place.left ≤ most_payload) × (usable ≤ length here.now) }
+        ensures { result ≡ cause.Chain (walked_chain at.entry.chain.now at.entry.place.number usable at.entry.place.left at.entry.place.number
+            (seen_before usable at.entry.place.number here.entry.now)) }
     {
-        chain_cause(
-            chain,
-            place.number,
-            usable,
-            place.left,
-            place.number,
-            seen_before(here, usable, place.number),
-        )
+        let number = at.place.number;
+        chain_cause(at, usable, number, seen_before(here, usable, number))
     };
     if !enter(marks, place.step, cause, sink)? {
         return Ok(None);
     }
     let room = usable - 4;
-    let next = visit_overflow(source, bench, chain, place, sieve, sink)?;
+    let next = visit_overflow(source, bench, at, sieve, sink)?;
     if place.left <= room {
         return Ok(None);
     }
@@ -188,7 +190,17 @@ pub(crate) fn walk_chain<S: Source, K: Sink, A: Allocator>(
         left: chain.left,
         step,
     };
-    while let Some(next) = enter_overflow(source, bench, marks, chain, place, sieve, sink)? {
+    while let Some(next) = enter_overflow(
+        source,
+        bench,
+        marks,
+        ChainPage {
+            chain: &*chain,
+            place,
+        },
+        sieve,
+        sink,
+    )? {
         place = next;
     }
     Ok(())

@@ -82,17 +82,13 @@ impl<A: Allocator, S: Source, K: Sink, T: Taker> TreeWalk<'_, '_, '_, '_, A, S, 
     {
         let cell = leaf_cell(bench, self.tree.kind, self.tree.path.len(), page, i);
         begin_row(bench, &self.tree, page, i, self.encoding, sieve);
-        walk_overflow(
-            self.source,
-            bench,
-            self.marks,
-            &self.tree,
+        let at = ReadCell {
+            tree: &self.tree,
             page,
-            i,
+            item: i,
             cell,
-            sieve,
-            self.sink,
-        )?;
+        };
+        walk_overflow(self.source, bench, self.marks, at, sieve, self.sink)?;
         let place = RowPlace::new(page, i, cell.key);
         tell_row(sieve, place, self.taker, self.sink)?;
         tell_rowid(&mut self.tree, page, i, cell.key, self.sink);
@@ -100,8 +96,16 @@ impl<A: Allocator, S: Source, K: Sink, T: Taker> TreeWalk<'_, '_, '_, '_, A, S, 
     }
 }
 
-/// Walks along the overflow chain of cell `i` of the leaf at the level of the tree's path, if it has one, and feeds it to a
-/// sieve, if there is one.
+/// A cell of the leaf at the level of a tree's path, as it was read.
+#[derive(Clone, Copy)]
+pub(crate) struct ReadCell<'a> {
+    pub(crate) tree: &'a Tree,
+    pub(crate) page: u32,
+    pub(crate) item: u32,
+    pub(crate) cell: LeafCell,
+}
+
+/// Walks along the overflow chain of a cell, if it has one, and feeds it to a sieve, if there is one.
 ///
 /// # Errors
 ///
@@ -110,32 +114,29 @@ pub(crate) fn walk_overflow<A: Allocator, S: Source, K: Sink>(
     source: &mut S,
     bench: &mut Bench<A>,
     marks: &mut Marks<A>,
-    tree: &Tree,
-    page: u32,
-    i: u32,
-    cell: LeafCell,
+    at: ReadCell<'_>,
     sieve: &mut Option<RowSieve>,
     sink: &mut K,
 ) -> Result<(), RunError>
-    requires { IsPageNumber page × IfSome cell.overflow (λ o. o.1 ≤ most_payload) }
+    requires { IsPageNumber at.page × IfSome at.cell.overflow (λ o. o.1 ≤ most_payload) }
     ensures kept { (bench.new.geometry ≡ bench.old.geometry) × (bench.new.levels ≡ bench.old.levels) × (is_some sieve.new ≡ is_some sieve.old) }
     ensures reads { (S.held source.new).failures ≡ failures_after is_read_failed result (S.held source.old).failures }
     ensures writes { SinkWalks result (K.held sink.old) (K.held sink.new) }
     ensures log { HasLog S.step (Reads bench.old.geometry.page_size marks.old marks.new) (λ file. bench.old.geometry ≡ shape_of file
-        → AtOverflow file tree.now bench.old.levels page i cell marks.old (λ U c.
-        IsDone K.takes file U (overflow_errands c i cell.overflow) result marks.new sink.old sink.new
-        × OnOk result (FeedsPayload file U c i cell.overflow sieve.old sieve.new))) (S.held source.old) (S.held source.new) }
+        → AtOverflow file at.entry.tree.now bench.old.levels at.entry.page at.entry.item at.entry.cell marks.old (λ U c.
+        IsDone K.takes file U (overflow_errands c at.entry.item at.entry.cell.overflow) result marks.new sink.old sink.new
+        × OnOk result (FeedsPayload file U c at.entry.item at.entry.cell.overflow sieve.old sieve.new))) (S.held source.old) (S.held source.new) }
     ensures only { IfErr result IsReadOrWrite }
 {
-    match cell.overflow {
+    match at.cell.overflow {
         None => Ok(()),
         Some((first, left)) => {
             let chain = Chain {
-                start: tree.start,
-                path: tree.path.as_slice(),
-                page,
-                cell: i,
-                rowid: cell.key,
+                start: at.tree.start,
+                path: at.tree.path.as_slice(),
+                page: at.page,
+                cell: at.item,
+                rowid: at.cell.key,
                 first,
                 left,
             };

@@ -13,7 +13,7 @@ ghost use Rattle.dbtrace.specs.Finding.{told_row, told_fault};
 ghost use Rattle.dbwalk.specs.Telling.{IsReportedTo};
 ghost use Rattle.dbwalk.specs.Rows.{row_of};
 
-use crate::chain::{Chain, ChainPlace};
+use crate::chain::{Chain, ChainPage, ChainPlace};
 use crate::{Cause, CellChain, Fault, PageType, Row, Sink};
 use dbbytes::RowSieve;
 use dbformat::{Counts, FaultCode, u32_at};
@@ -96,26 +96,19 @@ pub(crate) fn last_fault(usable: u32, left: u32, page: u32, next: u32) -> Option
     }
 }
 
-// What a fault at page `number` of a chain goes back to, where `left` bytes are left and `found` pages were found.
+// What a fault at a place of a chain goes back to, where `found` pages were found.
 #[inline(always)]
-pub(crate) fn chain_cause(
-    chain: &Chain<'_>,
-    number: u32,
-    usable: u32,
-    left: u32,
-    found: u32,
-    seen: SeenBytes,
-) -> Cause
+pub(crate) fn chain_cause(at: ChainPage<'_>, usable: u32, found: u32, seen: SeenBytes) -> Cause
     requires usable { (480 ≤ usable) × (usable ≤ 65536) }
-    requires counted { number + left ≤ most_payload }
-    ensures { result ≡ cause.Chain (walked_chain chain.now number usable left found seen) }
+    requires counted { at.place.number + at.place.left ≤ most_payload }
+    ensures { result ≡ cause.Chain (walked_chain at.entry.chain.now at.entry.place.number usable at.entry.place.left found seen) }
 {
     let room = usable - 4;
     Cause::Chain(CellChain {
-        page: chain.page,
-        item: chain.cell,
-        rowid: chain.rowid,
-        pages: number + (left + (room - 1)) / room,
+        page: at.chain.page,
+        item: at.chain.cell,
+        rowid: at.chain.rowid,
+        pages: at.place.number + (at.place.left + (room - 1)) / room,
         found,
         seen,
     })
@@ -125,24 +118,22 @@ pub(crate) fn chain_cause(
 pub(crate) fn tell<K: Sink>(
     row: &Row<'_>,
     fault: Option<Fault>,
-    chain: &Chain<'_>,
-    place: ChainPlace,
+    at: ChainPage<'_>,
     usable: u32,
     bytes: &[u8],
     sink: &mut K,
 )
     requires usable { (480 ≤ usable) × (usable ≤ 65536) }
     requires whole { usable ≤ length bytes.now }
-    requires counted { place.number + place.left ≤ most_payload }
+    requires counted { at.place.number + at.place.left ≤ most_payload }
     ensures { IsReportedTo K.takes K.held sink.old (told_row (row_of row.now)
-        ∷ map (λ f. told_fault f (cause.Chain (walked_chain chain.now place.number usable place.left (place.number + 1)
+        ∷ map (λ f. told_fault f (cause.Chain (walked_chain at.entry.chain.now at.entry.place.number usable at.entry.place.left (at.entry.place.number + 1)
         (seen_bytes usable bytes.now)))) (option_to_list fault)) sink.new }
 {
     sink.row(row);
     if let Some(fault) = fault {
         let seen = seen_bytes(bytes, usable);
-        let number = place.number;
-        let cause = chain_cause(chain, number, usable, place.left, number + 1, seen);
+        let cause = chain_cause(at, usable, at.place.number + 1, seen);
         sink.fault(&fault, &cause);
     }
 }

@@ -21,85 +21,85 @@ pub returns-in_err-enter-clause-log : goal.returns-in_err-enter-clause-log
 returns-in_err-enter-clause-log g c = log_none c.args.bench.now.geometry.page_size c.args.marks.now c.enter.new.marks (g.S.Source.held c.args.source.now)
     c.in_err-enter.ensures.after_error.1 (λ file e W d before first on.
     let q = err_from_is_err_and c.from_residual.result c.from_residual.ensures.1 in
-    subst (λ r. Turns g.K.Sink.takes file W d before c.args.chain.now r c.enter.new.marks c.enter.new.sink first c.args.sieve.now c.args.bench.now.chain)
+    subst (λ r. Turns g.K.Sink.takes file W d before c.args.at.chain.now r c.enter.new.marks c.enter.new.sink first c.args.sieve.now c.args.bench.now.chain)
     (sym (q.1 ∙ ap Err q.2))
     (left_untold g.K.Sink.takes file W (Go d ∷ []) before on.visited c.args.marks.now c.args.sink.now c.enter.new.sink c.enter.new.marks
     c.in_err-enter.field-0.0 (Go on.d ∷ []) on.rest
     (c.in_err-enter.ensures.entered file on.visited on.d (refusal_cause file on.visited on.d) on.step on.rest.past on.rest.marked
-    (λ why p. refusal_here file (ap (λ s. s.usable) (c.geometry.ensures.value ∙ e)) c.args.chain.now c.args.place.number c.args.place.left on.d on.visited
-    (ap₂ (λ u b. seen_before u c.args.place.number b) (ap (λ s. s.usable) (c.geometry.ensures.value ∙ e)) c.page-here.ensures.bytes ∙ on.seen)
+    (λ why p. refusal_here file (ap (λ s. s.usable) (c.geometry.ensures.value ∙ e)) c.args.at.chain.now c.args.at.place.number c.args.at.place.left on.d on.visited
+    (ap₂ (λ u b. seen_before u c.args.at.place.number b) (ap (λ s. s.usable) (c.geometry.ensures.value ∙ e)) c.page-here.ensures.bytes ∙ on.seen)
     on.left on.on on.head p)).1))
 
 pub returns-then-not-branch-clause-log : goal.returns-then-not-branch-clause-log
 returns-then-not-branch-clause-log g c = log_none c.args.bench.now.geometry.page_size c.args.marks.now c.enter.new.marks (g.S.Source.held c.args.source.now)
     (c.in_ok-enter.ensures.unmarked c.if-not-branch.true) (λ file e W d before first on.
-    turn_refused g.K.Sink.takes file W d before c.args.chain.now c.args.place c.args.marks.now c.args.sink.now on c.enter.new.marks
+    turn_refused g.K.Sink.takes file W d before c.args.at.chain.now c.args.at.place c.args.marks.now c.args.sink.now on c.enter.new.marks
     c.enter.new.sink
     (subst (λ b. Enters g.K.Sink.takes file on.visited on.d (refusal_cause file on.visited on.d)
     (Ok b) c.enter.new.marks c.args.sink.now c.enter.new.sink) c.if-not-branch.true
     (c.in_ok-enter.ensures.entered file on.visited on.d (refusal_cause file on.visited on.d) on.step on.rest.past on.rest.marked
-    (λ why p. refusal_here file (ap (λ s. s.usable) (c.geometry.ensures.value ∙ e)) c.args.chain.now c.args.place.number c.args.place.left on.d on.visited
-    (ap₂ (λ u b. seen_before u c.args.place.number b) (ap (λ s. s.usable) (c.geometry.ensures.value ∙ e)) c.page-here.ensures.bytes ∙ on.seen)
+    (λ why p. refusal_here file (ap (λ s. s.usable) (c.geometry.ensures.value ∙ e)) c.args.at.chain.now c.args.at.place.number c.args.at.place.left on.d on.visited
+    (ap₂ (λ u b. seen_before u c.args.at.place.number b) (ap (λ s. s.usable) (c.geometry.ensures.value ∙ e)) c.page-here.ensures.bytes ∙ on.seen)
     on.left on.on on.head p))))
 
 pub returns-in_err-next-clause-log : goal.returns-in_err-next-clause-log
 returns-in_err-next-clause-log g c =
     let k = c.in_ok-enter.ensures.marked (search rules) in
-    log_page _ c.args.bench.now.geometry.page_size c.args.marks.now c.enter.new.marks c.args.place.step.page c.args.place.step.mark k.0 k.1
+    log_page _ c.args.bench.now.geometry.page_size c.args.marks.now c.enter.new.marks c.args.at.place.step.page c.args.at.place.step.mark k.0 k.1
     c.requires.place.used c.in_err-next.ensures.log (λ file v e W d before first on.
     let q = err_from_is_err_and c.from_residual-in_err-next.result c.from_residual-in_err-next.ensures.1 in
     let n = subst (λ b. Enters g.K.Sink.takes file on.visited on.d (refusal_cause file on.visited on.d)
     (Ok b) c.enter.new.marks c.args.sink.now c.enter.new.sink)
     c.if-not-branch.false
     (c.in_ok-enter.ensures.entered file on.visited on.d (refusal_cause file on.visited on.d) on.step on.rest.past on.rest.marked
-    (λ why p. refusal_here file (ap (λ s. s.usable) (c.geometry.ensures.value ∙ e)) c.args.chain.now c.args.place.number c.args.place.left on.d on.visited
-    (ap₂ (λ u b. seen_before u c.args.place.number b) (ap (λ s. s.usable) (c.geometry.ensures.value ∙ e)) c.page-here.ensures.bytes ∙ on.seen)
+    (λ why p. refusal_here file (ap (λ s. s.usable) (c.geometry.ensures.value ∙ e)) c.args.at.chain.now c.args.at.place.number c.args.at.place.left on.d on.visited
+    (ap₂ (λ u b. seen_before u c.args.at.place.number b) (ap (λ s. s.usable) (c.geometry.ensures.value ∙ e)) c.page-here.ensures.bytes ∙ on.seen)
     on.left on.on on.head p)) in
-    subst (λ r. Turns g.K.Sink.takes file W d before c.args.chain.now r c.enter.new.marks c.visit_overflow.new.sink first
+    subst (λ r. Turns g.K.Sink.takes file W d before c.args.at.chain.now r c.enter.new.marks c.visit_overflow.new.sink first
     c.visit_overflow.new.sieve c.visit_overflow.new.bench.chain) (sym (q.1 ∙ ap Err q.2))
-    (turn_stopped g.K.Sink.takes file W d before c.args.chain.now c.args.place c.args.marks.now c.args.sink.now on c.in_err-next.field-0.0
+    (turn_stopped g.K.Sink.takes file W d before c.args.at.chain.now c.args.at.place c.args.marks.now c.args.sink.now on c.in_err-next.field-0.0
     c.enter.new.marks c.enter.new.sink c.visit_overflow.new.sink
     n ((v e).told (on.visited ++ (on.d ∷ [])) on.d on.step.page on.left on.on
-    (head_visited file c.args.chain.now on.visited c.args.place.number on.d on.on on.head))))
+    (head_visited file c.args.at.chain.now on.visited c.args.at.place.number on.d on.on on.head))))
 
 pub returns-then-place-room-clause-log : goal.returns-then-place-room-clause-log
 returns-then-place-room-clause-log g c =
     let k = c.in_ok-enter.ensures.marked (search rules) in
-    log_page _ c.args.bench.now.geometry.page_size c.args.marks.now c.enter.new.marks c.args.place.step.page c.args.place.step.mark k.0 k.1
+    log_page _ c.args.bench.now.geometry.page_size c.args.marks.now c.enter.new.marks c.args.at.place.step.page c.args.at.place.step.mark k.0 k.1
     c.requires.place.used c.in_ok-next.ensures.log (λ file v e W d before first on.
     let n = subst (λ b. Enters g.K.Sink.takes file on.visited on.d (refusal_cause file on.visited on.d)
     (Ok b) c.enter.new.marks c.args.sink.now c.enter.new.sink)
     c.if-not-branch.false
     (c.in_ok-enter.ensures.entered file on.visited on.d (refusal_cause file on.visited on.d) on.step on.rest.past on.rest.marked
-    (λ why p. refusal_here file (ap (λ s. s.usable) (c.geometry.ensures.value ∙ e)) c.args.chain.now c.args.place.number c.args.place.left on.d on.visited
-    (ap₂ (λ u b. seen_before u c.args.place.number b) (ap (λ s. s.usable) (c.geometry.ensures.value ∙ e)) c.page-here.ensures.bytes ∙ on.seen)
+    (λ why p. refusal_here file (ap (λ s. s.usable) (c.geometry.ensures.value ∙ e)) c.args.at.chain.now c.args.at.place.number c.args.at.place.left on.d on.visited
+    (ap₂ (λ u b. seen_before u c.args.at.place.number b) (ap (λ s. s.usable) (c.geometry.ensures.value ∙ e)) c.page-here.ensures.bytes ∙ on.seen)
     on.left on.on on.head p)) in
     let u : c.geometry.result.usable ≡ usable_size file = ap (λ s. s.usable) (c.geometry.ensures.value ∙ e) in
-    let l : c.args.place.left ≤ usable_size file - 4 = subst (λ s. c.args.place.left ≤ s - 4) u c.if-place-room.true in
-    turn_last g.K.Sink.takes file W d before c.args.chain.now c.args.place c.args.marks.now c.args.sink.now on c.enter.new.marks c.enter.new.sink
+    let l : c.args.at.place.left ≤ usable_size file - 4 = subst (λ s. c.args.at.place.left ≤ s - 4) u c.if-place-room.true in
+    turn_last g.K.Sink.takes file W d before c.args.at.chain.now c.args.at.place c.args.marks.now c.args.sink.now on c.enter.new.marks c.enter.new.sink
     c.visit_overflow.new.sink
     n ((v e).told (on.visited ++ (on.d ∷ [])) on.d on.step.page on.left on.on
-    (head_visited file c.args.chain.now on.visited c.args.place.number on.d on.on on.head)) l c.visit_overflow.new.sieve
+    (head_visited file c.args.at.chain.now on.visited c.args.at.place.number on.d on.on on.head)) l c.visit_overflow.new.sieve
     ((v e).fed on.d on.step.page on.left))
 
 pub returns-clause-log : goal.returns-clause-log
 returns-clause-log g c =
     let k = c.in_ok-enter.ensures.marked (search rules) in
-    log_page _ c.args.bench.now.geometry.page_size c.args.marks.now c.enter.new.marks c.args.place.step.page c.args.place.step.mark k.0 k.1
+    log_page _ c.args.bench.now.geometry.page_size c.args.marks.now c.enter.new.marks c.args.at.place.step.page c.args.at.place.step.mark k.0 k.1
     c.requires.place.used c.in_ok-next.ensures.log (λ file v e W d before first on.
     let n = subst (λ b. Enters g.K.Sink.takes file on.visited on.d (refusal_cause file on.visited on.d)
     (Ok b) c.enter.new.marks c.args.sink.now c.enter.new.sink)
     c.if-not-branch.false
     (c.in_ok-enter.ensures.entered file on.visited on.d (refusal_cause file on.visited on.d) on.step on.rest.past on.rest.marked
-    (λ why p. refusal_here file (ap (λ s. s.usable) (c.geometry.ensures.value ∙ e)) c.args.chain.now c.args.place.number c.args.place.left on.d on.visited
-    (ap₂ (λ u b. seen_before u c.args.place.number b) (ap (λ s. s.usable) (c.geometry.ensures.value ∙ e)) c.page-here.ensures.bytes ∙ on.seen)
+    (λ why p. refusal_here file (ap (λ s. s.usable) (c.geometry.ensures.value ∙ e)) c.args.at.chain.now c.args.at.place.number c.args.at.place.left on.d on.visited
+    (ap₂ (λ u b. seen_before u c.args.at.place.number b) (ap (λ s. s.usable) (c.geometry.ensures.value ∙ e)) c.page-here.ensures.bytes ∙ on.seen)
     on.left on.on on.head p)) in
     let u : c.geometry.result.usable ≡ usable_size file = ap (λ s. s.usable) (c.geometry.ensures.value ∙ e) in
-    let l : usable_size file - 4 < c.args.place.left = subst (λ s. s - 4 < c.args.place.left) u c.if-place-room.false in
-    turn_more_by g.K.Sink.takes file W d before c.args.chain.now c.args.place c.args.marks.now c.args.sink.now on c.enter.new.marks
+    let l : usable_size file - 4 < c.args.at.place.left = subst (λ s. s - 4 < c.args.at.place.left) u c.if-place-room.false in
+    turn_more_by g.K.Sink.takes file W d before c.args.at.chain.now c.args.at.place c.args.marks.now c.args.sink.now on c.enter.new.marks
     c.enter.new.sink c.visit_overflow.new.sink c.in_ok-next.next (c.geometry.result.usable - 4)
     (ap (λ s. s - 4) u) n ((v e).told (on.visited ++ (on.d ∷ [])) on.d on.step.page on.left on.on
-    (head_visited file c.args.chain.now on.visited c.args.place.number on.d on.on on.head)) l (v e).next c.visit_overflow.new.sieve
+    (head_visited file c.args.at.chain.now on.visited c.args.at.place.number on.d on.on on.head)) l (v e).next c.visit_overflow.new.sieve
     ((v e).fed on.d on.step.page on.left) c.visit_overflow.new.bench.chain (v e).loaded)
 
 pub visit_overflow-requires : goal.visit_overflow-requires

@@ -21,12 +21,12 @@ use Rattle.dbwalk.proofs.chain.visit_overflow.Goals as goal
 
 pub returns-in_err-load-clause-log : goal.returns-in_err-load-clause-log
 returns-in_err-load-clause-log g c =
-    let at = c.args.place in
+    let at = c.args.at.place in
     let read = c.in_err-load.ensures.level in
     let q = err_from_is_err_and c.from_residual.result c.from_residual.ensures.1 in
     has_weaker _ _ (log_load c.args.bench.now.geometry.page_size at.step.page read.bytes (Err c.in_err-load.field-0.0) c.load.ensures.told read.size read.holds)
     (λ log l. l)
-    (λ file h e. subst (λ r. IsOverflowVisited g.K.Sink.takes file c.args.chain.now at.number at.step.page at.left r c.args.sieve.now
+    (λ file h e. subst (λ r. IsOverflowVisited g.K.Sink.takes file c.args.at.chain.now at.number at.step.page at.left r c.args.sieve.now
     c.args.sieve.now c.args.sink.now c.args.sink.now c.load.new.self.chain) (sym (q.1 ∙ ap Err q.2)) (record {
       next = tt;
       loaded = tt;
@@ -36,7 +36,7 @@ returns-in_err-load-clause-log g c =
 
 pub returns-clause-log : goal.returns-clause-log
 returns-clause-log g c =
-    let at = c.args.place in
+    let at = c.args.at.place in
     let read = c.in_ok-load.ensures.level in
     has_weaker _ _ (log_load c.args.bench.now.geometry.page_size at.step.page read.bytes (Ok tt) c.load.ensures.told read.size read.holds) (λ log l. l)
     (λ file h e.
@@ -49,12 +49,12 @@ returns-clause-log g c =
       next = n;
       loaded = ap (λ b. b.chain) read.only ∙ k;
       told = λ U d p l on head. subst (λ L. Moves g.K.Sink.takes c.args.sink.now L c.tell.new.sink)
-          (told_is file U d c.args.chain.now at.number at.step.page c.geometry-usable.result.usable at.left c.next_page-next.result
+          (told_is file U d c.args.at.chain.now at.number at.step.page c.geometry-usable.result.usable at.left c.next_page-next.result
           c.overflow_row-row.result c.last_fault-fault.result
           u n p l on r.start r.path r.chain r.page.0 r.page.1 r.counts c.last_fault-fault.ensures _
-          (ap₂ (λ x b. cause.Chain (walked_chain c.args.chain.now at.number x at.left (at.number + 1) (seen_bytes x b))) u
+          (ap₂ (λ x b. cause.Chain (walked_chain c.args.at.chain.now at.number x at.left (at.number + 1) (seen_bytes x b))) u
           (c.page-3.ensures.bytes ∙ ap (λ b. b.chain) read.only ∙ k ∙ ap (page_bytes file) (sym p))
-          ∙ sym (head_cause file U c.args.chain.now at.number at.left 1 (seen_bytes (usable_size file) (page_bytes file d.page)) d l on head)))
+          ∙ sym (head_cause file U c.args.at.chain.now at.number at.left 1 (seen_bytes (usable_size file) (page_bytes file d.page)) d l on head)))
           c.tell.ensures.items;
       fed = λ d p l.
           let b = c.page-2.ensures.bytes ∙ ap (λ b. b.chain) read.only ∙ k ∙ ap (page_bytes file) (sym p) in

@@ -14,19 +14,19 @@ use Rattle.dbwalk.proofs.leaf.walk_overflow.Goals as goal
 pub returns-in-None-clause-log : goal.returns-in-None-clause-log
 returns-in-None-clause-log g c = log_none c.args.bench.now.geometry.page_size c.args.marks.now c.args.marks.now (g.S.Source.held c.args.source.now) refl
     (λ file e U d at row past m. (
-      none_done g.K.Sink.takes file U d c.args.i c.args.cell.overflow c.args.marks.now c.args.sink.now c.in-None.is m,
-      feeds_nothing file U d c.args.i c.args.cell.overflow c.args.sieve.now c.in-None.is,
+      none_done g.K.Sink.takes file U d c.args.at.item c.args.at.cell.overflow c.args.marks.now c.args.sink.now c.in-None.is m,
+      feeds_nothing file U d c.args.at.item c.args.at.cell.overflow c.args.sieve.now c.in-None.is,
     ))
 
 pub returns-in-Some-clause-log : goal.returns-in-Some-clause-log
 returns-in-Some-clause-log g c = has_weaker _ _ c.walk_chain.ensures.log (λ log r. r) (λ file h e U d at row past m.
-    let t = c.args.tree.now in
-    let next = subst (λ o. IsPast U (overflow_errands d c.args.i o)) c.in-Some.is past in
-    let k = h e U _ (chain_start _ file t.kind t.start t.path.items d c.args.bench.now.levels c.args.page c.args.i c.in-Some.first c.in-Some.left at refl
+    let t = c.args.at.tree.now in
+    let next = subst (λ o. IsPast U (overflow_errands d c.args.at.item o)) c.in-Some.is past in
+    let k = h e U _ (chain_start _ file t.kind t.start t.path.items d c.args.bench.now.levels c.args.at.page c.args.at.item c.in-Some.first c.in-Some.left at refl
     c.as_slice.ensures.value refl refl refl refl row) next m in (
-      subst (λ o. IsDone g.K.Sink.takes file U (overflow_errands d c.args.i o) c.walk_chain.result c.walk_chain.new.marks c.args.sink.now
+      subst (λ o. IsDone g.K.Sink.takes file U (overflow_errands d c.args.at.item o) c.walk_chain.result c.walk_chain.new.marks c.args.sink.now
           c.walk_chain.new.sink) (sym c.in-Some.is) k.0,
-      on_ok c.walk_chain.result k.1 (feeds_chain file U d c.args.i c.in-Some.first c.in-Some.left c.args.cell.overflow c.args.sieve.now c.walk_chain.new.sieve
+      on_ok c.walk_chain.result k.1 (feeds_chain file U d c.args.at.item c.in-Some.first c.in-Some.left c.args.at.cell.overflow c.args.sieve.now c.walk_chain.new.sieve
           c.in-Some.is next),
     ))
 
