@@ -159,12 +159,6 @@ module _ {S : Type 0} (takes : S → Finding → S → Type 0) (file : List ℕ)
 
 module _ {S : Type 0} (takes : S → Finding → S → Type 0) (file : List ℕ) (W : List Reference) (c : Reference) (before : S) (step : Step)
     (marks : List Mark) (s : S) (on : IsOnTrunks takes file W c before step marks s) where
-  -- the next trunk is refused
-  pub trunk_refused : (marks' : List Mark) (t : S) → Enters takes file on.visited on.d (refusal_cause file on.visited on.d) (Ok false) marks' s t
-      → IsDone {A = Unit {0}} takes file W (Go c ∷ []) (Ok tt) marks' before t
-  trunk_refused marks' t e = left_none takes file W (Go c ∷ []) before on.visited marks' t tt
-      (left_refused takes file W (Go c ∷ []) before on.visited marks s t marks' on.d [] on.rest e.0 e.1 e.2)
-
   -- it is followed, but its page could not be read
   pub trunk_unread : (x : RunError) (marks' : List Mark) (m : S) → Enters takes file on.visited on.d (refusal_cause file on.visited on.d) (Ok true) marks' s m
       → IsDone {A = Unit {0}} takes file W (Go c ∷ []) (Err x) marks' before m

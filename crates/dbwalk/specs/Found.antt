@@ -1,11 +1,12 @@
 -- What a page of a tree is, by the bytes at a level, and what is reported of it.
-use Rattle.std.specs.Prelude.{◌≡◌, ℕ, false, pos, List, Option, Some, None, slice_get, IfSome, Bool, [], ◌∷◌, ◌++◌, map, option_to_list}
+use Rattle.std.specs.Prelude.{◌≡◌, ◌≤◌, length, ℕ, false, pos, List, Option, Some, None, slice_get, IfSome, Bool, [], ◌∷◌, ◌++◌, map, option_to_list}
 use Rattle.dbformat.specs.Faults.{fault}
 use Rattle.dbformat.specs.Head.{View, undamaged, is_interior, content_start, type_byte}
 use Rattle.dbformat.specs.declared.TreeKind.{TreeKind}
 use Rattle.dbwalk.specs.LeafCells.{HasSpan}
 use Rattle.dbwalk.specs.Walking.{IsOpen}
 use Rattle.dbwalk.specs.declared.page.Damage.{Damage}
+use Rattle.dbwalk.specs.declared.page.PagePlace.{PagePlace}
 use Rattle.dbwalk.specs.declared.page.Damage.TheVariants as damage
 use Rattle.dbwalk.specs.declared.state.KeySpan.{KeySpan}
 use Rattle.dbwalk.specs.declared.page_report.PageFound.{PageFound}
@@ -28,6 +29,18 @@ use Rattle.dbtrace.specs.declared.Cause.TheVariants as cause
 use Rattle.dbformat.specs.declared.FaultCode.{FaultCode}
 use Rattle.dbformat.specs.declared.FaultCode.TheVariants.{P01, P02, P03, P10, T05}
 use Rattle.dbwalk.specs.LeafCells.{leaf_cause}
+
+-- so many bytes of a page that was read are usable
+pub record IsUsable (usable : ℕ) (page : List ℕ) : Type 0 where
+  pub whole : usable ≤ length page
+  pub least : 480 ≤ usable
+  pub most : usable ≤ 65536
+
+-- A page that is viewed is at this place, and there is this room to work in, a byte for each usable byte.
+pub record IsPlaceOf (place : PagePlace) (view : View) (len : ℕ) : Type 0 where
+  pub number : place.page ≡ view.number
+  pub most : view.usable ≤ 65536
+  pub room : view.usable ≤ len
 
 -- the bytes at a level are those of a page
 abbrev pub HasPageAt : List (List ℕ) → ℕ → List ℕ → Type 0

@@ -1,3 +1,4 @@
+pub mod Beside
 pub mod Chains
 pub mod Done
 pub mod Entered

@@ -1,6 +1,6 @@
 -- The point of a walk at which a part of it begins, by the state that the program keeps. What the part leaves is stated for all
 -- visits and references at that point.
-use Rattle.std.specs.Prelude.{◌≡◌, ℕ, ℤ, ◌<◌, true, false, List, [], ◌∷◌, ◌++◌, length, Option, Some}
+use Rattle.std.specs.Prelude.{◌≡◌, ℕ, ℤ, ◌<◌, true, false, List, [], ◌∷◌, ◌++◌, length, Option, Some, Result}
 use Rattle.dbsurvey.specs.InOrder.{IsPast}
 use Rattle.dbsurvey.specs.Traverse.{is_followed}
 use Rattle.dbformat.specs.Address.{then_step, overflow_step}
@@ -18,7 +18,8 @@ use Rattle.dbtrace.specs.Walk.{Walk}
 use Rattle.dbwalk.specs.Found.{HasPageAt}
 use Rattle.dbwalk.specs.LeafCells.{overflow_errands, AreBefore}
 use Rattle.dbmarks.specs.Marking.{AreMarksOf}
-use Rattle.dbwalk.specs.Underway.{IsAt, IsWalkingOn}
+use Rattle.dbsource.specs.declared.error.RunError.{RunError}
+use Rattle.dbwalk.specs.Underway.{HasTurned, IsAt, IsWalkingOn}
 use Rattle.dbwalk.specs.Walking.{AreOpen, IsCandidate, IsLeafAt, path_of}
 use Rattle.dbwalk.specs.Steps.{HasNext}
 use Rattle.dbwalk.specs.declared.steps.Next.{Next}
@@ -72,6 +73,12 @@ abbrev pub AtStep : {A S K T : Type 0} → ((K × T) → Item → (K × T) → T
 AtStep {K = K} {T = T} moves file levels frames walk leaves = (W : List Reference) (c : Reference) (before : K × T)
     → IsCandidate walk.tree.kind walk.tree.start [] c.page 0 walk.tree.start c
     → IsWalkingOn moves file W c before (frames, levels) (walk.marks.now, walk.tree) (walk.sink.now, walk.taker.now) → leaves W c before
+
+-- what a turn leaves that began at the next step of the last of some frames, with these page buffers
+abbrev pub TakesTurn : {A S K T : Type 0} → ((K × T) → Item → (K × T) → Type 0) → ((K × T) → Item → (K × T) → Type 0) → List ℕ
+    → Result (Unit {0}) RunError → (List StackFrame × List (List ℕ)) → TreeWalk A S K T → (List StackFrame × List (List ℕ)) → TreeWalk A S K T → Type 0
+TakesTurn moves stops file r before old after new = AtStep moves file before.1 before.0 old (λ W c at.
+    HasTurned moves stops file (W, c, at) r after (new.marks.now, new.tree) (new.sink.now, new.taker.now))
 
 -- at the root of a tree that was marked, and read; no page of the tree was visited before
 abbrev pub AtRoot : {A S K T : Type 0} → List ℕ → List (List ℕ) → ℕ → TreeWalk A S K T → (List Reference → Reference → Type 0) → Type 0

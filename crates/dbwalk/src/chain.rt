@@ -1,5 +1,5 @@
 // The walk along an overflow chain (Database File Format, 1.7).
-ghost use Rattle.std.specs.Prelude.{◌≡◌, ◌+◌, ◌≤◌, ◌<◌, ◌∷◌, List, [], Option, Some, false, length, IfSome, IfOk, IfErr, OnOk, is_some};
+ghost use Rattle.std.specs.Prelude.{◌≡◌, ◌+◌, ◌≤◌, ◌<◌, ◌∷◌, List, [], Option, Some, false, length, IfSome, IfOk, OnOk, is_some};
 ghost use Rattle.dbformat.specs.FixedPages.{IsPageNumber};
 ghost use Rattle.dbsurvey.specs.Story.{Go};
 ghost use Rattle.dbformat.specs.File.{geometry};
@@ -12,10 +12,8 @@ ghost use Rattle.dbwalk.specs.Chains.{seen_before, walked_chain, IsChainOf, IsOn
 ghost use Rattle.dbwalk.specs.Done.{IsDone};
 ghost use Rattle.dbwalk.specs.Entered.{IsNext};
 ghost use Rattle.dbmarks.specs.Marking.{AreMarksOf};
-ghost use Rattle.dbwalk.specs.Telling.{IsReadOrWrite, SinkWalks};
+ghost use Rattle.dbwalk.specs.Beside.{LeavesBeside};
 ghost use Rattle.dbmarks.specs.Reads.{Reads};
-ghost use Rattle.dbsource.specs.Errors.{is_read_failed};
-ghost use Rattle.dbsource.specs.Failures.{failures_after};
 ghost use Rattle.dbsource.specs.Sources.{HasLog};
 
 use crate::entering::{Step, enter};
@@ -80,10 +78,7 @@ fn visit_overflow<S: Source, K: Sink, A: Allocator>(
         → IsOverflowVisited K.takes file at.entry.chain.now at.entry.place.number at.entry.place.step.page at.entry.place.left result
         sieve.old sieve.new sink.old sink.new bench.new.chain)
         (S.held source.old) (S.held source.new) }
-    ensures reads { (S.held source.new).failures ≡ failures_after is_read_failed result (S.held source.old).failures }
-    ensures writes { SinkWalks result (K.held sink.old) (K.held sink.new) }
-    ensures only { IfErr result IsReadOrWrite }
-    ensures bench { bench.new ≡ record bench.old { chain = bench.new.chain } }
+    ensures beside { LeavesBeside result (S.held source.old) (S.held source.new) (K.held sink.old) (K.held sink.new) bench.old bench.new }
     ensures kept { is_some sieve.new ≡ is_some sieve.old }
 {
     let (page, left) = (at.place.step.page, at.place.left);
@@ -112,10 +107,7 @@ fn enter_overflow<S: Source, K: Sink, A: Allocator>(
         → IsOnWay K.takes file W c before at.entry.chain.now at.entry.place marks.old sink.old first sieve.old bench.old.chain
         → Turns K.takes file W c before at.entry.chain.now result marks.new sink.new first sieve.new bench.new.chain)
         (S.held source.old) (S.held source.new) }
-    ensures reads { (S.held source.new).failures ≡ failures_after is_read_failed result (S.held source.old).failures }
-    ensures writes { SinkWalks result (K.held sink.old) (K.held sink.new) }
-    ensures only { IfErr result IsReadOrWrite }
-    ensures bench { bench.new ≡ record bench.old { chain = bench.new.chain } }
+    ensures beside { LeavesBeside result (S.held source.old) (S.held source.new) (K.held sink.old) (K.held sink.new) bench.old bench.new }
     ensures kept { is_some sieve.new ≡ is_some sieve.old }
     ensures next { IfOk result (λ o. IfSome o (λ next. IsPlace next × (next.left < at.entry.place.left))) }
 {
@@ -172,10 +164,7 @@ pub(crate) fn walk_chain<S: Source, K: Sink, A: Allocator>(
         → (W : List Reference) (c : Reference) → IsChainOf file chain.now c → IsNext W c → AreMarksOf file W marks.old
         → IsDone K.takes file W (Go c ∷ []) result marks.new sink.old sink.new × OnOk result (FeedsChain file W c sieve.old sieve.new))
         (S.held source.old) (S.held source.new) }
-    ensures reads { (S.held source.new).failures ≡ failures_after is_read_failed result (S.held source.old).failures }
-    ensures writes { SinkWalks result (K.held sink.old) (K.held sink.new) }
-    ensures only { IfErr result IsReadOrWrite }
-    ensures bench { bench.new ≡ record bench.old { chain = bench.new.chain } }
+    ensures beside { LeavesBeside result (S.held source.old) (S.held source.new) (K.held sink.old) (K.held sink.new) bench.old bench.new }
     ensures kept { is_some sieve.new ≡ is_some sieve.old }
 {
     let step = Step {
@@ -225,10 +214,7 @@ pub(crate) fn walk_unfed<S: Source, K: Sink, A: Allocator>(
         → (W : List Reference) (c : Reference) → IsChainOf file chain.now c → IsNext W c → AreMarksOf file W marks.old
         → IsDone K.takes file W (Go c ∷ []) result marks.new sink.old sink.new)
         (S.held source.old) (S.held source.new) }
-    ensures reads { (S.held source.new).failures ≡ failures_after is_read_failed result (S.held source.old).failures }
-    ensures writes { SinkWalks result (K.held sink.old) (K.held sink.new) }
-    ensures only { IfErr result IsReadOrWrite }
-    ensures bench { bench.new ≡ record bench.old { chain = bench.new.chain } }
+    ensures beside { LeavesBeside result (S.held source.old) (S.held source.new) (K.held sink.old) (K.held sink.new) bench.old bench.new }
 {
     walk_chain(source, bench, marks, chain, &mut None, sink)
 }

@@ -10,6 +10,7 @@ ghost use Rattle.dbformat.specs.Reference.{trunk, Way, Reference, role_of};
 ghost use Rattle.dbformat.specs.Survey.{rules_of};
 ghost use Rattle.dbformat.specs.Story.{Event};
 ghost use Rattle.dbsource.specs.declared.error.RunError.TheVariants as run_error;
+ghost use Rattle.dbwalk.specs.Beside.{LeavesBeside};
 ghost use Rattle.dbwalk.specs.Done.{IsDone, IsLeft};
 ghost use Rattle.dbwalk.specs.Entered.{IsNext};
 ghost use Rattle.dbwalk.specs.Trunks.{LeavesErrands, IsFirstTrunk, IsOnTrunks, OpensTrunk, TrunkTurns, next_step};
@@ -19,7 +20,6 @@ ghost use Rattle.dbmarks.specs.Reads.{Reads};
 ghost use Rattle.dbmarks.specs.declared.marks.Mark.{Mark};
 ghost use Rattle.dbmarks.specs.declared.marks.Mark.TheVariants as use_mark;
 ghost use Rattle.dbsource.specs.Errors.{is_read_failed, is_write_failed};
-ghost use Rattle.dbsource.specs.Failures.{failures_after};
 ghost use Rattle.dbsource.specs.Sources.{Asks, HasLog};
 
 use crate::chain::CHAIN;
@@ -45,7 +45,6 @@ pub(crate) fn walk_leaves<K: Sink, A: Allocator>(
     requires within { 8 + 4 * count ≤ length bytes.now }
     requires few { count ≤ 16384 }
     ensures keeps { KeepsMarks marks.old marks.new }
-    ensures fewer { unmarked_pages marks.new ≤ unmarked_pages marks.old }
     ensures writes { SinkWalks result (K.held sink.old) (K.held sink.new) }
     ensures only { IfErr result (λ e. e ≡ run_error.WriteFailed) }
     ensures done { (file : List ℕ) (W : List Reference) (errands : List (Errand Way Event)) (before : K) (U : List Reference) (d : Reference)
@@ -76,7 +75,6 @@ fn open_trunk<K: Sink, A: Allocator>(
 ) -> Result<u32, RunError>
     requires usable { (480 ≤ usable) × (usable ≤ 65536) × (usable ≤ length bytes.now) }
     ensures keeps { KeepsMarks marks.old marks.new }
-    ensures fewer { unmarked_pages marks.new ≤ unmarked_pages marks.old }
     ensures writes { SinkWalks result (K.held sink.old) (K.held sink.new) }
     ensures only { IfErr result (λ e. e ≡ run_error.WriteFailed) }
     ensures opened { (file : List ℕ) (W : List Reference) (c : Reference) (before : K) (U : List Reference) (d : Reference) (old : List Mark)
@@ -127,10 +125,7 @@ fn enter_trunk<S: Source, K: Sink, A: Allocator>(
         → IsOnTrunks K.takes file W c before step marks.old sink.old
         → TrunkTurns K.takes file W c before result marks.new sink.new)
         (S.held source.old) (S.held source.new) }
-    ensures reads { (S.held source.new).failures ≡ failures_after is_read_failed result (S.held source.old).failures }
-    ensures writes { SinkWalks result (K.held sink.old) (K.held sink.new) }
-    ensures only { IfErr result IsReadOrWrite }
-    ensures bench { bench.new ≡ record bench.old { chain = bench.new.chain } }
+    ensures beside { LeavesBeside result (S.held source.old) (S.held source.new) (K.held sink.old) (K.held sink.new) bench.old bench.new }
     ensures trunk { IfOk result (λ o. IfSome o (λ next. next.mark ≡ use_mark.Trunk)) }
     ensures less { IfOk result (λ o. IfSome o (λ next. unmarked_pages marks.new < unmarked_pages marks.old)) }
 {

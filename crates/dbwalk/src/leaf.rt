@@ -1,5 +1,5 @@
 // The cells of a leaf: their overflow chains, the rows of the schema, and their keys (Database File Format, 1.6 and 2.6).
-ghost use Rattle.std.specs.Prelude.{◌≡◌, ◌<◌, length, ◌≤◌, None, IfErr, IfSome, OnOk, is_some};
+ghost use Rattle.std.specs.Prelude.{◌≡◌, ◌<◌, length, ◌≤◌, None, IfSome, OnOk, is_some};
 ghost use Rattle.dbformat.specs.FixedPages.{IsPageNumber};
 ghost use Rattle.dbsurvey.specs.Story.{errands_of};
 ghost use Rattle.dbwalk.specs.Points.{AtLeaf, IsSameButGreatest, AtCell, AtOverflow};
@@ -13,11 +13,10 @@ ghost use Rattle.dbformat.specs.File.{geometry as shape_of};
 ghost use Rattle.dbsource.specs.Sources.{HasLog};
 ghost use Rattle.dbwalk.specs.LeafCells.{overflow_errands, late_told, top_after};
 ghost use Rattle.dbwalk.specs.Taking.{FeedsPayload};
-ghost use Rattle.dbwalk.specs.Telling.{IsReportedTo, IsReadOrWrite, SinkWalks};
+ghost use Rattle.dbwalk.specs.Beside.{LeavesBeside};
+ghost use Rattle.dbwalk.specs.Telling.{IsReportedTo};
 ghost use Rattle.dbwalk.specs.Done.{IsDone};
 ghost use Rattle.dbmarks.specs.Reads.{Reads};
-ghost use Rattle.dbsource.specs.Errors.{is_read_failed};
-ghost use Rattle.dbsource.specs.Failures.{failures_after};
 
 use crate::cells::{LeafCell, leaf_cell, leaf_cells, pass_cells};
 use crate::chain::{Chain, walk_chain};
@@ -119,14 +118,12 @@ pub(crate) fn walk_overflow<A: Allocator, S: Source, K: Sink>(
     sink: &mut K,
 ) -> Result<(), RunError>
     requires { IsPageNumber at.page × IfSome at.cell.overflow (λ o. o.1 ≤ most_payload) }
-    ensures kept { (bench.new.geometry ≡ bench.old.geometry) × (bench.new.levels ≡ bench.old.levels) × (is_some sieve.new ≡ is_some sieve.old) }
-    ensures reads { (S.held source.new).failures ≡ failures_after is_read_failed result (S.held source.old).failures }
-    ensures writes { SinkWalks result (K.held sink.old) (K.held sink.new) }
+    ensures beside { LeavesBeside result (S.held source.old) (S.held source.new) (K.held sink.old) (K.held sink.new) bench.old bench.new }
+    ensures kept { is_some sieve.new ≡ is_some sieve.old }
     ensures log { HasLog S.step (Reads bench.old.geometry.page_size marks.old marks.new) (λ file. bench.old.geometry ≡ shape_of file
         → AtOverflow file at.entry.tree.now bench.old.levels at.entry.page at.entry.item at.entry.cell marks.old (λ U c.
         IsDone K.takes file U (overflow_errands c at.entry.item at.entry.cell.overflow) result marks.new sink.old sink.new
         × OnOk result (FeedsPayload file U c at.entry.item at.entry.cell.overflow sieve.old sieve.new))) (S.held source.old) (S.held source.new) }
-    ensures only { IfErr result IsReadOrWrite }
 {
     match at.cell.overflow {
         None => Ok(()),

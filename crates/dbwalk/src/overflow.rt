@@ -1,5 +1,5 @@
 // An overflow page: what it holds, and what is reported of it (Database File Format, 1.7).
-ghost use Rattle.std.specs.Prelude.{◌≡◌, ◌+◌, ◌-◌, ◌≤◌, ◌<◌, ◌&&◌, ◌==◌, ◌∷◌, length, map, false, not, nat_le, option_to_list, pos, Some, is_some};
+ghost use Rattle.std.specs.Prelude.{◌≡◌, ◌+◌, ◌-◌, ◌≤◌, ◌<◌, ◌&&◌, ◌==◌, ◌∷◌, length, map, not, nat_le, option_to_list, pos, Some, is_some};
 ghost use Rattle.dbformat.specs.Counts.{overflow_counts};
 ghost use Rattle.dbformat.specs.Faults.{fault};
 ghost use Rattle.dbtrace.specs.Causes.{seen_bytes};

@@ -11,7 +11,7 @@ ghost use Rattle.dbformat.specs.Runs.{content_run};
 ghost use Rattle.dbtrace.specs.Causes.{page_cause, page_facts};
 ghost use Rattle.dbtrace.specs.Finding.{told_by};
 ghost use Rattle.dbtrace.specs.declared.Cause.TheVariants as cause;
-ghost use Rattle.dbwalk.specs.Found.{damage_fault, inner_cause, rows_of, view_cause};
+ghost use Rattle.dbwalk.specs.Found.{IsPlaceOf, IsUsable, damage_fault, inner_cause, rows_of, view_cause};
 ghost use Rattle.dbwalk.specs.Telling.{IsReportedTo};
 
 use crate::{Cause, PageFacts, RowidBounds, Sink};
@@ -48,9 +48,7 @@ pub(crate) fn undamaged<'a>(
     usable: u32,
     kind: TreeKind,
 ) -> Result<PageView<'a>, Damage>
-    requires whole { usable ≤ length page.now }
-    requires least { 480 ≤ usable }
-    requires most { usable ≤ 65536 }
+    requires { IsUsable usable page.now }
     ensures view { MatchResult result (λ v. undamaged kind number usable page.now ≡ Some v) (λ _. undamaged kind number usable page.now ≡ None) }
     ensures faults { (is_child : Bool) → MatchResult result
         (λ v. tree_page_faults kind is_child number usable page.now ≡ inner_faults v is_child)
@@ -96,9 +94,7 @@ pub(crate) fn damage_fault(page: &[u8], number: u32, damage: Damage) -> Fault
 
 /// What this fault goes back to: the page, or for a page of an unknown type what it looks like; and the longest run of one byte.
 pub(crate) fn damage_cause(page: &[u8], place: &PagePlace<'_>, usable: u32, damage: Damage) -> Cause
-    requires whole { usable ≤ length page.now }
-    requires least { 480 ≤ usable }
-    requires most { usable ≤ 65536 }
+    requires { IsUsable usable page.now }
     ensures { result ≡ page_cause place.now.rowids place.now.page usable page.now None (damage_fault place.now.page page.now damage).code }
 {
     let run = match damage {
@@ -122,9 +118,7 @@ fn page_facts(rowids: RowidBounds, run: Option<ByteRun>) -> PageFacts
 
 // What a page of an unknown type goes back to.
 fn look_cause(page: &[u8], place: &PagePlace<'_>, usable: u32) -> Cause
-    requires whole { usable ≤ length page.now }
-    requires least { 480 ≤ usable }
-    requires most { usable ≤ 65536 }
+    requires { IsUsable usable page.now }
     ensures { result ≡ page_cause place.now.rowids place.now.page usable page.now None FaultCode.P01 }
 {
     let look = look_of(page, place.page, usable);
@@ -163,9 +157,7 @@ pub(crate) fn tell_inner<K: Sink>(
     uses: &mut [u8],
     sink: &mut K,
 )
-    requires number { place.now.page ≡ view.now.number }
-    requires most { view.now.usable ≤ 65536 }
-    requires room { view.now.usable ≤ length uses.old }
+    requires { IsPlaceOf place.now view.now (length uses.old) }
     ensures { IsReportedTo K.takes K.held sink.old (told_by (view_cause place.now.rowids view.now) (inner_faults view.now is_child)) sink.new }
 {
     let number = place.page;

@@ -1,7 +1,7 @@
 // What is reported of one page of a tree: its row, and its faults.
 ghost use Rattle.std.specs.Prelude.{◌≡◌, ◌≤◌, length, IfOk, IfSome};
 ghost use Rattle.dbwalk.specs.LeafCells.{HasSpan};
-ghost use Rattle.dbwalk.specs.Found.{damage_fault, undamaged_findings, damaged_findings};
+ghost use Rattle.dbwalk.specs.Found.{IsPlaceOf, IsUsable, damage_fault, undamaged_findings, damaged_findings};
 ghost use Rattle.dbwalk.specs.Telling.{IsReportedTo};
 ghost use Rattle.dbformat.specs.Cell.{cells};
 ghost use Rattle.dbpage.specs.Packed.{payload_of, greatest_of};
@@ -21,9 +21,7 @@ pub(crate) fn tell_undamaged<K: Sink>(
     uses: &mut [u8],
     sink: &mut K,
 ) -> Option<KeySpan>
-    requires number { place.now.page ≡ view.now.number }
-    requires most { view.now.usable ≤ 65536 }
-    requires room { view.now.usable ≤ length uses.old }
+    requires { IsPlaceOf place.now view.now (length uses.old) }
     ensures told { IsReportedTo K.takes K.held sink.old (undamaged_findings place.now.start place.now.path.now place.now.rowids
         view.now is_child) sink.new }
     ensures keys { IfSome result (HasSpan view.now) }
@@ -72,9 +70,7 @@ pub(crate) fn tell_damaged<K: Sink>(
     damage: Damage,
     sink: &mut K,
 )
-    requires whole { usable ≤ length bytes.now }
-    requires least { 480 ≤ usable }
-    requires most { usable ≤ 65536 }
+    requires { IsUsable usable bytes.now }
     ensures { IsReportedTo K.takes K.held sink.old (damaged_findings place.now.start place.now.path.now place.now.rowids
         place.now.page usable bytes.now (damage_fault place.now.page bytes.now damage)) sink.new }
 {

@@ -2,12 +2,11 @@
 ghost use Rattle.arrayvec.specs.ArrayVec.{array_vec_len};
 ghost use Rattle.std.specs.Prelude.{◌≡◌, ◌≤◌, ◌<◌, ◌++◌, [], ◌∷◌, List, OnOk};
 ghost use Rattle.dbwalk.specs.Walked.{SaysOfFiles, Walked};
-ghost use Rattle.dbwalk.specs.Underway.{HasTurned};
 ghost use Rattle.dbwalk.specs.Watching.{fails, watches};
 ghost use Rattle.dbwalk.specs.Walking.{AreOpen, path_of, cost};
 ghost use Rattle.dbwalk.specs.declared.steps.StackFrame.{StackFrame};
 ghost use Rattle.dbwalk.specs.declared.steps.Next.TheVariants.{Child};
-ghost use Rattle.dbwalk.specs.Points.{AtStep, IsAtTurn};
+ghost use Rattle.dbwalk.specs.Points.{IsAtTurn, TakesTurn};
 
 use crate::chain::{Chain, walk_unfed};
 use crate::state::Tree;
@@ -47,10 +46,8 @@ impl<A: Allocator, S: Source, K: Sink, T: Taker> TreeWalk<'_, '_, '_, '_, A, S, 
         ensures open { OnOk result (AreOpen bench.new.geometry.usable self.new.tree.kind bench.new.levels 0 frames.new.items) }
         ensures path { OnOk result ((fs : List StackFrame) (f : StackFrame) → frames.new.items ≡ fs ++ (f ∷ []) → self.new.tree.path.items ≡ path_of fs) }
         ensures ends { OnOk result (cost self.new.marks.now frames.new.items < cost self.old.marks.now (frames.old.items ++ (frame ∷ []))) }
-        ensures log { SaysOfFiles S.step S.held bench.old.geometry self.old self.new (λ file.
-            AtStep (watches K.takes T.takes) file bench.old.levels (frames.old.items ++ (frame ∷ [])) self.old (λ W c before.
-            HasTurned (watches K.takes T.takes) (fails T.refuses) file (W, c, before) result (frames.new.items, bench.new.levels)
-            (self.new.marks.now, self.new.tree) (self.new.sink.now, self.new.taker.now))) }
+        ensures log { SaysOfFiles S.step S.held bench.old.geometry self.old self.new (λ file. TakesTurn (watches K.takes T.takes) (fails T.refuses) file result
+            (frames.old.items ++ (frame ∷ []), bench.old.levels) self.old (frames.new.items, bench.new.levels) self.new) }
     {
         let cell = frame.next / 3;
         let up_to = key.or(frame.up_to);
@@ -87,10 +84,8 @@ impl<A: Allocator, S: Source, K: Sink, T: Taker> TreeWalk<'_, '_, '_, '_, A, S, 
         ensures open { OnOk result (AreOpen bench.new.geometry.usable self.new.tree.kind bench.new.levels 0 frames.new.items) }
         ensures path { OnOk result ((fs : List StackFrame) (f : StackFrame) → frames.new.items ≡ fs ++ (f ∷ []) → self.new.tree.path.items ≡ path_of fs) }
         ensures ends { OnOk result (cost self.new.marks.now frames.new.items < cost self.old.marks.now (frames.old.items ++ (frame ∷ []))) }
-        ensures log { SaysOfFiles S.step S.held bench.old.geometry self.old self.new (λ file.
-            AtStep (watches K.takes T.takes) file bench.old.levels (frames.old.items ++ (frame ∷ [])) self.old (λ W c before.
-            HasTurned (watches K.takes T.takes) (fails T.refuses) file (W, c, before) result (frames.new.items, bench.new.levels)
-            (self.new.marks.now, self.new.tree) (self.new.sink.now, self.new.taker.now))) }
+        ensures log { SaysOfFiles S.step S.held bench.old.geometry self.old self.new (λ file. TakesTurn (watches K.takes T.takes) (fails T.refuses) file result
+            (frames.old.items ++ (frame ∷ []), bench.old.levels) self.old (frames.new.items, bench.new.levels) self.new) }
     {
         match next {
             Next::End => {

@@ -29,7 +29,7 @@ use Rattle.dbtrace.specs.Finding.{Finding, told_at, told_below}
 use Rattle.dbmarks.specs.Marking.{role_mark, AreMarksOf}
 use Rattle.dbwalk.proofs.Telling.Belows.{told_visit}
 use Rattle.dbwalk.proofs.Chaining.Feedings.{feeds_none, feeds_page, fed_whole, fed_refused}
-use Rattle.dbwalk.proofs.Telling.Lefts.{left_start, left_refused, left_visit, left_none, left_stop}
+use Rattle.dbwalk.proofs.Telling.Lefts.{left_start, left_visit, left_none, left_stop, refused_last}
 use Rattle.dbwalk.proofs.Chaining.Heads.{head_next, head_start, chain_few}
 use Rattle.dbwalk.proofs.Chaining.Overflows.{more_errands, last_errands, next_on_chain, overflow_shallow}
 
@@ -54,8 +54,7 @@ module _ {S : Type 0} (takes : S → Finding → S → Type 0) (file : List ℕ)
   pub turn_refused : (marks' : List Mark) (t : S) → Enters takes file on.visited on.d (refusal_cause file on.visited on.d) (Ok false) marks' s t
       → IsDone {A = Unit {0}} takes file W (Go c ∷ []) (Ok tt) marks' before t × FeedsChain file W c first old
   turn_refused marks' t e = (
-    left_none takes file W (Go c ∷ []) before on.visited marks' t tt
-        (left_refused takes file W (Go c ∷ []) before on.visited marks s t marks' on.d [] on.rest e.0 e.1 e.2),
+    refused_last takes file W (Go c ∷ []) before on.visited marks marks' s t on.d on.rest e,
     fed_refused file W c on.d first old on.pages on.visited on.fed on.since e.0 on.rest.visits,
   )
 

@@ -11,11 +11,14 @@ use Rattle.dbformat.specs.declared.Geometry.{Geometry}
 use Rattle.dbsource.specs.Bench.{Pages, with_level}
 use Rattle.dbmarks.specs.Marking.{page_mark, is_none, unmarked_pages, cleared, KeepsMarks}
 use Rattle.dbmarks.specs.declared.marks.Mark.{Mark}
-use Rattle.dbwalk.specs.Found.{HasPageAt}
+use Rattle.dbwalk.specs.Found.{IsUsable, HasPageAt}
 
 -- a page has all usable bytes
 pub whole_page : {g h : Geometry} {n : ℕ} → g ≡ h → IsInRange g → n ≡ h.page_size → g.usable ≤ n
 whole_page e range l = omega (arith, range.usable, ap (λ g. g.page_size) e)
+
+pub usable_page : {g h : Geometry} {bytes : List ℕ} → g ≡ h → IsInRange g → length bytes ≡ h.page_size → IsUsable g.usable bytes
+usable_page e range l = record { whole = whole_page e range l; least = range.usable.0; most = omega (arith, range.usable, range.page_size) }
 
 get_set : {X : Type 0} (xs : List X) (i : ℕ) (x y : X) → slice_get (set xs i x) i ≡ Some y → y ≡ x
 get_set [] i x y e = cc

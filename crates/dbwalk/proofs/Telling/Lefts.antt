@@ -24,7 +24,7 @@ use Rattle.dbtrace.specs.declared.Cause.TheVariants.{Itself}
 use Rattle.dbtrace.specs.declared.Cause.{Cause}
 use Rattle.dbtrace.specs.Finding.{Finding, told_at, told_below, visited_below, told_fault}
 use Rattle.dbwalk.specs.Done.{IsDone, IsLeft}
-use Rattle.dbwalk.specs.Entered.{IsNext, IsStepOf, refused_told}
+use Rattle.dbwalk.specs.Entered.{Enters, IsNext, IsStepOf, refused_told}
 use Rattle.dbwalk.proofs.Telling.Belows.{visited_none, visited_refused, visited_visit, visited_join, told_none, told_join}
 use Rattle.dbwalk.proofs.Telling.Belows.{told_refused, told_visit}
 use Rattle.std.specs.Prelude.{pos}
@@ -142,6 +142,13 @@ module _ {S : Type 0} (takes : S → Finding → S → Type 0) (file : List ℕ)
     pub left_untold : {A : Type 0} (t : S) (marks' : List Mark) (e : RunError) (left : List (Errand Way Event))
         → IsLeft takes file W errands before U left (marks, s) → s ≡ t → IsDone {A = A} takes file W errands (Err e) marks' before t
     left_untold t marks' e left h same = left_stop t marks' e left [] (told_below file U left) h refl same
+
+-- the last reference that is left is refused: then all is done
+pub refused_last : {S : Type 0} (takes : S → Finding → S → Type 0) (file : List ℕ) (W : List Reference) (errands : List (Errand Way Event)) (before : S)
+    (U : List Reference) (marks marks' : List Mark) (s t : S) (d : Reference) → IsLeft takes file W errands before U (Go d ∷ []) (marks, s)
+    → Enters takes file U d (refusal_cause file U d) (Ok false) marks' s t → IsDone {A = Unit {0}} takes file W errands (Ok tt) marks' before t
+refused_last takes file W errands before U marks marks' s t d left e =
+    left_none takes file W errands before U marks' t tt (left_refused takes file W errands before U marks s t marks' d [] left e.0 e.1 e.2)
 
 -- How a candidate is entered.
 

@@ -3,7 +3,7 @@ use Rattle.std.specs.Prelude.{option_map}
 use Rattle.dbformat.specs.Payload.{most_payload}
 use Rattle.dbformat.specs.Cell.{Cell, count, overflow_size}
 use Rattle.dbwalk.proofs.Leaves.LeafCells.{has_cell, none_seen, same_view, readable, unreadable, cell_size}
-use Rattle.dbwalk.proofs.Pages.Levels.{whole_page}
+use Rattle.dbwalk.proofs.Pages.Levels.{usable_page}
 use Rattle.dbwalk.proofs.cells.leaf_cell.Goals as goal
 
 pub returns-in_default : goal.returns-in_default
@@ -48,5 +48,5 @@ returns-in-Err g c = has_cell c.args.bench.now c.args.kind c.args.level c.args.p
     (ap (λ s. s.usable) c.geometry.ensures.value) c.page.result.now c.page.ensures.bytes (Some c.in-Ok.view) c.in-Ok.ensures.view
     c.args.i None None tt (λ v e l. unreadable c.in-Ok.view v e c.args.i c.in-Err.field-0 (sym c.cell.ensures ∙ c.in-Err.is))
 
-pub undamaged-requires-clause-whole : goal.undamaged-requires-clause-whole
-undamaged-requires-clause-whole g c = whole_page c.geometry.ensures.value c.geometry.ensures.range c.page.ensures.len
+pub undamaged-requires : goal.undamaged-requires
+undamaged-requires g c = usable_page c.geometry.ensures.value c.geometry.ensures.range c.page.ensures.len

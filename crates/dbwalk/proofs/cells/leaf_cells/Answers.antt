@@ -1,7 +1,7 @@
 use Rattle.std.proofs.Common.{Some, None, ap, ◌∙◌}
 use Rattle.dbformat.specs.Cell.{count}
 use Rattle.dbwalk.proofs.Leaves.LeafCells.{has_cells, none_seen, same_view}
-use Rattle.dbwalk.proofs.Pages.Levels.{whole_page}
+use Rattle.dbwalk.proofs.Pages.Levels.{usable_page}
 use Rattle.dbwalk.proofs.cells.leaf_cells.Goals as goal
 
 pub returns-in-Ok : goal.returns-in-Ok
@@ -14,5 +14,5 @@ returns-in-Err g c = has_cells c.args.bench.now c.args.kind c.args.level c.args.
     (ap (λ s. s.usable) c.geometry.ensures.value) c.page.result.now c.page.ensures.bytes None c.in-Err.ensures.view
     0 (λ v e. none_seen v e)
 
-pub undamaged-requires-clause-whole : goal.undamaged-requires-clause-whole
-undamaged-requires-clause-whole g c = whole_page c.geometry.ensures.value c.geometry.ensures.range c.page.ensures.len
+pub undamaged-requires : goal.undamaged-requires
+undamaged-requires g c = usable_page c.geometry.ensures.value c.geometry.ensures.range c.page.ensures.len

@@ -3,7 +3,7 @@ use Rattle.dbformat.specs.Cell.{count}
 use Rattle.dbsource.specs.Bench.{bytes_at}
 use Rattle.dbwalk.specs.LeafCells.{AreRisingFrom}
 use Rattle.dbwalk.proofs.Leaves.LeafCells.{seen, same_view}
-use Rattle.dbwalk.proofs.Pages.Levels.{whole_page}
+use Rattle.dbwalk.proofs.Pages.Levels.{usable_page}
 use Rattle.dbwalk.proofs.cells.pass_cells.Goals as goal
 
 pub returns-clause-passed : goal.returns-clause-passed
@@ -21,5 +21,5 @@ returns-clause-passed g c =
           (c.rise_from-rise.ensures.within.1, c.rise_from-rise.ensures.rising);
     }
 
-pub undamaged-requires-clause-whole : goal.undamaged-requires-clause-whole
-undamaged-requires-clause-whole g c = whole_page c.geometry-usable.ensures.value c.geometry-usable.ensures.range c.page.ensures.len
+pub undamaged-requires : goal.undamaged-requires
+undamaged-requires g c = usable_page c.geometry-usable.ensures.value c.geometry-usable.ensures.range c.page.ensures.len

@@ -9,7 +9,8 @@ use Rattle.dbmarks.proofs.Readings.{log_none, log_page}
 use Rattle.dbwalk.proofs.Chaining.Heads.{head_visited, refusal_here}
 use Rattle.dbwalk.proofs.Chaining.ChainTurns.{turn_refused, turn_stopped, turn_last, turn_more_by}
 use Rattle.dbwalk.proofs.Telling.Lefts.{left_untold}
-use Rattle.dbwalk.proofs.Telling.Sinks.{moves_then, walks_after, walks_as, walks_ok}
+use Rattle.dbwalk.proofs.Telling.Besides.{beside_as, beside_ok, beside_shut, beside_then, beside_told}
+use Rattle.dbwalk.proofs.Telling.Sinks.{walks_as}
 use Rattle.dbwalk.proofs.chain.enter_overflow.Goals as goal
 
 -- the next place in a chain that goes on
@@ -26,8 +27,8 @@ returns-in_err-enter-clause-log g c = log_none c.args.bench.now.geometry.page_si
     (left_untold g.K.Sink.takes file W (Go d ∷ []) before on.visited c.args.marks.now c.args.sink.now c.enter.new.sink c.enter.new.marks
     c.in_err-enter.field-0.0 (Go on.d ∷ []) on.rest
     (c.in_err-enter.ensures.entered file on.visited on.d (refusal_cause file on.visited on.d) on.step on.rest.past on.rest.marked
-    (λ why p. refusal_here file (ap (λ s. s.usable) (c.geometry.ensures.value ∙ e)) c.args.at.chain.now c.args.at.place.number c.args.at.place.left on.d on.visited
-    (ap₂ (λ u b. seen_before u c.args.at.place.number b) (ap (λ s. s.usable) (c.geometry.ensures.value ∙ e)) c.page-here.ensures.bytes ∙ on.seen)
+    (λ why p. refusal_here file (ap (λ s. s.usable) (c.geometry.ensures.value ∙ e)) c.args.at.chain.now c.args.at.place.number c.args.at.place.left on.d
+    on.visited (ap₂ (λ u b. seen_before u c.args.at.place.number b) (ap (λ s. s.usable) (c.geometry.ensures.value ∙ e)) c.page-here.ensures.bytes ∙ on.seen)
     on.left on.on on.head p)).1))
 
 pub returns-then-not-branch-clause-log : goal.returns-then-not-branch-clause-log
@@ -38,8 +39,8 @@ returns-then-not-branch-clause-log g c = log_none c.args.bench.now.geometry.page
     (subst (λ b. Enters g.K.Sink.takes file on.visited on.d (refusal_cause file on.visited on.d)
     (Ok b) c.enter.new.marks c.args.sink.now c.enter.new.sink) c.if-not-branch.true
     (c.in_ok-enter.ensures.entered file on.visited on.d (refusal_cause file on.visited on.d) on.step on.rest.past on.rest.marked
-    (λ why p. refusal_here file (ap (λ s. s.usable) (c.geometry.ensures.value ∙ e)) c.args.at.chain.now c.args.at.place.number c.args.at.place.left on.d on.visited
-    (ap₂ (λ u b. seen_before u c.args.at.place.number b) (ap (λ s. s.usable) (c.geometry.ensures.value ∙ e)) c.page-here.ensures.bytes ∙ on.seen)
+    (λ why p. refusal_here file (ap (λ s. s.usable) (c.geometry.ensures.value ∙ e)) c.args.at.chain.now c.args.at.place.number c.args.at.place.left on.d
+    on.visited (ap₂ (λ u b. seen_before u c.args.at.place.number b) (ap (λ s. s.usable) (c.geometry.ensures.value ∙ e)) c.page-here.ensures.bytes ∙ on.seen)
     on.left on.on on.head p))))
 
 pub returns-in_err-next-clause-log : goal.returns-in_err-next-clause-log
@@ -52,8 +53,8 @@ returns-in_err-next-clause-log g c =
     (Ok b) c.enter.new.marks c.args.sink.now c.enter.new.sink)
     c.if-not-branch.false
     (c.in_ok-enter.ensures.entered file on.visited on.d (refusal_cause file on.visited on.d) on.step on.rest.past on.rest.marked
-    (λ why p. refusal_here file (ap (λ s. s.usable) (c.geometry.ensures.value ∙ e)) c.args.at.chain.now c.args.at.place.number c.args.at.place.left on.d on.visited
-    (ap₂ (λ u b. seen_before u c.args.at.place.number b) (ap (λ s. s.usable) (c.geometry.ensures.value ∙ e)) c.page-here.ensures.bytes ∙ on.seen)
+    (λ why p. refusal_here file (ap (λ s. s.usable) (c.geometry.ensures.value ∙ e)) c.args.at.chain.now c.args.at.place.number c.args.at.place.left on.d
+    on.visited (ap₂ (λ u b. seen_before u c.args.at.place.number b) (ap (λ s. s.usable) (c.geometry.ensures.value ∙ e)) c.page-here.ensures.bytes ∙ on.seen)
     on.left on.on on.head p)) in
     subst (λ r. Turns g.K.Sink.takes file W d before c.args.at.chain.now r c.enter.new.marks c.visit_overflow.new.sink first
     c.visit_overflow.new.sieve c.visit_overflow.new.bench.chain) (sym (q.1 ∙ ap Err q.2))
@@ -71,8 +72,8 @@ returns-then-place-room-clause-log g c =
     (Ok b) c.enter.new.marks c.args.sink.now c.enter.new.sink)
     c.if-not-branch.false
     (c.in_ok-enter.ensures.entered file on.visited on.d (refusal_cause file on.visited on.d) on.step on.rest.past on.rest.marked
-    (λ why p. refusal_here file (ap (λ s. s.usable) (c.geometry.ensures.value ∙ e)) c.args.at.chain.now c.args.at.place.number c.args.at.place.left on.d on.visited
-    (ap₂ (λ u b. seen_before u c.args.at.place.number b) (ap (λ s. s.usable) (c.geometry.ensures.value ∙ e)) c.page-here.ensures.bytes ∙ on.seen)
+    (λ why p. refusal_here file (ap (λ s. s.usable) (c.geometry.ensures.value ∙ e)) c.args.at.chain.now c.args.at.place.number c.args.at.place.left on.d
+    on.visited (ap₂ (λ u b. seen_before u c.args.at.place.number b) (ap (λ s. s.usable) (c.geometry.ensures.value ∙ e)) c.page-here.ensures.bytes ∙ on.seen)
     on.left on.on on.head p)) in
     let u : c.geometry.result.usable ≡ usable_size file = ap (λ s. s.usable) (c.geometry.ensures.value ∙ e) in
     let l : c.args.at.place.left ≤ usable_size file - 4 = subst (λ s. c.args.at.place.left ≤ s - 4) u c.if-place-room.true in
@@ -91,8 +92,8 @@ returns-clause-log g c =
     (Ok b) c.enter.new.marks c.args.sink.now c.enter.new.sink)
     c.if-not-branch.false
     (c.in_ok-enter.ensures.entered file on.visited on.d (refusal_cause file on.visited on.d) on.step on.rest.past on.rest.marked
-    (λ why p. refusal_here file (ap (λ s. s.usable) (c.geometry.ensures.value ∙ e)) c.args.at.chain.now c.args.at.place.number c.args.at.place.left on.d on.visited
-    (ap₂ (λ u b. seen_before u c.args.at.place.number b) (ap (λ s. s.usable) (c.geometry.ensures.value ∙ e)) c.page-here.ensures.bytes ∙ on.seen)
+    (λ why p. refusal_here file (ap (λ s. s.usable) (c.geometry.ensures.value ∙ e)) c.args.at.chain.now c.args.at.place.number c.args.at.place.left on.d
+    on.visited (ap₂ (λ u b. seen_before u c.args.at.place.number b) (ap (λ s. s.usable) (c.geometry.ensures.value ∙ e)) c.page-here.ensures.bytes ∙ on.seen)
     on.left on.on on.head p)) in
     let u : c.geometry.result.usable ≡ usable_size file = ap (λ s. s.usable) (c.geometry.ensures.value ∙ e) in
     let l : usable_size file - 4 < c.args.at.place.left = subst (λ s. s - 4 < c.args.at.place.left) u c.if-place-room.false in
@@ -108,24 +109,25 @@ visit_overflow-requires g c = (
   (((c.in_ok-enter.ensures.page (search rules)).0, c.requires.place.counted), c.in_ok-enter.ensures.«open» (search rules)),
 )
 
-pub returns-in_err-enter-clause-writes : goal.returns-in_err-enter-clause-writes
-returns-in_err-enter-clause-writes g c =
+pub returns-in_err-enter-clause-beside : goal.returns-in_err-enter-clause-beside
+returns-in_err-enter-clause-beside g c =
     let q = err_from_is_err_and c.from_residual.result c.from_residual.ensures.1 in
-    walks_as (q.1 ∙ ap Err q.2) c.in_err-enter.ensures.writes
+    let e = q.1 ∙ ap Err q.2 in
+    beside_shut (e ∙ ap Err c.in_err-enter.ensures.after_error.0) (walks_as e c.in_err-enter.ensures.writes)
 
-pub returns-then-not-branch-clause-writes : goal.returns-then-not-branch-clause-writes
-returns-then-not-branch-clause-writes g c = walks_ok c.in_ok-enter.ensures.writes.moves
+pub returns-then-not-branch-clause-beside : goal.returns-then-not-branch-clause-beside
+returns-then-not-branch-clause-beside g c = beside_told c.in_ok-enter.ensures.writes.moves
 
-pub returns-in_err-next-clause-writes : goal.returns-in_err-next-clause-writes
-returns-in_err-next-clause-writes g c =
+pub returns-in_err-next-clause-beside : goal.returns-in_err-next-clause-beside
+returns-in_err-next-clause-beside g c =
     let q = err_from_is_err_and c.from_residual-in_err-next.result c.from_residual-in_err-next.ensures.1 in
-    walks_as (q.1 ∙ ap Err q.2) (walks_after c.in_err-next.ensures.writes c.in_ok-enter.ensures.writes.moves)
+    beside_as (q.1 ∙ ap Err q.2) (beside_then {x = tt {0}} (beside_told c.in_ok-enter.ensures.writes.moves) c.in_err-next.ensures.beside)
 
-pub returns-then-place-room-clause-writes : goal.returns-then-place-room-clause-writes
-returns-then-place-room-clause-writes g c = walks_ok (moves_then c.in_ok-enter.ensures.writes.moves c.in_ok-next.ensures.writes.moves)
+pub returns-then-place-room-clause-beside : goal.returns-then-place-room-clause-beside
+returns-then-place-room-clause-beside g c = beside_ok (beside_then {x = tt {0}} (beside_told c.in_ok-enter.ensures.writes.moves) c.in_ok-next.ensures.beside)
 
-pub returns-clause-writes : goal.returns-clause-writes
-returns-clause-writes g c = walks_ok (moves_then c.in_ok-enter.ensures.writes.moves c.in_ok-next.ensures.writes.moves)
+pub returns-clause-beside : goal.returns-clause-beside
+returns-clause-beside g c = beside_ok (beside_then {x = tt {0}} (beside_told c.in_ok-enter.ensures.writes.moves) c.in_ok-next.ensures.beside)
 
 pub returns-clause-next : goal.returns-clause-next
 returns-clause-next g c =

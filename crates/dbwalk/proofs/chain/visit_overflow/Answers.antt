@@ -1,4 +1,4 @@
-use Rattle.std.proofs.Common.{◌+◌, ◌-◌, ◌<◌, false, inl, Ok, Err, arith, refl, sym, ap, ap₂, subst, ◌∙◌}
+use Rattle.std.proofs.Common.{◌+◌, ◌-◌, inl, Ok, Err, arith, refl, sym, ap, ap₂, subst, ◌∙◌}
 use Rattle.std.proofs.lemmas.Result.{err_from_is_err_and}
 use Rattle.dbsurvey.specs.Moves.{Moves}
 use Rattle.dbformat.specs.File.{page_bytes}
@@ -15,8 +15,7 @@ use Rattle.dbwalk.proofs.Chaining.Heads.{head_cause}
 use Rattle.dbwalk.proofs.Chaining.Overflows.{page_read, told_is, moves_none}
 use Rattle.dbmarks.proofs.Readings.{log_load}
 use Rattle.dbwalk.proofs.Pages.Levels.{whole_page}
-use Rattle.dbwalk.proofs.Telling.Sinks.{walks_err, walks_ok}
-use Rattle.dbsource.specs.declared.error.RunError.TheVariants.{ReadFailed}
+use Rattle.dbwalk.proofs.Telling.Besides.{beside_read, beside_unread}
 use Rattle.dbwalk.proofs.chain.visit_overflow.Goals as goal
 
 pub returns-in_err-load-clause-log : goal.returns-in_err-load-clause-log
@@ -64,13 +63,13 @@ returns-clause-log g c =
           c.feed_page.ensures.fed;
     })
 
-pub returns-clause-writes : goal.returns-clause-writes
-returns-clause-writes g c = walks_ok c.tell.ensures.count
+pub returns-clause-beside : goal.returns-clause-beside
+returns-clause-beside g c = beside_read c.args.bench.now c.in_ok-load.ensures.count c.tell.ensures.count c.in_ok-load.ensures.level.only
 
-pub returns-in_err-load-clause-writes : goal.returns-in_err-load-clause-writes
-returns-in_err-load-clause-writes g c =
+pub returns-in_err-load-clause-beside : goal.returns-in_err-load-clause-beside
+returns-in_err-load-clause-beside g c =
     let q = err_from_is_err_and c.from_residual.result c.from_residual.ensures.1 in
-    walks_err {e = ReadFailed} (q.1 ∙ ap Err q.2) (inl refl) c.requires.«open»
+    beside_unread c.args.bench.now (q.1 ∙ ap Err q.2) c.in_err-load.ensures.count (inl refl) c.requires.«open» c.in_err-load.ensures.level.only
 
 pub next_page-next-requires : goal.next_page-next-requires
 next_page-next-requires g c =

@@ -1,11 +1,11 @@
-use Rattle.std.proofs.Common.{◌≡◌, List}
+use Rattle.std.proofs.Common.{◌≡◌, List, Ok}
 use Rattle.std.specs.Prelude.{is_some}
 use Rattle.dbformat.specs.File.{geometry}
 use Rattle.dbformat.specs.Reference.{Reference}
 use Rattle.dbsource.specs.Sources.{HasLog}
 use Rattle.dbwalk.specs.Chains.{IsChainOf, IsOnWay, IsPlace}
 use Rattle.dbwalk.specs.Entered.{IsNext}
-use Rattle.dbwalk.specs.Telling.{SinkMoves}
+use Rattle.dbwalk.specs.Beside.{LeavesBeside}
 use Rattle.dbmarks.specs.Marking.{AreMarksOf}
 use Rattle.dbmarks.specs.Reads.{Reads}
 use Rattle.dbwalk.proofs.chain.walk_chain.Given as goal
@@ -20,9 +20,8 @@ invariant-loop-next g l = record {
       → IsChainOf file l.chain c → IsNext W c → AreMarksOf file W l.initial.marks
       → IsOnWay g.K.Sink.takes file W c l.initial.sink l.chain l.place l.marks l.sink l.initial.sieve l.sieve l.bench.chain)
       (g.S.Source.held l.initial.source) (g.S.Source.held l.source);
-  reads : (g.S.Source.held l.source).failures ≡ (g.S.Source.held l.initial.source).failures;
-  writes : SinkMoves (g.K.Sink.held l.initial.sink) (g.K.Sink.held l.sink);
-  bench : l.bench ≡ record l.initial.bench { chain = l.bench.chain };
+  beside : LeavesBeside {A = Unit {0}} (Ok tt) (g.S.Source.held l.initial.source) (g.S.Source.held l.source) (g.K.Sink.held l.initial.sink)
+      (g.K.Sink.held l.sink) l.initial.bench l.bench;
   kept : is_some l.sieve ≡ is_some l.initial.sieve;
   place : IsPlace l.place;
 }

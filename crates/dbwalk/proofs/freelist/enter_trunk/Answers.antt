@@ -13,11 +13,13 @@ use Rattle.dbmarks.specs.Marking.{IsUse, is_none, unmarked_pages}
 use Rattle.dbwalk.specs.Trunks.{TrunkTurns, next_step, trunk_step}
 use Rattle.dbformat.specs.Reference.{bytes_left, tree_kind}
 use Rattle.dbwalk.proofs.Chaining.ChainTurns.{if_some_all}
-use Rattle.dbwalk.proofs.FreeTrunks.{trunk_refused, trunk_unread, next_turned}
-use Rattle.dbwalk.proofs.Telling.Lefts.{no_chain_refusal, left_untold}
+use Rattle.dbwalk.proofs.FreeTrunks.{trunk_unread, next_turned}
+use Rattle.dbwalk.proofs.Telling.Lefts.{no_chain_refusal, left_untold, refused_last}
 use Rattle.dbwalk.proofs.Chaining.Overflows.{page_read}
 use Rattle.dbmarks.proofs.Readings.{put_count, log_load, log_none, log_opened, log_page}
-use Rattle.dbwalk.proofs.Telling.Sinks.{moves_then, walks_after, walks_as, walks_err, walks_ok}
+use Rattle.dbwalk.proofs.Telling.Sinks.{moves_then, walks_as}
+use Rattle.dbwalk.proofs.Telling.Besides.{beside_read, beside_shut, beside_then, beside_told, beside_unread}
+use Rattle.dbwalk.proofs.Pages.Levels.{keeps_fewer}
 use Rattle.dbwalk.proofs.freelist.enter_trunk.Goals as goal
 
 pub returns-clause-less : goal.returns-clause-less
@@ -26,7 +28,8 @@ returns-clause-less g c = if_some_all _ c.next_trunk.result (λ next.
     let m : unmarked_pages (set c.args.marks.now (c.args.step.page - 1) c.args.step.mark) + 1 ≡ unmarked_pages c.args.marks.now =
     put_count c.args.marks.now c.args.step.page c.args.step.mark k.0 (ap is_none c.requires) in
     let n : unmarked_pages c.enter.new.marks ≡ unmarked_pages (set c.args.marks.now (c.args.step.page - 1) c.args.step.mark) = ap unmarked_pages k.1 in
-    omega (arith, c.in_ok-item.ensures.fewer))
+    let fewer = keeps_fewer c.enter.new.marks c.open_trunk.new.marks c.open_trunk.ensures.keeps in
+    omega arith)
 
 pub returns-in_err-enter-clause-log : goal.returns-in_err-enter-clause-log
 returns-in_err-enter-clause-log g c = log_none c.args.bench.now.geometry.page_size c.args.marks.now c.enter.new.marks (g.S.Source.held c.args.source.now)
@@ -41,7 +44,7 @@ returns-in_err-enter-clause-log g c = log_none c.args.bench.now.geometry.page_si
 pub returns-then-not-branch-clause-log : goal.returns-then-not-branch-clause-log
 returns-then-not-branch-clause-log g c = log_none c.args.bench.now.geometry.page_size c.args.marks.now c.enter.new.marks (g.S.Source.held c.args.source.now)
     (c.in_ok-enter.ensures.unmarked c.if-not-branch.true) (λ file e W d before on.
-    trunk_refused g.K.Sink.takes file W d before c.args.step c.args.marks.now c.args.sink.now on c.enter.new.marks c.enter.new.sink
+    refused_last g.K.Sink.takes file W (Go d ∷ []) before on.visited c.args.marks.now c.enter.new.marks c.args.sink.now c.enter.new.sink on.d on.rest
     (subst (λ b. Enters g.K.Sink.takes file on.visited on.d (refusal_cause file on.visited on.d)
     (Ok b) c.enter.new.marks c.args.sink.now c.enter.new.sink) c.if-not-branch.true
     (c.in_ok-enter.ensures.entered file on.visited on.d (refusal_cause file on.visited on.d) on.step on.rest.past on.rest.marked
@@ -131,23 +134,27 @@ next_marked page from item = cond_both (page == 0) None (Some (trunk_step page f
 pub returns-clause-trunk : goal.returns-clause-trunk
 returns-clause-trunk g c = rw c.next_trunk.ensures (next_marked _ _ _)
 
-pub returns-in_err-enter-clause-writes : goal.returns-in_err-enter-clause-writes
-returns-in_err-enter-clause-writes g c =
+pub returns-in_err-enter-clause-beside : goal.returns-in_err-enter-clause-beside
+returns-in_err-enter-clause-beside g c =
     let q = err_from_is_err_and c.from_residual.result c.from_residual.ensures.1 in
-    walks_as (q.1 ∙ ap Err q.2) c.in_err-enter.ensures.writes
+    let e = q.1 ∙ ap Err q.2 in
+    beside_shut (e ∙ ap Err c.in_err-enter.ensures.after_error.0) (walks_as e c.in_err-enter.ensures.writes)
 
-pub returns-then-not-branch-clause-writes : goal.returns-then-not-branch-clause-writes
-returns-then-not-branch-clause-writes g c = walks_ok c.in_ok-enter.ensures.writes.moves
+pub returns-then-not-branch-clause-beside : goal.returns-then-not-branch-clause-beside
+returns-then-not-branch-clause-beside g c = beside_told c.in_ok-enter.ensures.writes.moves
 
-pub returns-in_err-load-clause-writes : goal.returns-in_err-load-clause-writes
-returns-in_err-load-clause-writes g c =
+pub returns-in_err-load-clause-beside : goal.returns-in_err-load-clause-beside
+returns-in_err-load-clause-beside g c =
     let q = err_from_is_err_and c.from_residual-in_err-load.result c.from_residual-in_err-load.ensures.1 in
-    walks_err {e = ReadFailed} (q.1 ∙ ap Err q.2) c.in_ok-enter.ensures.writes.moves (c.in_ok-enter.ensures.«open» (search rules))
+    beside_unread c.args.bench.now (q.1 ∙ ap Err q.2) c.in_err-load.ensures.count c.in_ok-enter.ensures.writes.moves
+    (c.in_ok-enter.ensures.«open» (search rules)) c.in_err-load.ensures.level.only
 
-pub returns-in_err-item-clause-writes : goal.returns-in_err-item-clause-writes
-returns-in_err-item-clause-writes g c =
+pub returns-in_err-item-clause-beside : goal.returns-in_err-item-clause-beside
+returns-in_err-item-clause-beside g c =
     let q = err_from_is_err_and c.from_residual-in_err-item.result c.from_residual-in_err-item.ensures.1 in
-    walks_as (q.1 ∙ ap Err q.2) (walks_after c.in_err-item.ensures.writes c.in_ok-enter.ensures.writes.moves)
+    let read = beside_read {x = tt {0}} c.args.bench.now c.in_ok-load.ensures.count c.in_ok-enter.ensures.writes.moves c.in_ok-load.ensures.level.only in
+    beside_then read (beside_shut (q.1 ∙ ap Err (q.2 ∙ c.in_err-item.ensures.only)) (walks_as (q.1 ∙ ap Err q.2) c.in_err-item.ensures.writes))
 
-pub returns-clause-writes : goal.returns-clause-writes
-returns-clause-writes g c = walks_ok (moves_then c.in_ok-enter.ensures.writes.moves c.in_ok-item.ensures.writes.moves)
+pub returns-clause-beside : goal.returns-clause-beside
+returns-clause-beside g c = beside_read c.args.bench.now c.in_ok-load.ensures.count
+    (moves_then c.in_ok-enter.ensures.writes.moves c.in_ok-item.ensures.writes.moves) c.in_ok-load.ensures.level.only

@@ -2,7 +2,6 @@ use Rattle.std.proofs.Common.{◌≡◌, ◌<◌, false, inl, [], ◌∷◌, Ok,
 use Rattle.std.specs.Prelude.{IfSome, OnOk}
 use Rattle.std.proofs.lemmas.Result.{err_from_is_err_and}
 use Rattle.dbsurvey.specs.Story.{Go}
-use Rattle.dbsource.specs.Bench.{Pages}
 use Rattle.dbsource.specs.Errors.{is_read_failed}
 use Rattle.dbsource.specs.Failures.{failures_after}
 use Rattle.dbwalk.specs.Trunks.{TrunkTurns}
@@ -12,16 +11,15 @@ use Rattle.dbmarks.specs.declared.marks.Mark.TheVariants.{Trunk}
 use Rattle.dbmarks.proofs.Readings.{log_none, log_then}
 use Rattle.dbwalk.proofs.FreeTrunks.{trunks_start}
 use Rattle.dbtrace.specs.Finding.{told_below}
-use Rattle.dbwalk.proofs.Telling.Sinks.{asked_both, asked_open, asked_walks, moves_some, moves_then, walks_after, walks_as, walks_end}
+use Rattle.dbwalk.proofs.Telling.Sinks.{asked_both, asked_open, asked_walks, moves_some, walks_as, walks_end}
+use Rattle.dbwalk.proofs.Telling.Besides.{beside_ok, beside_then, beside_told}
 use Rattle.dbwalk.proofs.freelist.walk_freelist.Goals as goal
 
 pub loop-next-init : goal.loop-next-init
 loop-next-init g c = record {
   log = log_none c.args.bench.now.geometry.page_size c.args.marks.now c.args.marks.now (g.S.Source.held c.args.source.now) refl
       (λ file e W d h next m. trunks_start g.K.Sink.takes file W d c.args.first c.args.marks.now c.args.sink.now h next m);
-  reads = refl;
-  writes = inl refl;
-  bench = refl;
+  beside = beside_told (inl refl);
   trunk = refl;
 }
 
@@ -29,60 +27,60 @@ pub returns-in_err-next-clause-asks : goal.returns-in_err-next-clause-asks
 returns-in_err-next-clause-asks g c =
     let q = err_from_is_err_and c.from_residual.result c.from_residual.ensures.1 in
     record {
-      log = log_then _ _ (ap (λ b. b.geometry.page_size) c.loop-next.invariant.bench) c.loop-next.invariant.log c.in_err-next.ensures.log
+      log = log_then _ _ (ap (λ b. b.geometry.page_size) c.loop-next.invariant.beside.bench) c.loop-next.invariant.log c.in_err-next.ensures.log
           (λ file way turned e W d h next m.
           subst (λ r. IsDone g.K.Sink.takes file W (Go d ∷ []) r c.enter_trunk.new.marks c.args.sink.now c.enter_trunk.new.sink)
           (sym (q.1 ∙ ap Err q.2))
-          (turned (ap (λ b. b.geometry) c.loop-next.invariant.bench ∙ e) W d c.args.sink.now (way e W d h next m)));
+          (turned (ap (λ b. b.geometry) c.loop-next.invariant.beside.bench ∙ e) W d c.args.sink.now (way e W d h next m)));
       count = subst (λ r. (g.S.Source.held c.enter_trunk.new.source).failures ≡ failures_after is_read_failed r (g.S.Source.held c.args.source.now).failures)
           (sym (q.1 ∙ ap Err q.2))
-          (c.in_err-next.ensures.reads ∙ ap (failures_after {A = Unit {0}} is_read_failed (Err c.in_err-next.field-0.0)) c.loop-next.invariant.reads);
+          (beside_then c.loop-next.invariant.beside c.in_err-next.ensures.beside).reads;
     }
 
 pub loop-next-preserved : goal.loop-next-preserved
 loop-next-preserved g c = record {
-  log = log_then _ _ (ap (λ b. b.geometry.page_size) c.loop-next.invariant.bench) c.loop-next.invariant.log c.in_ok-next.ensures.log
+  log = log_then _ _ (ap (λ b. b.geometry.page_size) c.loop-next.invariant.beside.bench) c.loop-next.invariant.log c.in_ok-next.ensures.log
       (λ file way turned e W d h next m.
       subst (λ o. TrunkTurns g.K.Sink.takes file W d c.args.sink.now (Ok o) c.enter_trunk.new.marks c.enter_trunk.new.sink) c.in-Some.is
-      (turned (ap (λ b. b.geometry) c.loop-next.invariant.bench ∙ e) W d c.args.sink.now (way e W d h next m)));
-  reads = c.in_ok-next.ensures.reads ∙ c.loop-next.invariant.reads;
-  writes = moves_then c.loop-next.invariant.writes c.in_ok-next.ensures.writes.moves;
-  bench = c.enter_trunk.ensures.bench ∙ ap (λ (b : Pages). record b { chain = c.enter_trunk.new.bench.chain }) c.loop-next.invariant.bench;
+      (turned (ap (λ b. b.geometry) c.loop-next.invariant.beside.bench ∙ e) W d c.args.sink.now (way e W d h next m)));
+  beside = beside_then c.loop-next.invariant.beside (beside_ok c.in_ok-next.ensures.beside);
   trunk = subst (λ o. IfSome o (λ next. next.mark ≡ Trunk)) c.in-Some.is c.in_ok-next.ensures.trunk;
 }
 
 pub returns-clause-asks : goal.returns-clause-asks
 returns-clause-asks g c =
     let shut = (g.K.Sink.held c.enter_trunk.new.sink).is_shut in
+    let next = beside_then c.loop-next.invariant.beside c.in_ok-next.ensures.beside in
     record {
-      log = log_then _ _ (ap (λ b. b.geometry.page_size) c.loop-next.invariant.bench) c.loop-next.invariant.log c.in_ok-next.ensures.log
+      log = log_then _ _ (ap (λ b. b.geometry.page_size) c.loop-next.invariant.beside.bench) c.loop-next.invariant.log c.in_ok-next.ensures.log
           (λ file way turned e W d h next m.
           let done = subst (λ o. TrunkTurns g.K.Sink.takes file W d c.args.sink.now (Ok o) c.enter_trunk.new.marks c.enter_trunk.new.sink) c.in_default.is
-          (turned (ap (λ b. b.geometry) c.loop-next.invariant.bench ∙ e) W d c.args.sink.now (way e W d h next m)) in
+          (turned (ap (λ b. b.geometry) c.loop-next.invariant.beside.bench ∙ e) W d c.args.sink.now (way e W d h next m)) in
           asked_both (λ r. IsDone g.K.Sink.takes file W (Go d ∷ []) r c.enter_trunk.new.marks c.args.sink.now c.enter_trunk.new.sink) shut c.ask.ensures
           done (record { marked = tt; told = moves_some g.K.Sink.takes c.args.sink.now c.enter_trunk.new.sink (told_below file W (Go d ∷ [])) done.told }));
       count = asked_both (λ r. (g.S.Source.held c.enter_trunk.new.source).failures
           ≡ failures_after is_read_failed r (g.S.Source.held c.args.source.now).failures) shut c.ask.ensures
-          (c.in_ok-next.ensures.reads ∙ c.loop-next.invariant.reads) (c.in_ok-next.ensures.reads ∙ c.loop-next.invariant.reads);
+          next.reads next.reads;
     }
 
 pub returns-clause-writes : goal.returns-clause-writes
 returns-clause-writes g c = walks_end c.ask.result
-    (asked_walks c.ask.ensures (moves_then c.loop-next.invariant.writes c.in_ok-next.ensures.writes.moves)) c.requires.«open» (asked_open _ c.ask.ensures)
+    (asked_walks c.ask.ensures (beside_then c.loop-next.invariant.beside c.in_ok-next.ensures.beside).writes.moves) c.requires.«open»
+    (asked_open _ c.ask.ensures)
 
 pub returns-in_err-next-clause-writes : goal.returns-in_err-next-clause-writes
 returns-in_err-next-clause-writes g c =
     let q = err_from_is_err_and c.from_residual.result c.from_residual.ensures.1 in
-    walks_end c.from_residual.result (walks_as (q.1 ∙ ap Err q.2) (walks_after c.in_err-next.ensures.writes c.loop-next.invariant.writes)) c.requires.«open»
-    (subst (λ r. OnOk r ((g.K.Sink.held c.enter_trunk.new.sink).is_shut ≡ false)) (sym (q.1 ∙ ap Err q.2)) tt)
+    walks_end c.from_residual.result (walks_as (q.1 ∙ ap Err q.2) (beside_then c.loop-next.invariant.beside c.in_err-next.ensures.beside).writes)
+    c.requires.«open» (subst (λ r. OnOk r ((g.K.Sink.held c.enter_trunk.new.sink).is_shut ≡ false)) (sym (q.1 ∙ ap Err q.2)) tt)
 
 pub returns-clause-shut : goal.returns-clause-shut
-returns-clause-shut g c = (asked_walks c.ask.ensures (moves_then c.loop-next.invariant.writes c.in_ok-next.ensures.writes.moves)).shut
+returns-clause-shut g c = (asked_walks c.ask.ensures (beside_then c.loop-next.invariant.beside c.in_ok-next.ensures.beside).writes.moves).shut
 
 pub returns-in_err-next-clause-shut : goal.returns-in_err-next-clause-shut
 returns-in_err-next-clause-shut g c =
     let q = err_from_is_err_and c.from_residual.result c.from_residual.ensures.1 in
-    (walks_as (q.1 ∙ ap Err q.2) c.in_err-next.ensures.writes).shut
+    (walks_as (q.1 ∙ ap Err q.2) c.in_err-next.ensures.beside.writes).shut
 
 pub loop-next-smaller : goal.loop-next-smaller
 loop-next-smaller g c =

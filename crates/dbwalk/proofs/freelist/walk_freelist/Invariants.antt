@@ -1,9 +1,9 @@
-use Rattle.std.proofs.Common.{◌≡◌, List}
+use Rattle.std.proofs.Common.{◌≡◌, List, Ok}
 use Rattle.dbformat.specs.File.{geometry}
 use Rattle.dbformat.specs.Reference.{Reference}
 use Rattle.dbsource.specs.Sources.{HasLog}
 use Rattle.dbwalk.specs.Entered.{IsNext}
-use Rattle.dbwalk.specs.Telling.{SinkMoves}
+use Rattle.dbwalk.specs.Beside.{LeavesBeside}
 use Rattle.dbmarks.specs.Marking.{AreMarksOf, unmarked_pages}
 use Rattle.dbmarks.specs.Reads.{Reads}
 use Rattle.dbwalk.specs.Trunks.{IsFirstTrunk, IsOnTrunks}
@@ -19,8 +19,7 @@ invariant-loop-next g l = record {
       (λ file. l.initial.bench.geometry ≡ geometry file → (W : List Reference) (c : Reference)
       → IsFirstTrunk l.first c → IsNext W c → AreMarksOf file W l.initial.marks → IsOnTrunks g.K.Sink.takes file W c l.initial.sink l.step l.marks l.sink)
       (g.S.Source.held l.initial.source) (g.S.Source.held l.source);
-  reads : (g.S.Source.held l.source).failures ≡ (g.S.Source.held l.initial.source).failures;
-  writes : SinkMoves (g.K.Sink.held l.initial.sink) (g.K.Sink.held l.sink);
-  bench : l.bench ≡ record l.initial.bench { chain = l.bench.chain };
+  beside : LeavesBeside {A = Unit {0}} (Ok tt) (g.S.Source.held l.initial.source) (g.S.Source.held l.source) (g.K.Sink.held l.initial.sink)
+      (g.K.Sink.held l.sink) l.initial.bench l.bench;
   trunk : l.step.mark ≡ Trunk;
 }

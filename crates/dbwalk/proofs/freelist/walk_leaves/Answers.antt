@@ -1,14 +1,13 @@
-use Rattle.std.proofs.Common.{◌≡◌, ◌+◌, ◌-◌, ◌<◌, inl, inr, ◌++◌, ◌∷◌, set, Err, refl, sym, ap, subst, ◌∙◌, arith}
+use Rattle.std.proofs.Common.{◌≡◌, ◌+◌, ◌-◌, ◌<◌, inl, inr, ◌++◌, ◌∷◌, Err, refl, sym, ap, subst, ◌∙◌, arith}
 use Rattle.std.proofs.lemmas.Bool.{cases_Bool}
 use Rattle.std.proofs.lemmas.Result.{err_from_is_err_and}
 use Rattle.dbtrace.specs.Causes.{refusal_cause}
 use Rattle.dbwalk.specs.Trunks.{LeavesErrands, leaves_from}
 use Rattle.dbwalk.specs.Done.{IsLeft}
-use Rattle.dbmarks.specs.Marking.{KeepsMarks, unmarked_pages}
-use Rattle.dbmarks.specs.declared.marks.Mark.TheVariants.{FreeLeaf}
+use Rattle.dbmarks.specs.Marking.{KeepsMarks}
 use Rattle.dbwalk.proofs.FreeTrunks.{leaf_of, leaves_more, next_of_left, leaf_entered}
 use Rattle.dbwalk.proofs.Telling.Lefts.{left_untold}
-use Rattle.dbmarks.proofs.Readings.{keeps_same, keeps_then, keeps_put, put_count}
+use Rattle.dbmarks.proofs.Readings.{keeps_same, keeps_then, keeps_put}
 use Rattle.dbsurvey.specs.Story.{Go}
 use Rattle.dbwalk.proofs.Telling.Sinks.{moves_then, walks_after, walks_as, walks_ok}
 use Rattle.dbwalk.proofs.freelist.walk_leaves.Goals as goal
@@ -55,15 +54,6 @@ loop-index-preserved g c = record {
             subst (λ m. KeepsMarks c.loop-index.marks m) (sym k.1) (keeps_put c.loop-index.marks c.u32_at.result _ k.0 refl))
         | inr e ↦ subst (λ m. KeepsMarks c.loop-index.marks m) (sym (c.in_ok-enter.ensures.unmarked e)) (keeps_same c.loop-index.marks)
       ]);
-  fewer = elim (cases_Bool c.in_ok-enter.field-0) [
-    | inl e ↦ (let k = c.in_ok-enter.ensures.marked e in
-        let m : unmarked_pages (set c.loop-index.marks (c.u32_at.result - 1) FreeLeaf) + 1 ≡ unmarked_pages c.loop-index.marks =
-        put_count c.loop-index.marks c.u32_at.result FreeLeaf k.0 refl in
-        let n : unmarked_pages c.enter.new.marks ≡ unmarked_pages (set c.loop-index.marks (c.u32_at.result - 1) FreeLeaf) = ap unmarked_pages k.1 in
-        omega (arith, c.loop-index.invariant.fewer))
-    | inr e ↦ (let n : unmarked_pages c.enter.new.marks ≡ unmarked_pages c.loop-index.marks =
-        ap unmarked_pages (c.in_ok-enter.ensures.unmarked e) in omega (arith, c.loop-index.invariant.fewer))
-  ];
   writes = moves_then c.loop-index.invariant.writes c.in_ok-enter.ensures.writes.moves;
   left = λ file W errands before U d tail p h.
       let k = c.loop-index.invariant.left file W errands before U d tail p h in

@@ -8,7 +8,7 @@ use Rattle.dbmarks.proofs.Readings.{log_none}
 use Rattle.dbwalk.specs.LeafCells.{overflow_errands}
 use Rattle.dbwalk.proofs.Leaves.LeafErrands.{none_done, chain_start}
 use Rattle.dbwalk.proofs.Chaining.Feedings.{on_ok, feeds_nothing, feeds_chain}
-use Rattle.dbwalk.proofs.Telling.Sinks.{walks_ok}
+use Rattle.dbwalk.proofs.Telling.Besides.{beside_told}
 use Rattle.dbwalk.proofs.leaf.walk_overflow.Goals as goal
 
 pub returns-in-None-clause-log : goal.returns-in-None-clause-log
@@ -22,16 +22,16 @@ pub returns-in-Some-clause-log : goal.returns-in-Some-clause-log
 returns-in-Some-clause-log g c = has_weaker _ _ c.walk_chain.ensures.log (λ log r. r) (λ file h e U d at row past m.
     let t = c.args.at.tree.now in
     let next = subst (λ o. IsPast U (overflow_errands d c.args.at.item o)) c.in-Some.is past in
-    let k = h e U _ (chain_start _ file t.kind t.start t.path.items d c.args.bench.now.levels c.args.at.page c.args.at.item c.in-Some.first c.in-Some.left at refl
-    c.as_slice.ensures.value refl refl refl refl row) next m in (
+    let k = h e U _ (chain_start _ file t.kind t.start t.path.items d c.args.bench.now.levels c.args.at.page c.args.at.item c.in-Some.first c.in-Some.left at
+    refl c.as_slice.ensures.value refl refl refl refl row) next m in (
       subst (λ o. IsDone g.K.Sink.takes file U (overflow_errands d c.args.at.item o) c.walk_chain.result c.walk_chain.new.marks c.args.sink.now
           c.walk_chain.new.sink) (sym c.in-Some.is) k.0,
-      on_ok c.walk_chain.result k.1 (feeds_chain file U d c.args.at.item c.in-Some.first c.in-Some.left c.args.at.cell.overflow c.args.sieve.now c.walk_chain.new.sieve
-          c.in-Some.is next),
+      on_ok c.walk_chain.result k.1 (feeds_chain file U d c.args.at.item c.in-Some.first c.in-Some.left c.args.at.cell.overflow c.args.sieve.now
+          c.walk_chain.new.sieve c.in-Some.is next),
     ))
 
 pub walk_chain-requires : goal.walk_chain-requires
 walk_chain-requires g c = (search rules, (c.requires.0, subst (λ o. IfSome o (λ o. o.1 ≤ most_payload)) c.in-Some.is c.requires.1))
 
-pub returns-in-None-clause-writes : goal.returns-in-None-clause-writes
-returns-in-None-clause-writes g c = walks_ok (inl refl)
+pub returns-in-None-clause-beside : goal.returns-in-None-clause-beside
+returns-in-None-clause-beside g c = beside_told (inl refl)

@@ -4,7 +4,7 @@ use Rattle.dbformat.specs.Head.{undamaged}
 use Rattle.dbtrace.specs.Progress.{key_value}
 use Rattle.dbtrace.specs.declared.RowidBounds.{RowidBounds}
 use Rattle.dbwalk.specs.Found.{damage_fault}
-use Rattle.dbwalk.proofs.Pages.Levels.{whole_page}
+use Rattle.dbwalk.proofs.Pages.Levels.{usable_page, whole_page}
 use Rattle.dbwalk.proofs.Pages.PageVisits.{exit_damaged, exit_interior, exit_leaf}
 use Rattle.dbwalk.proofs.page_report.tell_page.Goals as goal
 
@@ -88,12 +88,17 @@ returns-in-Err-clause-open g c = record {
   viewed = ap (λ s. undamaged c.args.tree.now.kind c.args.page s.usable c.uses-uses.result.0.now) (sym c.geometry-usable.ensures.value) ∙ c.in-Err.ensures.view;
 }
 
-pub undamaged-requires-clause-whole : goal.undamaged-requires-clause-whole
-undamaged-requires-clause-whole g c = whole_page c.geometry-usable.ensures.value c.geometry-usable.ensures.range c.uses-uses.ensures.len.0
+pub undamaged-requires : goal.undamaged-requires
+undamaged-requires g c = usable_page c.geometry-usable.ensures.value c.geometry-usable.ensures.range c.uses-uses.ensures.len.0
 
-pub tell_damaged-requires-clause-whole : goal.tell_damaged-requires-clause-whole
-tell_damaged-requires-clause-whole g c = whole_page c.geometry-usable.ensures.value c.geometry-usable.ensures.range c.uses-uses.ensures.len.0
+pub tell_damaged-requires : goal.tell_damaged-requires
+tell_damaged-requires g c = usable_page c.geometry-usable.ensures.value c.geometry-usable.ensures.range c.uses-uses.ensures.len.0
 
-pub tell_undamaged-keys-requires-clause-room : goal.tell_undamaged-keys-requires-clause-room
-tell_undamaged-keys-requires-clause-room g c =
-    rw c.in-Ok.ensures.of.1 (whole_page c.geometry-usable.ensures.value c.geometry-usable.ensures.range c.uses-uses.ensures.len.1)
+pub tell_undamaged-keys-requires : goal.tell_undamaged-keys-requires
+tell_undamaged-keys-requires g c =
+    let range = c.geometry-usable.ensures.range in
+    record {
+      number = sym c.in-Ok.ensures.of.0;
+      most = rw c.in-Ok.ensures.of.1 (omega (arith, range.usable, range.page_size));
+      room = rw c.in-Ok.ensures.of.1 (whole_page c.geometry-usable.ensures.value range c.uses-uses.ensures.len.1);
+    }

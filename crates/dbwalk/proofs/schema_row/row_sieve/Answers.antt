@@ -3,7 +3,7 @@ use Rattle.dbformat.specs.Cell.{Cell, count}
 use Rattle.dbbytes.specs.Sieve.{HasTaken}
 use Rattle.dbsource.specs.Bench.{bytes_at}
 use Rattle.dbwalk.proofs.Leaves.LeafCells.{none_seen, same_view, has_sieve, holds_cell, holds_none}
-use Rattle.dbwalk.proofs.Pages.Levels.{whole_page}
+use Rattle.dbwalk.proofs.Pages.Levels.{usable_page}
 use Rattle.dbwalk.proofs.schema_row.row_sieve.Goals as goal
 
 pub returns-in_default : goal.returns-in_default
@@ -34,5 +34,5 @@ returns-in-Err g c = has_sieve c.args.bench.now c.args.tree.now.kind (length c.a
     (Some c.in-Ok.view) c.in-Ok.ensures.view
     c.args.i c.args.encoding None (λ v e l. holds_none c.in-Ok.view v e c.args.i c.args.encoding None c.in-Err.field-0 (sym c.cell.ensures ∙ c.in-Err.is) refl)
 
-pub undamaged-requires-clause-whole : goal.undamaged-requires-clause-whole
-undamaged-requires-clause-whole g c = whole_page c.geometry-usable.ensures.value c.geometry-usable.ensures.range c.page.ensures.len
+pub undamaged-requires : goal.undamaged-requires
+undamaged-requires g c = usable_page c.geometry-usable.ensures.value c.geometry-usable.ensures.range c.page.ensures.len

@@ -4,7 +4,7 @@ use Rattle.dbformat.specs.declared.TreeKind.{TreeKind}
 use Rattle.dbwalk.specs.Steps.{AreEmpty}
 use Rattle.dbwalk.specs.declared.steps.Next.TheVariants.{End, Nothing}
 use Rattle.dbwalk.proofs.Leaves.LeafCells.{none_seen, has_next, at_step}
-use Rattle.dbwalk.proofs.Pages.Levels.{whole_page}
+use Rattle.dbwalk.proofs.Pages.Levels.{usable_page}
 use Rattle.dbwalk.proofs.steps.step_of.Goals as goal
 
 none_between : {usable : ℕ} {kind : TreeKind} {levels : List (List ℕ)} {level page : ℕ} (n : ℕ) → AreEmpty usable kind levels level page n n
@@ -37,8 +37,8 @@ returns-clause-next g c =
     (λ v e. at_step c.in-Ok.view v e c.geometry-usable.result.usable most c.in-Ok.ensures.of.1 c.cells.result c.cells.ensures.number c.cells.ensures.few s s
     refl c.next_from-next.result.1 c.next_from-next.ensures.next)
 
-pub undamaged-requires-clause-whole : goal.undamaged-requires-clause-whole
-undamaged-requires-clause-whole g c = whole_page c.geometry-usable.ensures.value c.geometry-usable.ensures.range c.page.ensures.len
+pub undamaged-requires : goal.undamaged-requires
+undamaged-requires g c = usable_page c.geometry-usable.ensures.value c.geometry-usable.ensures.range c.page.ensures.len
 
 pub returns-in_default-clause-empty : goal.returns-in_default-clause-empty
 returns-in_default-clause-empty g c = none_between c.args.frame.next

@@ -125,7 +125,7 @@ returns-in-Key-clause-log g c = log_none c.args.bench.now.geometry.page_size c.a
 pub returns-in-Chain-clause-open : goal.returns-in-Chain-clause-open
 returns-in-Chain-clause-open g c =
     let n = c.walk_unfed.new.bench in
-    let same = c.walk_unfed.ensures.bench in
+    let same = c.walk_unfed.ensures.beside.bench in
     on_ok_all c.walk_unfed.result (step_on c.args.frames.now.items c.args.frame
     (at_step c.args.frames.now.items c.args.frame c.requires.opened (next_at refl c.in-Chain.is c.requires.step)) c.stepped-in-Chain.result
     c.stepped-in-Chain.ensures.page c.stepped-in-Chain.ensures.next (goes_on (Chain _ _ _) tt) c.push-in-Chain.ensures.items n.geometry.usable
@@ -153,16 +153,16 @@ returns-in-Chain-clause-log g c = has_weaker _ _ c.walk_unfed.ensures.log (λ lo
     (chained c.args.frames.now.items c.args.frame walk candidate c.stepped-in-Chain.result c.stepped-in-Chain.ensures.page c.stepped-in-Chain.ensures.next
     c.stepped-in-Chain.ensures.up_to
     c.in-Chain.first c.in-Chain.left c.in-Chain.rowid here) refl r c.args.self.now.marks.now n.marks c.args.self.now.tree c.args.self.now.sink.now n.sink
-    c.args.self.now.taker.now c.walk_unfed.ensures.only walk.under.at
+    c.args.self.now.taker.now c.walk_unfed.ensures.beside.only walk.under.at
     (h e walk.now.visits _ is next walk.under.at.0) in
     turned_chain c.args.frames.now.items c.args.frame walk candidate c.stepped-in-Chain.result c.stepped-in-Chain.ensures.page c.stepped-in-Chain.ensures.next
     c.stepped-in-Chain.ensures.up_to
     c.in-Chain.first c.in-Chain.left c.in-Chain.rowid here (fails g.T.Taker.refuses) n.marks
-    (n.sink, c.args.self.now.taker.now) c.push-in-Chain.ensures.items (ap (λ (p : Pages). p.levels) c.walk_unfed.ensures.bench) r done)
+    (n.sink, c.args.self.now.taker.now) c.push-in-Chain.ensures.items (ap (λ (p : Pages). p.levels) c.walk_unfed.ensures.beside.bench) r done)
 
 pub returns-in-Chain-clause-walked : goal.returns-in-Chain-clause-walked
 returns-in-Chain-clause-walked g c =
-    let done = c.walk_unfed.ensures in
+    let done = c.walk_unfed.ensures.beside in
     walked_by g.S.Source.held g.K.Sink.held g.T.Taker.refusals (refl, refl, refl, refl, refl, refl, refl) (ap (λ (p : Pages). p.geometry) done.bench) done.reads
     done.writes (none_refused c.walk_unfed.result (g.T.Taker.refusals c.args.self.now.taker.now) done.only)
     (read_or_write c.args.self.now.tree.start c.walk_unfed.result done.only) (λ l. refl)

@@ -14,6 +14,7 @@ use Rattle.dbwalk.proofs.Underway.Handing.{stopped_as, found_moves}
 use Rattle.dbwalk.proofs.Underway.LeafCellRuns.{chain_stops, row_told, row_stops, key_done}
 use Rattle.dbwalk.proofs.Underway.Walks.{tree_error, unread, walked_as, walked_by, walked_err}
 use Rattle.dbwalk.proofs.Telling.Sinks.{moves_then, walks_after, walks_ok}
+use Rattle.dbsource.specs.Bench.{Pages}
 use Rattle.dbwalk.proofs.tree_walk.TreeWalk.walk_leaf_cell.Goals as goal
 
 gone : (o : Option RowSieve) → is_some o ≡ false → o ≡ None
@@ -29,7 +30,7 @@ returns-in_err-walk_overflow-clause-log g c = has_weaker _ _ c.in_err-walk_overf
     (chain_stops file from d c.args.self.now.tree.kind v leaf c.args.i c.leaf_cell-cell.result.overflow cell.0 c.leaf_cell-cell.result.key cell.1 g.K.Sink.takes
     g.T.Taker.takes g.T.Taker.refuses c.in_err-walk_overflow.field-0.0 c.walk_overflow.new.marks
     (c.walk_overflow.new.marks, c.args.self.now.tree)
-    c.args.self.now.sink.now c.walk_overflow.new.sink c.args.self.now.taker.now c.in_err-walk_overflow.ensures.only c.args.self.now.tree isat.1 isat.2
+    c.args.self.now.sink.now c.walk_overflow.new.sink c.args.self.now.taker.now c.in_err-walk_overflow.ensures.beside.only c.args.self.now.tree isat.1 isat.2
     (h e from.visits d at (rowid_here file at viewed (ap (λ s. s.usable) e) c.args.i ∙ sym cell.1)
     (past_cell from.visits d c.args.i c.leaf_cell-cell.result.overflow before) isat.0).0).handed)
 
@@ -50,7 +51,7 @@ returns-in_err-tell_row-clause-log g c = has_weaker _ _ c.in_ok-walk_overflow.en
     c.walk_overflow.new.sink c.tell_row.new.sink c.walk_overflow.new.sieve c.in_err-tell_row.ensures.none c.args.self.now.tree.start at.start
     c.begin_row.new.sieve (λ z. (c.begin_row.ensures.schema z).read (page_bytes file c.args.page) v at.bytes
     (seen_here file at viewed (ap (λ s. s.usable) e)) low) (λ l. c.begin_row.ensures.other l ∙ c.requires.2 l) before done.1
-    c.walk_overflow.ensures.kept.2 c.in_err-tell_row.ensures.told)).handed)
+    c.walk_overflow.ensures.kept c.in_err-tell_row.ensures.told)).handed)
 
 pub returns-clause-log : goal.returns-clause-log
 returns-clause-log g c = has_weaker _ _ c.in_ok-walk_overflow.ensures.log (λ log r. r) (λ file h e coded from d v at viewed leaf low before isat.
@@ -69,7 +70,7 @@ returns-clause-log g c = has_weaker _ _ c.in_ok-walk_overflow.ensures.log (λ lo
     c.walk_overflow.new.sink c.tell_row.new.sink c.walk_overflow.new.sieve c.in_ok-tell_row.ensures.none c.args.self.now.tree.start at.start
     c.begin_row.new.sieve (λ z. (c.begin_row.ensures.schema z).read (page_bytes file c.args.page) v at.bytes
     (seen_here file at viewed (ap (λ s. s.usable) e)) low) (λ l. c.begin_row.ensures.other l ∙ c.requires.2 l) before done.1
-    c.walk_overflow.ensures.kept.2 c.in_ok-tell_row.ensures.told)
+    c.walk_overflow.ensures.kept c.in_ok-tell_row.ensures.told)
     (found_moves g.K.Sink.takes g.T.Taker.takes g.T.Taker.refuses _ c.tell_row.new.sink c.tell_rowid.new.sink c.tell_row.new.taker
     (subst (λ l. Moves g.K.Sink.takes c.tell_row.new.sink l c.tell_rowid.new.sink) late c.tell_rowid.ensures.told.items)) (
       c.tell_rowid.ensures.greatest ∙ ap (λ p. top_after c.args.self.now.tree.greatest p c.args.i c.leaf_cell-cell.result.key) (sym at.page),
@@ -79,9 +80,9 @@ returns-clause-log g c = has_weaker _ _ c.in_ok-walk_overflow.ensures.log (λ lo
 pub returns-in_err-walk_overflow-clause-walked : goal.returns-in_err-walk_overflow-clause-walked
 returns-in_err-walk_overflow-clause-walked g c =
     let q = err_from_is_err_and c.from_residual.result c.from_residual.ensures.1 in
-    let e = c.in_err-walk_overflow.ensures in
+    let e = c.in_err-walk_overflow.ensures.beside in
     walked_err g.S.Source.held g.K.Sink.held g.T.Taker.refusals (q.1 ∙ ap Err q.2) e.only (refl, refl, refl, refl, refl, refl, refl)
-    c.walk_overflow.ensures.kept.0 e.reads e.writes refl (λ l. refl)
+    (ap (λ (p : Pages). p.geometry) e.bench) e.reads e.writes refl (λ l. refl)
 
 -- without a sieve nothing can fail there, and only the tree of the schema has one
 row_error : (start : ℕ) {e : RunError} → IsWriteOrMemory e → (1 ≤ start → ◌≡◌ {A = Result (Unit {0}) RunError} (Err e) (Ok tt))
@@ -93,24 +94,24 @@ returns-in_err-tell_row-clause-walked g c =
     let q = err_from_is_err_and c.from_residual-in_err-tell_row.result c.from_residual-in_err-tell_row.ensures.1 in
     let e = c.in_err-tell_row.ensures in
     let no = row_error c.args.self.now.tree.start e.only (λ later. (e.none (gone c.walk_overflow.new.sieve
-    (c.walk_overflow.ensures.kept.2 ∙ ap is_some (c.begin_row.ensures.other later ∙ c.requires.2 later)))).0) in
+    (c.walk_overflow.ensures.kept ∙ ap is_some (c.begin_row.ensures.other later ∙ c.requires.2 later)))).0) in
     walked_as g.S.Source.held g.K.Sink.held g.T.Taker.refusals {R = Unit {0}} (q.1 ∙ ap Err q.2)
-    (walked_by g.S.Source.held g.K.Sink.held g.T.Taker.refusals (refl, refl, refl, refl, refl, refl, refl) c.walk_overflow.ensures.kept.0
-    (unread e.only c.in_ok-walk_overflow.ensures.reads)
-    (walks_after e.writes c.in_ok-walk_overflow.ensures.writes.moves) e.refusals no.0 (λ l. absurd (no.1 l)))
+    (walked_by g.S.Source.held g.K.Sink.held g.T.Taker.refusals (refl, refl, refl, refl, refl, refl, refl) (ap (λ (p : Pages). p.geometry)
+    c.walk_overflow.ensures.beside.bench) (unread e.only c.in_ok-walk_overflow.ensures.beside.reads)
+    (walks_after e.writes c.in_ok-walk_overflow.ensures.beside.writes.moves) e.refusals no.0 (λ l. absurd (no.1 l)))
 
 pub returns-clause-empty : goal.returns-clause-empty
 returns-clause-empty g c = λ later. gone c.walk_overflow.new.sieve
-    (c.walk_overflow.ensures.kept.2 ∙ ap is_some (c.begin_row.ensures.other later ∙ c.requires.2 later))
+    (c.walk_overflow.ensures.kept ∙ ap is_some (c.begin_row.ensures.other later ∙ c.requires.2 later))
 
 pub returns-clause-walked : goal.returns-clause-walked
 returns-clause-walked g c =
     let e = c.in_ok-tell_row.ensures in
     walked_by g.S.Source.held g.K.Sink.held g.T.Taker.refusals (refl, refl, refl, refl, refl, c.tell_rowid.ensures.others.0, c.tell_rowid.ensures.others.1)
-    c.walk_overflow.ensures.kept.0 c.in_ok-walk_overflow.ensures.reads
-    (walks_ok (moves_then (moves_then c.in_ok-walk_overflow.ensures.writes.moves e.writes.moves) c.tell_rowid.ensures.told.count)) e.refusals tt
+    (ap (λ (p : Pages). p.geometry) c.walk_overflow.ensures.beside.bench) c.in_ok-walk_overflow.ensures.beside.reads
+    (walks_ok (moves_then (moves_then c.in_ok-walk_overflow.ensures.beside.writes.moves e.writes.moves) c.tell_rowid.ensures.told.count)) e.refusals tt
     (λ later. (e.none (gone c.walk_overflow.new.sieve
-    (c.walk_overflow.ensures.kept.2 ∙ ap is_some (c.begin_row.ensures.other later ∙ c.requires.2 later)))).2)
+    (c.walk_overflow.ensures.kept ∙ ap is_some (c.begin_row.ensures.other later ∙ c.requires.2 later)))).2)
 
 pub returns-clause-levels : goal.returns-clause-levels
 returns-clause-levels g c = search rules
