@@ -7,7 +7,7 @@ use Rattle.dbformat.specs.Rows.{StatRow, stat_rows}
 use Rattle.dbformat.specs.Survey.{Survey}
 use Rattle.dbtrace.specs.declared.Reported.{Reported}
 use Rattle.dbscan.specs.HeardRows.{rows_heard}
-use Rattle.dbscan.specs.Notices.{Notice, heard_fault, heard_row, ended, walked, run_notices}
+use Rattle.dbscan.specs.Notices.{Notice, heard_fault, heard_row, ended, marked, run_notices}
 use Rattle.dbscan.specs.Placed.{reported_in, reported_of, told_faults}
 use Rattle.dbscan.proofs.HeardFaults.{run_heard}
 use Rattle.dbscan.proofs.HeardRows.{run_rows}
@@ -37,7 +37,7 @@ module _ {K : Type 0} (adds : Reported → K → K → Type 0) (notes : StatRow 
       subst (λ l. Has (ts ++ reported_in ns) l t) (append_assoc rs (r ∷ []) (rows_heard ns))
       (all_heard ns ts (rs ++ r ∷ []) m.0 t (row r ts rs s m.0 h m.1) m.2)
   all_heard (ended at ∷ ns) ts rs s t h m = all_heard ns ts rs m.0 t (subst (Has ts rs) (sym m.1) h) m.2
-  all_heard (walked g marks ∷ ns) ts rs s t h m = all_heard ns ts rs m.0 t (subst (Has ts rs) (sym m.1) h) m.2
+  all_heard (marked g p mark ∷ ns) ts rs s t h m = all_heard ns ts rs m.0 t (subst (Has ts rs) (sym m.1) h) m.2
 
   -- of a file, by one that had heard nothing
   module _ (file : List ℕ) (V : List Reference) (survey : Survey file V) (s t : K) (none : Has [] [] s) where

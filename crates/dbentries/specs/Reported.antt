@@ -2,11 +2,11 @@
 use Rattle.std.specs.Prelude.{◌≡◌}
 use Rattle.dbformat.specs.Rows.{StatRow}
 use Rattle.dbtrace.specs.declared.Reported.{Reported}
-use Rattle.dbscan.specs.Notices.{Notice, heard_fault, heard_row, ended, walked}
+use Rattle.dbscan.specs.Notices.{Notice, heard_fault, heard_row, ended, marked}
 
 -- A reporter on which only faults and rows have an effect: each fault with its part and its cause.
 abbrev pub HearsReported : {K : Type 0} → (Reported → K → K → Type 0) → (StatRow → K → K → Type 0) → K → Notice → K → Type 0
 HearsReported adds notes s (heard_fault x) t = adds x s t
 HearsReported adds notes s (heard_row at r) t = notes r s t
 HearsReported adds notes s (ended at) t = t ≡ s
-HearsReported adds notes s (walked g marks) t = t ≡ s
+HearsReported adds notes s (marked g p mark) t = t ≡ s

@@ -10,8 +10,8 @@ use dbentries::Reported;
 use dbformat::Verdict;
 use dblines::put_ok;
 use dbscan::{Desk, Finish, Notice, Reporter};
-use dbsource::{Geometry, Out, RunError, Source};
-use dbwalk::{Marks, Row};
+use dbsource::{Out, RunError, Source};
+use dbwalk::Row;
 use std::alloc::Allocator;
 
 /// Counts and lists the faults of a file, and notes the starts of its pages. When all of it has been heard it looks at the lost pages, and puts the report.
@@ -72,11 +72,9 @@ impl<A: Allocator, O: Out> Reporter for ExplainReporter<'_, A, O> {
         match notice {
             Notice::Fault(told) => self.add(told),
             Notice::Row(_, row) => self.note(row),
-            Notice::Ended(_) => {}
+            Notice::Ended(_) | Notice::Page(_, _, _) => {}
         }
     }
-
-    fn walked<B: Allocator>(&mut self, _geometry: Geometry, _marks: &Marks<B>) {}
 
     fn is_shut(&self) -> bool {
         false

@@ -2,8 +2,7 @@
 use dbformat::Verdict;
 use dbpicture::{KeptFaults, put_map};
 use dbscan::{Desk, Finish, Notice, Reporter};
-use dbsource::{Geometry, Out, RunError, Source};
-use dbwalk::Marks;
+use dbsource::{Out, RunError, Source};
 use std::alloc::Allocator;
 
 // Counts faults, notes the pages that they are found at, and lists those that lead; and notes the starts of pages. When the file has
@@ -26,11 +25,9 @@ impl<A: Allocator, O: Out> Reporter for MapReporter<'_, '_, '_, A, O> {
         match notice {
             Notice::Fault(told) => self.kept.note(told),
             Notice::Row(_, row) => self.kept.note_row(row),
-            Notice::Ended(_) => {}
+            Notice::Ended(_) | Notice::Page(_, _, _) => {}
         }
     }
-
-    fn walked<B: Allocator>(&mut self, _geometry: Geometry, _marks: &Marks<B>) {}
 
     fn is_shut(&self) -> bool {
         false

@@ -4,9 +4,8 @@ ghost use Rattle.dbmend.specs.Counts.{Counts};
 
 use dbformat::{Fault, FaultCode, Verdict};
 use dbscan::{Cause, Desk, Finish, Notice, Reporter};
-use dbsource::{Geometry, RunError, Source};
+use dbsource::{RunError, Source};
 use dbtrace::Reported;
-use dbwalk::Marks;
 use std::alloc::Allocator;
 
 // How many faults are noted, and how many of one code.
@@ -136,11 +135,9 @@ impl Reporter for Counter {
     fn hear(&mut self, notice: &Notice<'_>) {
         match notice {
             Notice::Fault(told) => self.add(told),
-            Notice::Row(_, _) | Notice::Ended(_) => {}
+            Notice::Row(_, _) | Notice::Ended(_) | Notice::Page(_, _, _) => {}
         }
     }
-
-    fn walked<A: Allocator>(&mut self, _geometry: Geometry, _marks: &Marks<A>) {}
 
     fn is_shut(&self) -> bool {
         false

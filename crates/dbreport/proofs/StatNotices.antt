@@ -12,9 +12,9 @@ use Rattle.dbsource.specs.declared.error.RunError.{RunError}
 use Rattle.dbsource.proofs.Beginnings.{begins_more}
 use Rattle.dbsource.proofs.Puts.{appends_nothing, kept_appends}
 use Rattle.dbwalk.specs.Telling.{Tells}
-use Rattle.dbscan.specs.Notices.{Notice, heard_fault, heard_row, ended, walked, faults_heard}
+use Rattle.dbscan.specs.Notices.{Notice, heard_fault, heard_row, ended, marked, faults_heard}
 use Rattle.dbscan.specs.Starts.{At}
-use Rattle.dbreport.specs.StatReporter.{tree_end_text, other_lines, pages_text, CutsStatFault, CutsStat, HasBegun, HasWritten, HearsOpen, HearsStat}
+use Rattle.dbreport.specs.StatReporter.{tree_end_text, other_text, pages_text, CutsStatFault, CutsStat, HasBegun, HasWritten, HearsOpen, HearsStat}
 use Rattle.dbreport.specs.StatReporter.{IsFlushedIf, IsSameReporter, TakesFault, WritesBoth}
 use Rattle.dbreport.specs.Sums.{sums_of}
 use Rattle.dbreport.specs.TreeNames.{name_at}
@@ -59,14 +59,14 @@ abbrev pub lines : Sheet → Notice → List ℕ
 lines p (heard_fault x) = []
 lines p (heard_row at r) = pages_text p.form.aggregate (name_at p.encoding at) p.size (r ∷ [])
 lines p (ended at) = tree_end_text p.form.aggregate (name_at p.encoding at) p.size p.rows
-lines p (walked g marks) = other_lines p.form.all g marks
+lines p (marked g q mark) = other_text p.form.all g q mark
 
 -- and how they are written after it
 abbrev pub next : Sheet → Notice → Sheet
 next p (heard_fault x) = p
 next p (heard_row at r) = record p { rows = p.rows ++ r ∷ [] }
 next p (ended at) = record p { rows = [] }
-next p (walked g marks) = p
+next p (marked g q mark) = p
 
 abbrev pub all_lines : Sheet → List Notice → List ℕ
 all_lines p [] = []
@@ -79,7 +79,7 @@ one_more : (n : Notice) (ns : List Notice) → faults_of (n ∷ []) ++ faults_of
 one_more (heard_fault x) ns = refl
 one_more (heard_row at r) ns = refl
 one_more (ended at) ns = refl
-one_more (walked g marks) ns = refl
+one_more (marked g q mark) ns = refl
 
 module _ {O E : Type 0} (held : O → OutState) (held' : E → OutState) where
   abbrev all : StatReporter O E → Notice → StatReporter O E → Type 0
@@ -154,9 +154,9 @@ module _ {O E : Type 0} (held : O → OutState) (held' : E → OutState) where
           (a.writes p.rows on.summed)),
       on_same m a.same [] a.sums,
     )
-    one_written (walked g marks) m a = (
-      rows_written s.form.all s m (lines p (walked g marks)) a.same a.found a.err
-          (subst (λ (form : Form). Appends (held s.out.now).bytes (held m.out.now).bytes (other_lines form.all g marks)) on.form a.writes),
+    one_written (marked g q mark) m a = (
+      rows_written s.form.all s m (lines p (marked g q mark)) a.same a.found a.err
+          (subst (λ (form : Form). Appends (held s.out.now).bytes (held m.out.now).bytes (other_text form.all g q mark)) on.form a.writes),
       on_same m a.same p.rows (a.sums ∙ on.summed),
     )
 
@@ -171,8 +171,8 @@ module _ {O E : Type 0} (held : O → OutState) (held' : E → OutState) where
           (a.writes p.rows on.summed);
       err = keeps_begins (held' s.err.now).bytes (held' t.err.now).bytes [] a.kept;
     }
-    one_begun (walked g marks) t a = record {
-      out = subst (λ (form : Form). Begins (held s.out.now).bytes (held t.out.now).bytes (other_lines form.all g marks)) on.form a.writes;
+    one_begun (marked g q mark) t a = record {
+      out = subst (λ (form : Form). Begins (held s.out.now).bytes (held t.out.now).bytes (other_text form.all g q mark)) on.form a.writes;
       err = keeps_begins (held' s.err.now).bytes (held' t.err.now).bytes [] a.kept;
     }
 

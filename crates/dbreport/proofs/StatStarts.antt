@@ -1,7 +1,7 @@
 -- What the statistics write of the starts of a file, by what is reported of them.
 use Rattle.std.proofs.Common.{◌≡◌, ℕ, suc, ◌+◌, Bool, true, false, cond, List, [], ◌∷◌, ◌++◌, length, map, Some, Result, refl, sym, ap, ap₂, ◌∙◌, subst, arith}
 use Rattle.std.proofs.Common.{append_assoc, append-nil}
-use Rattle.std.specs.Prelude.{OnOk, flat_map, slice_get, codes, ◌==◌, if◌then◌else◌}
+use Rattle.std.specs.Prelude.{OnOk, flat_map, slice_get, codes, ◌==◌}
 use Rattle.std.specs.List.{enumerate_from}
 use Rattle.dbsurvey.specs.Story.{Errand, Go, Follow, errands_at}
 use Rattle.dbformat.specs.Address.{freelist_start}
@@ -12,9 +12,9 @@ use Rattle.dbformat.specs.Report.{faults}
 use Rattle.dbformat.specs.declared.Fault.{Fault}
 use Rattle.dbformat.specs.declared.Geometry.{Geometry}
 use Rattle.dbformat.specs.Header.{encoding as encoding_of, first_trunk, page_size}
-use Rattle.dbformat.specs.Lines.{form_line, page_line, tree_name}
+use Rattle.dbformat.specs.Lines.{page_line, tree_name}
 use Rattle.dbformat.specs.Reference.{trunk, Way, Reference}
-use Rattle.dbformat.specs.Rows.{StatRow, other_rows}
+use Rattle.dbformat.specs.Rows.{StatRow}
 use Rattle.dbformat.specs.Schema.{start}
 use Rattle.dbformat.specs.SchemaRow.{SchemaRow}
 use Rattle.dbformat.specs.Story.{Event, start_errands}
@@ -29,19 +29,20 @@ use Rattle.dbwalk.specs.Telling.{Tells}
 use Rattle.dbwalk.proofs.Telling.Belows.{told_none}
 use Rattle.dbtrace.specs.declared.Part.{Part}
 use Rattle.dbtrace.specs.declared.Part.TheVariants as part
-use Rattle.dbscan.specs.Notices.{Notice, heard_fault, heard_row, whole, found, ended, walked, errands_left, root_reference, tree_notices, later_notices}
+use Rattle.dbscan.specs.Notices.{Notice, heard_fault, heard_row, whole, found, ended, marked, pages_from, errands_left, root_reference, tree_notices}
+use Rattle.dbscan.specs.Notices.{later_notices}
 use Rattle.dbscan.specs.Notices.{start_notices, end_notices, run_notices}
 use Rattle.dbscan.specs.Roots.{listed_rows}
 use Rattle.dbscan.specs.Starts.{At, at_freelist, at_row, at_schema, schema_reference}
 use Rattle.dbscan.specs.Findings.{found_rows}
 use Rattle.dbreport.specs.StatLines.{tree_rows_text, starts_text}
 use Rattle.dbreport.specs.TreeNames.{name_at}
-use Rattle.dbreport.specs.StatReporter.{HearsOpen, tree_end_text, other_lines, pages_text, WritesBoth}
+use Rattle.dbreport.specs.StatReporter.{HearsOpen, tree_end_text, other_text, pages_text, WritesBoth}
 use Rattle.dbreport.specs.StatStarts.{IsForFile, rows_text}
 use Rattle.dbreport.specs.declared.statistics.reporter.StatReporter.{StatReporter}
 use Rattle.dbreport.specs.declared.statistics.Form.{Form}
 use Rattle.dbreport.proofs.ListedNames.{listed_name}
-use Rattle.dbreport.proofs.OtherRows.{others_text}
+use Rattle.dbreport.proofs.OtherRows.{others_from, others_text}
 use Rattle.dbreport.proofs.StatNotices.{Sheet, all_lines, lines, next, notices_written}
 use Rattle.dbscan.proofs.RowsBelow.{rows_below}
 use Rattle.dbreport.proofs.StatTrees.{freelist_rows}
@@ -180,27 +181,27 @@ module _ (file : List ℕ) (V : List Reference) (form all : Bool) where
   same_form p (heard_fault x) = refl
   same_form p (heard_row at r) = refl
   same_form p (ended at) = refl
-  same_form p (walked g marks) = refl
+  same_form p (marked g q mark) = refl
 
-  -- after some notices those of the marks, and nothing after them
+  -- the rows of the other pages, and nothing after them
+  others_lines : (p : Sheet) (g : Geometry) (q : ℕ) (marks : List Mark) (fs : List Fault)
+      → all_lines p (pages_from g q marks ++ map (whole part.End) fs) ≡ others_from p.form.all g q marks
+  others_lines p g q [] fs = no_lines part.End p fs
+  others_lines p g q (mark ∷ marks) fs = ap (λ l. other_text p.form.all g q mark ++ l) (others_lines p g (q + 1) marks fs)
+
   lines_then : (p : Sheet) (ns : List Notice) (g : Geometry) (marks : List Mark) (fs : List Fault)
-      → all_lines p (ns ++ (walked g marks ∷ map (whole part.End) fs)) ≡ all_lines p ns ++ other_lines p.form.all g marks
-  lines_then p [] g marks fs = ap (λ l. other_lines p.form.all g marks ++ l) (no_lines part.End p fs) ∙ append-nil (other_lines p.form.all g marks)
+      → all_lines p (ns ++ (pages_from g 1 marks ++ map (whole part.End) fs)) ≡ all_lines p ns ++ others_from p.form.all g 1 marks
+  lines_then p [] g marks fs = others_lines p g 1 marks fs
   lines_then p (n ∷ ns) g marks fs =
       ap (λ l. lines p n ++ l) (lines_then (next p n) ns g marks fs)
-      ∙ ap (λ (f : Form). lines p n ++ (all_lines (next p n) ns ++ other_lines f.all g marks)) (same_form p n)
-      ∙ sym (append_assoc (lines p n) (all_lines (next p n) ns) (other_lines p.form.all g marks))
-
-  others_shown : (b : Bool) → Survey file V → other_lines b (geometry file) (marks_of (geometry file) V)
-      ≡ flat_map (form_line file V) (if b then other_rows file V else [])
-  others_shown true survey = others_text file V (geometry file) (marks_of (geometry file) V) refl survey refl
-  others_shown false survey = refl
+      ∙ ap (λ (f : Form). lines p n ++ (all_lines (next p n) ns ++ others_from f.all g 1 marks)) (same_form p n)
+      ∙ sym (append_assoc (lines p n) (all_lines (next p n) ns) (others_from p.form.all g 1 marks))
 
   run_lines : Survey file V → all_lines sheet (run_notices file V) ≡ rows_text form all file V
   run_lines survey =
       lines_whole part.Header sheet (header_faults file (length file)) (start_notices file V ++ end_notices file V)
       ∙ lines_then sheet (start_notices file V) (geometry file) (marks_of (geometry file) V) (end_faults file V)
-      ∙ ap₂ (λ a b. a ++ b) (start_lines survey) (others_shown all survey)
+      ∙ ap₂ (λ a b. a ++ b) (start_lines survey) (others_text all file V survey)
 
 -- All of a file was reported, or a beginning: its rows and faults were written accordingly.
 pub run_written : {A O E : Type 0} (held : O → OutState) (held' : E → OutState) (file : List ℕ) (V : List Reference) → Survey file V → (s t : StatReporter O E)

@@ -1,12 +1,10 @@
--- The rows of the other pages, by the marks.
-use Rattle.std.specs.Prelude.{ℕ, List, [], flat_map, Option, Some, None}
-use Rattle.std.specs.List.{range_with_len}
+-- The row of another page, by its mark.
+use Rattle.std.specs.Prelude.{ℕ, List, [], Option, Some, None}
 use Rattle.std.specs.Option.{option_map_or}
 use Rattle.dbformat.specs.Lines.{other_line}
 use Rattle.dbformat.specs.FixedPages.{fixed_use}
 use Rattle.dbformat.specs.Rows.{OtherPage, trunk_page, leaf_page, other_unvisited}
 use Rattle.dbformat.specs.declared.Geometry.{Geometry}
-use Rattle.dbmarks.specs.Marking.{page_mark}
 use Rattle.dbmarks.specs.declared.marks.Mark.{Mark}
 use Rattle.dbmarks.specs.declared.marks.Mark.TheVariants.{Unmarked, Fixed, Trunk, FreeLeaf}
 
@@ -21,7 +19,3 @@ marked_other g p _ = None
 -- its line
 abbrev pub marked_line : Geometry → ℕ → Mark → List ℕ
 marked_line g p mark = option_map_or (other_line g.page_size p) (marked_other g p mark) []
-
--- the lines of n pages, from page a on
-abbrev pub marked_lines : Geometry → List Mark → ℕ → ℕ → List ℕ
-marked_lines g marks a n = flat_map (λ p. option_map_or (marked_line g p) (page_mark marks p) []) (range_with_len a n)

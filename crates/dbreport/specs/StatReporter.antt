@@ -5,14 +5,16 @@ use Rattle.dbformat.specs.Lines.{counted, fault_line, page_line, tree_line}
 use Rattle.dbformat.specs.Rows.{StatRow}
 use Rattle.dbformat.specs.declared.Fault.{Fault}
 use Rattle.dbformat.specs.declared.Geometry.{Geometry}
+use Rattle.dbsource.specs.Failures.{CountsAfter, is_any}
 use Rattle.dbsource.specs.Outs.{Begins, Flushes, OutState}
+use Rattle.dbsource.specs.declared.out.WriteFailed.{WriteFailed}
 use Rattle.dbmarks.specs.declared.marks.Mark.{Mark}
-use Rattle.dbscan.specs.Notices.{Notice, heard_fault, heard_row, ended, walked}
+use Rattle.dbscan.specs.Notices.{Notice, heard_fault, heard_row, ended, marked}
 use Rattle.dbscan.specs.Starts.{At}
 use Rattle.dbwalk.specs.Telling.{SinkState}
 use Rattle.dbreport.specs.CheckReporter.{PutsAll}
 use Rattle.dbreport.specs.TreeNames.{name_at}
-use Rattle.dbreport.specs.OtherMarks.{marked_lines}
+use Rattle.dbreport.specs.OtherMarks.{marked_line}
 use Rattle.dbreport.specs.Sums.{sums_of}
 use Rattle.dbreport.specs.declared.statistics.reporter.StatReporter.{StatReporter}
 
@@ -27,10 +29,10 @@ tree_end_text true name size [] = []
 tree_end_text true name size (row ∷ rows) = tree_line name size (row ∷ rows)
 tree_end_text false name size rows = []
 
--- what is written of the pages in no tree and in no overflow chain, by the marks of all pages
-abbrev pub other_lines : Bool → Geometry → List Mark → List ℕ
-other_lines true g marks = marked_lines g marks 1 (length marks)
-other_lines false g marks = []
+-- what is written of page p by its mark: its row, if it is in no tree and in no overflow chain
+abbrev pub other_text : Bool → Geometry → ℕ → Mark → List ℕ
+other_text true g p mark = marked_line g p mark
+other_text false g p mark = []
 
 -- what a reporter writes of rows as they come at a start
 abbrev pub reporter_rows_text : {O E : Type 0} → StatReporter O E → At → List StatRow → List ℕ
@@ -132,35 +134,42 @@ pub record CutsEnd {O E : Type 0} (held : O → OutState) (held' : E → OutStat
   pub writes : (rows : List StatRow) → s.sums ≡ sums_of rows
       → Begins (held s.out.now).bytes (held t.out.now).bytes (tree_end_text s.form.aggregate (name_at s.encoding at) s.page_size rows)
 
--- All starts have been walked from: the rows of the other pages were written, where they are asked for, after the faults that came
--- before them.
-pub record PutsOthers {O E : Type 0} (held : O → OutState) (held' : E → OutState)
-    (s : StatReporter O E) (g : Geometry) (marks : List Mark) (t : StatReporter O E) : Type 0 where
+-- All starts have been walked from: the row of another page was written, where these are asked for, after the faults that came before it.
+pub record PutsOther {O E : Type 0} (held : O → OutState) (held' : E → OutState)
+    (s : StatReporter O E) (g : Geometry) (p : ℕ) (mark : Mark) (t : StatReporter O E) : Type 0 where
   pub same : IsSameReporter s t
   pub found : t.found ≡ s.found
   pub sums : t.sums ≡ s.sums
   pub err : IsFlushedIf s.form.all (held' s.err.now) (held' t.err.now)
-  pub writes : Appends (held s.out.now).bytes (held t.out.now).bytes (other_lines s.form.all g marks)
+  pub writes : Appends (held s.out.now).bytes (held t.out.now).bytes (other_text s.form.all g p mark)
 
--- they were not written whole, or the faults before them were not handed on
-pub record CutsOthers {O E : Type 0} (held : O → OutState) (held' : E → OutState)
-    (s : StatReporter O E) (g : Geometry) (marks : List Mark) (t : StatReporter O E) : Type 0 where
+-- it was not written whole, or the faults before it were not handed on
+pub record CutsOther {O E : Type 0} (held : O → OutState) (held' : E → OutState)
+    (s : StatReporter O E) (g : Geometry) (p : ℕ) (mark : Mark) (t : StatReporter O E) : Type 0 where
   pub kept : Keeps (held' s.err.now).bytes (held' t.err.now).bytes
-  pub writes : Begins (held s.out.now).bytes (held t.out.now).bytes (other_lines s.form.all g marks)
+  pub writes : Begins (held s.out.now).bytes (held t.out.now).bytes (other_text s.form.all g p mark)
 
 -- a notice was taken
 abbrev pub HearsStat : {O E : Type 0} → (O → OutState) → (E → OutState) → StatReporter O E → Notice → StatReporter O E → Type 0
 HearsStat out err s (heard_fault x) t = TakesFault out err s x.fault t
 HearsStat out err s (heard_row at r) t = TakesStatRow out err s at r t
 HearsStat out err s (ended at) t = EndsTree out err s at t
-HearsStat out err s (walked g marks) t = PutsOthers out err s g marks t
+HearsStat out err s (marked g p mark) t = PutsOther out err s g p mark t
 
 -- it was not taken whole
 abbrev pub CutsStat : {O E : Type 0} → (O → OutState) → (E → OutState) → StatReporter O E → Notice → StatReporter O E → Type 0
 CutsStat out err s (heard_fault x) t = CutsStatFault out err s x.fault t
 CutsStat out err s (heard_row at r) t = CutsRow out err s at r t
 CutsStat out err s (ended at) t = CutsEnd out err s at t
-CutsStat out err s (walked g marks) t = CutsOthers out err s g marks t
+CutsStat out err s (marked g p mark) t = CutsOther out err s g p mark t
+
+-- What writing of a notice leaves, where the reporter is open: it was taken, or at an error not whole; the Outs are the same, and each
+-- failure of one is counted, and not noted yet.
+pub record Writes {O E : Type 0} (out : O → OutState) (err : E → OutState) (r : Result (Unit {0}) WriteFailed) (s : StatReporter O E) (n : Notice)
+    (t : StatReporter O E) : Type 0 where
+  pub taken : MatchResult r (λ _. HearsStat out err s n t) (λ _. CutsStat out err s n t)
+  pub same : AreSameOuts s t
+  pub count : CountsAfter is_any r (failures_of_each (out s.out.now) (err s.err.now)) (failures_of_each (out t.out.now) (err t.err.now))
 
 -- What a notice makes of a reporter, by whether it was shut before it, and is after it: an open one takes it, and is shut if it was not
 -- taken whole; a shut one takes nothing.

@@ -6,8 +6,7 @@ ghost use Rattle.dbreport.specs.CheckReporter.{end_text, found_verdict};
 use dbformat::Verdict;
 use dblines::{put_fault, put_ok, put_rest};
 use dbscan::{Desk, Finish, Notice, Reporter};
-use dbsource::{Geometry, Out, RunError, Source, WriteFailed};
-use dbwalk::Marks;
+use dbsource::{Out, RunError, Source, WriteFailed};
 use std::alloc::Allocator;
 
 // Writes the lines of the first faults as they come, and counts the others. It holds no list. Its Out is a writer's: nothing is put to
@@ -81,8 +80,6 @@ impl<O: Out> Reporter for CheckReporter<'_, O> {
         }
         self.shown += 1;
     }
-
-    fn walked<A: Allocator>(&mut self, _geometry: Geometry, _marks: &Marks<A>) {}
 
     fn is_shut(&self) -> bool {
         self.has_failed

@@ -7,11 +7,9 @@
 
 use anyhow::{Context, Result};
 use dbbytes::name_text;
-use dbscan::{
-    Desk, Header, Marks, Notice, PageKind, PageType, Reporter, RowKind, StartTable, scan,
-};
-use dbsource::{FileSource, Geometry, MemOut, Source};
-use std::alloc::{Allocator, Global};
+use dbscan::{Desk, Header, Notice, PageKind, PageType, Reporter, RowKind, StartTable, scan};
+use dbsource::{FileSource, MemOut, Source};
+use std::alloc::Global;
 use std::env;
 
 /// How many rows there are at each start.
@@ -38,8 +36,6 @@ impl Reporter for RowCounts {
             self.starts.set(start.number(), count.saturating_add(rows));
         }
     }
-
-    fn walked<A: Allocator>(&mut self, _geometry: Geometry, _marks: &Marks<A>) {}
 
     fn is_shut(&self) -> bool {
         false

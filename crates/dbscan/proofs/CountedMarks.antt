@@ -20,7 +20,7 @@ numbers_more n =
     let a : 1 + n ≡ n + 1 = omega arith in
     sym (map-id (range_with_len 1 (n + 1))) ∙ map-range_with_len_more (λ k. k) 1 n (n + 1) a ∙ ap (λ l. l ++ ((n + 1) ∷ [])) (map-id (range_with_len 1 n))
 
-got : {X : Type 0} (xs : List X) (i : ℕ) (x d : X) → slice_get xs i ≡ Some x → (i < length xs) × (get_or xs i d ≡ x)
+pub got : {X : Type 0} (xs : List X) (i : ℕ) (x d : X) → slice_get xs i ≡ Some x → (i < length xs) × (get_or xs i d ≡ x)
 got [] i x d h = cc
 got (y ∷ xs) zero x d h = (omega arith, (let k : y ≡ x = cc in k))
 got (y ∷ xs) (suc i) x d h = let k = got xs i x d h in (omega arith, k.1)

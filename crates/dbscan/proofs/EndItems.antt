@@ -26,13 +26,13 @@ use Rattle.dbsource.specs.Headers.{IsHeaderOf}
 use Rattle.dbsource.specs.declared.error.RunError.{RunError}
 use Rattle.dbmarks.specs.EndMarks.{is_free_mark, greatest_root_marked, least_other_marked, mark_fault, late_fault}
 use Rattle.dbtrace.specs.declared.Part.TheVariants as part
-use Rattle.dbscan.specs.Notices.{Notice, whole, walked, end_notices}
+use Rattle.dbscan.specs.Notices.{Notice, whole, end_notices, pages_from}
 use Rattle.dbmarks.specs.Marking.{is_none, mark_of, marks_of, role_mark, visit_mark, AreMarksOf}
 use Rattle.dbwalk.specs.Telling.{Tells}
 use Rattle.dbmarks.specs.declared.marks.Mark.{Mark}
 use Rattle.dbmarks.specs.declared.marks.Mark.TheVariants.{Unmarked, Fixed, Root, Trunk, FreeLeaf, FirstOverflow, LaterOverflow, Child}
 use Rattle.dbmarks.proofs.LateRoots.{marks_tell_the_end}
-use Rattle.dbsurvey.proofs.Moving.{Moves-append, Moves-one, some_after}
+use Rattle.dbsurvey.proofs.Moving.{Moves-append, some_after}
 use Rattle.dbscan.specs.EndPass.{counted_faults, is_fixed_mark, page_notices, pages_items}
 use Rattle.dbscan.specs.Telling.{items_of}
 use Rattle.dbscan.proofs.CountedMarks.{numbers_more}
@@ -168,12 +168,11 @@ pub tells_then : {S I A : Type 0} (takes : S → I → S → Type 0) (r : Result
 tells_then takes (Ok a) s m t L M h k = Moves-append takes s m t L M h k
 tells_then takes (Err e) s m t L M h k = some_after takes s m t L M h k
 
--- the marks, and then the faults at the end
-pub walked_then : {S A : Type 0} (hears : S → Notice → S → Type 0) (file : List ℕ) (V : List Reference) (r : Result A RunError) (s m t : S) (g : Geometry)
+-- the pages, and then the faults at the end
+pub pages_then : {S A : Type 0} (hears : S → Notice → S → Type 0) (file : List ℕ) (V : List Reference) (r : Result A RunError) (s m t : S) (g : Geometry)
     (marks : List Mark)
-    → g ≡ geometry file → AreMarksOf file V marks → hears s (walked g marks) m → Tells hears r m (map (whole part.End) (end_faults file V)) t
+    → g ≡ geometry file → AreMarksOf file V marks → Moves hears s (pages_from g 1 marks) m → Tells hears r m (map (whole part.End) (end_faults file V)) t
     → Tells hears r s (end_notices file V) t
-walked_then hears file V r s m t g marks same marked told k =
-    let n = walked (geometry file) (marks_of (geometry file) V) in
-    tells_then hears r s m t (n ∷ []) (map (whole part.End) (end_faults file V))
-    (Moves-one hears s m n (subst (λ n. hears s n m) (ap₂ walked same marked) told)) k
+pages_then hears file V r s m t g marks same marked told k =
+    tells_then hears r s m t (pages_from (geometry file) 1 (marks_of (geometry file) V)) (map (whole part.End) (end_faults file V))
+    (subst (λ l. Moves hears s l m) (ap₂ (λ g l. pages_from g 1 l) same marked) told) k

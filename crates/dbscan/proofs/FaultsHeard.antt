@@ -8,7 +8,7 @@ use Rattle.dbformat.specs.Survey.{Survey}
 use Rattle.dbformat.specs.declared.Fault.{Fault}
 use Rattle.dbsource.specs.declared.error.RunError.{RunError}
 use Rattle.dbwalk.specs.Telling.{Tells}
-use Rattle.dbscan.specs.Notices.{HearsFaults, Notice, heard_fault, heard_row, ended, walked, faults_heard, run_notices}
+use Rattle.dbscan.specs.Notices.{HearsFaults, Notice, heard_fault, heard_row, ended, marked, faults_heard, run_notices}
 use Rattle.dbscan.proofs.HeardFaults.{faults_are_heard}
 
 module _ {S : Type 0} (takes : S → Fault → S → Type 0) where
@@ -17,7 +17,7 @@ module _ {S : Type 0} (takes : S → Fault → S → Type 0) where
   all_heard (heard_fault x ∷ ns) s t h = (h.0, h.1, all_heard ns h.0 t h.2)
   all_heard (heard_row at r ∷ ns) s t h = subst (λ m. Moves takes m (faults_heard ns) t) h.1 (all_heard ns h.0 t h.2)
   all_heard (ended at ∷ ns) s t h = subst (λ m. Moves takes m (faults_heard ns) t) h.1 (all_heard ns h.0 t h.2)
-  all_heard (walked g marks ∷ ns) s t h = subst (λ m. Moves takes m (faults_heard ns) t) h.1 (all_heard ns h.0 t h.2)
+  all_heard (marked g p mark ∷ ns) s t h = subst (λ m. Moves takes m (faults_heard ns) t) h.1 (all_heard ns h.0 t h.2)
 
   some_heard : (ns : List Notice) (s t : S) → MovesBySome (HearsFaults takes) s ns t → MovesBySome takes s (faults_heard ns) t
   some_heard [] s t h = h
@@ -25,7 +25,7 @@ module _ {S : Type 0} (takes : S → Fault → S → Type 0) where
   some_heard (heard_fault x ∷ ns) s t (inr h) = inr (h.0, h.1, some_heard ns h.0 t h.2)
   some_heard (heard_row at r ∷ ns) s t (inr h) = subst (λ m. MovesBySome takes m (faults_heard ns) t) h.1 (some_heard ns h.0 t h.2)
   some_heard (ended at ∷ ns) s t (inr h) = subst (λ m. MovesBySome takes m (faults_heard ns) t) h.1 (some_heard ns h.0 t h.2)
-  some_heard (walked g marks ∷ ns) s t (inr h) = subst (λ m. MovesBySome takes m (faults_heard ns) t) h.1 (some_heard ns h.0 t h.2)
+  some_heard (marked g p mark ∷ ns) s t (inr h) = subst (λ m. MovesBySome takes m (faults_heard ns) t) h.1 (some_heard ns h.0 t h.2)
 
   heard_by : {A : Type 0} (r : Result A RunError) (ns : List Notice) (s t : S) → Tells (HearsFaults takes) r s ns t → Tells takes r s (faults_heard ns) t
   heard_by (Ok a) ns s t h = all_heard ns s t h

@@ -2,16 +2,19 @@
 use Rattle.std.proofs.Common.{◌≡◌, ℕ, List, [], ◌∷◌, ◌++◌, length, map, refl, sym, ap, ap₂, ◌∙◌, append_assoc}
 use Rattle.std.proofs.lemmas.List.Elements.{filter_map-append}
 use Rattle.dbformat.specs.EndFaults.{end_faults}
+use Rattle.dbformat.specs.File.{geometry}
 use Rattle.dbformat.specs.HeaderFaults.{header_faults}
 use Rattle.dbformat.specs.Reference.{Reference}
 use Rattle.dbformat.specs.Report.{faults}
 use Rattle.dbformat.specs.Survey.{Survey}
 use Rattle.dbformat.specs.declared.Fault.{Fault}
+use Rattle.dbmarks.specs.Marking.{marks_of}
 use Rattle.dbtrace.specs.declared.Part.{Part}
 use Rattle.dbtrace.specs.declared.Part.TheVariants as part
-use Rattle.dbscan.specs.Notices.{Notice, heard_fault, heard_row, ended, walked, of_file, whole, end_notices, faults_heard, run_notices, start_notices}
+use Rattle.dbscan.specs.Notices.{Notice, heard_fault, heard_row, ended, marked, of_file, whole, end_notices, faults_heard, run_notices, start_notices}
 use Rattle.dbscan.specs.Placed.{faults_of, reported_in, reported_of, told_faults, walk_told}
 use Rattle.dbscan.proofs.AllTold.{all_told}
+use Rattle.dbscan.proofs.PagesHeard.{past_pages}
 use Rattle.dbscan.proofs.PlacedFaults.{starts_told}
 
 of_whole : (p : Part) (fs : List Fault) → reported_in (map (whole p) fs) ≡ map (of_file p) fs
@@ -24,7 +27,8 @@ run_heard file V s =
     let es = end_faults file V in
     filter_map-append reported_of (map (whole part.Header) hs) (start_notices file V ++ end_notices file V)
     ∙ ap₂ (λ a b. a ++ b) (of_whole part.Header hs)
-    (filter_map-append reported_of (start_notices file V) (end_notices file V) ∙ ap₂ (λ a b. a ++ b) (starts_told file V s) (of_whole part.End es))
+    (filter_map-append reported_of (start_notices file V) (end_notices file V) ∙ ap₂ (λ a b. a ++ b) (starts_told file V s)
+    (past_pages reported_of (λ g p mark. refl) (geometry file) 1 (marks_of (geometry file) V) (map (whole part.End) es) ∙ of_whole part.End es))
     ∙ sym (append_assoc (map (of_file part.Header) hs) (walk_told file V) (map (of_file part.End) es))
 
 -- so they are the faults of the file
@@ -33,7 +37,7 @@ alone [] = refl
 alone (heard_fault x ∷ ns) = ap (λ l. x.fault ∷ l) (alone ns)
 alone (heard_row at r ∷ ns) = alone ns
 alone (ended at ∷ ns) = alone ns
-alone (walked g marks ∷ ns) = alone ns
+alone (marked g p mark ∷ ns) = alone ns
 
 pub faults_are_heard : (file : List ℕ) (V : List Reference) → Survey file V → faults_heard (run_notices file V) ≡ faults file V
 faults_are_heard file V s = alone (run_notices file V) ∙ ap faults_of (run_heard file V s) ∙ all_told file V

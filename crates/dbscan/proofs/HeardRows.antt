@@ -19,6 +19,7 @@ use Rattle.dbformat.specs.Story.{Event, own_visit}
 use Rattle.dbformat.specs.Survey.{Survey, rules_of}
 use Rattle.dbformat.specs.declared.Fault.{Fault}
 use Rattle.dbformat.proofs.Theory.{are_rules}
+use Rattle.dbmarks.specs.Marking.{marks_of}
 use Rattle.dbtrace.specs.Finding.{Finding, told_row, told_fault, told_below, visited_below}
 use Rattle.dbtrace.specs.declared.Part.{Part}
 use Rattle.dbtrace.specs.declared.Part.TheVariants as part
@@ -28,6 +29,7 @@ use Rattle.dbscan.specs.Notices.{Notice, found, ended, whole, errands_left, root
 use Rattle.dbscan.specs.Notices.{end_notices, run_notices}
 use Rattle.dbscan.specs.Roots.{listed_rows}
 use Rattle.dbscan.specs.Starts.{At, at_freelist, at_row, at_schema, schema_reference}
+use Rattle.dbscan.proofs.PagesHeard.{past_pages}
 use Rattle.dbscan.proofs.RowsBelow.{rows_below, rows_join}
 use Rattle.dbscan.proofs.RunItems.{all_visited}
 use Rattle.dbscan.proofs.StartByStart.{of_later}
@@ -87,7 +89,7 @@ module _ (file : List ℕ) where
       (filter_map-append row_heard (start_notices file V) (end_notices file V)
       ∙ ap₂ (λ a b. a ++ b)
       (tree_then at_schema [] c (errands_left file (enumerate_from 1 rows)) (later_notices file U (enumerate_from 1 rows)) (later 1 rows U))
-      (of_whole part.End es)
+      (past_pages row_heard (λ g p mark. refl) (geometry file) 1 (marks_of (geometry file) V) (map (whole part.End) es) ∙ of_whole part.End es)
       ∙ append-nil _)
       ∙ ap (λ es. stat_rows file (visited_below file [] es)) (sym (start_errands_listed file V s))
       ∙ ap (stat_rows file) (all_visited file V s)

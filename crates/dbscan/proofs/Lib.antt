@@ -12,6 +12,7 @@ pub mod Keeping
 pub mod MapLogs
 pub mod MapPlaces
 pub mod Owned
+pub mod PagesHeard
 pub mod PageMarks
 pub mod PlacedFaults
 pub mod Reached

@@ -1,23 +1,31 @@
 -- What a reporter hears in a scan, part by part: the faults of the header, what is found at the starts, and what is reported
 -- after the walks.
-use Rattle.std.proofs.Common.{◌≡◌, ℕ, Bool, List, ◌++◌, length, map, Result, Ok, Err, sym, ap, ap₂, subst, ◌∙◌}
+use Rattle.std.proofs.Common.{◌≡◌, ℕ, Bool, List, ◌++◌, length, map, Result, Ok, Err, refl, sym, ap, ap₂, subst, ◌∙◌}
 use Rattle.dbsurvey.specs.Moves.{Moves, MovesBySome}
 use Rattle.dbformat.specs.HeaderFaults.{header_faults}
 use Rattle.dbformat.specs.Reference.{Reference}
+use Rattle.dbformat.specs.Survey.{Survey}
 use Rattle.dbformat.proofs.HeaderPrefix.{header_faults_within}
+use Rattle.dbsource.specs.Answers.{Step}
+use Rattle.dbsource.specs.Errors.{is_read_failed}
 use Rattle.dbsource.specs.HeaderBytes.{HeaderBytes}
 use Rattle.dbsource.specs.Headers.{IsHeaderOf}
+use Rattle.dbsource.specs.Sources.{Asks, SourceState}
 use Rattle.dbsource.specs.declared.error.RunError.{RunError}
+use Rattle.dbsource.proofs.Logs.{asks_weaker}
+use Rattle.dbmarks.proofs.FirstMarks.{fresh_marks}
 use Rattle.dbmarks.specs.Marking.{AreMarksOf}
 use Rattle.dbscan.specs.Roots.{AreListed}
 use Rattle.dbwalk.specs.Telling.{Tells}
 use Rattle.dbsurvey.proofs.Moving.{some_first, some_after}
-use Rattle.dbscan.specs.Desks.{DeskView}
+use Rattle.dbscan.specs.Desks.{AsksOver, DeskView, IsFresh, shape_of}
+use Rattle.dbscan.specs.Looks.{ReadsMarked}
 use Rattle.dbtrace.specs.declared.Part.TheVariants as part
 use Rattle.dbscan.specs.Notices.{Notice, whole, start_notices, end_notices, run_notices}
 use Rattle.dbscan.specs.Scans.{IsScanned}
 use Rattle.dbscan.specs.Walks.{AreWalked}
 use Rattle.dbscan.proofs.EndItems.{tells_then}
+use Rattle.dbscan.proofs.MapLogs.{walk_log}
 
 -- the header's faults, as they are reported
 header_items : (file : List ℕ) (h : HeaderBytes) → IsHeaderOf h file
@@ -62,3 +70,17 @@ module _ {S : Type 0} (hears : S → Notice → S → Type 0) (file : List ℕ) 
       listed = subst (AreListed file V) (sym (ap (λ (d : DeskView). d.roots.rows) same)) w.listed;
     }
     scan_ended (Err e) any b t walked ended w same k = record { told = all_told {A = Unit {0}} (Err e) b t w.all.told k; marked = tt; listed = tt }
+
+-- an error stopped the walks from the starts
+pub scan_stopped : {S : Type 0} (hears : S → Notice → S → Type 0) (step : Step) (d u : DeskView) (s a b : S) (e : RunError) {old new : SourceState} → IsFresh d
+    → Moves hears s (map (whole part.Header) (header_faults d.header.bytes d.header.file_len)) a
+    → AsksOver {A = Bool} step d u (λ file. (V : List Reference) → Survey file V → AreWalked hears file V (Err e) u.marks u.roots.rows a b) (Err e) old new
+    → Asks {A = Unit {0}} step (ReadsMarked (shape_of d) u.marks) (λ file. IsHeaderOf d.header file → (V : List Reference) → Survey file V
+    → IsScanned {A = Unit {0}} hears file V (Err e) u.marks u.roots.rows s b) is_read_failed (Err e) old new
+scan_stopped hears step d u s a b e fresh told asks =
+    asks_weaker _ _ (Err e) (λ n. refl) asks (λ log reads. walk_log (shape_of d) d.marks u.marks log (fresh_marks (shape_of d) d.marks fresh.marks) reads)
+    (λ file walked is V survey. record {
+      told = starts_stopped hears file V d.header is s a told e b (walked is V survey).all.told;
+      marked = tt;
+      listed = tt;
+    })

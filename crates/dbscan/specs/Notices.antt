@@ -1,9 +1,10 @@
 -- What a reporter hears of a file, as one list: what is found of the whole file and at each start, and where a tree ends.
-use Rattle.std.specs.Prelude.{◌≡◌, ℕ, List, [], ◌∷◌, ◌++◌, length, map, filter_map, Option, Some, None}
+use Rattle.std.specs.Prelude.{◌≡◌, ℕ, ◌+◌, ◌≤◌, List, [], ◌∷◌, ◌++◌, length, map, filter_map, Option, Some, None}
 use Rattle.std.specs.List.{enumerate_from}
 use Rattle.dbsurvey.specs.Story.{Errand, Go, Follow, errands_at}
 use Rattle.dbformat.specs.EndFaults.{end_faults}
 use Rattle.dbformat.specs.File.{geometry}
+use Rattle.dbformat.specs.FixedPages.{IsInRange}
 use Rattle.dbformat.specs.HeaderFaults.{header_faults}
 use Rattle.dbformat.specs.Reference.{root, Way, Reference}
 use Rattle.dbformat.specs.Schema.{root_kind, root_start, freelist_starts}
@@ -26,13 +27,13 @@ use Rattle.dbscan.specs.Starts.{At, at_schema, at_row, at_freelist, schema_refer
 use Rattle.dbscan.specs.declared.notice.Notice.{Notice as Lent}
 use Rattle.dbscan.specs.declared.notice.Notice.TheVariants as lent
 
--- A fault, with its part and its cause; a row of the tree of a start; the end of the tree of a start; or the end of all walks, and then
--- these are the marks of the file's pages.
+-- A fault, with its part and its cause; a row of the tree of a start; the end of the tree of a start; or, when all walks have ended, a
+-- page and its mark.
 pub data Notice : Type 0 where
   heard_fault : Reported → Notice
   heard_row : At → StatRow → Notice
   ended : At → Notice
-  walked : Geometry → List Mark → Notice
+  marked : Geometry → ℕ → Mark → Notice
 
 -- a fault at start k
 abbrev pub at_start : ℕ → Fault → Cause → Reported
@@ -56,13 +57,21 @@ abbrev pub notice_of : Lent → Notice
 notice_of (lent.Fault x) = heard_fault x.now
 notice_of (lent.Row at r) = heard_row at.now (row_of r.now)
 notice_of (lent.Ended at) = ended at.now
+notice_of (lent.Page g p mark) = marked g.now p mark
+
+-- what a reporter may rely on: a page is numbered from 1, in a file of this shape
+abbrev pub IsGiven : Notice → Type 0
+IsGiven (heard_fault x) = Unit {0}
+IsGiven (heard_row at r) = Unit {0}
+IsGiven (ended at) = Unit {0}
+IsGiven (marked g p mark) = IsInRange g × (1 ≤ p)
 
 -- the fault of a notice, if it is one
 abbrev pub notice_fault : Notice → Option Fault
 notice_fault (heard_fault x) = Some x.fault
 notice_fault (heard_row at r) = None
 notice_fault (ended at) = None
-notice_fault (walked g marks) = None
+notice_fault (marked g p mark) = None
 
 -- those among notices
 abbrev pub faults_heard : List Notice → List Fault
@@ -73,7 +82,7 @@ abbrev pub HearsFaults : {S : Type 0} → (S → Fault → S → Type 0) → S �
 HearsFaults takes s (heard_fault x) t = takes s x.fault t
 HearsFaults takes s (heard_row at r) t = t ≡ s
 HearsFaults takes s (ended at) t = t ≡ s
-HearsFaults takes s (walked g marks) t = t ≡ s
+HearsFaults takes s (marked g p mark) t = t ≡ s
 
 -- the reference to the root of a row, as that of start k
 abbrev pub root_reference : List ℕ → ℕ → SchemaRow → Reference
@@ -100,9 +109,14 @@ start_notices file V =
     tree_notices at_schema file [] schema_reference
     ++ later_notices file ([] ++ visited_below file [] (Go schema_reference ∷ [])) (enumerate_from 1 (listed_rows file V))
 
--- all that is reported after the walks: the marks of the pages, and the faults at the end
+-- the pages from page p on, with these marks
+abbrev pub pages_from : Geometry → ℕ → List Mark → List Notice
+pages_from g p [] = []
+pages_from g p (mark ∷ marks) = marked g p mark ∷ pages_from g (p + 1) marks
+
+-- all that is reported after the walks: each page with its mark, and then the faults at the end
 abbrev pub end_notices : List ℕ → List Reference → List Notice
-end_notices file V = walked (geometry file) (marks_of (geometry file) V) ∷ map (whole part.End) (end_faults file V)
+end_notices file V = pages_from (geometry file) 1 (marks_of (geometry file) V) ++ map (whole part.End) (end_faults file V)
 
 -- all that is reported of a file: the faults of its header, what is found at its starts, and what is reported after the walks
 abbrev pub run_notices : List ℕ → List Reference → List Notice

@@ -1,8 +1,14 @@
-// What the marks count at the end of a run.
+// What the marks count at the end of a run, and the pages as a reporter hears of them.
 ghost use Rattle.std.specs.Prelude.{◌≡◌, max, count_by, Some, None, cond};
 ghost use Rattle.std.specs.Option.{option_or};
+ghost use Rattle.dbformat.specs.FixedPages.{IsInRange};
 ghost use Rattle.dbmarks.specs.EndMarks.{is_free_mark, is_root_mark, is_other_mark, greatest_root_marked, least_other_marked};
+ghost use Rattle.dbwalk.specs.Telling.{IsReportedTo};
+ghost use Rattle.dbscan.specs.Notices.{pages_from};
 
+use crate::notice::Notice;
+use crate::reporter::Reporter;
+use dbformat::Geometry;
 use dbwalk::{Mark, Marks};
 use std::alloc::Allocator;
 
@@ -50,8 +56,14 @@ fn first_other(least: Option<u32>, page: u32, mark: Mark) -> Option<u32>
     }
 }
 
-// Counts the marks, in one pass.
-pub(crate) fn count_marks<A: Allocator>(marks: &Marks<A>) -> EndCounts
+// Reports each page with its mark, and counts the marks, in one pass.
+pub(crate) fn count_marks<A: Allocator, K: Reporter>(
+    geometry: &Geometry,
+    marks: &Marks<A>,
+    reporter: &mut K,
+) -> EndCounts
+    requires { IsInRange geometry.now }
+    ensures told { IsReportedTo K.hears K.held reporter.old (pages_from geometry.now 1 marks.now) reporter.new }
     ensures free { result.free_pages ≡ count_by is_free_mark marks.now }
     ensures greatest { result.greatest_root ≡ greatest_root_marked marks.now }
     ensures least { result.least_other ≡ least_other_marked marks.now }
@@ -61,6 +73,7 @@ pub(crate) fn count_marks<A: Allocator>(marks: &Marks<A>) -> EndCounts
     let mut least_other: Option<u32> = None;
     for index in 0..marks.pages() {
         let mark = marks.get(index + 1);
+        reporter.hear(&Notice::Page(geometry, index + 1, mark));
         let free = free_page(mark);
         free_pages += free;
         greatest_root = greater_root(greatest_root, index + 1, mark);

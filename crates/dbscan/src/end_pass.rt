@@ -14,7 +14,7 @@ ghost use Rattle.dbwalk.specs.Telling.{IsReadOrWrite};
 ghost use Rattle.dbwalk.specs.Telling.{Tells, SinkAfter};
 ghost use Rattle.dbmarks.specs.declared.marks.Mark as marking;
 ghost use Rattle.dbscan.specs.Desks.{shape_of};
-ghost use Rattle.dbscan.specs.EndPass.{is_fixed_mark, page_notices, pages_items};
+ghost use Rattle.dbscan.specs.EndPass.{EndsPage, is_fixed_mark, page_notices, pages_items};
 ghost use Rattle.dbscan.specs.MapReads.{HasMapFor, IsMapInUse, IsMapTurn, MapReads};
 ghost use Rattle.dbscan.specs.Notices.{end_notices};
 
@@ -82,9 +82,7 @@ fn end_page<S: Source, K: Reporter, A: Allocator, B: Allocator>(
         → Tells K.hears result reporter.old (page_notices file least_other page mark) reporter.new
         × OnOk result (HasMapFor file (geometry file) (page + 1) bench.new.chain))
         is_read_failed result (S.held source.old) (S.held source.new) }
-    ensures writes { SinkAfter is_write_failed result (K.held reporter.old) (K.held reporter.new) }
-    ensures only { IfErr result IsReadOrWrite }
-    ensures bench { bench.new ≡ record bench.old { chain = bench.new.chain } }
+    ensures ends { EndsPage result (K.held reporter.old) (K.held reporter.new) bench.old bench.new }
 {
     let mark = marks.get(page);
     let geometry = bench.geometry();
@@ -119,9 +117,7 @@ fn end_pages<S: Source, K: Reporter, A: Allocator, B: Allocator>(
         → (V : List Reference) → AreMarksOf file V marks.now
         → Tells K.hears result reporter.old (pages_items file V least_other (geometry file).pages) reporter.new)
         is_read_failed result (S.held source.old) (S.held source.new) }
-    ensures writes { SinkAfter is_write_failed result (K.held reporter.old) (K.held reporter.new) }
-    ensures only { IfErr result IsReadOrWrite }
-    ensures bench { bench.new ≡ record bench.old { chain = bench.new.chain } }
+    ensures ends { EndsPage result (K.held reporter.old) (K.held reporter.new) bench.old bench.new }
 {
     for index in 0..marks.pages() {
         end_page(source, bench, marks, index + 1, least_other, reporter)?;
@@ -152,9 +148,9 @@ pub fn tell_end<S: Source, K: Reporter, A: Allocator>(
     ensures writes { SinkAfter is_write_failed result (K.held reporter.old) (K.held reporter.new) }
     ensures only { IfErr result IsReadOrWrite }
 {
-    reporter.walked(desk.header.geometry(), &desk.marks);
+    let geometry = desk.header.geometry();
+    let counts = count_marks(&geometry, &desk.marks, reporter);
     ask(reporter)?;
-    let counts = count_marks(&desk.marks);
     let faults = counted_faults(&desk.header, any_rows, counts);
     tell_all(Part::End, &faults, reporter)?;
     let least = counts.least_other;

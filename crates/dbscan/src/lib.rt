@@ -2,10 +2,10 @@
 //!
 //! A [`Desk`] has what a run keeps of a file: its header, page buffers, a mark for each page, and the list of roots ([`RootList`] takes
 //! the rows of the schema in a walk, and keeps those that have a root page). [`scan`] reports to a [`Reporter`] all that is found in the
-//! file, in three steps. [`tell_header`] reports the faults of the header. [`walk_starts`] walks
-//! over the schema, then over each root that the schema names, and along the freelist; of what is found there the reporter hears at
-//! which [`Start`] it is, and where each tree ends. [`tell_end`] reports what is left when all pages have been visited: by the marks,
-//! the header and the pages of the pointer map.
+//! file, in three steps. [`tell_header`] reports the faults of the header. Then it walks over the schema, over each root that the schema
+//! names, and along the freelist; of what is found there the reporter hears at which [`Start`] it is, and where each tree ends.
+//! [`tell_end`] reports what is left when all pages have been visited: each page with its mark, and then the faults that the marks, the
+//! header and the pages of the pointer map show.
 //!
 //! Who owns a page, and what the page is, is said by the marks and the list of roots, without a page read anew. [`PageTrees`] keeps four
 //! bytes a page: of a page of a tree or a chain the start that its row was heard with; the marks say the rest. specs/Owners says it by the
@@ -61,4 +61,3 @@ pub use start::Start;
 pub use start_table::StartTable;
 pub use tell::tell_header;
 pub use tree_names::TreeNames;
-pub use walks::walk_starts;

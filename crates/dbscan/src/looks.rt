@@ -1,5 +1,5 @@
 // What a page looks like that no walk read.
-ghost use Rattle.std.specs.Prelude.{◌≡◌, ◌≤◌, [], ◌∷◌, IfOk, length, true};
+ghost use Rattle.std.specs.Prelude.{◌≡◌, ◌≤◌, [], ◌∷◌, IfOk, true};
 ghost use Rattle.dbformat.specs.File.{geometry};
 ghost use Rattle.dbformat.specs.Log.{page_range};
 ghost use Rattle.dbsource.specs.Failures.{is_any};
@@ -7,6 +7,7 @@ ghost use Rattle.dbsource.specs.Headers.{IsHeaderOf};
 ghost use Rattle.dbsource.specs.Sources.{Asks};
 ghost use Rattle.dbmarks.specs.Marking.{is_unmarked};
 ghost use Rattle.dbtrace.specs.Causes.{lost_cause, lost_cause_at, names_of};
+ghost use Rattle.dbwalk.specs.Found.{IsUsable};
 ghost use Rattle.dbscan.specs.Desks.{shape_of};
 
 use crate::Desk;
@@ -49,9 +50,7 @@ fn names_of<A: Allocator>(view: &PageView<'_>, marks: &Marks<A>) -> Option<Named
 
 // What the fault of a lost page goes back to: what it looks like, and the pages that it names.
 fn lost_cause<A: Allocator>(page: &[u8], number: u32, usable: u32, marks: &Marks<A>) -> Cause
-    requires whole { usable ≤ length page.now }
-    requires least { 480 ≤ usable }
-    requires most { usable ≤ 65536 }
+    requires { IsUsable usable page.now }
     ensures { result ≡ lost_cause (is_unmarked marks.now) number usable page.now }
 {
     let named = match PageView::new(page, number, usable) {

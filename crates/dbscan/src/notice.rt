@@ -1,9 +1,11 @@
 // What a reporter hears, one thing at a time.
 use crate::start::Start;
+use dbformat::Geometry;
 use dbtrace::Reported;
-use dbwalk::Row;
+use dbwalk::{Mark, Row};
 
-/// One thing that is found in a file; or that a tree has ended. The freelist is no tree, so no `Ended` comes for it.
+/// One thing that is found in a file; that a tree has ended; or a page, once all walks have ended. The freelist is no tree, so no `Ended`
+/// comes for it.
 #[derive(Clone, Copy)]
 pub enum Notice<'a> {
     /// A fault, with the part of the report that it belongs to and what it goes back to.
@@ -12,4 +14,7 @@ pub enum Notice<'a> {
     Row(&'a Start<'a>, &'a Row<'a>),
     /// The tree of a start has ended.
     Ended(&'a Start<'a>),
+    /// A page of a file of this shape, and its mark. When all starts have been walked from, each page comes once, by number from 1 on,
+    /// before the faults at the end.
+    Page(&'a Geometry, u32, Mark),
 }

@@ -1,21 +1,18 @@
 // Who hears what is found in a file.
 ghost use Rattle.std.specs.Prelude.{◌≡◌, if◌then◌else◌, Ok, Err};
-ghost use Rattle.dbformat.specs.FixedPages.{IsInRange};
 ghost use Rattle.dbsource.specs.declared.error.RunError.TheVariants as run_error;
 ghost use Rattle.dbwalk.specs.Telling.{SinkMoves};
-ghost use Rattle.dbscan.specs.Notices.{notice_of, walked};
+ghost use Rattle.dbscan.specs.Notices.{IsGiven, notice_of};
 
 use crate::notice::Notice;
-use dbsource::{Geometry, RunError};
-use dbwalk::Marks;
-use std::alloc::Allocator;
+use dbsource::RunError;
 
 /// Hears what is found in a file, one notice after another. Once a notice was not taken whole it is shut, for good: it takes nothing after
 /// that. Before each further page a run asks whether it is shut.
 ///
 /// # A quiet reporter
 ///
-/// A reporter of which nothing is claimed, and which takes every notice. It proves with any bodies of `hear` and `walked`:
+/// A reporter of which nothing is claimed, and which takes every notice. It proves with any body of `hear`:
 ///
 /// ```
 /// #[derive(Drop)]
@@ -33,8 +30,6 @@ use std::alloc::Allocator;
 ///     fn hear(&mut self, _notice: &Notice<'_>) {
 ///         self.heard = self.heard.saturating_add(1);
 ///     }
-///
-///     fn walked<A: Allocator>(&mut self, _geometry: Geometry, _marks: &Marks<A>) {}
 ///
 ///     fn is_shut(&self) -> bool {
 ///         false
@@ -56,14 +51,8 @@ pub trait Reporter {
     /// Takes a notice. A reporter that is shut takes nothing. Where the notice is not taken whole, this counts as one failure, and the
     /// reporter is shut.
     fn hear(&mut self, notice: &Notice<'_>)
+        requires { IsGiven (notice_of notice.now) }
         ensures notice { hears self.old (notice_of notice.now) self.new }
-        ensures count { SinkMoves (held self.old) (held self.new) };
-
-    /// All starts have been walked from, and the marks say as what each page is used. Only the faults at the end are left to hear. A
-    /// reporter that is shut takes nothing.
-    fn walked<A: Allocator>(&mut self, geometry: Geometry, marks: &Marks<A>)
-        requires { IsInRange geometry }
-        ensures notice { hears self.old (walked geometry marks.now) self.new }
         ensures count { SinkMoves (held self.old) (held self.new) };
 
     /// Whether a notice was not taken whole. It stays so.

@@ -13,12 +13,16 @@ ghost use Rattle.dbscan.specs.Scans.{IsScanned};
 use crate::Desk;
 use crate::end_pass::tell_end;
 use crate::reporter::Reporter;
+use crate::start::Start;
 use crate::tell::tell_header;
-use crate::walks::walk_starts;
+use crate::teller::Teller;
+use crate::walks::{walk_roots, walk_schema, walk_trunks};
 use dbsource::{RunError, Source};
 use std::alloc::Allocator;
 
-/// Reports all that is found in a file: the faults of its header, what is found at its starts, and the faults at the end.
+/// Reports all that is found in a file: the faults of its header; what is found from its starts, which are the schema's tree, the trees that
+/// it names, and the freelist; and what is left at the end. The list takes the rows of the schema. The reporter hears that a tree has ended
+/// before the next page is read.
 ///
 /// # Errors
 ///
@@ -38,6 +42,9 @@ pub fn scan<A: Allocator, S: Source, K: Reporter>(
     ensures keeps { KeepsHeader result desk.old desk.new (K.held reporter.old) (K.held reporter.new) }
 {
     tell_header(desk.header(), reporter)?;
-    let any_rows = walk_starts(desk, source, reporter)?;
+    let any_rows = walk_schema(desk, source, reporter)?;
+    walk_roots(desk, source, reporter)?;
+    let start = Start::freelist();
+    walk_trunks(desk, source, &mut Teller::new(reporter, &start))?;
     tell_end(desk, source, any_rows, reporter)
 }

@@ -1,12 +1,9 @@
 // Faults that are reported one after another, and those of the header.
-ghost use Rattle.std.specs.Prelude.{◌≡◌, IfErr, map, false};
+ghost use Rattle.std.specs.Prelude.{◌≡◌, map, false};
 ghost use Rattle.dbformat.specs.HeaderFaults.{header_faults};
-ghost use Rattle.dbsource.specs.Errors.{is_write_failed};
-ghost use Rattle.dbsource.specs.declared.error.RunError.TheVariants.{WriteFailed};
 ghost use Rattle.dbtrace.specs.declared.Part.TheVariants as part;
-ghost use Rattle.dbwalk.specs.Telling.{Tells, SinkAfter};
 ghost use Rattle.dbscan.specs.Notices.{whole};
-ghost use Rattle.dbscan.specs.Telling.{items_of};
+ghost use Rattle.dbscan.specs.Telling.{AreHeard, items_of};
 
 use crate::header_faults::header_faults as faults_of;
 use crate::notice::Notice;
@@ -22,9 +19,7 @@ pub(crate) fn tell_all<K: Reporter>(
     reporter: &mut K,
 ) -> Result<(), RunError>
     requires { (K.held reporter.old).is_shut ≡ false }
-    ensures told { Tells K.hears result reporter.old (items_of part faults.now) reporter.new }
-    ensures writes { SinkAfter is_write_failed result (K.held reporter.old) (K.held reporter.new) }
-    ensures only { IfErr result (λ e. e ≡ WriteFailed) }
+    ensures { AreHeard K.hears K.held result reporter.old (items_of part faults.now) reporter.new }
 {
     for fault in faults {
         if let Some(fault) = fault {
@@ -45,9 +40,7 @@ pub(crate) fn tell_all<K: Reporter>(
 /// [`RunError::WriteFailed`] exactly where the reporter failed: it is shut then.
 pub fn tell_header<K: Reporter>(header: &Header, reporter: &mut K) -> Result<(), RunError>
     requires { (K.held reporter.old).is_shut ≡ false }
-    ensures told { Tells K.hears result reporter.old (map (whole part.Header) (header_faults header.now.bytes header.now.file_len)) reporter.new }
-    ensures writes { SinkAfter is_write_failed result (K.held reporter.old) (K.held reporter.new) }
-    ensures only { IfErr result (λ e. e ≡ WriteFailed) }
+    ensures { AreHeard K.hears K.held result reporter.old (map (whole part.Header) (header_faults header.now.bytes header.now.file_len)) reporter.new }
 {
     let faults = faults_of(header);
     tell_all(Part::Header, &faults, reporter)

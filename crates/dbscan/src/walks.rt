@@ -1,26 +1,15 @@
 // The walks of a run, start after start.
-ghost use Rattle.std.specs.Prelude.{◌≡◌, ◌↔◌, ℕ, ◌≤◌, ◌+◌, ◌-◌, List, [], length, slice_get, Some, IfErr, false};
+ghost use Rattle.std.specs.Prelude.{◌≡◌, ◌↔◌, ◌≤◌, ◌+◌, ◌-◌, List, [], Some, false};
 ghost use Rattle.std.specs.List.{enumerate_from};
 ghost use Rattle.dbformat.specs.Address.{schema_start};
-ghost use Rattle.dbformat.specs.File.{geometry};
-ghost use Rattle.dbformat.specs.Header.{encoding as encoding_of};
 ghost use Rattle.dbformat.specs.Reference.{Reference};
-ghost use Rattle.dbformat.specs.SchemaRow.{SchemaRow as NamingRow};
 ghost use Rattle.dbformat.specs.Survey.{Survey};
-ghost use Rattle.dbsource.specs.Errors.{is_out_of_memory, is_read_failed, is_write_failed};
-ghost use Rattle.dbsource.specs.Failures.{failures_after};
-ghost use Rattle.dbsource.specs.Sources.{Asks};
-ghost use Rattle.dbmarks.specs.Reads.{Reads};
-ghost use Rattle.dbwalk.specs.Telling.{IsReadOrWrite, IsReadWriteOrMemory};
-ghost use Rattle.dbwalk.specs.Telling.{SinkAfter};
-ghost use Rattle.dbwalk.specs.Roots.{IsRootAfter};
 ghost use Rattle.dbwalk.specs.Rows.{schema_row_of};
-ghost use Rattle.dbwalk.specs.Taking.{StartsEmpty};
 ghost use Rattle.dbwalk.specs.declared.root.RootKind.TheVariants as root_kind;
 ghost use Rattle.dbscan.specs.Desks.{AsksOver, IsFresh};
 ghost use Rattle.dbscan.specs.Kept.{KeepsHeader, KeepsRoots};
-ghost use Rattle.dbscan.specs.Starts.{at_freelist, at_row, kind_by, root_of, root_of_schema};
-ghost use Rattle.dbscan.specs.Walks.{AreTold, AreWalked, IsSchemaWalked, IsBetweenStarts, IsTreeWalked, IsWalkedOver, StopsTelling};
+ghost use Rattle.dbscan.specs.Starts.{at_freelist, kind_by, root_of, root_of_schema};
+ghost use Rattle.dbscan.specs.Walks.{AreTold, IsSchemaWalked, IsBetweenStarts, StopsTelling};
 
 use crate::Desk;
 use crate::no_rows::NoRows;
@@ -71,7 +60,7 @@ fn root_of(row: &SchemaRow<'_>, start: u32, encoding: Encoding) -> Root
 }
 
 // Walks over the schema's tree, to its end. The list takes its rows. It answers whether there are any.
-fn walk_schema<A: Allocator, S: Source, K: Reporter>(
+pub(crate) fn walk_schema<A: Allocator, S: Source, K: Reporter>(
     desk: &mut Desk<A>,
     source: &mut S,
     reporter: &mut K,
@@ -93,7 +82,7 @@ fn walk_schema<A: Allocator, S: Source, K: Reporter>(
 }
 
 // Walks over the trees of the list, one after another. The reporter is given the name of each, borrowed from the list.
-fn walk_roots<A: Allocator, S: Source, K: Reporter>(
+pub(crate) fn walk_roots<A: Allocator, S: Source, K: Reporter>(
     desk: &mut Desk<A>,
     source: &mut S,
     reporter: &mut K,
@@ -122,7 +111,7 @@ fn walk_roots<A: Allocator, S: Source, K: Reporter>(
 }
 
 // Walks along the freelist, if there is one.
-fn walk_trunks<A: Allocator, S: Source, K: Reporter>(
+pub(crate) fn walk_trunks<A: Allocator, S: Source, K: Reporter>(
     desk: &mut Desk<A>,
     source: &mut S,
     teller: &mut Teller<'_, K>,
@@ -141,31 +130,4 @@ fn walk_trunks<A: Allocator, S: Source, K: Reporter>(
         return Ok(());
     }
     walk_freelist(source, &mut desk.bench, &mut desk.marks, first, teller)
-}
-
-/// Walks from all starts: over the schema's tree and the trees that it names, and along the freelist. The list takes the
-/// rows of the schema; the answer is whether there are any. The reporter hears that a tree has ended
-/// before the next page is read.
-///
-/// # Errors
-///
-/// [`RunError::ReadFailed`] exactly where the source failed, [`RunError::WriteFailed`] exactly where the reporter failed, and
-/// [`RunError::OutOfMemory`] exactly where the list was refused memory.
-pub fn walk_starts<A: Allocator, S: Source, K: Reporter>(
-    desk: &mut Desk<A>,
-    source: &mut S,
-    reporter: &mut K,
-) -> Result<bool, RunError>
-    requires fresh { IsFresh desk.old }
-    requires open { (K.held reporter.old).is_shut ≡ false }
-    ensures asks { AsksOver S.step desk.old desk.new (λ file. (V : List Reference) → Survey file V
-        → AreWalked K.hears file V result desk.new.marks desk.new.roots.rows reporter.old reporter.new)
-        result (S.held source.old) (S.held source.new) }
-    ensures keeps { KeepsHeader result desk.old desk.new (K.held reporter.old) (K.held reporter.new) }
-{
-    let any_rows = walk_schema(desk, source, reporter)?;
-    walk_roots(desk, source, reporter)?;
-    let start = Start::freelist();
-    walk_trunks(desk, source, &mut Teller::new(reporter, &start))?;
-    Ok(any_rows)
 }

@@ -1,16 +1,15 @@
-// The rows of the pages that are in no tree and in no overflow chain.
-ghost use Rattle.std.specs.Prelude.{◌≡◌, ◌≤◌, length, option_map};
+// The row of a page that is in no tree and in no overflow chain.
+ghost use Rattle.std.specs.Prelude.{◌≡◌, ◌≤◌, option_map};
 ghost use Rattle.dbformat.specs.FixedPages.{IsInRange, fixed_use};
 ghost use Rattle.dbformat.specs.Rows.{other_unvisited};
 ghost use Rattle.dbsource.specs.Outs.{Puts};
 ghost use Rattle.dbreport.specs.Columns.{other_of};
-ghost use Rattle.dbreport.specs.OtherMarks.{marked_line, marked_lines, marked_other};
+ghost use Rattle.dbreport.specs.OtherMarks.{marked_line, marked_other};
 
 use crate::statistics::lines::put_other_row;
 use crate::statistics::page_texts::OtherPage;
 use dbsource::{Fixed, Geometry, Out, WriteFailed};
-use dbwalk::{Mark, Marks};
-use std::alloc::Allocator;
+use dbwalk::Mark;
 
 // What a page is that is not visited, by its fixed use.
 fn unvisited_page(shape: Geometry, page: u32) -> OtherPage
@@ -38,33 +37,17 @@ fn other_page(shape: Geometry, page: u32, mark: Mark) -> Option<OtherPage>
 }
 
 // Puts the line of a page with this mark, where it is in no tree and in no overflow chain.
-fn put_marked<O: Out>(
+pub(crate) fn put_marked<O: Out>(
     out: &mut O,
-    shape: Geometry,
+    shape: &Geometry,
     page: u32,
     mark: Mark,
 ) -> Result<(), WriteFailed>
-    requires range { IsInRange shape }
-    requires page { 1 ≤ page }
-    ensures { Puts result (O.held out.old) (O.held out.new) (marked_line shape page mark) }
+    requires { IsInRange shape.now × (1 ≤ page) }
+    ensures { Puts result (O.held out.old) (O.held out.new) (marked_line shape.now page mark) }
 {
-    match other_page(shape, page, mark) {
+    match other_page(*shape, page, mark) {
         Some(what) => put_other_row(out, shape.page_size, page, what),
         None => Ok(()),
     }
-}
-
-// Puts the rows of the pages that are in no tree and in no overflow chain, by number, by the marks after a walk.
-pub(crate) fn put_others<A: Allocator, O: Out>(
-    shape: Geometry,
-    marks: &Marks<A>,
-    out: &mut O,
-) -> Result<(), WriteFailed>
-    requires { IsInRange shape }
-    ensures { Puts result (O.held out.old) (O.held out.new) (marked_lines shape marks.now 1 (length marks.now)) }
-{
-    for index in 0..marks.pages() {
-        put_marked(out, shape, index + 1, marks.get(index + 1))?;
-    }
-    Ok(())
 }

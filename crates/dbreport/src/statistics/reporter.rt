@@ -1,26 +1,27 @@
 // What the statistics write of the notices that they hear.
-ghost use Rattle.std.specs.Prelude.{◌≡◌, [], List, true, false, MatchResult};
+ghost use Rattle.std.specs.Prelude.{◌≡◌, ◌≤◌, [], List, true, false};
 ghost use Rattle.dbformat.specs.FixedPages.{IsInRange};
 ghost use Rattle.dbformat.specs.Report.{verdict_of};
 ghost use Rattle.dbformat.specs.Rows.{StatRow};
-ghost use Rattle.dbsource.specs.Failures.{CountsAfter, failures_after, is_any};
+ghost use Rattle.dbsource.specs.Failures.{failures_after, is_any};
 ghost use Rattle.dbsource.specs.Outs.{Puts};
 ghost use Rattle.dbwalk.specs.Rows.{row_of};
-ghost use Rattle.dbreport.specs.StatReporter.{AreSameOuts, CutsEnd, CutsStatFault, CutsOthers, CutsRow, EndsTree, PutsOthers, TakesFault};
-ghost use Rattle.dbreport.specs.StatReporter.{TakesStatRow, tree_end_text, failures_of_each};
+ghost use Rattle.dbscan.specs.Notices.{ended, heard_fault, heard_row, marked};
+ghost use Rattle.dbreport.specs.StatReporter.{Writes, tree_end_text};
 ghost use Rattle.dbreport.specs.Sums.{sums_of};
 ghost use Rattle.dbreport.specs.TreeNames.{tree_label_text};
 
 use crate::statistics::Form;
 use crate::statistics::lines::{put_page_row, put_tree_row};
-use crate::statistics::other_pages::put_others;
+use crate::statistics::other_pages::put_marked;
 use crate::statistics::sums::Sums;
 use crate::statistics::tree_name::TreeLabel;
 use dbformat::{Encoding, Verdict};
 use dblines::put_fault;
 use dbscan::{Desk, Finish, Notice, Reporter, Start};
 use dbsource::{Geometry, Out, RunError, Source, WriteFailed};
-use dbwalk::{Fault, Marks, Row};
+use dbtrace::Reported;
+use dbwalk::{Mark, Row};
 use std::alloc::Allocator;
 
 // Writes rows to the one Out and the lines of faults to the other, as they come. In the aggregate form it adds up the rows
@@ -82,15 +83,11 @@ impl<'a, O: Out, E: Out> StatReporter<'a, O, E> {
     }
 
     // Writes the line of a fault, and counts it.
-    fn fault(&mut self, fault: &Fault) -> Result<(), WriteFailed>
-        ensures item { MatchResult result (λ _. TakesFault O.held E.held self.old fault.now self.new)
-            (λ _. CutsStatFault O.held E.held self.old fault.now self.new) }
-        ensures same { AreSameOuts self.old self.new }
-        ensures count { CountsAfter is_any result (failures_of_each (O.held self.old.out.now) (E.held self.old.err.now))
-            (failures_of_each (O.held self.new.out.now) (E.held self.new.err.now)) }
+    fn fault(&mut self, told: &Reported) -> Result<(), WriteFailed>
+        ensures { Writes O.held E.held result self.old (heard_fault told.now) self.new }
     {
         self.out.flush()?;
-        put_fault(self.err, fault)?;
+        put_fault(self.err, &told.fault)?;
         self.found = self.found.saturating_add(1);
         Ok(())
     }
@@ -98,11 +95,7 @@ impl<'a, O: Out, E: Out> StatReporter<'a, O, E> {
     // Writes a row of the tree of a start, or counts it for the row of the tree.
     #[tactic(auto, using(dbsource::proofs::Beginnings::begins_nothing))]
     fn row(&mut self, start: &Start<'_>, row: &Row<'_>) -> Result<(), WriteFailed>
-        ensures item { MatchResult result (λ _. TakesStatRow O.held E.held self.old start.now (row_of row.now) self.new)
-            (λ _. CutsRow O.held E.held self.old start.now (row_of row.now) self.new) }
-        ensures same { AreSameOuts self.old self.new }
-        ensures count { CountsAfter is_any result (failures_of_each (O.held self.old.out.now) (E.held self.old.err.now))
-            (failures_of_each (O.held self.new.out.now) (E.held self.new.err.now)) }
+        ensures { Writes O.held E.held result self.old (heard_row start.now (row_of row.now)) self.new }
     {
         if !self.form.aggregate {
             self.err.flush()?;
@@ -115,10 +108,7 @@ impl<'a, O: Out, E: Out> StatReporter<'a, O, E> {
 
     // Writes the row of a tree, where the rows of its pages are added up.
     fn end_tree(&mut self, start: &Start<'_>) -> Result<(), WriteFailed>
-        ensures item { MatchResult result (λ _. EndsTree O.held E.held self.old start.now self.new) (λ _. CutsEnd O.held E.held self.old start.now self.new) }
-        ensures same { AreSameOuts self.old self.new }
-        ensures count { CountsAfter is_any result (failures_of_each (O.held self.old.out.now) (E.held self.old.err.now))
-            (failures_of_each (O.held self.new.out.now) (E.held self.new.err.now)) }
+        ensures { Writes O.held E.held result self.old (ended start.now) self.new }
     {
         if self.form.aggregate {
             self.err.flush()?;
@@ -129,23 +119,15 @@ impl<'a, O: Out, E: Out> StatReporter<'a, O, E> {
         Ok(())
     }
 
-    // Writes the rows of the pages in no tree and in no overflow chain, where they are asked for.
+    // Writes the row of a page, by its mark, if it is in no tree and in no overflow chain, where these rows are asked for.
     #[tactic(auto, using(dbsource::proofs::Beginnings::begins_nothing))]
-    fn put_others<A: Allocator>(
-        &mut self,
-        geometry: Geometry,
-        marks: &Marks<A>,
-    ) -> Result<(), WriteFailed>
-        requires { IsInRange geometry }
-        ensures item { MatchResult result (λ _. PutsOthers O.held E.held self.old geometry marks.now self.new)
-            (λ _. CutsOthers O.held E.held self.old geometry marks.now self.new) }
-        ensures same { AreSameOuts self.old self.new }
-        ensures count { CountsAfter is_any result (failures_of_each (O.held self.old.out.now) (E.held self.old.err.now))
-            (failures_of_each (O.held self.new.out.now) (E.held self.new.err.now)) }
+    fn page(&mut self, geometry: &Geometry, page: u32, mark: Mark) -> Result<(), WriteFailed>
+        requires { IsInRange geometry.now × (1 ≤ page) }
+        ensures { Writes O.held E.held result self.old (marked geometry.now page mark) self.new }
     {
         if self.form.all {
             self.err.flush()?;
-            put_others(geometry, marks, self.out)?;
+            put_marked(self.out, geometry, page, mark)?;
         }
         Ok(())
     }
@@ -170,17 +152,12 @@ impl<O: Out, E: Out> Reporter for StatReporter<'_, O, E> {
             return;
         }
         let taken = match notice {
-            Notice::Fault(told) => self.fault(&told.fault),
+            Notice::Fault(told) => self.fault(told),
             Notice::Row(start, row) => self.row(start, row),
             Notice::Ended(start) => self.end_tree(start),
+            Notice::Page(geometry, page, mark) => self.page(geometry, *page, *mark),
         };
         self.is_shut = taken.is_err();
-    }
-
-    fn walked<A: Allocator>(&mut self, geometry: Geometry, marks: &Marks<A>) {
-        if !self.is_shut {
-            self.is_shut = self.put_others(geometry, marks).is_err();
-        }
     }
 
     fn is_shut(&self) -> bool {

@@ -73,8 +73,8 @@ loop-index-preserved g c =
                 (page_notices file c.args.least_other (i + 1) mark) k.0 t.0),
             t.1,
           ));
-      writes = c.in_ok-end_page.ensures.writes ∙ c.loop-index.invariant.writes;
-      bench = c.end_page.ensures.bench ∙ ap (λ (b : Pages). record b { chain = c.end_page.new.bench.chain }) c.loop-index.invariant.bench;
+      writes = c.in_ok-end_page.ensures.ends.writes ∙ c.loop-index.invariant.writes;
+      bench = c.end_page.ensures.ends.bench ∙ ap (λ (b : Pages). record b { chain = c.end_page.new.bench.chain }) c.loop-index.invariant.bench;
     }
 
 pub returns-clause-asks : goal.returns-clause-asks

@@ -1,4 +1,4 @@
-use Rattle.std.proofs.Common.{rules, ◌≡◌, List, Err, inr, map, refl, sym, ap, ap₂, ◌∙◌, subst}
+use Rattle.std.proofs.Common.{rules, ◌≡◌, List, Err, map, refl, sym, ap, ◌∙◌, subst}
 use Rattle.std.proofs.lemmas.Result.{err_from_is_err_and}
 use Rattle.dbformat.specs.EndFaults.{end_faults, has_rows}
 use Rattle.dbformat.specs.File.{geometry}
@@ -18,10 +18,10 @@ use Rattle.dbsurvey.proofs.Moving.{some_first, some_none}
 use Rattle.dbscan.specs.Desks.{DeskView}
 use Rattle.dbscan.specs.EndPass.{pages_items}
 use Rattle.dbscan.specs.MapReads.{IsMapInUse, MapReads}
-use Rattle.dbscan.specs.Notices.{end_notices, walked, whole}
+use Rattle.dbscan.specs.Notices.{end_notices, whole}
 use Rattle.dbtrace.specs.declared.Part.TheVariants as part
 use Rattle.dbscan.specs.Telling.{items_of}
-use Rattle.dbscan.proofs.EndItems.{all_items, tells_then, walked_then}
+use Rattle.dbscan.proofs.EndItems.{all_items, tells_then, pages_then}
 use Rattle.dbscan.proofs.MapLogs.{asks_nothing, reads_none}
 use Rattle.dbscan.proofs.Tellers.{asked_after, asked_error, asked_ok}
 use Rattle.dbscan.proofs.end_pass.tell_end.Goals as goal
@@ -33,14 +33,12 @@ returns-in_err-ask-clause-asks g c =
     let header = ap (λ (d : DeskView). d.header) c.desk.view_is in
     let marks = ap (λ (d : DeskView). d.marks) c.desk.view_is in
     let e = c.in_err-ask.field-0.0 in
-    let is = asked_error (g.K.Reporter.held c.walked.new.self).is_shut c.in_err-ask.ensures in
+    let is = asked_error (g.K.Reporter.held c.count_marks-counts.new.reporter).is_shut c.in_err-ask.ensures in
     rw q.1 (rw q.2 (asks_nothing g.S.Source.step _ (Err e) _ is (reads_none shape.page_size (IsMapInUse shape) 1).reads (λ file of V s m rows.
-    inr (
-      c.walked.new.self,
-      subst (λ n. g.K.Reporter.hears c.args.reporter.now n c.walked.new.self)
-          (ap₂ walked (c.geometry.ensures.shape ∙ (subst (λ h. IsHeaderOf h file) (sym header) of).shape) (marks ∙ m)) c.walked.ensures.notice,
-      some_none g.K.Reporter.hears c.walked.new.self (map (whole part.End) (end_faults file V)),
-    ))))
+    pages_then {A = Unit {0}} g.K.Reporter.hears file V (Err e) c.args.reporter.now c.count_marks-counts.new.reporter c.count_marks-counts.new.reporter
+    c.geometry-geometry.result c.desk.inside.marks
+    (c.geometry-geometry.ensures.shape ∙ (subst (λ h. IsHeaderOf h file) (sym header) of).shape) (marks ∙ m) c.count_marks-counts.ensures.told.items
+    (some_none g.K.Reporter.hears c.count_marks-counts.new.reporter (map (whole part.End) (end_faults file V))))))
 
 pub returns-in_err-tell_all-clause-asks : goal.returns-in_err-tell_all-clause-asks
 returns-in_err-tell_all-clause-asks g c =
@@ -56,11 +54,11 @@ returns-in_err-tell_all-clause-asks g c =
     let items = all_items file V s c.desk.inside.header c.args.any_rows c.desk.inside.marks counts.greatest_root counts.free_pages
     c.counted_faults-faults.result its (marks ∙ m) rows
     c.count_marks-counts.ensures.greatest c.count_marks-counts.ensures.free c.counted_faults-faults.ensures in
-    walked_then {A = Unit {0}} g.K.Reporter.hears file V (Err c.in_err-tell_all.field-0.0) c.args.reporter.now c.walked.new.self
-    c.tell_all.new.reporter c.geometry.result c.desk.inside.marks
-    (c.geometry.ensures.shape ∙ its.shape) (marks ∙ m) c.walked.ensures.notice
-    (subst (λ l. MovesBySome g.K.Reporter.hears c.walked.new.self l c.tell_all.new.reporter) items
-    (some_first g.K.Reporter.hears c.walked.new.self c.tell_all.new.reporter
+    pages_then {A = Unit {0}} g.K.Reporter.hears file V (Err c.in_err-tell_all.field-0.0) c.args.reporter.now c.count_marks-counts.new.reporter
+    c.tell_all.new.reporter c.geometry-geometry.result c.desk.inside.marks
+    (c.geometry-geometry.ensures.shape ∙ its.shape) (marks ∙ m) c.count_marks-counts.ensures.told.items
+    (subst (λ l. MovesBySome g.K.Reporter.hears c.count_marks-counts.new.reporter l c.tell_all.new.reporter) items
+    (some_first g.K.Reporter.hears c.count_marks-counts.new.reporter c.tell_all.new.reporter
     (items_of part.End c.counted_faults-faults.result) pages c.in_err-tell_all.ensures.told)))))
 
 pub returns-clause-asks : goal.returns-clause-asks
@@ -79,27 +77,28 @@ returns-clause-asks g c =
     let least = c.count_marks-counts.ensures.least ∙ ap least_other_marked m in
     let rest = subst (λ o. Tells g.K.Reporter.hears c.end_pages.result c.tell_all.new.reporter (pages_items file V o (geometry file).pages)
     c.end_pages.new.reporter) least (ended (c.desk.invariant.shape ∙ is.shape) is.is_read V m) in
-    walked_then g.K.Reporter.hears file V c.end_pages.result c.args.reporter.now c.walked.new.self c.end_pages.new.reporter c.geometry.result
-    c.desk.inside.marks
-    (c.geometry.ensures.shape ∙ is.shape) m c.walked.ensures.notice
-    (subst (λ l. Tells g.K.Reporter.hears c.end_pages.result c.walked.new.self l c.end_pages.new.reporter) items
-    (tells_then g.K.Reporter.hears c.end_pages.result c.walked.new.self c.tell_all.new.reporter c.end_pages.new.reporter
+    pages_then g.K.Reporter.hears file V c.end_pages.result c.args.reporter.now c.count_marks-counts.new.reporter c.end_pages.new.reporter
+    c.geometry-geometry.result c.desk.inside.marks
+    (c.geometry-geometry.ensures.shape ∙ is.shape) m c.count_marks-counts.ensures.told.items
+    (subst (λ l. Tells g.K.Reporter.hears c.end_pages.result c.count_marks-counts.new.reporter l c.end_pages.new.reporter) items
+    (tells_then g.K.Reporter.hears c.end_pages.result c.count_marks-counts.new.reporter c.tell_all.new.reporter c.end_pages.new.reporter
     (items_of part.End c.counted_faults-faults.result) (pages_items file V (least_other_marked (marks_of (geometry file) V)) (geometry file).pages)
     c.in_ok-tell_all.ensures.told rest))))
 
 pub returns-in_err-ask-clause-writes : goal.returns-in_err-ask-clause-writes
 returns-in_err-ask-clause-writes g c =
     let q = err_from_is_err_and c.from_residual.result c.from_residual.ensures.1 in
-    rw q.1 (rw q.2 (asked_after c.in_err-ask.ensures c.walked.ensures.count c.requires))
+    rw q.1 (rw q.2 (asked_after c.in_err-ask.ensures c.count_marks-counts.ensures.told.count c.requires))
 
 pub end_pages-requires : goal.end_pages-requires
 end_pages-requires g c = (
   search rules,
-  ap (λ (s : SinkState). s.is_shut) c.in_ok-tell_all.ensures.writes ∙ asked_ok (g.K.Reporter.held c.walked.new.self).is_shut c.in_ok-ask.ensures,
+  ap (λ (s : SinkState). s.is_shut) c.in_ok-tell_all.ensures.writes
+      ∙ asked_ok (g.K.Reporter.held c.count_marks-counts.new.reporter).is_shut c.in_ok-ask.ensures,
 )
 
 pub returns-clause-writes : goal.returns-clause-writes
 returns-clause-writes g c =
-    let shut = (g.K.Reporter.held c.walked.new.self).is_shut in
+    let shut = (g.K.Reporter.held c.count_marks-counts.new.reporter).is_shut in
     subst (λ s. SinkAfter is_write_failed c.end_pages.result s (g.K.Reporter.held c.end_pages.new.reporter))
-    (c.in_ok-tell_all.ensures.writes ∙ moves_open c.walked.ensures.count (asked_ok shut c.in_ok-ask.ensures)) c.end_pages.ensures.writes
+    (c.in_ok-tell_all.ensures.writes ∙ moves_open c.count_marks-counts.ensures.told.count (asked_ok shut c.in_ok-ask.ensures)) c.end_pages.ensures.ends.writes

@@ -1,4 +1,4 @@
-use Rattle.std.proofs.Common.{◌≡◌, ℕ, Bool, List, Ok, Err, refl, sym, ap, ◌∙◌, arith}
+use Rattle.std.proofs.Common.{◌≡◌, ℕ, Bool, List, Ok, Err, refl, sym, ap, ◌∙◌}
 use Rattle.std.proofs.lemmas.Result.{err_from_is_err_and}
 use Rattle.dbformat.specs.File.{geometry, page_bytes}
 use Rattle.dbformat.specs.declared.Geometry.{Geometry}
@@ -9,6 +9,7 @@ use Rattle.dbsource.proofs.Logs.{has_weaker}
 use Rattle.dbmarks.specs.Marking.{is_unmarked}
 use Rattle.dbmarks.proofs.Readings.{log_load}
 use Rattle.dbwalk.proofs.Chaining.Overflows.{page_read}
+use Rattle.dbwalk.proofs.Pages.Levels.{usable_page}
 use Rattle.dbscan.proofs.looks.look_at.Goals as goal
 
 -- the cause of its fault, by its bytes as they were read
@@ -41,6 +42,5 @@ returns-clause-asks g c =
       count = c.in_ok-load.ensures.count;
     }
 
-pub lost_cause-requires-clause-whole : goal.lost_cause-requires-clause-whole
-lost_cause-requires-clause-whole g c =
-    omega (arith, ap (λ (s : Geometry). s.page_size) c.geometry-usable.ensures.value, c.geometry-usable.ensures.range.usable, c.page.ensures.len)
+pub lost_cause-requires : goal.lost_cause-requires
+lost_cause-requires g c = usable_page c.geometry-usable.ensures.value c.geometry-usable.ensures.range c.page.ensures.len

@@ -1,17 +1,26 @@
-use Rattle.std.proofs.Common.{◌++◌, Err, refl, sym, ap, subst}
+use Rattle.std.proofs.Common.{rules, ◌≡◌, ◌++◌, map, Ok, Err, refl, sym, ap, subst, ◌∙◌}
 use Rattle.std.proofs.lemmas.Result.{err_from_is_err_and}
+use Rattle.dbsurvey.specs.Moves.{Moves}
 use Rattle.dbformat.specs.FixedPages.{geometry_of}
+use Rattle.dbformat.specs.HeaderFaults.{header_faults}
 use Rattle.dbsource.specs.HeaderBytes.{HeaderBytes}
 use Rattle.dbsource.specs.Headers.{IsHeaderOf}
 use Rattle.dbsource.proofs.Logs.{asks_then, asks_weaker}
 use Rattle.dbmarks.specs.Reads.{Reads}
 use Rattle.dbmarks.proofs.FirstMarks.{fresh_marks}
+use Rattle.dbsource.specs.Errors.{is_write_failed}
+use Rattle.dbtrace.specs.declared.Part.TheVariants as part
+use Rattle.dbwalk.specs.Telling.{SinkAfter, Tells}
 use Rattle.dbscan.specs.Desks.{DeskView}
 use Rattle.dbscan.specs.Looks.{ReadsMarked}
 use Rattle.dbscan.specs.MapReads.{MapReads}
-use Rattle.dbscan.proofs.MapLogs.{asks_nothing, no_log, walk_log, walk_then_map_log}
-use Rattle.dbscan.proofs.Scanned.{header_stopped, starts_stopped, scan_ended}
-use Rattle.dbscan.specs.Kept.{KeepsHeader}
+use Rattle.dbscan.specs.Notices.{Notice, end_notices, whole}
+use Rattle.dbscan.proofs.MapLogs.{asks_nothing, no_log, walk_then_map_log}
+use Rattle.dbscan.proofs.Scanned.{header_stopped, scan_ended, scan_stopped}
+use Rattle.dbscan.proofs.StartWalks.{later_asks, reporter_first, roots_stopped, starts_asks}
+use Rattle.dbscan.proofs.TreeWalks.{schema_stopped}
+use Rattle.dbscan.specs.Kept.{KeepsHeader, KeepsRoots}
+use Rattle.dbscan.specs.Walks.{AreWalked}
 use Rattle.dbscan.proofs.Keeping.{keeps_then}
 use Rattle.dbscan.proofs.scans.scan.Goals as goal
 
@@ -29,49 +38,106 @@ returns-in_err-tell_header-clause-asks g c =
       listed = tt;
     })))
 
+-- the faults of the header, as they were reported of the header on the desk
+abbrev header_told : {S : Type 0} (hears : S → Notice → S → Type 0) (s a : S) (h h' : HeaderBytes) → h ≡ h'
+    → Moves hears s (map (whole part.Header) (header_faults h.bytes h.file_len)) a
+    → Moves hears s (map (whole part.Header) (header_faults h'.bytes h'.file_len)) a
+header_told hears s a h h' same told = subst (λ (h : HeaderBytes). Moves hears s (map (whole part.Header) (header_faults h.bytes h.file_len)) a) same told
+
 pub returns-in_err-any_rows-clause-asks : goal.returns-in_err-any_rows-clause-asks
 returns-in_err-any_rows-clause-asks g c =
     let q = err_from_is_err_and c.from_residual-in_err-any_rows.result c.from_residual-in_err-any_rows.ensures.1 in
+    let hears = g.K.Reporter.hears in
+    let s = c.args.reporter.now in
+    let a = c.tell_header.new.reporter in
+    let m = c.walk_schema.new in
     let e = c.in_err-any_rows.field-0.0 in
-    let geo = geometry_of c.args.desk.now.header.bytes c.args.desk.now.header.file_len in
-    let old = c.args.desk.now.marks in
-    let new = c.walk_starts.new.desk.marks in
-    rw q.1 (rw q.2 (asks_weaker (Reads geo.page_size old new) _ (Err e) (λ n. refl) c.in_err-any_rows.ensures.asks
-    (λ log r. walk_log geo old new log (fresh_marks geo old c.requires.fresh.marks) r) (λ file walked is V s. record {
-      told = starts_stopped g.K.Reporter.hears file V c.header.result.now
-          (subst (λ (h : HeaderBytes). IsHeaderOf h file) (sym c.header.ensures.value) is) c.args.reporter.now c.tell_header.new.reporter
-          c.in_ok-tell_header.ensures.told e c.walk_starts.new.reporter (walked is V s).all.told;
-      marked = tt;
-      listed = tt;
-    })))
+    rw q.1 (rw q.2 (scan_stopped hears g.S.Source.step c.args.desk.now m.desk s a m.reporter e c.requires.fresh
+    (header_told hears s a c.header.result.now c.args.desk.now.header c.header.ensures.value c.in_ok-tell_header.ensures.told)
+    (asks_weaker _ _ (Err e) (λ n. refl) c.in_err-any_rows.ensures.asks (λ log reads. reads) (λ file walked is V survey.
+    schema_stopped hears file V m.desk.marks m.desk.roots.rows a m.reporter e (walked is).tree))))
+
+pub returns-in_err-walk_roots-clause-asks : goal.returns-in_err-walk_roots-clause-asks
+returns-in_err-walk_roots-clause-asks g c =
+    let q = err_from_is_err_and c.from_residual-in_err-walk_roots.result c.from_residual-in_err-walk_roots.ensures.1 in
+    let hears = g.K.Reporter.hears in
+    let step = g.S.Source.step in
+    let s = c.args.reporter.now in
+    let a = c.tell_header.new.reporter in
+    let m = c.walk_schema.new in
+    let t = c.walk_roots.new in
+    let e = c.in_err-walk_roots.field-0.0 in
+    rw q.1 (rw q.2 (scan_stopped hears step c.args.desk.now t.desk s a t.reporter e c.requires.fresh
+    (header_told hears s a c.header.result.now c.args.desk.now.header c.header.ensures.value c.in_ok-tell_header.ensures.told)
+    (starts_asks hears step c.args.desk.now m.desk t.desk c.in_ok-any_rows.any_rows (Err e) a m.reporter t.reporter
+    c.requires.fresh c.in_ok-any_rows.ensures.keeps.desk.header c.in_err-walk_roots.ensures.keeps.roots c.in_ok-any_rows.ensures.asks
+    (roots_stopped hears step m.desk t.desk e m.reporter t.reporter c.in_err-walk_roots.ensures.asks))))
+
+pub returns-in_err-walk_trunks-clause-asks : goal.returns-in_err-walk_trunks-clause-asks
+returns-in_err-walk_trunks-clause-asks g c =
+    let q = err_from_is_err_and c.from_residual-in_err-walk_trunks.result c.from_residual-in_err-walk_trunks.ensures.1 in
+    let hears = g.K.Reporter.hears in
+    let step = g.S.Source.step in
+    let s = c.args.reporter.now in
+    let a = c.tell_header.new.reporter in
+    let m = c.walk_schema.new in
+    let t = c.walk_roots.new in
+    let u = c.walk_trunks.new in
+    let e = c.in_err-walk_trunks.field-0.0 in
+    rw q.1 (rw q.2 (scan_stopped hears step c.args.desk.now u.desk s a _ e c.requires.fresh
+    (header_told hears s a c.header.result.now c.args.desk.now.header c.header.ensures.value c.in_ok-tell_header.ensures.told)
+    (asks_weaker _ _ (Err e) (λ n. refl)
+    (starts_asks hears step c.args.desk.now m.desk u.desk c.in_ok-any_rows.any_rows (Err e) a m.reporter u.teller.reporter.now
+    c.requires.fresh c.in_ok-any_rows.ensures.keeps.desk.header
+    (c.in_err-walk_trunks.ensures.keeps.roots ∙ c.in_ok-walk_roots.ensures.keeps.roots) c.in_ok-any_rows.ensures.asks
+    (later_asks hears step m.desk t.desk u.desk (Err e) m.reporter t.reporter u.teller.reporter.now c.in_ok-walk_roots.ensures.keeps.header
+    c.in_ok-walk_roots.ensures.asks (reporter_first hears step t.desk u.desk (Err e) c.new.ensures.reporter c.in_err-walk_trunks.ensures.asks)))
+    (λ log reads. reads)
+    (λ file done is V survey. subst (λ x. AreWalked hears file V (Err e) u.desk.marks u.desk.roots.rows a x) (search rules) (done is V survey)))))
 
 pub returns-clause-asks : goal.returns-clause-asks
 returns-clause-asks g c =
     let geo = geometry_of c.args.desk.now.header.bytes c.args.desk.now.header.file_len in
+    let hears = g.K.Reporter.hears in
+    let step = g.S.Source.step in
+    let s = c.args.reporter.now in
+    let a = c.tell_header.new.reporter in
     let old = c.args.desk.now.marks in
-    let new = c.walk_starts.new.desk.marks in
-    let same = c.in_ok-any_rows.ensures.keeps.desk.header in
+    let m = c.walk_schema.new in
+    let t = c.walk_roots.new in
+    let u = c.walk_trunks.new in
+    let any = c.in_ok-any_rows.any_rows in
+    let same = c.in_ok-walk_trunks.ensures.keeps.header ∙ c.in_ok-walk_roots.ensures.keeps.header ∙ c.in_ok-any_rows.ensures.keeps.desk.header in
     let shape_of = λ (h : HeaderBytes). geometry_of h.bytes h.file_len in
-    asks_then (Reads geo.page_size old new) (MapReads (shape_of c.walk_starts.new.desk.header)) _ _ c.tell_end.result
-    (λ n. refl) (λ n. refl) c.in_ok-any_rows.ensures.asks c.tell_end.ensures.asks
+    asks_then (Reads geo.page_size old u.desk.marks) (MapReads (shape_of u.desk.header)) _ _ c.tell_end.result
+    (λ n. refl) (λ n. refl)
+    (starts_asks hears step c.args.desk.now m.desk u.desk any (Ok tt) a m.reporter u.teller.reporter.now
+    c.requires.fresh c.in_ok-any_rows.ensures.keeps.desk.header
+    (c.in_ok-walk_trunks.ensures.keeps.roots ∙ c.in_ok-walk_roots.ensures.keeps.roots) c.in_ok-any_rows.ensures.asks
+    (later_asks hears step m.desk t.desk u.desk (Ok tt) m.reporter t.reporter u.teller.reporter.now c.in_ok-walk_roots.ensures.keeps.header
+    c.in_ok-walk_roots.ensures.asks (reporter_first hears step t.desk u.desk (Ok tt) c.new.ensures.reporter c.in_ok-walk_trunks.ensures.asks)))
+    c.tell_end.ensures.asks
     (λ l m r k. subst (λ (d : DeskView). ReadsMarked geo d.marks (l ++ m)) (sym c.tell_end.ensures.desk)
-    (walk_then_map_log geo old new l m (fresh_marks geo old c.requires.fresh.marks) r (subst (λ g. MapReads g m) (ap shape_of same) k)))
-    (λ file walked ended is V s.
-    scan_ended g.K.Reporter.hears file V c.header.result.now (subst (λ (h : HeaderBytes). IsHeaderOf h file) (sym c.header.ensures.value) is)
-    c.args.reporter.now c.tell_header.new.reporter
-    c.in_ok-tell_header.ensures.told c.tell_end.result c.in_ok-any_rows.any_rows c.walk_starts.new.reporter c.tell_end.new.reporter c.walk_starts.new.desk
-    c.tell_end.new.desk (walked is V s) c.tell_end.ensures.desk
-    (ended (subst (λ (h : HeaderBytes). IsHeaderOf h file) (sym same) is) V s (walked is V s).all.marked (walked is V s).has_rows))
+    (walk_then_map_log geo old u.desk.marks l m (fresh_marks geo old c.requires.fresh.marks) r (subst (λ g. MapReads g m) (ap shape_of same) k)))
+    (λ file walked ended is V survey.
+    scan_ended hears file V c.args.desk.now.header is s a
+    (header_told hears s a c.header.result.now c.args.desk.now.header c.header.ensures.value c.in_ok-tell_header.ensures.told)
+    c.tell_end.result any u.teller.reporter.now c.tell_end.new.reporter u.desk c.tell_end.new.desk (walked is V survey) c.tell_end.ensures.desk
+    (subst (λ x. Tells hears c.tell_end.result x (end_notices file V) c.tell_end.new.reporter) (sym (search rules))
+    (ended (subst (λ (h : HeaderBytes). IsHeaderOf h file) (sym same) is) V survey (walked is V survey).all.marked (walked is V survey).has_rows)))
 
 pub returns-clause-keeps : goal.returns-clause-keeps
 returns-clause-keeps g c =
+    let held = g.K.Reporter.held in
+    let t = c.walk_roots.new in
+    let u = c.walk_trunks.new in
     let same = c.tell_end.ensures.desk in
-    subst (λ s. KeepsHeader c.tell_end.result c.args.desk.now c.tell_end.new.desk s (g.K.Reporter.held c.tell_end.new.reporter))
-    c.in_ok-tell_header.ensures.writes
-    (keeps_then c.in_ok-any_rows.ensures.keeps (record {
+    let trunks = subst (λ x. KeepsRoots {A = Unit {0}} (Ok tt) t.desk u.desk (held x) (held u.teller.reporter.now)) c.new.ensures.reporter
+    c.in_ok-walk_trunks.ensures.keeps in
+    subst (λ s. KeepsHeader c.tell_end.result c.args.desk.now c.tell_end.new.desk s (held c.tell_end.new.reporter)) c.in_ok-tell_header.ensures.writes
+    (keeps_then (keeps_then (keeps_then c.in_ok-any_rows.ensures.keeps c.in_ok-walk_roots.ensures.keeps) trunks) (record {
       header = ap (λ (d : DeskView). d.header) same;
       roots = ap (λ (d : DeskView). d.roots) same;
-      writes = c.tell_end.ensures.writes;
-      only =
-          c.tell_end.ensures.only;
+      writes = subst (λ x. SinkAfter is_write_failed c.tell_end.result (held x) (held c.tell_end.new.reporter)) (sym (search rules)) c.tell_end.ensures.writes;
+      only = c.tell_end.ensures.only;
     }))

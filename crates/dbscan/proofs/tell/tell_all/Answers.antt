@@ -1,5 +1,7 @@
-use Rattle.std.proofs.Common.{arith, [], ◌∷◌, ◌++◌, take, Some, None, sym, subst, ◌∙◌}
+use Rattle.std.proofs.Common.{arith, ◌≡◌, [], ◌∷◌, ◌++◌, take, Some, None, refl, sym, subst, ◌∙◌}
+use Rattle.std.specs.Prelude.{IfErr}
 use Rattle.std.proofs.lemmas.List.{append-nil, take_all}
+use Rattle.dbsource.specs.declared.error.RunError.TheVariants.{WriteFailed}
 use Rattle.dbsurvey.specs.Moves.{Moves}
 use Rattle.dbsurvey.proofs.Moving.{Moves-append, Moves-one}
 use Rattle.dbwalk.specs.Telling.{SinkMoves, Tells}
@@ -37,16 +39,17 @@ loop-fault-preserved g c =
       }
     ]
 
-pub returns-clause-told : goal.returns-clause-told
-returns-clause-told g c =
+pub returns : goal.returns
+returns g c =
     let hears = g.K.Reporter.hears in
+    let held = g.K.Reporter.held in
     let start = c.args.reporter.now in
     let end = c.loop-fault.reporter in
     let items = items_of c.args.part c.args.faults.now in
-    let faults = c.args.faults.now in
-    let all = subst (λ l. Moves hears start (items_of c.args.part l) end) (take_all c.loop-fault.fault-index faults (omega arith))
-    c.loop-fault.invariant.told in
-    asked_both (λ r. Tells hears r start items end) (g.K.Reporter.held end).is_shut c.ask.ensures all (moves_some hears start end items all)
-
-pub returns-clause-writes : goal.returns-clause-writes
-returns-clause-writes g c = asked_after c.ask.ensures c.loop-fault.invariant.writes c.requires
+    let shut = (held end).is_shut in
+    let all = subst (λ l. Moves hears start (items_of c.args.part l) end) (take_all c.loop-fault.fault-index c.args.faults.now (omega arith))
+    c.loop-fault.invariant.told in record {
+      told = asked_both (λ r. Tells hears r start items end) shut c.ask.ensures all (moves_some hears start end items all);
+      writes = asked_after c.ask.ensures c.loop-fault.invariant.writes c.requires;
+      only = asked_both (λ r. IfErr r (λ e. e ≡ WriteFailed)) shut c.ask.ensures tt refl;
+    }
