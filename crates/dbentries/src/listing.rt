@@ -114,6 +114,7 @@ impl<A: Allocator + Copy> Listing<A> {
 
 impl<A: Allocator> Listing<A> {
     // Adds a fault, which comes after the earlier ones of its part.
+    #[inline(always)]
     pub(crate) fn add(&mut self, told: &Reported)
         ensures { self.new ≡ added self.old told.now }
     {
@@ -177,7 +178,7 @@ impl<A: Allocator> Listing<A> {
         for slot in self.begins..self.shown {
             let first = &self.entries[slot].first;
             if is_beside(told, first) {
-                if left <= 1 || same_cause(told.cause, first.cause) {
+                if left <= 1 || same_cause(&told.cause, &first.cause) {
                     return Some(slot);
                 }
                 left -= 1;
