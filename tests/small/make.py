@@ -510,6 +510,18 @@ def all_looks(_):
     return db
 
 
+def one_byte(_):
+    """Of three leaves of a table `a` page 3 is all 61, and page 8 all 0d; the row of page 4 goes on on page 5, which is all ff. Page 6, all 61, and
+    page 7, all zeros, are in no use."""
+    db = Database(8)
+    db.schema(("table", "a", 2))
+    db.interior(2, 4, (3, 1), (8, 2))
+    db.tree_page(4, LEAF_TABLE, [varint(600) + varint(5) + bytes(92) + be(5)])
+    for page, only in (3, 0x61), (5, 0xff), (6, 0x61), (8, LEAF_TABLE):
+        db.put(page, 0, bytes([only]) * 512)
+    return db
+
+
 def lost_names(_):
     """A lost interior page names itself, 0, a page past the end, page 3 twice, and page 1; the pointer of its last cell is out of bounds."""
     db = Database(3)

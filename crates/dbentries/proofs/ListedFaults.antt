@@ -1,19 +1,21 @@
 -- Faults one after another, listed as they are heard.
 use Rattle.std.proofs.Common.{◌≡◌, ℕ, Bool, true, false, cond, List, [], ◌∷◌, ◌++◌, refl, sym, ap, subst, ◌∙◌, append_assoc}
-use Rattle.std.specs.Prelude.{fold, not}
+use Rattle.std.specs.Prelude.{filter, fold, not}
 use Rattle.std.proofs.lemmas.List.Elements.{filter-append}
 use Rattle.std.proofs.lemmas.List.Sums.{fold-append}
+use Rattle.dbformat.specs.EndFaults.{page_numbers}
 use Rattle.dbformat.specs.File.{geometry}
 use Rattle.dbformat.specs.Reference.{Reference}
 use Rattle.dbtrace.specs.declared.Reported.{Reported}
-use Rattle.dbentries.specs.Bits.{has_bit, HasPageBit}
+use Rattle.dbentries.specs.Bits.{has_bit}
 use Rattle.dbentries.specs.Listed.{IsBeginning, is_lost, listed_faults, lost_faults, others_of}
 use Rattle.dbentries.specs.Listing.{entries}
 use Rattle.dbentries.specs.Lists.{HasListed, Held, IsUnused, ListsAll, ListsFirst, Shows, added, heard}
 use Rattle.dbentries.specs.Store.{put}
-use Rattle.dbentries.specs.Zeros.{AreZeros, zero_noted}
+use Rattle.dbentries.specs.Lost.{HasNoted}
+use Rattle.dbentries.specs.Zeros.{is_of_one_byte, is_of_zeros, noted}
 use Rattle.dbentries.proofs.Adding.{Keeps, keeps_entries}
-use Rattle.dbentries.proofs.ZeroPages.{zeros_are}
+use Rattle.dbentries.proofs.ZeroPages.{bits_are}
 use Rattle.dbscan.specs.Placed.{told_faults}
 
 -- the entries, and the pages that are noted
@@ -21,9 +23,13 @@ entries_of : (xs : List Reported) (s : Held) → (fold added s xs).entries ≡ f
 entries_of [] s = refl
 entries_of (x ∷ xs) s = entries_of xs (added s x)
 
-zeros_of : (xs : List Reported) (s : Held) → (fold added s xs).zeros ≡ fold zero_noted s.zeros xs
+zeros_of : (xs : List Reported) (s : Held) → (fold added s xs).zeros ≡ fold (noted is_of_zeros) s.zeros xs
 zeros_of [] s = refl
 zeros_of (x ∷ xs) s = zeros_of xs (added s x)
+
+blank_of : (xs : List Reported) (s : Held) → (fold added s xs).blank ≡ fold (noted (is_of_one_byte s.usable)) s.blank xs
+blank_of [] s = refl
+blank_of (x ∷ xs) s = blank_of xs (added s x)
 
 -- what is kept of some faults shows their entries
 shown : (limit : ℕ) (first s : Held) (xs : List Reported) → IsUnused limit first → s ≡ fold added first xs → Shows limit (entries xs) s
@@ -51,9 +57,16 @@ module _ (file : List ℕ) (V : List Reference) (first now l : Held) (e : HasLis
   pub all_listed : (limit : ℕ) → IsUnused limit first → ListsAll limit file V l
   all_listed limit none = shown limit first l (listed_faults file V) none all_added
 
-  pub all_zeros : HasPageBit first.zeros (geometry file).pages → ((p : ℕ) → has_bit first.zeros p ≡ false) → AreZeros file V l.zeros
-  all_zeros room none =
-      subst (AreZeros file V) (sym (ap (λ (s : Held). s.zeros) all_added ∙ zeros_of (listed_faults file V) first)) (zeros_are file V first.zeros room none)
+  pub all_noted : (limit : ℕ) → IsUnused limit first → HasNoted file V first l
+  all_noted limit none = record {
+    zeros = λ room. ap (λ words. filter (has_bit words) (page_numbers (geometry file)))
+        (ap (λ (s : Held). s.zeros) all_added ∙ zeros_of (listed_faults file V) first)
+        ∙ bits_are is_of_zeros file V first.zeros room none.zeros;
+    blank = λ same room. ap (λ words. filter (has_bit words) (page_numbers (geometry file)))
+        (ap (λ (s : Held). s.blank) all_added ∙ blank_of (listed_faults file V) first
+        ∙ ap (λ n. fold (noted (is_of_one_byte n)) first.blank (listed_faults file V)) same)
+        ∙ bits_are (is_of_one_byte (geometry file).usable) file V first.blank room none.blank;
+  }
 
 -- the first faults of a file were heard
 pub heard_first : (limit : ℕ) (file : List ℕ) (V : List Reference) (first s : Held) (us : List Reported) → IsUnused limit first

@@ -3,24 +3,29 @@ use Rattle.std.specs.Prelude.{◌≡◌, ℕ, ◌≤◌, false, List, [], map, f
 use Rattle.std.specs.List.{sum_by}
 use Rattle.dbformat.specs.Lines.{counted}
 use Rattle.dbformat.specs.Reference.{Reference}
+use Rattle.dbformat.specs.declared.Geometry.{Geometry}
 use Rattle.dbtrace.specs.declared.Reported.{Reported}
-use Rattle.dbentries.specs.Bits.{has_bit}
+use Rattle.dbentries.specs.Bits.{has_bit, HasPageBit}
 use Rattle.dbentries.specs.Kept.{kept_of}
 use Rattle.dbentries.specs.Listed.{IsBeginning, is_lost, listed_entries, listed_faults}
 use Rattle.dbentries.specs.Listing.{Entry, entries, size}
 use Rattle.dbentries.specs.Store.{Stored, put}
-use Rattle.dbentries.specs.Zeros.{zero_noted}
+use Rattle.dbentries.specs.Zeros.{is_of_one_byte, is_of_zeros, noted}
 use Rattle.dbentries.specs.declared.listing.Listing.TheInside.{Inside}
 
--- a listing as contracts see it: entries, and words with a bit for each page
+-- a listing as contracts see it: entries, how many bytes of a page are usable, and words with two bits for each page
 pub record Held : Type 0 where
   pub entries : Stored
+  pub usable : ℕ
   pub zeros : List ℕ
+  pub blank : List ℕ
 
 abbrev pub held : {A : Type 0} → Inside A → Held
 held l = record {
   entries = record { limit = vec_len l.entries; listed = take l.shown l.entries.items; rest = l.rest; part = l.part; begins = l.begins };
+  usable = l.usable;
   zeros = l.zeros;
+  blank = l.blank;
 }
 
 -- no more entries are shown than there is room for, and those of the last part are among them
@@ -31,10 +36,22 @@ IsHeld l = (l.shown ≤ vec_len l.entries) × (l.begins ≤ l.shown)
 pub record IsUnused (limit : ℕ) (s : Held) : Type 0 where
   pub entries : s.entries ≡ record { limit = limit; listed = []; rest = 0; part = 0; begins = 0 }
   pub zeros : (p : ℕ) → has_bit s.zeros p ≡ false
+  pub blank : (p : ℕ) → has_bit s.blank p ≡ false
+
+-- there are two bits for each page of a file of this shape, and as many bytes of a page are usable
+pub record HasBits (g : Geometry) (s : Held) : Type 0 where
+  pub usable : s.usable ≡ g.usable
+  pub zeros : HasPageBit s.zeros g.pages
+  pub blank : HasPageBit s.blank g.pages
 
 -- with one fault more
 abbrev pub added : Held → Reported → Held
-added s x = record { entries = put s.entries x; zeros = zero_noted s.zeros x }
+added s x = record {
+  entries = put s.entries x;
+  usable = s.usable;
+  zeros = noted is_of_zeros s.zeros x;
+  blank = noted (is_of_one_byte s.usable) s.blank x;
+}
 
 -- as it is heard: that of a lost page is added later
 abbrev pub heard : Held → Reported → Held

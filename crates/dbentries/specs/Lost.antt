@@ -10,7 +10,7 @@ use Rattle.dbtrace.specs.declared.Reported.{Reported}
 use Rattle.dbentries.specs.Bits.{HasPageBit}
 use Rattle.dbentries.specs.Listed.{is_lost_page, is_unreached}
 use Rattle.dbentries.specs.Lists.{HasListed, Held, IsUnused, ListsAll, ListsFirst, added}
-use Rattle.dbentries.specs.Zeros.{AreZeros}
+use Rattle.dbentries.specs.Zeros.{AreBlank, AreZeros}
 use Rattle.dbscan.specs.Placed.{told_faults}
 
 -- the fault of a lost page
@@ -25,8 +25,12 @@ lost_at file V p = if is_unreached file V p then lost_page file V p ∷ [] else 
 abbrev pub AddsLost : {A E : Type 0} → List ℕ → List Reference → ℕ → Result A E → Held → Held → Type 0
 AddsLost file V p r old new = MatchResult r (λ _. new ≡ fold added old (lost_at file V p)) (λ _. new ≡ old)
 
+-- the pages that are zeros are noted, and those of one byte throughout, where there was a bit for each page
+pub record HasNoted (file : List ℕ) (V : List Reference) (first new : Held) : Type 0 where
+  pub zeros : HasPageBit first.zeros (geometry file).pages → AreZeros file V new.zeros
+  pub blank : first.usable ≡ (geometry file).usable → HasPageBit first.blank (geometry file).pages → AreBlank file V new.blank
+
 -- The faults of all lost pages were listed, after all others were heard; after a failed read the first of them.
 abbrev pub HasLooked : {A E : Type 0} → List ℕ → List Reference → Result A E → Held → Held → Type 0
 HasLooked file V r old new = (limit : ℕ) (first : Held) → IsUnused limit first → HasListed first (told_faults file V) old
-    → MatchResult r (λ _. ListsAll limit file V new
-    × (HasPageBit first.zeros (geometry file).pages → AreZeros file V new.zeros)) (λ _. ListsFirst limit file V new)
+    → MatchResult r (λ _. ListsAll limit file V new × HasNoted file V first new) (λ _. ListsFirst limit file V new)

@@ -7,24 +7,24 @@ use dbformat::{FaultCode, Look, PageKind};
 use dbtrace::Cause;
 
 // Whether two causes are the same: the same cell or page, or pages that look alike.
-pub(crate) fn same_cause(one: Cause, other: Cause) -> bool
-    ensures { result ≡ same_cause one other }
+pub(crate) fn same_cause(one: &Cause, other: &Cause) -> bool
+    ensures { result ≡ same_cause one.now other.now }
 {
     match (one, other) {
         (Cause::Key(a, _), Cause::Key(b, _)) => a.page == b.page && a.item == b.item,
-        (Cause::Leaf(a, _), Cause::Leaf(b, _)) => a == b,
-        (Cause::Page(a, _), Cause::Page(b, _)) => a == b,
+        (Cause::Leaf(a, _), Cause::Leaf(b, _)) => *a == *b,
+        (Cause::Page(a, _), Cause::Page(b, _)) => *a == *b,
         (Cause::Look(a, _), Cause::Look(b, _)) => same_look(a, b),
         _ => false,
     }
 }
 
 // Whether two pages look alike: both are blank with one byte, or pages of trees of one kind, or neither.
-fn same_look(one: Look, other: Look) -> bool
-    ensures { result ≡ same_look one other }
+fn same_look(one: &Look, other: &Look) -> bool
+    ensures { result ≡ same_look one.now other.now }
 {
     match (one, other) {
-        (Look::Blank(a), Look::Blank(b)) => a == b,
+        (Look::Blank(a), Look::Blank(b)) => *a == *b,
         (Look::Other(_), Look::Other(_)) => true,
         (Look::Tree(a), Look::Tree(b)) => same_kind(a.kind, b.kind),
         _ => false,
@@ -44,8 +44,8 @@ fn same_kind(one: PageKind, other: PageKind) -> bool
 }
 
 // How many cells a page has if it looks like one of a tree, else 0.
-pub(crate) fn cells_of(cause: Cause) -> u64
-    ensures { result ≡ look_cells cause }
+pub(crate) fn cells_of(cause: &Cause) -> u64
+    ensures { result ≡ look_cells cause.now }
 {
     match cause {
         Cause::Look(Look::Tree(look), _) => u64::from(look.cells),

@@ -56,6 +56,6 @@ impl Entry {
         others.page = told.fault.page;
         others.item = told.fault.item;
         others.runs.add(told.fault.page);
-        others.cells = others.cells.saturating_add(cells_of(told.cause));
+        others.cells = others.cells.saturating_add(cells_of(&told.cause));
     }
 }

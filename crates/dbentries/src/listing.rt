@@ -1,18 +1,18 @@
 // The entries of the reported faults, and which pages are zeros.
 ghost use Rattle.std.specs.Prelude.{◌≡◌, ◌≤◌, ◌<◌, IfOk, filter, fold, length};
 ghost use Rattle.std.specs.List.{range_with_len};
-ghost use Rattle.dbentries.specs.Bits.{has_bit, HasPageBit};
+ghost use Rattle.dbentries.specs.Bits.{has_bit};
 ghost use Rattle.dbentries.specs.Kept.{no_runs, run_added};
 ghost use Rattle.dbentries.specs.Listing.{is_beside, rank};
-ghost use Rattle.dbentries.specs.Lists.{added, IsUnused};
+ghost use Rattle.dbentries.specs.Lists.{added, HasBits, IsUnused};
 ghost use Rattle.dbentries.specs.Store.{home_kept, put_kept, put_new, turned_to};
-ghost use Rattle.dbentries.specs.Zeros.{is_of_zeros, zero_noted};
+ghost use Rattle.dbentries.specs.Zeros.{is_of_one_byte, is_of_zeros, is_whole, noted};
 
 use crate::causes::{most, same_cause};
 use crate::entry::Entry;
 use crate::page_bits::PageBits;
 use crate::runs::{NO_RUNS, Runs};
-use dbformat::{Fault, FaultCode, Look};
+use dbformat::{ByteRun, Fault, FaultCode, Geometry, Look};
 use dbsource::NoMemory;
 use dbsource::memory::filled;
 use dbtrace::{Cause, Part, Reported};
@@ -20,7 +20,7 @@ use std::alloc::{Allocator, Global};
 use std::marker::Model;
 
 /// The entries of the reported faults: the first ones, as many as there is room for, and how many faults belong to the others; and
-/// of each page whether it is zeros, by a fault of it.
+/// of each page whether it is zeros, and whether it is one byte throughout, by a fault of it.
 #[derive(Drop)]
 pub struct Listing<A: Allocator = Global> {
     entries: Vec<Entry, A>,
@@ -29,7 +29,10 @@ pub struct Listing<A: Allocator = Global> {
     // The part of the last fault, and where its entries begin.
     part: u64,
     begins: usize,
+    // How many bytes of a page are usable.
+    usable: u32,
     zeros: PageBits<A>,
+    blank: PageBits<A>,
 }
 
 impl<A: Allocator> Model for Listing<A> {
@@ -88,36 +91,63 @@ fn is_of_zeros(cause: &Cause) -> bool
     }
 }
 
+// Whether the longest run of one byte in a page is all of its usable bytes.
+fn is_whole(usable: u32, run: Option<ByteRun>) -> bool
+    ensures { result ≡ is_whole usable run }
+{
+    match run {
+        Some(run) => run.len == usable,
+        None => false,
+    }
+}
+
+// Whether the page of a fault with this cause is one byte throughout.
+fn is_of_one_byte(usable: u32, cause: &Cause) -> bool
+    ensures { result ≡ is_of_one_byte usable cause.now }
+{
+    match cause {
+        Cause::Look(Look::Blank(_), _) => true,
+        Cause::Page(_, facts) => is_whole(usable, facts.run),
+        Cause::Chain(chain) => chain.seen.are_zeros || is_whole(usable, chain.seen.run),
+        _ => false,
+    }
+}
+
 impl<A: Allocator + Copy> Listing<A> {
-    /// No entries, with room for `limit`, and a bit for each of these pages: two growths from any allocator. After that it takes no
-    /// memory.
+    /// No entries, with room for `limit`, and two bits for each page of a file of this shape: three growths from any allocator. After
+    /// that it takes no memory.
     ///
     /// # Errors
     ///
     /// [`NoMemory`] where a growth was refused.
-    pub fn new_in(alloc: A, limit: u32, pages: u32) -> Result<Listing<A>, NoMemory>
+    pub fn new_in(alloc: A, limit: u32, geometry: &Geometry) -> Result<Listing<A>, NoMemory>
         ensures none { IfOk result (IsUnused limit) }
-        ensures room { IfOk result (λ listing. HasPageBit listing.zeros pages) }
+        ensures room { IfOk result (HasBits geometry.now) }
     {
         let entries = filled(alloc, Entry::of(&NO_ENTRY), limit as usize)?;
-        let zeros = PageBits::new_in(alloc, pages)?;
+        let zeros = PageBits::new_in(alloc, geometry.pages)?;
+        let blank = PageBits::new_in(alloc, geometry.pages)?;
         Ok(Listing {
             entries,
             shown: 0,
             rest: 0,
             part: 0,
             begins: 0,
+            usable: geometry.usable,
             zeros,
+            blank,
         })
     }
 }
 
 impl<A: Allocator> Listing<A> {
     // Adds a fault, which comes after the earlier ones of its part.
+    #[inline(always)]
     pub(crate) fn add(&mut self, told: &Reported)
         ensures { self.new ≡ added self.old told.now }
     {
         self.note_zeros(told);
+        self.note_blank(told);
         self.turn_to(rank(told.part));
         match self.home(told) {
             Some(slot) => self.put_kept(slot, told),
@@ -139,11 +169,18 @@ impl<A: Allocator> Listing<A> {
         self.rest
     }
 
-    /// Whether a page is zeros.
-    pub fn is_zeros(&self, page: u32) -> bool
-        ensures { result ≡ has_bit self.now.zeros page }
+    /// The bits of the pages that are zeros.
+    pub fn zeros(&self) -> &PageBits<A>
+        ensures { result.now ≡ self.now.zeros }
     {
-        self.zeros.has(page)
+        &self.zeros
+    }
+
+    /// The bits of the pages that are one byte throughout, zero or another.
+    pub fn blank(&self) -> &PageBits<A>
+        ensures { result.now ≡ self.now.blank }
+    {
+        &self.blank
     }
 
     /// The runs of the pages that are zeros, of the first `pages`.
@@ -152,7 +189,7 @@ impl<A: Allocator> Listing<A> {
     {
         let mut runs = NO_RUNS;
         for index in 0..pages {
-            if self.is_zeros(index + 1) {
+            if self.zeros.has(index + 1) {
                 runs.add(index + 1);
             }
         }
@@ -177,7 +214,7 @@ impl<A: Allocator> Listing<A> {
         for slot in self.begins..self.shown {
             let first = &self.entries[slot].first;
             if is_beside(told, first) {
-                if left <= 1 || same_cause(told.cause, first.cause) {
+                if left <= 1 || same_cause(&told.cause, &first.cause) {
                     return Some(slot);
                 }
                 left -= 1;
@@ -208,10 +245,19 @@ impl<A: Allocator> Listing<A> {
 
     // Notes of the page of a fault that it is zeros, if it is.
     fn note_zeros(&mut self, told: &Reported)
-        ensures { self.new ≡ record self.old { zeros = zero_noted self.old.zeros told.now } }
+        ensures { self.new ≡ record self.old { zeros = noted is_of_zeros self.old.zeros told.now } }
     {
         if is_of_zeros(&told.cause) {
             self.zeros.set(told.fault.page);
+        }
+    }
+
+    // Notes of the page of a fault that it is one byte throughout, if it is.
+    fn note_blank(&mut self, told: &Reported)
+        ensures { self.new ≡ record self.old { blank = noted (is_of_one_byte self.old.usable) self.old.blank told.now } }
+    {
+        if is_of_one_byte(self.usable, &told.cause) {
+            self.blank.set(told.fault.page);
         }
     }
 }

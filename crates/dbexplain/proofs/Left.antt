@@ -21,10 +21,9 @@ use Rattle.dbscan.specs.Finishes.{HasHeard, IsDeskOf, Leaves}
 use Rattle.dbscan.specs.Notices.{run_notices}
 use Rattle.dbscan.specs.Placed.{told_faults}
 use Rattle.dbscan.proofs.AllTold.{all_told}
-use Rattle.dbentries.specs.Bits.{HasPageBit}
 use Rattle.dbentries.specs.Listed.{listed_entries}
 use Rattle.dbentries.specs.Lists.{Held, ListsAll, ListsFirst}
-use Rattle.dbentries.specs.Zeros.{AreZeros}
+use Rattle.dbentries.specs.Lost.{HasNoted}
 use Rattle.dbexplain.specs.Explained.{explain_text}
 use Rattle.dbexplain.specs.Indexes.{AreIndexes}
 use Rattle.dbexplain.specs.Keeping.{HasAll, IsEmpty}
@@ -82,15 +81,15 @@ module _ {A O : Type 0} (held : O → OutState) {limit : ℕ} {file : List ℕ} 
   clean_put none r after w = written r after ok_line (sym (ok_text limit file V (none_counted (told_faults file V) (sym heard.tally.all ∙ none)))) w
 
   -- some were found, and listed with the lost pages
-  pub all_kept : (d : DeskView) (l : Held) → IsDeskOf d file V → ListsAll limit file V l
-      × (HasPageBit first.kept.now.listing.zeros (geometry file).pages → AreZeros file V l.zeros) → now.kept.now.tally.all ≢ 0
+  pub all_kept : (d : DeskView) (l : Held) → IsDeskOf d file V → ListsAll limit file V l × HasNoted file V first.kept.now.listing l
+      → now.kept.now.tally.all ≢ 0
       → HasAll d (record now.kept.now { listing = l }) file V
   all_kept d l desk listed some = record {
     desk = desk;
     some = λ e. some (heard.tally.all ∙ ap (λ (ts : List Reported). counted (length ts)) e);
     listing = subst (λ n. ListsAll n file V l) (sym listed.0.room) listed.0;
     tally = heard.tally;
-    zeros = listed.1 heard.empty.zeros;
+    zeros = listed.1.zeros heard.empty.bits.zeros;
     ranges = subst (AreRangesOf (told_faults file V)) (sym heard.all.ranges)
         (all_ranges_told (told_faults file V) first.kept.now.ranges heard.empty.ranges);
     indexes = subst (AreIndexes (stat_rows file V)) (sym heard.all.indexes)

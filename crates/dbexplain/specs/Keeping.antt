@@ -8,11 +8,10 @@ use Rattle.dbformat.specs.declared.Geometry.{Geometry}
 use Rattle.dbentries.specs.Lines.{cause_text}
 use Rattle.dbentries.specs.Others.{kept_others_text}
 use Rattle.dbentries.specs.declared.entry.Entry.{Entry}
-use Rattle.dbentries.specs.Lists.{IsUnused, ListsAll}
+use Rattle.dbentries.specs.Lists.{HasBits, IsUnused, ListsAll}
 use Rattle.dbscan.specs.Desks.{DeskView}
 use Rattle.dbscan.specs.Finishes.{IsDeskOf}
 use Rattle.dbscan.specs.Placed.{told_faults}
-use Rattle.dbentries.specs.Bits.{HasPageBit}
 use Rattle.dbscan.specs.Trees.{AreTrees}
 use Rattle.dbexplain.specs.Explained.{after_cause, front_text}
 use Rattle.dbexplain.specs.Indexes.{AreIndexes}
@@ -37,7 +36,7 @@ lines_of kept = flat_map (λ (e : Entry). fault_line e.first.fault) kept
 pub record IsEmpty {A : Type 0} (limit : ℕ) (g : Geometry) (k : Kept A) : Type 0 where
   pub listing : IsUnused limit k.listing
   pub tally : IsTallyOf g.pages [] k.tally
-  pub zeros : HasPageBit k.listing.zeros g.pages
+  pub bits : HasBits g k.listing
   pub ranges : AreRangesOf [] k.ranges
   pub indexes : AreIndexes [] k.indexes
   pub room : g.pages < length k.trees.known

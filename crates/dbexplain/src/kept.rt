@@ -30,7 +30,7 @@ impl<A: Allocator + Copy> Kept<A> {
         ensures { IfOk result (IsEmpty limit geometry.now) }
     {
         Ok(Kept {
-            listing: Listing::new_in(alloc, limit, geometry.pages)?,
+            listing: Listing::new_in(alloc, limit, geometry)?,
             tally: Tally::new_in(alloc, geometry)?,
             trees: PageTrees::new_in(alloc, geometry)?,
             ranges: RowRanges::new_in(alloc)?,

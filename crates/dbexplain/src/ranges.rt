@@ -93,15 +93,15 @@ fn one_row(rowid: i64) -> RowidBounds
 }
 
 // The rows that a fault at a start is of, if it is of any.
-fn range_by(start: u32, fault: &Fault, cause: Cause) -> Option<RowRange>
-    ensures { result ≡ range_by start fault.now cause }
+fn range_by(start: u32, fault: &Fault, cause: &Cause) -> Option<RowRange>
+    ensures { result ≡ range_by start fault.now cause.now }
 {
     let (kind, rowids) = match cause {
         Cause::Itself => return None,
-        Cause::Rows(rowids) => (kind_of(fault.code), rowids),
-        Cause::Key(_, Some(left)) => (RowsKind::OnFaulty, left),
+        Cause::Rows(rowids) => (kind_of(fault.code), *rowids),
+        Cause::Key(_, Some(left)) => (RowsKind::OnFaulty, *left),
         Cause::Key(_, None) => (RowsKind::OnFaulty, one_row(fault.value)),
-        Cause::Leaf(_, rowids) => (RowsKind::OnFaulty, rowids),
+        Cause::Leaf(_, rowids) => (RowsKind::OnFaulty, *rowids),
         Cause::Chain(chain) => match chain.rowid {
             Some(rowid) => (RowsKind::CutShort, one_row(rowid)),
             None => return None,
@@ -132,7 +132,7 @@ fn range_of(told: &Reported) -> Option<RowRange>
     let Part::Start(start) = told.part else {
         return None;
     };
-    let range = range_by(start, &told.fault, told.cause)?;
+    let range = range_by(start, &told.fault, &told.cause)?;
     if is_no_range(&range.rowids) {
         None
     } else {
@@ -268,6 +268,7 @@ impl<A: Allocator> RowRanges<A> {
     }
 
     // Keeps a range, or counts it if there is no room.
+    #[inline(always)]
     fn keep(&mut self, range: RowRange)
         ensures { self.new ≡ range_kept self.old range }
     {

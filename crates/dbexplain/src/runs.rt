@@ -19,7 +19,7 @@ use std::alloc::Allocator;
 /// check reads, and then each page to which nothing refers, once, for what it looks like.
 ///
 /// What it keeps is in memory from `alloc`, which may be any allocator: a [`Desk`](dbscan::Desk), `limit` entries, 1000 ranges of rows,
-/// counts for each start, and for each page four bytes and two bits. All of this is there before the first page is read; only the list of roots grows
+/// counts for each start, and for each page four bytes and three bits. All of this is there before the first page is read; only the list of roots grows
 /// after that.
 ///
 /// # Errors

@@ -22,9 +22,8 @@ use Rattle.dbscan.specs.Finishes.{Leaves}
 use Rattle.dbscan.specs.Notices.{run_notices}
 use Rattle.dbscan.specs.Placed.{told_faults}
 use Rattle.dbscan.proofs.AllTold.{all_told}
-use Rattle.dbentries.specs.Bits.{HasPageBit}
 use Rattle.dbentries.specs.Lists.{HasListed, Held, ListsAll}
-use Rattle.dbentries.specs.Zeros.{AreZeros}
+use Rattle.dbentries.specs.Lost.{HasNoted}
 use Rattle.dbpicture.specs.Keeping.{AreNoted, HasFaults, HearsNone}
 use Rattle.dbpicture.specs.Faults.{fault_signs}
 use Rattle.dbscan.specs.Trees.{AreTrees}
@@ -37,7 +36,7 @@ use Rattle.dbmap.proofs.MapAnswers.{nothing_begun}
 use Rattle.dbmap.proofs.Heard.{all_heard, HasNotedFaults, some_untouched}
 
 module _ {A O : Type 0} (file : List ℕ) (V : List Reference) (survey : Survey file V) (s t : MapReporter A O)
-    (empty : HearsNone (geometry file).pages s.kept.now) where
+    (empty : HearsNone (geometry file) s.kept.now) where
   -- all of a run was heard, and nothing before it: its faults were counted, and these are kept
   module _ (heard : Moves Hears s (run_notices file V) t) where
     all : HasNotedFaults (geometry file).pages s (told_faults file V) (stat_rows file V) t
@@ -56,13 +55,14 @@ module _ {A O : Type 0} (file : List ℕ) (V : List Reference) (survey : Survey 
     map_hears = all.listing
 
     -- with the lost pages
-    pub map_keeps : (l : Held) → ListsAll 100 file V l × (HasPageBit s.kept.now.listing.zeros (geometry file).pages → AreZeros file V l.zeros)
+    pub map_keeps : (l : Held) → ListsAll 100 file V l × HasNoted file V s.kept.now.listing l
         → HasFaults file V (record t.kept.now { listing = l })
     map_keeps l looked = record {
       trees = subst (AreTrees V) (sym all.trees) (all_noted file V s.kept.now.trees.known survey empty.room);
       notes = subst (λ fs. AreNoted (geometry file).pages (flat_map fault_signs fs) t.kept.now.notes) (all_told file V) all.notes;
       listing = looked.0;
-      zeros = looked.1 empty.zeros;
+      zeros = looked.1.zeros empty.bits.zeros;
+      blank = looked.1.blank empty.bits.usable empty.bits.blank;
     }
 
     -- what was put then is the picture, in any relation to what the Out held

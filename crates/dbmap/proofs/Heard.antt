@@ -56,7 +56,7 @@ module _ {A O : Type 0} where
   }
 
 module _ {A O : Type 0} (file : List ℕ) (V : List Reference) (survey : Survey file V) (first now : MapReporter A O)
-    (empty : HearsNone (geometry file).pages first.kept.now) where
+    (empty : HearsNone (geometry file) first.kept.now) where
   nothing_noted : HasNotedFaults (geometry file).pages first [] [] first
   nothing_noted = record { count = empty.none; notes = empty.notes; listing = refl; trees = refl; out = refl; name = refl }
 

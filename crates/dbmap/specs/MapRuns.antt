@@ -33,5 +33,5 @@ map_held held s = one_out s.out.ghost_name (held s.out.now).failures false
 -- What a run leaves that had heard nothing before: the verdict, and a picture.
 abbrev pub LeavesMap : {A O : Type 0} → (O → OutState) → List ℕ → List Reference → Result Verdict RunError → MapReporter A O → MapReporter A O → Type 0
 LeavesMap held file V r s t =
-    HearsNone (geometry file).pages s.kept.now
+    HearsNone (geometry file) s.kept.now
     → IfOk r (λ v. v ≡ verdict (faults file V)) × PutsMap r (held s.out.now).bytes (held t.out.now).bytes (map_picture file V s.name.now)

@@ -20,7 +20,7 @@ use Rattle.dbpicture.specs.Faults.{shown, shows, sign_added, sign_bit}
 use Rattle.dbpicture.specs.Grids.{is_of_square, run_for, square_of}
 use Rattle.dbpicture.specs.declared.fault_notes.FaultNotes.{FaultNotes}
 use Rattle.dbpicture.specs.declared.faults.Sign.{Sign}
-use Rattle.dbpicture.specs.declared.faults.Sign.TheVariants.{Code, Faulty, Framed, Zeros}
+use Rattle.dbpicture.specs.declared.faults.Sign.TheVariants.{Blank, Code, Faulty, Framed, Zeros}
 use Rattle.dbpicture.specs.declared.faults.SquareFaults.{SquareFaults}
 use Rattle.dbpicture.proofs.Runs.{square_within}
 
@@ -35,6 +35,7 @@ unequal x y d = by_case (x == y) refl
 
 bit_within : (s : Sign) → sign_bit s < 64
 bit_within (Code code) = let l = slice_get_within all_codes (code_index code) code (listed code) in omega (arith, l)
+bit_within Blank = omega arith
 bit_within Zeros = omega arith
 bit_within Faulty = omega arith
 bit_within Framed = omega arith

@@ -17,12 +17,12 @@ use Rattle.dbtrace.specs.declared.Cause.TheVariants as cause
 use Rattle.dbtrace.specs.declared.Reported.{Reported}
 use Rattle.dbentries.specs.Kept.{kept_of}
 use Rattle.dbentries.specs.Listed.{listed_entries}
-use Rattle.dbentries.specs.Zeros.{zero_pages}
+use Rattle.dbentries.specs.Zeros.{blank_pages, zero_pages}
 use Rattle.dbentries.specs.declared.entry.Entry.{Entry}
 use Rattle.dbentries.specs.declared.runs.Run.{Run}
 use Rattle.dbpicture.specs.Owners.{capped_pages}
 use Rattle.dbpicture.specs.declared.faults.Sign.{Sign}
-use Rattle.dbpicture.specs.declared.faults.Sign.TheVariants.{Code, Faulty, Framed, Zeros}
+use Rattle.dbpicture.specs.declared.faults.Sign.TheVariants.{Blank, Code, Faulty, Framed, Zeros}
 use Rattle.dbpicture.specs.declared.faults.SquareFaults.{SquareFaults}
 use Rattle.dbpicture.specs.declared.frame.Frame.{Frame}
 use Rattle.dbpicture.specs.declared.frame.Frame.TheVariants as frame
@@ -55,9 +55,10 @@ run_pages r = range_with_len r.first (capped_pages (r.last + 1) - r.first)
 abbrev pub other_pages : Entry → List ℕ
 other_pages e = flat_map run_pages (take (min e.others.runs.count 10) e.others.runs.kept)
 
--- the bit of a sign: those below 61 are of codes
+-- the bit of a sign: those below 60 are of codes
 abbrev pub sign_bit : Sign → ℕ
 sign_bit (Code code) = code_index code
+sign_bit Blank = 60
 sign_bit Zeros = 61
 sign_bit Faulty = 62
 sign_bit Framed = 63
@@ -77,9 +78,9 @@ framed pages = map (λ p. (p, Framed)) pages
 abbrev pub entry_signs : Entry → List (ℕ × Sign)
 entry_signs e = frame_signs e.first ++ framed (other_pages e)
 
--- and those of pages that are zeros
-abbrev pub zero_signs : List ℕ → List (ℕ × Sign)
-zero_signs pages = map (λ p. (p, Zeros)) pages
+-- and those of pages that are zeros, or one byte throughout
+abbrev pub with_sign : Sign → List ℕ → List (ℕ × Sign)
+with_sign sign pages = map (λ p. (p, sign)) pages
 
 -- whether one of some pages has a sign, of all signs, each with its page
 abbrev pub shows : List (ℕ × Sign) → (ℕ → Bool) → Sign → Bool
@@ -106,10 +107,11 @@ frame_of has = if has Framed then frame.Strong else (if has Faulty then frame.We
 
 -- ---- the faults of a file with survey V
 
--- the signs of the pages: of all faults, of the first 100 entries, which `explain` lists if no other number is given, and of zeros
+-- the signs of the pages: of all faults, of the first 100 entries, which `explain` lists if no other number is given, and of those that are
+-- zeros or one byte throughout
 abbrev pub signs_of : List ℕ → List Reference → List (ℕ × Sign)
 signs_of file V = flat_map fault_signs (faults file V) ++ flat_map entry_signs (map kept_of (take 100 (listed_entries file V)))
-    ++ zero_signs (zero_pages file V)
+    ++ with_sign Zeros (zero_pages file V) ++ with_sign Blank (blank_pages file V)
 
 -- whether page p has a sign
 abbrev pub page_shows : List ℕ → List Reference → Sign → ℕ → Bool

@@ -9,6 +9,7 @@ use Rattle.dbformat.specs.Report.{faults}
 use Rattle.dbformat.specs.Rows.{StatRow}
 use Rattle.dbformat.specs.SchemaRow.{SchemaRow}
 use Rattle.dbformat.specs.declared.Encoding.{Encoding}
+use Rattle.dbformat.specs.declared.Geometry.{Geometry}
 use Rattle.dbformat.specs.FixedPages.{geometry_of}
 use Rattle.dbformat.specs.Lines.{counted}
 use Rattle.dbformat.specs.Starts.{start_at}
@@ -18,8 +19,8 @@ use Rattle.dbmarks.specs.declared.marks.Mark.{Mark}
 use Rattle.dbscan.specs.Desks.{DeskView}
 use Rattle.dbscan.specs.Finishes.{IsDeskOf}
 use Rattle.dbentries.specs.Bits.{bit_set, has_bit, HasPageBit}
-use Rattle.dbentries.specs.Lists.{IsUnused, ListsAll, heard}
-use Rattle.dbentries.specs.Zeros.{AreZeros}
+use Rattle.dbentries.specs.Lists.{HasBits, IsUnused, ListsAll, heard}
+use Rattle.dbentries.specs.Zeros.{AreBlank, AreZeros}
 use Rattle.dbscan.specs.Trees.{AreTrees, place_by, row_noted}
 use Rattle.dbscan.specs.Texts.{tree_of_row}
 use Rattle.dbscan.specs.declared.place.Place.{Place}
@@ -62,13 +63,13 @@ pub record AreNoted {A : Type 0} (count : ℕ) (signs : List (ℕ × Sign)) (n :
   pub faulty : AreBits count signs Faulty n.faulty
   pub framed : AreBits count signs Framed n.framed
 
--- No fault was reported of a file of this number of pages. There is room for 100 entries, and for the starts of the pages.
-pub record HearsNone {A : Type 0} (count : ℕ) (k : KeptFaults A) : Type 0 where
+-- No fault was reported of a file of this shape. There is room for 100 entries, and for the starts of the pages.
+pub record HearsNone {A : Type 0} (g : Geometry) (k : KeptFaults A) : Type 0 where
   pub none : k.faults ≡ 0
-  pub room : count < length k.trees.known
-  pub notes : AreNoted count [] k.notes
+  pub room : g.pages < length k.trees.known
+  pub notes : AreNoted g.pages [] k.notes
   pub listing : IsUnused 100 k.listing
-  pub zeros : HasPageBit k.listing.zeros count
+  pub bits : HasBits g k.listing
 
 -- a fault is counted, noted at its page, and listed
 pub record Adds {A : Type 0} (x : Reported) (old new : KeptFaults A) : Type 0 where
@@ -90,6 +91,7 @@ pub record HasFaults {A : Type 0} (file : List ℕ) (V : List Reference) (k : Ke
   pub notes : AreNoted (geometry file).pages (flat_map fault_signs (faults file V)) k.notes
   pub listing : ListsAll 100 file V k.listing
   pub zeros : AreZeros file V k.listing.zeros
+  pub blank : AreBlank file V k.listing.blank
 
 -- the text of the tree of a start, by the rows of the schema that have a root page
 abbrev pub shown_tree : Encoding → List SchemaRow → ℕ → List ℕ

@@ -1,6 +1,6 @@
 -- The legend of a picture: which lines it has, how many pages each is of, and how they are drawn. There is a line for each of the largest
--- trees, and then one for all other trees, for the freelist, for pages of fixed use, for pages that are nobody's, for pages that are zeros, for
--- pages with each frame, and for pages that the header states and the file does not have, or that it has after the end that the header
+-- trees, and then one for all other trees, for the freelist, for pages of fixed use, for pages that are nobody's, for pages that are one byte
+-- throughout, for pages with each frame, and for pages that the header states and the file does not have, or that it has after the end that the header
 -- states; each only where it has a page.
 use Rattle.std.specs.Prelude.{ℕ, ◌+◌, ◌-◌, ◌*◌, Bool, true, false, List, [], ◌∷◌, ◌++◌, length, Option, Some, None, codes, decimal, ◌==◌, if◌then◌else◌}
 use Rattle.std.specs.Prelude.{◌/◌, get_or, max, nat_lt, slice_index_or}
@@ -120,7 +120,7 @@ label_words (Others count) = if count == 1 then codes " other tree" else codes "
 label_words Freelist = codes "freelist"
 label_words Fixed = codes "pointer map and lock-byte page"
 label_words Nobody = codes "in no tree, overflow chain or freelist"
-label_words Blank = codes "all zeros"
+label_words Blank = codes "one byte throughout"
 label_words Strong = codes "injuries that explain shows, what they name or go back to"
 label_words Weak = codes "other pages with a fault"
 label_words Missing = codes "stated in the header, not in the file"
@@ -168,5 +168,5 @@ legend_lines rows t largest n =
     flat_map (tree_line rows t.starts largest) (range_with_len 0 (length largest))
     ++ line_if (Others (others t.starts largest (length rows + 1)).0) (others t.starts largest (length rows + 1)).1
     ++ line_if Freelist (share_at t.starts freelist_start) ++ line_if Fixed (no_overflow t.fixed) ++ line_if Nobody (no_overflow t.nobody)
-    ++ line_if Blank (no_overflow n.zeros) ++ line_if Strong (no_overflow n.strong) ++ line_if Weak (no_overflow n.weak)
+    ++ line_if Blank (no_overflow n.blank) ++ line_if Strong (no_overflow n.strong) ++ line_if Weak (no_overflow n.weak)
     ++ line_if (outside_label n.are_after) (no_overflow n.outside)

@@ -20,7 +20,7 @@ overflow_colours = codes ".o0{fill:#C6E1FF}.o1{fill:#F2D67E}.o2{fill:#DB9EE9}.o3
 abbrev pub later_overflow_colours : List ℕ
 later_overflow_colours = codes ".o7{fill:#957C76}.o8{fill:#A594FF}.o9{fill:#FFFFE3}.o10{fill:#6C6EB6}.o11{fill:#7A6786}.o12{fill:#A6A6A6}"
 
--- those of the freelist, of pages of fixed use, of those that are nobody's, of those that are not in the file, and of those that are zeros
+-- those of the freelist, of pages of fixed use, of those that are nobody's, of those that are not in the file, and of those that are one byte throughout
 abbrev pub other_colours : List ℕ
 other_colours = codes ".t13{fill:#DBDBDB}.t14{fill:#000000}.t15{fill:url(#unowned)}.t16{fill:#FFFFFF}.t17{fill:url(#zeros)}"
 

@@ -11,7 +11,7 @@ use Rattle.dbpicture.specs.declared.grid.Grid.{Grid}
 use Rattle.dbpicture.specs.declared.grid.Outside.{Outside}
 use Rattle.dbpicture.specs.declared.legend.LegendLine.{LegendLine}
 use Rattle.dbpicture.specs.declared.legend.NotedPages.{NotedPages}
-use Rattle.dbentries.specs.Zeros.{zero_pages}
+use Rattle.dbentries.specs.Zeros.{blank_pages}
 use Rattle.dbpicture.specs.declared.picture.Heading.{Heading}
 use Rattle.dbformat.specs.File.{geometry}
 use Rattle.dbformat.specs.Header.{is_size_valid, stated_pages}
@@ -27,7 +27,7 @@ use Rattle.dbpicture.specs.Faults.{is_weak, page_shows, shows, signs_of}
 use Rattle.dbpicture.specs.declared.faults.Sign.TheVariants.{Faulty, Framed}
 use Rattle.dbpicture.specs.Tallies.{largest_of, tally_of}
 
--- the patterns: the hatching of pages that are nobody's, and the thin cross of those that are zeros
+-- the patterns: the hatching of pages that are nobody's, and the thin cross of those that are one byte throughout
 abbrev pub patterns_text : List ℕ
 patterns_text =
     concat (codes "</style>\n<defs><pattern id=\"unowned\" width=\"4\" height=\"4\" patternUnits=\"userSpaceOnUse\" patternTransform=\"rotate(45)\">"
@@ -114,10 +114,10 @@ drawn_of file V = record {
   faults = λ index. shows (signs_of file V) (is_of_square (geometry file).pages index);
 }
 
--- how many pages are zeros, have each frame, and are outlined
+-- how many pages are one byte throughout, have each frame, and are outlined
 abbrev pub noted_of : List ℕ → List Reference → NotedPages
 noted_of file V = record {
-  zeros = length (zero_pages file V);
+  blank = length (blank_pages file V);
   strong = count_by (page_shows file V Framed) (range_with_len 1 (geometry file).pages);
   weak = count_by (is_weak (page_shows file V Faulty) (page_shows file V Framed)) (range_with_len 1 (geometry file).pages);
   outside = (outside_of file).last - (geometry file).pages;

@@ -9,7 +9,7 @@ use Rattle.dbpicture.specs.Marks.{extent, inset, outline_tail, run_pages_text, s
 use Rattle.dbpicture.specs.Faults.{faults_text, frame_of}
 use Rattle.dbpicture.specs.Owners.{capped_pages, is_overflow, owner_by, shares_by}
 use Rattle.dbpicture.specs.declared.faults.Sign.{Sign}
-use Rattle.dbpicture.specs.declared.faults.Sign.TheVariants.{Zeros}
+use Rattle.dbpicture.specs.declared.faults.Sign.TheVariants.{Blank, Zeros}
 use Rattle.dbpicture.specs.declared.grid.Width.{Width}
 use Rattle.dbpicture.specs.declared.page.PageSquare.{PageSquare}
 use Rattle.dbpicture.specs.Grids.{missing_of, places, places_of, rows, run_of, top_of, x_of}
@@ -24,22 +24,26 @@ use Rattle.dbpicture.specs.declared.run.RunSquare.{RunSquare}
 abbrev pub from_text : Place → List ℕ
 from_text place = option_map_or decimal (place_from place) []
 
--- the number of its class, and the shade: those of its owner, but pages that are zeros have a class of their own
+-- the number of its class, and the shade: those of its owner, but pages that are one byte throughout have a class of their own
 abbrev pub page_class : Bool → ℕ → ℕ
-page_class zeros owner = if zeros then 17 else owner
+page_class blank owner = if blank then 17 else owner
 
 abbrev pub page_shade : Bool → Place → List ℕ
-page_shade zeros place = shade_letter (is_overflow place && not zeros)
+page_shade blank place = shade_letter (is_overflow place && not blank)
 
--- its title: the number of the page, what comes before its tree, the tree, what it is there, its faults, and whether it is zeros
+-- what its title says of its bytes
+abbrev pub bytes_words : (Sign → Bool) → List ℕ
+bytes_words f = if f Zeros then codes ", all zeros" else (if f Blank then codes ", one byte throughout" else codes "")
+
+-- its title: the number of the page, what comes before its tree, the tree, what it is there, its faults, and what is known of its bytes
 unfoldable pub page_text : PageSquare → Width → List ℕ → (Sign → Bool) → List ℕ
 page_text s width tree f =
-    concat (codes "<rect class=\"" ∷ page_shade (f Zeros) s.place ∷ decimal (page_class (f Zeros) s.owner) ∷ codes "\" x=\""
+    concat (codes "<rect class=\"" ∷ page_shade (f Blank) s.place ∷ decimal (page_class (f Blank) s.owner) ∷ codes "\" x=\""
     ∷ decimal (s.x + inset width (frame_of f))
     ∷ extent width (frame_of f) ∷ stroke width (frame_of f) ∷ codes "><title>page " ∷ decimal s.page ∷ codes ": "
     ∷ place_front s.fixed s.place ∷ [])
     ++ (shown_text tree 72 ++ (concat (place_words s.place ∷ from_text s.place ∷ []) ++ (faults_text f
-    ++ ((if f Zeros then codes ", all zeros" else []) ++ codes "</title></rect>\n"))))
+    ++ concat (bytes_words f ∷ codes "</title></rect>\n" ∷ []))))
 
 -- which pages an outline is of, and the outline
 abbrev pub outline_pages : Grid → ℕ × ℕ → List ℕ

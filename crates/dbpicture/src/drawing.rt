@@ -4,11 +4,12 @@ ghost use Rattle.dblines.specs.Writing.{PutsOf};
 ghost use Rattle.dbpicture.specs.Keeping.{HasAll};
 ghost use Rattle.dbpicture.specs.Pictures.{map_picture, stated_of};
 
+use crate::faults::Sign;
 use crate::grid::{Grid, Outside};
 use crate::kept::KeptFaults;
 use crate::labels::Labels;
 use crate::legend::{Legend, NotedPages};
-use crate::listed::{note_listed, note_zeros};
+use crate::listed::{note_bits, note_listed};
 use crate::picture::{Heading, draw_picture};
 use crate::shown::shown_file;
 use crate::squares::Squares;
@@ -46,7 +47,18 @@ pub fn put_map<A: Allocator, O: Out>(
     let marks = desk.marks();
     let roots = desk.roots();
     note_listed(&mut kept.notes, kept.listing.listed());
-    let zeros = note_zeros(&mut kept.notes, &kept.listing, geometry.pages);
+    note_bits(
+        &mut kept.notes,
+        kept.listing.zeros(),
+        geometry.pages,
+        Sign::Zeros,
+    );
+    let blank = note_bits(
+        &mut kept.notes,
+        kept.listing.blank(),
+        geometry.pages,
+        Sign::Blank,
+    );
     kept.tally.count(marks, &kept.trees);
     let largest = kept.tally.largest(roots.len() + 1);
     let names = TreeNames {
@@ -58,7 +70,7 @@ pub fn put_map<A: Allocator, O: Out>(
     let labels = Labels::new(&names, largest.as_slice());
     let (strong, weak) = kept.notes.framed();
     let noted = NotedPages {
-        zeros,
+        blank,
         strong,
         weak,
         outside: grid.missing(),

@@ -22,6 +22,8 @@ pub(crate) enum Sign {
     Framed,
     /// Zeros in all its usable bytes.
     Zeros,
+    /// One byte in all of them, zero or another.
+    Blank,
 }
 
 impl Sign {
@@ -32,6 +34,7 @@ impl Sign {
     {
         match self {
             Sign::Code(code) => code.index(),
+            Sign::Blank => 60,
             Sign::Zeros => 61,
             Sign::Faulty => 62,
             Sign::Framed => 63,

@@ -32,20 +32,20 @@ pub struct KeptFaults<A: Allocator = Global> {
 }
 
 impl<A: Allocator + Copy> KeptFaults<A> {
-    /// Nothing yet, with room for a file of this shape: a number of four bytes and three bits for each page, eight bytes for each
-    /// square, the counts of 65538 starts, and 100 entries of faults. Each of these is one growth, and the three bits are three.
+    /// Nothing yet, with room for a file of this shape: a number of four bytes and four bits for each page, eight bytes for each
+    /// square, the counts of 65538 starts, and 100 entries of faults. Each of these is one growth, and the four bits are four.
     ///
     /// # Errors
     ///
     /// [`NoMemory`] where a growth was refused.
     pub fn new_in(alloc: A, geometry: &Geometry) -> Result<KeptFaults<A>, NoMemory>
         requires { IsInRange geometry.now }
-        ensures { IfOk result (HearsNone geometry.now.pages) }
+        ensures { IfOk result (HearsNone geometry.now) }
     {
         let trees = PageTrees::new_in(alloc, geometry)?;
         let tally = PageTally::new_in(alloc)?;
         let notes = FaultNotes::new_in(alloc, geometry.pages)?;
-        let listing = Listing::new_in(alloc, ENTRIES, geometry.pages)?;
+        let listing = Listing::new_in(alloc, ENTRIES, geometry)?;
         Ok(KeptFaults {
             trees,
             tally,

@@ -33,7 +33,7 @@ pub(crate) enum Label {
     Fixed,
     #[default]
     Nobody,
-    /// Pages that are zeros.
+    /// Pages that are one byte throughout.
     Blank,
     /// Pages that have the strong frame.
     Strong,
@@ -52,10 +52,10 @@ pub(crate) struct LegendLine {
     pub(crate) share: Share,
 }
 
-/// How many pages are zeros, and have each frame, and how many are outlined, and whether these are in the file.
+/// How many pages are one byte throughout, and have each frame, and how many are outlined, and whether these are in the file.
 #[derive(Clone, Copy)]
 pub(crate) struct NotedPages {
-    pub(crate) zeros: u32,
+    pub(crate) blank: u32,
     pub(crate) strong: u32,
     pub(crate) weak: u32,
     pub(crate) outside: u32,
@@ -112,7 +112,7 @@ impl Legend {
         legend.add(Label::Freelist, tally.share(FREELIST_START));
         legend.add(Label::Fixed, no_overflow(tally.fixed()));
         legend.add(Label::Nobody, no_overflow(tally.nobody()));
-        legend.add(Label::Blank, no_overflow(noted.zeros));
+        legend.add(Label::Blank, no_overflow(noted.blank));
         legend.add(Label::Strong, no_overflow(noted.strong));
         legend.add(Label::Weak, no_overflow(noted.weak));
         legend.add(outside_label(noted.are_after), no_overflow(noted.outside));

@@ -4,7 +4,7 @@ ghost use Rattle.dbpicture.specs.Pieces.{piece_text};
 ghost use Rattle.dblines.specs.Writing.{Wrote};
 ghost use Rattle.dbpicture.specs.Legends as legends;
 
-use crate::colours::{MISSING, ZEROS, shade_letter};
+use crate::colours::{BLANK, MISSING, shade_letter};
 use crate::labels::Labels;
 use crate::legend::{LINE, Label, LegendLine, NAME_WIDTH};
 use crate::owner_shares::{FIXED, FREELIST, NOBODY, OTHER_TREES, Share};
@@ -152,7 +152,7 @@ fn owner_of(label: Label) -> Option<usize>
         Label::Fixed => Some(FIXED),
         Label::Nobody => Some(NOBODY),
         Label::Missing | Label::After => Some(MISSING),
-        Label::Blank => Some(ZEROS),
+        Label::Blank => Some(BLANK),
         Label::Strong | Label::Weak => None,
     }
 }
@@ -241,7 +241,7 @@ fn words(label: Label) -> &'static str
         Label::Freelist => "freelist",
         Label::Fixed => "pointer map and lock-byte page",
         Label::Nobody => "in no tree, overflow chain or freelist",
-        Label::Blank => "all zeros",
+        Label::Blank => "one byte throughout",
         Label::Strong => "injuries that explain shows, what they name or go back to",
         Label::Weak => "other pages with a fault",
         Label::Missing => "stated in the header, not in the file",

@@ -11,7 +11,8 @@
 //!
 //! The marks and the list of roots say which tree each page belongs to (`dbscan`); a first pass over the pages counts those of each
 //! tree, and a second one writes the squares. The entries are kept as `explain` keeps them (`dbentries`): their pages, and those of the
-//! causes of their first faults, have a stronger frame than other pages with a fault. A page that is zeros is white, with a thin cross.
+//! causes of their first faults, have a stronger frame than other pages with a fault. A page that is one byte throughout is white, with a
+//! thin cross.
 //!
 //! The picture is a function of the file, its survey and its name (specs/Pictures). Each page, or run of pages, has one square, in their
 //! order. The square of a page says what the page is and names its tree; that of a run of several owners is divided in six bands

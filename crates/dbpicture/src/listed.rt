@@ -1,14 +1,14 @@
-// The pages of the entries that are listed, and of their causes, and the pages that are zeros.
+// The pages of the entries that are listed, and of their causes, and the pages that are one byte throughout.
 ghost use Rattle.std.specs.Prelude.{◌≡◌, ℕ, ◌++◌, List, filter, flat_map, length};
 ghost use Rattle.std.specs.List.{range_with_len};
 ghost use Rattle.dbentries.specs.Bits.{has_bit};
 ghost use Rattle.dbpicture.specs.declared.faults.Sign.{Sign};
-ghost use Rattle.dbpicture.specs.Faults.{cause_page, entry_signs, frame_signs, framed, page_of_value, run_pages, value_page, zero_signs};
+ghost use Rattle.dbpicture.specs.Faults.{cause_page, entry_signs, frame_signs, framed, page_of_value, run_pages, value_page, with_sign};
 ghost use Rattle.dbpicture.specs.Keeping.{AreNoted};
 
 use crate::fault_notes::FaultNotes;
 use crate::faults::Sign;
-use dbentries::{Cause, Entry, Listing, Reported, Run};
+use dbentries::{Cause, Entry, PageBits, Reported, Run};
 use dbformat::{Fault, FaultCode};
 use std::alloc::Allocator;
 
@@ -85,20 +85,21 @@ fn note_entry<A: Allocator>(notes: &mut FaultNotes<A>, entry: &Entry)
     note_runs(notes, &runs.kept[..runs.count.min(10) as usize]);
 }
 
-/// Notes those of the first `pages` that are zeros, and counts them.
-pub(crate) fn note_zeros<A: Allocator>(
+/// Notes a sign of those of the first `pages` that have a bit, and counts them.
+pub(crate) fn note_bits<A: Allocator>(
     notes: &mut FaultNotes<A>,
-    listing: &Listing<A>,
+    bits: &PageBits<A>,
     pages: u32,
+    sign: Sign,
 ) -> u32
-    ensures count { result ≡ length (filter (has_bit listing.now.zeros) (range_with_len 1 pages)) }
+    ensures count { result ≡ length (filter (has_bit bits.now) (range_with_len 1 pages)) }
     ensures noted { (count : ℕ) (signs : List (ℕ × Sign)) → AreNoted count signs notes.old
-        → AreNoted count (signs ++ zero_signs (filter (has_bit listing.now.zeros) (range_with_len 1 pages))) notes.new }
+        → AreNoted count (signs ++ with_sign sign (filter (has_bit bits.now) (range_with_len 1 pages))) notes.new }
 {
     let mut count = 0u32;
     for index in 0..pages {
-        if listing.is_zeros(index + 1) {
-            notes.note(index + 1, Sign::Zeros);
+        if bits.has(index + 1) {
+            notes.note(index + 1, sign);
             count += 1;
         }
     }

@@ -3,9 +3,9 @@ ghost use Rattle.std.specs.Prelude.{◌≡◌, ◌≤◌};
 ghost use Rattle.dblines.specs.Writing.{Wrote};
 ghost use Rattle.dbpicture.specs.Pieces.{piece_text};
 ghost use Rattle.dbpicture.specs.Faults.{shown};
-ghost use Rattle.dbpicture.specs.Squares.{from_text, page_class, page_shade, page_text};
+ghost use Rattle.dbpicture.specs.Squares.{bytes_words, from_text, page_class, page_shade, page_text};
 
-use crate::colours::{ZEROS, shade_letter};
+use crate::colours::{BLANK, shade_letter};
 use crate::faults::{Sign, SquareFaults};
 use crate::frame::{extent, inset, stroke};
 use crate::grid::Width;
@@ -41,24 +41,37 @@ fn from_piece(place: Place) -> Piece
     }
 }
 
-// The number of the class of a page: that of its owner, or that of pages that are zeros.
-fn page_class(zeros: bool, owner: usize) -> usize
-    ensures { result ≡ page_class zeros owner }
+// The number of the class of a page: that of its owner, or that of pages that are one byte throughout.
+fn page_class(blank: bool, owner: usize) -> usize
+    ensures { result ≡ page_class blank owner }
 {
-    if zeros { ZEROS } else { owner }
+    if blank { BLANK } else { owner }
 }
 
 // What its class begins with.
-fn page_shade(zeros: bool, place: Place) -> &'static str
-    ensures { result.now ≡ page_shade zeros place }
+fn page_shade(blank: bool, place: Place) -> &'static str
+    ensures { result.now ≡ page_shade blank place }
 {
-    shade_letter(is_overflow(place) & !zeros)
+    shade_letter(is_overflow(place) & !blank)
+}
+
+// What its title says of its bytes.
+fn bytes_words(faults: SquareFaults) -> &'static str
+    ensures { result.now ≡ bytes_words (shown faults.bits) }
+{
+    if faults.shows(Sign::Zeros) {
+        ", all zeros"
+    } else if faults.shows(Sign::Blank) {
+        ", one byte throughout"
+    } else {
+        ""
+    }
 }
 
 impl PageSquare {
     /// Draws it, by the name of the tree that the page is in: its title says what the page is by its number, what comes before its
     /// tree, the tree, the page that it is reached from, the codes of its faults, and
-    /// whether it is zeros.
+    /// whether it is zeros, or one byte throughout.
     pub(crate) fn draw<O: Out>(
         &self,
         writer: &mut Writer<'_, O>,
@@ -70,11 +83,11 @@ impl PageSquare {
         ensures { Wrote O.held writer.old (page_text self.now width tree.now (shown faults.bits)) writer.new }
     {
         let frame = faults.frame();
-        let zeros = faults.shows(Sign::Zeros);
+        let blank = faults.shows(Sign::Blank);
         writer.write_all(&[
             Piece::Markup("<rect class=\""),
-            Piece::Markup(page_shade(zeros, self.place)),
-            Piece::Number(page_class(zeros, self.owner) as u64),
+            Piece::Markup(page_shade(blank, self.place)),
+            Piece::Number(page_class(blank, self.owner) as u64),
             Piece::Markup("\" x=\""),
             Piece::Number((self.x + inset(width, frame)) as u64),
             Piece::Markup(extent(width, frame)),
@@ -90,9 +103,9 @@ impl PageSquare {
             from_piece(self.place),
         ]);
         faults.draw(writer);
-        if zeros {
-            writer.write_all(&[Piece::Markup(", all zeros")]);
-        }
-        writer.write_all(&[Piece::Markup("</title></rect>\n")]);
+        writer.write_all(&[
+            Piece::Markup(bytes_words(faults)),
+            Piece::Markup("</title></rect>\n"),
+        ]);
     }
 }

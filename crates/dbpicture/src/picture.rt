@@ -30,7 +30,7 @@ pub(crate) struct Heading {
     pub(crate) faults: u64,
 }
 
-// Draws the patterns: the hatching of pages that are nobody's, and the thin cross of those that are zeros.
+// Draws the patterns: the hatching of pages that are nobody's, and the thin cross of those that are one byte throughout.
 fn draw_patterns<O: Out>(writer: &mut Writer<'_, O>)
     ensures { Wrote O.held writer.old pictures.patterns_text writer.new }
 {

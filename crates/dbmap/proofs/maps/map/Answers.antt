@@ -70,7 +70,7 @@ returns-clause-read g c =
     rw k (opened g.S.Source c.args.source.now {Says = λ file. IsMapOf name file r (held old).bytes (held new.out.now).bytes} c.in_ok-desk.desk.header
     c.open_in.new.source c.run_over.new.source c.in_ok-desk.ensures r
     (after_weaker _ _ ran.read (λ file is left. map_of name file r ran.keeps.desk.only is.is_read (held old).bytes (held new.out.now).bytes (λ V s.
-    map_left file V s _ new (subst (λ (g : Geometry). HearsNone g.pages c.in_ok-kept.kept) (c.geometry.ensures.shape ∙ is.shape) c.in_ok-kept.ensures)
+    map_left file V s _ new (subst (λ (g : Geometry). HearsNone g c.in_ok-kept.kept) (c.geometry.ensures.shape ∙ is.shape) c.in_ok-kept.ensures)
     held r (left V s)))) ran.reads ran.keeps.desk.only).read
 
 pub returns-clause-failed : goal.returns-clause-failed

@@ -18,9 +18,9 @@ use Rattle.dbsource.specs.HeaderBytes.{HeaderBytes}
 use Rattle.dbscan.specs.Texts.{tree_of_row}
 use Rattle.dbpicture.specs.Names.{short_text}
 use Rattle.dbpicture.specs.Keeping.{AreNoted, marked_place, shown_tree}
-use Rattle.dbpicture.specs.Faults.{entry_signs, fault_signs, is_weak, page_shows, signs_of, zero_signs}
+use Rattle.dbpicture.specs.Faults.{entry_signs, fault_signs, is_weak, page_shows, signs_of, with_sign}
 use Rattle.dbpicture.specs.declared.faults.Sign.{Sign}
-use Rattle.dbpicture.specs.declared.faults.Sign.TheVariants.{Faulty, Framed}
+use Rattle.dbpicture.specs.declared.faults.Sign.TheVariants.{Blank, Faulty, Framed, Zeros}
 use Rattle.dbpicture.specs.Grids.{grid_of, outside_by}
 use Rattle.dbpicture.specs.Legends.{legend_lines}
 use Rattle.dbpicture.specs.Pictures.{map_picture, noted_of, outside_of, picture_text, stated_of}
@@ -42,17 +42,19 @@ returns g c =
       is = λ file V known.
           let desk = known.desk in
           let has = known.kept in
-          let notes = c.note_zeros-zeros.new.notes in
+          let notes = c.note_bits-blank.new.notes in
           let strong_noted = subst (λ (es : List Entry). AreNoted (geometry file).pages (flat_map fault_signs (faults file V) ++ flat_map entry_signs es)
           c.note_listed.new.notes) (c.listed.ensures ∙ has.listing.listed) (c.note_listed.ensures (geometry file).pages _ has.notes) in
           let shape = c.geometry-geometry.ensures.shape ∙ desk.header.shape in
           let here : c.geometry-geometry.result.pages ≡ (geometry file).pages = ap (λ (s : Geometry). s.pages) shape in
-          let zeros = ap (λ n. filter (has_bit c.args.kept.now.listing.zeros) (range_with_len 1 n)) here ∙ has.zeros in
+          let zeros = (λ i. filter (has_bit (c.zeros.ensures i)) (range_with_len 1 (here i))) ∙ has.zeros in
+          let blanks = (λ i. filter (has_bit (c.blank.ensures i)) (range_with_len 1 (here i))) ∙ has.blank in
           let noted : AreNoted (geometry file).pages (signs_of file V) notes =
           subst (λ (l : List (ℕ × Sign)). AreNoted (geometry file).pages l notes)
-          (ap (λ ps. (flat_map fault_signs (faults file V) ++ flat_map entry_signs (map kept_of (take 100 (listed_entries file V)))) ++ zero_signs ps) zeros)
-          (c.note_zeros-zeros.ensures.noted (geometry file).pages _ strong_noted) in
-          let blank = c.note_zeros-zeros.ensures.count ∙ ap (λ (ps : List ℕ). length ps) zeros in
+          (ap₂ (λ zs bs. flat_map fault_signs (faults file V) ++ flat_map entry_signs (map kept_of (take 100 (listed_entries file V)))
+          ++ with_sign Zeros zs ++ with_sign Blank bs) zeros blanks)
+          (c.note_bits-blank.ensures.noted (geometry file).pages _ (c.note_bits.ensures.noted (geometry file).pages _ strong_noted)) in
+          let blank = c.note_bits-blank.ensures.count ∙ ap (λ (ps : List ℕ). length ps) blanks in
           let marks = c.marks-marks.ensures ∙ desk.marks in
           let tally = c.count.ensures file V (record { survey = desk.survey; marks = marks; trees = has.trees }) in
           let kept : List SchemaRow = c.roots-roots.result.now.rows in
@@ -78,14 +80,14 @@ returns g c =
           (geometry file).pages (λ p l m. ap₂ (λ a b. a && not b) (noted.faulty.are p l m) (noted.framed.are p l m)) in
           let missing = c.missing.ensures ∙ ap (λ (g : Grid). g.outside.last - g.pages) grid in
           let noted_pages : NotedPages = record {
-            zeros = c.note_zeros-zeros.result;
+            blank = c.note_bits-blank.result;
             strong = c.framed-strong.result.0;
             weak = c.framed-strong.result.1;
             outside = c.missing.result;
             are_after = c.of-outside.result.are_after;
           } in
           let pages : noted_pages ≡ noted_of file V = λ i. record {
-            zeros = blank i;
+            blank = blank i;
             strong = strong i;
             weak = weak i;
             outside = missing i;

@@ -12,7 +12,7 @@ use Rattle.dbscan.proofs.MapLogs.{reads_more, reads_none}
 use Rattle.dbentries.specs.Lists.{added}
 use Rattle.dbentries.specs.Lost.{lost_at}
 use Rattle.dbentries.proofs.Desks.{desk_kept}
-use Rattle.dbentries.proofs.ListedFaults.{all_listed, all_zeros, looked_first}
+use Rattle.dbentries.proofs.ListedFaults.{all_listed, all_noted, looked_first}
 use Rattle.dbentries.proofs.LostPages.{ends, fits, lost_are, lost_first, lost_more}
 use Rattle.dbentries.proofs.listing.Listing.look_at_lost.Goals as goal
 
@@ -78,5 +78,5 @@ returns-clause-asks g c =
     c.loop-index-test.false in
     let looked = way V d ∙ ap (fold added c.args.self.now) (ap (λ n. flat_map (lost_at file V) (range_with_len 1 n)) all ∙ sym (lost_are file V)) in (
       all_listed file V first c.args.self.now c.loop-index.self heard looked limit none,
-      λ room. all_zeros file V first c.args.self.now c.loop-index.self heard looked room none.zeros,
+      all_noted file V first c.args.self.now c.loop-index.self heard looked limit none,
     ))

@@ -9,7 +9,7 @@ use Rattle.dbentries.specs.Kept.{no_runs, run_added}
 use Rattle.dbentries.specs.Lists.{Held}
 use Rattle.dbentries.specs.declared.runs.Runs.{Runs}
 use Rattle.dbentries.proofs.listing.Listing.zero_runs.Goals as goal
-use Rattle.dbentries.proofs.listing.Listing.zero_runs.Goals.{then-is_zeros, else-is_zeros}
+use Rattle.dbentries.proofs.listing.Listing.zero_runs.Goals.{then-has, else-has}
 
 module _ (words : List ℕ) (i : ℕ) where
   abbrev pages_to : ℕ → List ℕ
@@ -36,8 +36,8 @@ loop-index-preserved g c =
     let words = c.args.self.now.zeros in
     let i = c.loop-index.index in
     let r = c.loop-index.runs in
-    let bit = sym c.is_zeros.ensures in
-    elim c.if-is_zeros.branch [
-      | then-is_zeros w ↦ w.runs-is ∙ w.add.ensures ∙ next words i r true (bit ∙ w.if-is_zeros.true) c.loop-index.invariant
-      | else-is_zeros w ↦ w.runs-is ∙ next words i r false (bit ∙ w.if-is_zeros.false) c.loop-index.invariant
+    let bit = sym (c.has.ensures ∙ ap (λ (s : Held). has_bit s.zeros (i + 1)) c.self.view_is) in
+    elim c.if-has.branch [
+      | then-has w ↦ w.runs-is ∙ w.add.ensures ∙ next words i r true (bit ∙ w.if-has.true) c.loop-index.invariant
+      | else-has w ↦ w.runs-is ∙ next words i r false (bit ∙ w.if-has.false) c.loop-index.invariant
     ]

@@ -5,29 +5,28 @@ use Rattle.std.specs.List.{range_with_len}
 use Rattle.std.proofs.lemmas.List.Elements.{filter-append}
 use Rattle.dbsurvey.proofs.Ranges.{range_push}
 use Rattle.dbentries.specs.Bits.{has_bit}
-use Rattle.dbpicture.specs.Faults.{zero_signs}
+use Rattle.dbpicture.specs.Faults.{with_sign}
 use Rattle.dbpicture.specs.Keeping.{AreNoted}
 use Rattle.dbpicture.specs.declared.fault_notes.FaultNotes.{FaultNotes}
 use Rattle.dbpicture.specs.declared.faults.Sign.{Sign}
-use Rattle.dbpicture.specs.declared.faults.Sign.TheVariants.{Zeros}
 use Rattle.dbpicture.proofs.Steps.{flat_more}
-use Rattle.dbpicture.proofs.listed.note_zeros.Goals as goal
-use Rattle.dbpicture.proofs.listed.note_zeros.Goals.{then-is_zeros, else-is_zeros}
+use Rattle.dbpicture.proofs.listed.note_bits.Goals as goal
+use Rattle.dbpicture.proofs.listed.note_bits.Goals.{then-has, else-has}
 
-module _ (words : List ℕ) where
+module _ (sign : Sign) (words : List ℕ) where
   abbrev sign_if : Bool → ℕ → List (ℕ × Sign)
-  sign_if b p = cond b ((p, Zeros) ∷ []) []
+  sign_if b p = cond b ((p, sign) ∷ []) []
 
   abbrev signs_to : ℕ → List (ℕ × Sign)
-  signs_to n = zero_signs (filter (has_bit words) (range_with_len 1 n))
+  signs_to n = with_sign sign (filter (has_bit words) (range_with_len 1 n))
 
-  picked : (ps : List ℕ) → zero_signs (filter (has_bit words) ps) ≡ flat_map (λ p. sign_if (has_bit words p) p) ps
+  picked : (ps : List ℕ) → with_sign sign (filter (has_bit words) ps) ≡ flat_map (λ p. sign_if (has_bit words p) p) ps
   picked [] = refl
   picked (p ∷ ps) = by_case (has_bit words p) (picked ps)
     where
-      by_case : {l : List (ℕ × Sign)} (b : Bool) → zero_signs (filter (has_bit words) ps) ≡ l
-          → zero_signs (cond b (p ∷ filter (has_bit words) ps) (filter (has_bit words) ps)) ≡ sign_if b p ++ l
-      by_case true e = ap (λ l. (p, Zeros) ∷ l) e
+      by_case : {l : List (ℕ × Sign)} (b : Bool) → with_sign sign (filter (has_bit words) ps) ≡ l
+          → with_sign sign (cond b (p ∷ filter (has_bit words) ps) (filter (has_bit words) ps)) ≡ sign_if b p ++ l
+      by_case true e = ap (λ l. (p, sign) ∷ l) e
       by_case false e = e
 
   -- with one page more, where it has its bit
@@ -63,26 +62,28 @@ loop-index-init g c = record {
 
 pub loop-index-preserved : goal.loop-index-preserved
 loop-index-preserved g c =
-    let words = c.args.listing.now.zeros in
+    let sign = c.args.sign in
+    let words = c.args.bits.now in
     let i = c.loop-index.index in
-    let bit = sym c.is_zeros.ensures in
+    let bit = sym c.has.ensures in
     let was = c.loop-index.invariant in
-    elim c.if-is_zeros.branch [
-      | then-is_zeros w ↦ record {
-        noted = λ count signs h. rw w.notes-is (one words w.note.new.self i count signs true (bit ∙ w.if-is_zeros.true)
-            (w.note.ensures count (signs ++ signs_to words i) (was.noted count signs h)));
+    elim c.if-has.branch [
+      | then-has w ↦ record {
+        noted = λ count signs h. rw w.notes-is (one sign words w.note.new.self i count signs true (bit ∙ w.if-has.true)
+            (w.note.ensures count (signs ++ signs_to sign words i) (was.noted count signs h)));
         count =
             let more : length (filter (has_bit words) (range_with_len 1 (i + 1))) ≡ length (filter (has_bit words) (range_with_len 1 i)) + 1 =
-            grown words i true (bit ∙ w.if-is_zeros.true) in
+            grown sign words i true (bit ∙ w.if-has.true) in
             omega (arith, w.count-is, was.count, more);
         few = omega (arith, w.count-is, was.few);
       }
-      | else-is_zeros w ↦ record {
-        noted = λ count signs h. rw w.notes-is (one words c.loop-index.notes i count signs false (bit ∙ w.if-is_zeros.false)
-            (subst (λ (l : List (ℕ × Sign)). AreNoted count l c.loop-index.notes) (sym (append-nil (signs ++ signs_to words i))) (was.noted count signs h)));
+      | else-has w ↦ record {
+        noted = λ count signs h. rw w.notes-is (one sign words c.loop-index.notes i count signs false (bit ∙ w.if-has.false)
+            (subst (λ (l : List (ℕ × Sign)). AreNoted count l c.loop-index.notes) (sym (append-nil (signs ++ signs_to sign words i)))
+            (was.noted count signs h)));
         count =
             let more : length (filter (has_bit words) (range_with_len 1 (i + 1))) ≡ length (filter (has_bit words) (range_with_len 1 i)) + 0 =
-            grown words i false (bit ∙ w.if-is_zeros.false) in
+            grown sign words i false (bit ∙ w.if-has.false) in
             omega (arith, w.count-is, was.count, more);
         few = omega (arith, w.count-is, was.few);
       }
@@ -91,9 +92,9 @@ loop-index-preserved g c =
 pub returns-clause-noted : goal.returns-clause-noted
 returns-clause-noted g c = λ count signs h.
     (let end : c.loop-index.index ≡ c.args.pages = omega (arith, c.loop-index-test.false, c.loop-index.auto.index-end) in
-    subst (λ n. AreNoted count (signs ++ signs_to c.args.listing.now.zeros n) c.loop-index.notes) end (c.loop-index.invariant.noted count signs h))
+    subst (λ n. AreNoted count (signs ++ signs_to c.args.sign c.args.bits.now n) c.loop-index.notes) end (c.loop-index.invariant.noted count signs h))
 
 pub returns-clause-count : goal.returns-clause-count
 returns-clause-count g c =
     let end : c.loop-index.index ≡ c.args.pages = omega (arith, c.loop-index-test.false, c.loop-index.auto.index-end) in
-    c.loop-index.invariant.count ∙ ap (λ n. length (filter (has_bit c.args.listing.now.zeros) (range_with_len 1 n))) end
+    c.loop-index.invariant.count ∙ ap (λ n. length (filter (has_bit c.args.bits.now) (range_with_len 1 n))) end
