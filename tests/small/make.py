@@ -259,6 +259,15 @@ def long_chain(_):
     return db
 
 
+def chain_beside_freelist(_):
+    """A row of 1108 bytes that goes on on pages 3 and 4; a trunk, page 5, and its leaves, pages 6, 7 and 8."""
+    db = table(8)
+    db.long_rows(2, (1108, 92, 3))
+    db.put(3, 0, be(4))
+    db.freelist(5, 4, 6, 7, 8)
+    return db
+
+
 def mapped(pages):
     """After a pointer map, a row of 600 bytes whose overflow page is page 4."""
     db = Database(pages)

@@ -45,7 +45,7 @@ pub fn candidates<A: Allocator + Copy, S: Source>(
     look_at_roots(&found.desk, edits, source, &mut paper, &mut lost)?;
     let mut tries = Ranked::new();
     add_numbers(&mut tries, found, &lost);
-    let wanted = wanted_of(&found.desk, found.counter.noted());
+    let wanted = wanted_of(&found.desk, found.counter.noted(), lost.roots());
     for want in wanted.as_slice() {
         read_page(source, edits, want.page, &mut paper)?;
         add_places(&mut tries, &found.desk, &lost, want, &mut paper);

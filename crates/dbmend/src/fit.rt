@@ -66,14 +66,21 @@ impl Around {
             near: [near, near],
         }
     }
+
+    // Whether a page that is named fits as well as another one, where no key says it but their numbers: in an overflow chain or a trunk.
+    pub(crate) fn fits_as_well(&self, named: u32, other: u32) -> bool {
+        let has_keys = matches!(self.kind, Kind::Table | Kind::Index);
+        !has_keys && distance(named, &self.near) <= distance(other, &self.near)
+    }
 }
 
-// A page that may have been named: what it looks like, and its keys.
+// A page that may have been named: what it looks like, its keys, and the page after it, if it is none of a tree.
 #[derive(Clone, Copy)]
 pub(crate) struct Root {
     pub(crate) page: u32,
     pub(crate) kind: Kind,
     pub(crate) keys: Span,
+    pub(crate) next: u32,
 }
 
 impl Default for Root {
@@ -82,6 +89,7 @@ impl Default for Root {
             page: 0,
             kind: Kind::Other,
             keys: Span::UNKNOWN,
+            next: 0,
         }
     }
 }

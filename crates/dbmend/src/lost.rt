@@ -74,14 +74,15 @@ impl<A: Allocator> Lost<A> {
 
     // Keeps a page that no other one names, with its keys.
     fn keep(&mut self, paper: &Paper<A>) {
-        let keys = match paper.view() {
-            Some(view) => Span::of(&view),
-            None => Span::UNKNOWN,
+        let (keys, next) = match paper.view() {
+            Some(view) => (Span::of(&view), 0),
+            None => (Span::UNKNOWN, paper.number_at(0).unwrap_or(0)),
         };
         let root = Root {
             page: paper.page(),
             kind: self.kind(paper.page()),
             keys,
+            next,
         };
         let _ = self.roots.try_push(root);
     }

@@ -8,7 +8,7 @@ use crate::ranked::{Ranked, add_try};
 use crate::reading::Paper;
 use crate::schema_rows::add_root;
 use crate::trunks::{add_leaves, trunk_place, trunk_place_of};
-use crate::wanted::{Number, Want};
+use crate::wanted::{Number, Want, mark};
 use dbpage::PageView;
 use dbscan::{Desk, Mark, PageKind};
 use std::alloc::Allocator;
@@ -111,7 +111,7 @@ fn place_of<A: Allocator>(desk: &Desk<A>, want: &Want, paper: &Paper<A>) -> Opti
         (Mark::Root | Mark::Child(_), Number::Reference(item, page)) => {
             tree_place(&paper.view()?, want.page, item, page)
         }
-        (Mark::Root | Mark::Child(_), Number::Any(page)) => {
+        (Mark::Root | Mark::Child(_), Number::Any(page) | Number::Before(page, _)) => {
             tree_place_of(&paper.view()?, want.page, page)
         }
         (Mark::FirstOverflow(_) | Mark::LaterOverflow(_), _) => Some(Place::next(want.page)),
@@ -121,20 +121,51 @@ fn place_of<A: Allocator>(desk: &Desk<A>, want: &Want, paper: &Paper<A>) -> Opti
     }
 }
 
-// Adds what may have been at a place: the lost pages that no other one names, and the end of a list.
-fn add_values<A: Allocator>(tries: &mut Ranked, lost: &Lost<A>, begins: u64, place: &Place) {
-    let Some(offset) = begins.checked_add(u64::from(place.at)) else {
+// The page that a place names, if it is in use.
+fn used_page<A: Allocator>(desk: &Desk<A>, paper: &Paper<A>, place: &Place) -> Option<u32> {
+    let page = paper.number_at(place.at)?;
+    match mark(desk, page) {
+        Mark::Unmarked | Mark::Fixed => None,
+        _ => Some(page),
+    }
+}
+
+// Adds what may have been at a place: the lost pages that no other one names, and the end of a list. Where the page that it names is in use
+// and fits as well as a lost one, another reference to that is more likely wrong; so this one is tried later.
+fn add_values<A: Allocator>(
+    tries: &mut Ranked,
+    desk: &Desk<A>,
+    lost: &Lost<A>,
+    paper: &Paper<A>,
+    place: &Place,
+) {
+    let Some(offset) = paper.begins().checked_add(u64::from(place.at)) else {
         return;
     };
+    let used = used_page(desk, paper, place);
     for root in lost.roots() {
-        tries.add(
-            offset,
-            &root.page.to_be_bytes(),
-            fit_of(&place.around, root),
-        );
+        let fit = fit_of(&place.around, root);
+        let is_later = used.is_some_and(|page| place.around.fits_as_well(page, root.page));
+        let fit = if is_later { fit.less(9) } else { fit };
+        tries.add(offset, &root.page.to_be_bytes(), fit);
     }
     if place.at == 0 {
         add_try(tries, offset, &[0, 0, 0, 0], 1);
+    }
+}
+
+// Adds a lost page at the reference to the page that it names.
+fn add_before<A: Allocator>(
+    tries: &mut Ranked,
+    desk: &Desk<A>,
+    want: &Want,
+    paper: &Paper<A>,
+    lost: u32,
+) {
+    if let Some(place) = place_of(desk, want, paper)
+        && let Some(offset) = paper.begins().checked_add(u64::from(place.at))
+    {
+        add_try(tries, offset, &lost.to_be_bytes(), 12);
     }
 }
 
@@ -166,9 +197,10 @@ pub(crate) fn add_places<A: Allocator>(
         Number::End => add_try(tries, paper.begins(), &[0, 0, 0, 0], 40),
         Number::Row(item) => add_row(tries, lost, paper, item),
         Number::Root(_) => {}
+        Number::Before(_, page) => add_before(tries, desk, want, paper, page),
         Number::Reference(_, _) | Number::Any(_) => {
             if let Some(place) = place_of(desk, want, paper) {
-                add_values(tries, lost, paper.begins(), &place);
+                add_values(tries, desk, lost, paper, &place);
             }
         }
     }

@@ -20,13 +20,20 @@ fn stated<A: Allocator>(paper: &Paper<A>) -> u32 {
     }
 }
 
+// The page of a leaf, if there is such a leaf, and it is another page.
+fn other_leaf<A: Allocator>(paper: &Paper<A>, leaf: Option<u32>, page: u32) -> Option<u32> {
+    let other = leaf.filter(|leaf| *leaf < stated(paper))?;
+    leaf_at(paper, other).filter(|other| *other != page)
+}
+
 // A leaf of it. The pages of the leaves beside it are often near.
 fn leaf_place<A: Allocator>(paper: &Paper<A>, leaf: u32) -> Option<Place> {
     let at = leaf.checked_mul(4)?.checked_add(8)?;
-    let before = leaf_at(paper, leaf.saturating_sub(1))?;
-    let behind = leaf_at(paper, leaf.saturating_add(1)).unwrap_or(before);
-    let mut around = Around::beside(Kind::Free, before);
-    around.near[1] = behind;
+    let page = leaf_at(paper, leaf)?;
+    let before = other_leaf(paper, leaf.checked_sub(1), page);
+    let behind = other_leaf(paper, leaf.checked_add(1), page);
+    let mut around = Around::beside(Kind::Free, before.or(behind).unwrap_or(paper.page()));
+    around.near[1] = behind.unwrap_or(around.near[0]);
     Some(Place { at, around })
 }
 

@@ -1,5 +1,6 @@
 // The pages that may have a wrong number, by the faults that were noted.
 use crate::counter::Noted;
+use crate::fit::Root;
 use arrayvec::ArrayVec;
 use dbformat::{FREELIST_START, Fault, FaultCode};
 use dbscan::{Desk, Mark};
@@ -30,6 +31,8 @@ pub(crate) enum Number {
     Row(u32),
     // The root page in each row of the schema that names this page.
     Root(u32),
+    // The reference of an overflow chain that names the first of these pages, where it may have named the second.
+    Before(u32, u32),
 }
 
 // A page, and which of its numbers may be wrong.
@@ -60,7 +63,7 @@ fn add_want(wanted: &mut Wanted, page: u32, number: Number) {
 }
 
 // The mark of a page in use, if it is a page.
-fn mark<A: Allocator>(desk: &Desk<A>, page: u32) -> Mark {
+pub(crate) fn mark<A: Allocator>(desk: &Desk<A>, page: u32) -> Mark {
     if page == 0 || page > desk.marks().pages() {
         return Mark::Unmarked;
     }
@@ -74,6 +77,16 @@ fn want_owner<A: Allocator>(desk: &Desk<A>, page: u32, wanted: &mut Wanted) {
             add_want(wanted, from, Number::Any(page));
         }
         Mark::Root => add_want(wanted, 1, Number::Root(page)),
+        _ => {}
+    }
+}
+
+// Adds the reference to the page after a lost one, where that is in an overflow chain: the lost one may be missing before it.
+fn want_before<A: Allocator>(desk: &Desk<A>, lost: &Root, wanted: &mut Wanted) {
+    match mark(desk, lost.next) {
+        Mark::FirstOverflow(from) | Mark::LaterOverflow(from) => {
+            add_want(wanted, from, Number::Before(lost.next, lost.page));
+        }
         _ => {}
     }
 }
@@ -155,11 +168,14 @@ fn add_wanted<A: Allocator>(desk: &Desk<A>, noted: &Noted, wanted: &mut Wanted) 
     want_owner(desk, page, wanted);
 }
 
-// What may be wrong by some faults.
-pub(crate) fn wanted_of<A: Allocator>(desk: &Desk<A>, faults: &[Noted]) -> Wanted {
+// What may be wrong by some faults, and by some lost pages.
+pub(crate) fn wanted_of<A: Allocator>(desk: &Desk<A>, faults: &[Noted], lost: &[Root]) -> Wanted {
     let mut wanted = ArrayVec::new();
     for noted in faults {
         add_wanted(desk, noted, &mut wanted);
+    }
+    for root in lost {
+        want_before(desk, root, &mut wanted);
     }
     wanted
 }
