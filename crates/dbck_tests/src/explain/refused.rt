@@ -148,11 +148,13 @@ const DESK: usize = 22 * 512 + 32;
 // 100 entries of 264 bytes.
 const ENTRIES: usize = DESK + 100 * 264;
 
-// A bit a page for those that are zeros.
+// A bit a page for those that are zeros, and one for those of one byte throughout.
 const ZEROS: usize = ENTRIES + 16;
 
+const BLANK: usize = ZEROS + 16;
+
 // 16 bytes for each of 65537 starts, all but the freelist's; and a bit a page.
-const STARTS: usize = ZEROS + 65537 * 16;
+const STARTS: usize = BLANK + 65537 * 16;
 
 const FAULTY: usize = STARTS + 16;
 
@@ -180,6 +182,7 @@ fn each_growth_is_refused(rt: HostRuntime) -> Result<(), Fail> {
         DESK,
         ENTRIES,
         ZEROS,
+        BLANK,
         STARTS,
         FAULTY,
         TREES,

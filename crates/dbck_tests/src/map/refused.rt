@@ -84,11 +84,13 @@ const FRAMED: usize = FAULTY + 16;
 // 264 bytes for each of 100 entries.
 const ENTRIES: usize = FRAMED + 100 * 264;
 
-// A bit a page for those that are zeros.
+// A bit a page for those that are zeros, and one for those of one byte throughout.
 const ZEROS: usize = ENTRIES + 16;
 
+const BLANK: usize = ZEROS + 16;
+
 // As rows are read, the list of roots takes four rows of 20 bytes, and then 8 bytes of names.
-const ROOTS: usize = ZEROS + 80;
+const ROOTS: usize = BLANK + 80;
 
 // Each is refused where there is room for those before it alone, and nothing where there is room for all.
 #[test]
@@ -105,6 +107,7 @@ fn each_growth_is_refused(rt: HostRuntime) -> Result<(), Fail> {
         FRAMED,
         ENTRIES,
         ZEROS,
+        BLANK,
         ROOTS,
         ROOTS + 16,
     ] {
