@@ -26,6 +26,11 @@ load common
     cp "$work/out" "$work/alone"
     dbck check --recovered "$work/x.db"
     cmp "$work/out" "$work/alone"
+    : > "$work/x.db-wal"
+    : > "$work/x.db-journal"
+    dbck check --recovered "$work/x.db"
+    cmp "$work/out" "$work/alone"
+    row 'the notes on logs without bytes' ended 1 '*' ''
     echo log > "$work/x.db-wal"
     dbck check --recovered "$work/x.db"
     cmp "$work/out" "$work/alone"
@@ -36,6 +41,81 @@ load common
     cp "$data/whole.db" "$work/x.db"
     mkdir "$work/x.db-wal"
     exactly 4 '' "dbck: note: $work/x.db-wal: a directory"$'\n'"$unread" check --recovered "$work/x.db"
+}
+
+# logged: makes t.db, pages of 512 bytes, and its log of these transactions: four rows, a frame each, and one of several frames.
+logged() {
+    needs python3
+    python3 - "$work" << 'END'
+import shutil, sqlite3, sys
+work = sys.argv[1]
+db = sqlite3.connect(work + "/made.db", isolation_level=None)
+db.execute("PRAGMA page_size = 512")
+db.execute("PRAGMA journal_mode = WAL")
+db.execute("PRAGMA wal_autocheckpoint = 0")
+db.execute("CREATE TABLE t(a)")
+db.execute("PRAGMA wal_checkpoint(TRUNCATE)")
+for k in range(4):
+    db.execute("INSERT INTO t VALUES (?)", (k,))
+db.execute("INSERT INTO t VALUES (?)", ("x" * 600,))
+for suffix in ("", "-wal"):
+    shutil.copy(work + "/made.db" + suffix, work + "/t.db" + suffix)
+END
+}
+
+# noted NOTE..: the notes of a run over t.db and its log are these, in their order.
+noted() {
+    local notes=
+    dbck check --recovered "$work/t.db"
+    while [ $# -gt 0 ]; do
+        notes+="dbck: note: $work/t.db-wal: $1"$'\n'
+        shift
+    done
+    row "the notes $notes" ended 0 '*' "$notes"
+}
+
+@test 'notes say which frames of a log are left out' {
+    logged
+    # A head of 32 bytes, and frames of 24 + 512: frame 5 begins at byte 2176, and frame 3 at byte 1104.
+    cp "$work/t.db-wal" "$work/kept-wal"
+    head -c 2176 "$work/kept-wal" > "$work/t.db-wal"
+    noted '1 page of 4 transactions is read from it'
+    head -c 2712 "$work/kept-wal" > "$work/t.db-wal"
+    noted '1 page of 4 transactions is read from it' '1 frame of a transaction that was not committed is left out'
+    head -c 2713 "$work/kept-wal" > "$work/t.db-wal"
+    noted '1 page of 4 transactions is read from it' '1 frame of a transaction that was not committed is left out' \
+        "frame 6 is not valid, at byte 2712; 0 frames after it have the log's salts, and are left out"
+    head -c 2176 "$work/kept-wal" > "$work/t.db-wal"
+    put_at "$work/t.db-wal" 1200 '\x01'
+    noted '1 page of 2 transactions is read from it' \
+        "frame 3 is not valid, at byte 1104; 1 frame after it has the log's salts, and is left out"
+}
+
+@test 'the logs of a link are those beside what it leads to, and the notes name these' {
+    paired
+    mkdir "$work/links"
+    ln -s ../pair.db "$work/links/link.db"
+    # These are of no database.
+    echo log > "$work/links/link.db-wal"
+    echo log > "$work/links/link.db-journal"
+    dbck check "$work/whole.db"
+    cp "$work/out" "$work/wanted"
+    dbck check --recovered "$work/links/link.db"
+    row 'what is reported of a link' cmp "$work/out" "$work/wanted"
+    row 'the note on the log of a link' ended 0 '*' "dbck: note: $(realpath "$work")/pair.db-wal: 1 page of 1 transaction is read from it"$'\n'
+    rm "$work/pair.db-wal"
+    mkdir "$work/pair.db-wal"
+    exactly 4 '' "dbck: note: $(realpath "$work")/pair.db-wal: a directory"$'\n'"$unread" check --recovered "$work/links/link.db"
+}
+
+@test 'a log that leads to itself is E8, and is not passed over' {
+    local suffix
+    for suffix in journal wal; do
+        cp "$data/whole.db" "$work/x.db"
+        ln -s "x.db-$suffix" "$work/x.db-$suffix"
+        exactly 4 '' "dbck: note: $work/x.db-$suffix: Too many levels of symbolic links"$'\n'"$unread" check --recovered "$work/x.db"
+        rm "$work/x.db-$suffix"
+    done
 }
 
 # journaled: makes before.db, and then.db in a transaction, with its journal, of which some pages were written.
@@ -75,24 +155,65 @@ END
     cmp "$work/then.db-journal" "$work/kept.db-journal"
 }
 
-@test 'a journal that is not hot, or names a super-journal, is not rolled back' {
+# cold WHY: the journal of then.db is not rolled back; WHY is what is said of that.
+cold() {
+    dbck check --recovered "$work/then.db"
+    row "what is reported beside a journal that $1" cmp "$work/out" "$work/alone"
+    row "the note on a journal that $1" grep -qxF "dbck: note: $work/then.db-journal $1" "$work/err"
+}
+
+# altered OFFSET BYTES: the journal of then.db has these bytes at an offset, in the place of its own.
+altered() {
+    cp "$work/kept-journal" "$work/then.db-journal"
+    put_at "$work/then.db-journal" "$1" "$2"
+}
+
+@test 'a journal of which nothing is used is not rolled back, and a note says why' {
     needs python3
     journaled
     dbck check "$work/then.db"
     cp "$work/out" "$work/alone"
-    python3 - "$work/then.db-journal" << 'END'
+    cp "$work/then.db-journal" "$work/kept-journal"
+    altered 0 '\x00'
+    cold 'begins with 0, and is not rolled back: SQLite does not need it'
+    altered 7 '\x00'
+    cold 'does not begin as a journal does, and is not rolled back: ask for it again'
+    altered 20 '\x00\x00\x00\x21'
+    cold 'states a size of a page or sector that cannot be, and is not rolled back: ask for it again'
+    altered 24 '\x00\x00\x03\x00'
+    cold 'states a size of a page or sector that cannot be, and is not rolled back: ask for it again'
+    head -c 511 "$work/kept-journal" > "$work/then.db-journal"
+    cold 'has fewer than 512 bytes, and is not rolled back: ask for all of it'
+}
+
+@test 'a journal that names a super-journal is rolled back where that is there' {
+    local name=$work/main.db-mj1
+    needs python3
+    journaled
+    dbck check "$work/then.db"
+    cp "$work/out" "$work/alone"
+    dbck check "$work/before.db"
+    cp "$work/out" "$work/wanted"
+    python3 - "$work/then.db-journal" "$name" << 'END'
 import sys
 with open(sys.argv[1], "ab") as journal:
-    name = b"/none/main.db-mj1"
+    name = sys.argv[2].encode()
     journal.write(name + len(name).to_bytes(4, "big") + sum(name).to_bytes(4, "big") + bytes.fromhex("d9d505f920a163d7"))
 END
+    cold "names the super-journal $name, which is not here, and is not rolled back (see the manual)"
+    # To SQLite a file without bytes is none.
+    : > "$name"
+    cold "names the super-journal $name, which is not here, and is not rolled back (see the manual)"
+    echo then.db-journal > "$name"
     dbck check --recovered "$work/then.db"
-    cmp "$work/out" "$work/alone"
-    grep -q 'then.db-journal names the super-journal /none/main.db-mj1, and is not rolled back' "$work/err"
-    printf '\0' | dd of="$work/then.db-journal" conv=notrunc status=none
-    dbck check --recovered "$work/then.db"
-    cmp "$work/out" "$work/alone"
-    grep -q 'then.db-journal is not hot, and is not rolled back: it begins with 0, or its header is not one' "$work/err"
+    cmp "$work/out" "$work/wanted"
+    grep -q "then.db-journal: [0-9]* pages are read from it; the database had [0-9]* pages" "$work/err"
+    # It is what SQLite makes of the three.
+    python3 - "$work/then.db" << 'END'
+import sqlite3, sys
+sqlite3.connect(sys.argv[1]).execute("SELECT count(*) FROM t").fetchone()
+END
+    cmp "$work/then.db" "$work/before.db"
 }
 
 @test 'a journal that cannot be opened is E8, with its name' {

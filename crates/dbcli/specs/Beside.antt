@@ -56,6 +56,11 @@ abbrev pub FitsHeader : ℕ → Result HeaderBytes OpenError → Result Bool Unr
 FitsHeader size (Ok h) r = r ≡ Ok ((geometry_of h.bytes h.file_len).page_size == size)
 FitsHeader size (Err e) r = FitsError e r
 
+-- Whether the super-journal is there that a journal names, by what the system answers: it is not, if the journal names none.
+abbrev pub IsSuperThere : (List ℕ → Bool → Type 0) → Option (List ℕ) → Bool → Type 0
+IsSuperThere finds None there = there ≡ false
+IsSuperThere finds (Some name) there = finds name there
+
 -- the two as one
 abbrev pub joined : {B L : Type 0} → Located → ℕ → B × L → Beside B L
 joined pages len both = record { placed = placed pages len; base = both.0; log = both.1; past_end = 0 }
@@ -168,11 +173,12 @@ module _ {S O E : Type 0} (source : SourceWords S) (out : OutWords O) (err : Out
   RunsPages changes asked status None len old new = (new.0.1 ≡ old.0.1)
       × RunsBase source source out err changes asked status ((old.0.0, old.0.2), old.1, old.2) ((new.0.0, new.0.2), new.1, new.2)
 
+module _ {S O E : Type 0} (source : SourceWords S) (out : OutWords O) (err : OutWords E) (finds : List ℕ → Bool → Type 0) where
   abbrev pub RunsRollback : List Change → Task → ℕ → Result Found JournalError → (S × S × Option S) × O × E → (S × S × Option S) × O × E → Type 0
   RunsRollback changes asked status (Err e) old new = (new.0 ≡ old.0) × (status ≡ exit_status (Err (journal_run_error e)))
       × EndsSo err (error_line (journal_run_error e)) (old.1, old.2) (new.1, new.2)
-  RunsRollback changes asked status (Ok found) old new =
-      (pages : Option Located) × (pages ≡ used_pages found) × RunsPages changes asked status pages found.len old new
+  RunsRollback changes asked status (Ok found) old new = (there : Bool) × IsSuperThere finds found.name there
+      × (pages : Option Located) × (pages ≡ used_pages there found) × RunsPages source out err changes asked status pages found.len old new
 
   -- What became of a file, its journal, and perhaps its write-ahead log.
   pub record RunsJournal (changes : List Change) (asked : Task) (status : ℕ) (old new : (S × S × Option S) × O × E) : Type 0 where

@@ -20,11 +20,11 @@ IsErrorStatus status error = (status ≡ line_status error) ⊎ ((line_status er
 
 module _ {F S O E : Type 0} (opens : F → List ℕ → Result S Unread → F → Type 0)
     (opens_log : F → List ℕ → List ℕ → Result (Option S) RunError → F → Type 0) (closes : F → S → F → Type 0)
-    (source : SourceWords S) (out : OutWords O) (err : OutWords E) where
+    (source : SourceWords S) (out : OutWords O) (err : OutWords E) (finds : List ℕ → Bool → Type 0) where
   -- What was opened was run with these changes, and was given back as that left it: nothing else was asked of it. Or nothing is open.
   abbrev pub RunsOpened : List Change → Task → ℕ → Result (S × Option S × Option S) RunError → F × O × E → F × O × E → Type 0
   RunsOpened changes asked status (Ok opened) old new = (left : S × Option S × Option S)
-      × RunsFiles source out err changes asked status opened left (old.1, old.2) (new.1, new.2)
+      × RunsFiles source out err finds changes asked status opened left (old.1, old.2) (new.1, new.2)
       × ClosesFiles opens opens_log closes left old.0 new.0
   RunsOpened changes asked status (Err e) old new =
       (status ≡ exit_status (Err e)) × EndsSo err (error_line e) (old.1, old.2) (new.1, new.2) × (new.0 ≡ old.0)

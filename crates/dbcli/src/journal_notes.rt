@@ -1,7 +1,7 @@
 // The notes on a rollback journal that was read.
 use crate::note::{NoteOut, Piece, by_number};
 use crate::shown::Shown;
-use dblog::{Journal, JournalError, Rollback};
+use dblog::{Cold, Journal, JournalError, Rollback};
 use dbsource::Out;
 use std::alloc::Global;
 use std::str;
@@ -34,56 +34,73 @@ fn put_given<N: Out>(notes: &mut NoteOut<'_, N>, name: &Shown, journal: &Journal
     );
 }
 
-// Puts the note on a journal that names a super-journal, and is not rolled back for that.
+// Puts the note on a journal that names a super-journal which is not there.
 fn put_named<N: Out>(alloc: Global, notes: &mut NoteOut<'_, N>, label: &str, named: &[u8]) {
     let named = str::from_utf8(named).unwrap_or("(not UTF-8)");
     if let Ok(text) = format!(in alloc; "{label} names the super-journal {named}")
         && let Ok(text) = Shown::of(alloc, text.as_str())
     {
-        notes.put(&text, &[Piece::Words(", and is not rolled back")]);
+        notes.put(
+            &text,
+            &[Piece::Words(", which is not here, and is not rolled back (see the manual)")],
+        );
     }
 }
 
-// Puts the note on a journal that was read, and names no super-journal.
+// What is said of a journal of which nothing is used.
+fn cold_text(cold: Cold) -> &'static str {
+    match cold {
+        Cold::Short => " has fewer than 512 bytes, and is not rolled back: ask for all of it",
+        Cold::Zeroed => " begins with 0, and is not rolled back: SQLite does not need it",
+        Cold::NoMagic => {
+            " does not begin as a journal does, and is not rolled back: ask for it again"
+        }
+        Cold::Sizes => {
+            " states a size of a page or sector that cannot be, and is not rolled back: ask for it again"
+        }
+    }
+}
+
+// Puts the note on a journal that was read, and is rolled back if anything of it is used.
 fn put_read<N: Out>(notes: &mut NoteOut<'_, N>, name: &Shown, found: &Rollback) {
     match found.journal() {
-        Some(journal) if found.len() > 0 => put_given(notes, name, journal),
-        Some(_) => notes.put(
+        Ok(journal) if found.len() > 0 => put_given(notes, name, journal),
+        Ok(_) => notes.put(
             name,
             &[Piece::Words(" holds nothing that SQLite would read")],
         ),
-        None => notes.put(
-            name,
-            &[Piece::Words(
-                " is not hot, and is not rolled back: it begins with 0, or its header is not one",
-            )],
-        ),
+        Err(cold) => notes.put(name, &[Piece::Words(cold_text(*cold))]),
     }
 }
 
-/// Puts the note on a journal of this name: what was found in it, or why it is not read.
+/// Puts the note on a journal of this name: what was found in it, and whether the super-journal is there that it names.
 pub(crate) fn put_journal<N: Out>(
     alloc: Global,
     notes: &mut NoteOut<'_, N>,
     label: &str,
-    found: &Result<Rollback, JournalError>,
+    found: &Rollback,
+    is_there: bool,
 ) {
-    let Ok(name) = Shown::of(alloc, label) else {
-        return;
-    };
-    match found {
-        Ok(found) => match found.name() {
-            Some(named) => put_named(alloc, notes, label, named.bytes()),
-            None => put_read(notes, &name, found),
-        },
-        Err(JournalError::ReadFailed) => notes.put(
-            &name,
-            &[Piece::Words(" or its database cannot be read")],
-        ),
-        Err(JournalError::TooLong) => notes.put(
-            &name,
+    match found.name() {
+        Some(named) if !is_there => put_named(alloc, notes, label, named.bytes()),
+        _ => {
+            if let Ok(name) = Shown::of(alloc, label) {
+                put_read(notes, &name, found);
+            }
+        }
+    }
+}
+
+/// Puts the note on a journal of this name that was not read, or before which its database was not.
+pub(crate) fn put_unread<N: Out>(notes: &mut NoteOut<'_, N>, name: &Shown, error: JournalError) {
+    match error {
+        JournalError::ReadFailed => {
+            notes.put(name, &[Piece::Words(" or its database cannot be read")]);
+        }
+        JournalError::TooLong => notes.put(
+            name,
             &[Piece::Words(" has 32 GiB or more, and is not read")],
         ),
-        Err(JournalError::OutOfMemory(_)) => {}
+        JournalError::OutOfMemory(_) => {}
     }
 }

@@ -1,10 +1,15 @@
 // What the system knows of a path.
 use std::fs::Metadata;
 use std::rt::Files;
-use std::{fs, io};
+use std::{fs, io, str};
 
 /// Looks paths up, and opens nothing.
 pub trait Lookup {
+    ghost use Rattle.std.specs.Prelude.{ℕ, List, Bool};
+
+    // What is answered of a super-journal of this name: whether it is there.
+    ghost finds: { Self → List ℕ → Bool → Type 0 };
+
     /// The metadata of what the path leads to.
     ///
     /// # Errors
@@ -18,9 +23,18 @@ pub trait Lookup {
     ///
     /// As of [`metadata`](Lookup::metadata), and want of memory.
     fn link_target(&self, path: &str) -> io::Result<Option<String>>;
+
+    /// Whether a super-journal of this name is there. As for SQLite, a file without bytes is not; nor is a name that is not UTF-8.
+    fn has_super(&self, name: &[u8]) -> bool
+        ensures { finds self.now name.now result };
 }
 
 impl<R: Files + AllocGlobal> Lookup for R {
+    ghost use Rattle.std.specs.Prelude.{⊤};
+
+    // No contract knows what is there.
+    ghost finds = { λ system name there. ⊤ };
+
     fn metadata(&self, path: &str) -> io::Result<Metadata> {
         fs::metadata(self, path)
     }
@@ -30,6 +44,16 @@ impl<R: Files + AllocGlobal> Lookup for R {
             Ok(Some(fs::canonicalize(self, path)?.into_string()))
         } else {
             Ok(None)
+        }
+    }
+
+    fn has_super(&self, name: &[u8]) -> bool {
+        let Ok(path) = str::from_utf8(name) else {
+            return false;
+        };
+        match fs::metadata(self, path) {
+            Ok(metadata) => !metadata.is_file() || metadata.len() > 0,
+            Err(_) => false,
         }
     }
 }

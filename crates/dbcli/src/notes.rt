@@ -1,17 +1,19 @@
 // Notes on a file: lines beside the report, which they do not change.
 ghost use Rattle.std.specs.Prelude.{◌≡◌, ◌==◌, ◌<◌, ◌%◌, ◌↔◌, IsTrue, length, sum_by};
 ghost use Rattle.std.specs.List.{list_all};
+ghost use Rattle.dbcli.specs.Beside.{IsSuperThere};
 ghost use Rattle.dbcli.specs.NoteLines.{beginning_text, piece_text};
 
 use crate::error_lines::Unrun;
 use crate::finishing::Notes;
 use crate::format::Format;
-use crate::journal_notes::put_journal;
+use crate::journal_notes::{put_journal, put_unread};
 use crate::log_notes::put_found;
 use crate::logs::put_log_notes;
 use crate::lookup::Lookup;
 use crate::note::{NoteOut, Piece};
 use crate::opened_files::{JOURNAL, WAL};
+use crate::opening::log_name;
 use crate::rest::put_rest;
 use crate::shown::Shown;
 use crate::stamp::Stamp;
@@ -22,6 +24,7 @@ use dblog::{Index, JournalError, LogError, Rollback};
 use dbreport::Verdict;
 use dbsource::{Changes, Out, Refusal, RunError};
 use std::alloc::Global;
+use std::str;
 
 /// Puts notes on the file at a path; `watch` has what the run has seen of it, and `writes` of its outputs.
 #[derive(Drop)]
@@ -48,7 +51,8 @@ impl<'a, R: Lookup + AllocGlobal, N: Out> FileNotes<'a, R, N> {
         writes: &'a FailedWrites,
         notes: &'a mut N,
     ) -> FileNotes<'a, R, N>
-        ensures { result.notes.out.now ≡ notes.old }
+        ensures out { result.notes.out.now ≡ notes.old }
+        ensures rt { result.rt.now ≡ rt.now }
     {
         FileNotes {
             rt,
@@ -74,7 +78,9 @@ impl<'a, R: Lookup + AllocGlobal, N: Out> FileNotes<'a, R, N> {
     }
 
     /// Says that the file was opened, and its logs too, if those are read. A note is put on each log beside it that is not.
-    pub fn opened(&mut self, recovered: bool) {
+    pub fn opened(&mut self, recovered: bool)
+        ensures { self.new.rt.now ≡ self.old.rt.now }
+    {
         self.is_open = true;
         if !recovered {
             put_log_notes(self.rt, self.file, &mut self.notes);
@@ -83,9 +89,10 @@ impl<'a, R: Lookup + AllocGlobal, N: Out> FileNotes<'a, R, N> {
 
     /// Says that the file could not be opened, or a log of it, and why, if that is known.
     pub fn unopened(&mut self, reason: Option<(&str, &str)>) {
-        let (alloc, file) = (self.rt.alloc(), self.file);
+        let alloc = self.rt.alloc();
         if let Some((suffix, reason)) = reason
-            && let Ok(said) = format!(in alloc; "{file}{suffix}: {reason}")
+            && let Some(name) = self.name_of(suffix)
+            && let Ok(said) = format!(in alloc; "{name}: {reason}")
         {
             self.reason = Shown::of(alloc, said.as_str()).ok();
         }
@@ -93,22 +100,40 @@ impl<'a, R: Lookup + AllocGlobal, N: Out> FileNotes<'a, R, N> {
 
     /// Says what was found in the write-ahead log, and in the file after that: a note is put on it.
     pub fn log_read(&mut self, found: &Result<(Index, u64), LogError>) {
-        let (alloc, file) = (self.rt.alloc(), self.file);
-        if let Ok(name) = format!(in alloc; "{file}{WAL}")
-            && let Ok(name) = Shown::of(alloc, name.as_str())
+        if let Some(name) = self.name_of(WAL)
+            && let Ok(name) = Shown::of(self.rt.alloc(), name.as_str())
         {
             put_found(&mut self.notes, &name, found);
         }
         self.is_read = found.is_ok();
     }
 
-    /// Says what was found in the rollback journal, and of the file before that: a note is put on it.
-    pub fn journal_read(&mut self, found: &Result<Rollback, JournalError>) {
-        let (alloc, file) = (self.rt.alloc(), self.file);
-        if let Ok(name) = format!(in alloc; "{file}{JOURNAL}") {
-            put_journal(alloc, &mut self.notes, name.as_str(), found);
+    /// Whether the super-journal is there that a journal names, if it names one.
+    pub fn has_super(&self, found: &Rollback) -> bool
+        ensures { IsSuperThere (R.finds self.now.rt.now) found.now.name result }
+    {
+        match found.name() {
+            Some(name) => self.rt.has_super(name.bytes()),
+            None => false,
         }
-        self.is_read = found.is_ok();
+    }
+
+    /// Says what was found in the rollback journal, and whether the super-journal is there that it names: a note is put on it.
+    pub fn journal_read(&mut self, found: &Rollback, is_there: bool) {
+        if let Some(name) = self.name_of(JOURNAL) {
+            let alloc = self.rt.alloc();
+            put_journal(alloc, &mut self.notes, name.as_str(), found, is_there);
+        }
+    }
+
+    /// Says why the rollback journal, or the file before it, was not read: a note is put on it.
+    pub fn journal_unread(&mut self, error: JournalError) {
+        if let Some(name) = self.name_of(JOURNAL)
+            && let Ok(name) = Shown::of(self.rt.alloc(), name.as_str())
+        {
+            put_unread(&mut self.notes, &name, error);
+        }
+        self.is_read = false;
     }
 
     /// Says that the file and its log are run as one: the changes of a mend are then not those of the file.
@@ -118,6 +143,16 @@ impl<'a, R: Lookup + AllocGlobal, N: Out> FileNotes<'a, R, N> {
                 ": the changes are of the database that SQLite would recover, not of this file",
             )]);
         }
+    }
+
+    // The name of the file, or of a log of it, by what that has after the name of the database.
+    fn name_of(&self, suffix: &str) -> Option<String> {
+        let alloc = self.rt.alloc();
+        if suffix.is_empty() {
+            return String::from_str(alloc, self.file).ok();
+        }
+        let name = log_name(self.rt, self.file, suffix).ok()?;
+        String::from_str(alloc, str::from_utf8(name.as_slice()).ok()?).ok()
     }
 
     // Puts a note of the file's name, and of what is said of it.

@@ -118,8 +118,12 @@ impl<'a, R: Files<File = File> + Clock + AllocGlobal> Opener for SystemFiles<'a,
     }
 }
 
-// The name of a log of the database at this path.
-fn log_name<R: Files + AllocGlobal>(rt: &R, path: &str, suffix: &str) -> Result<Vec<u8>, NoMemory> {
+/// The name of a log of the database at this path, or at the end of the link that it is.
+pub(crate) fn log_name<R: Lookup + AllocGlobal>(
+    rt: &R,
+    path: &str,
+    suffix: &str,
+) -> Result<Vec<u8>, NoMemory> {
     let target = rt.link_target(path).unwrap_or(None);
     let database = target.as_deref().unwrap_or(path);
     let mut name = Vec::new(rt.alloc());

@@ -57,15 +57,17 @@ fn run_journal<R: Lookup + AllocGlobal, S: Source + Drop, O: Out, E: Out, N: Out
     notes: &mut FileNotes<'_, R, N>,
     progress: &Progress<W>,
 ) -> (u8, (S, S, Option<S>))
-    ensures { RunsJournal S.Source O.Out E.Out line.now.changes line.now.task result.0 (opened, out.old, err.old) (result.1, out.new, err.new) }
+    ensures { RunsJournal S.Source O.Out E.Out (R.finds notes.old.rt.now) line.now.changes line.now.task result.0 (opened, out.old, err.old)
+        (result.1, out.new, err.new) }
 {
     let (mut base, mut journal, wal) = opened;
     let found = Rollback::find(notes.alloc(), &mut base, &mut journal);
-    notes.journal_read(&found);
     match found {
         Ok(found) => {
+            let is_there = notes.has_super(&found);
+            notes.journal_read(&found, is_there);
             let len = found.len();
-            match found.into_pages() {
+            match found.into_pages(is_there) {
                 Some(pages) => {
                     let rolled = Logged::new(pages, base, len, journal);
                     let (status, (rolled, wal)) = run_rolled(
@@ -93,6 +95,7 @@ fn run_journal<R: Lookup + AllocGlobal, S: Source + Drop, O: Out, E: Out, N: Out
             }
         }
         Err(error) => {
+            notes.journal_unread(error);
             let status = end(err, Err(run_error(error)), notes);
             (status, (base, journal, wal))
         }
@@ -115,7 +118,8 @@ pub(crate) fn run_files<
     notes: &mut FileNotes<'_, R, N>,
     progress: &Progress<W>,
 ) -> (u8, (S, Option<S>, Option<S>))
-    ensures { RunsFiles S.Source O.Out E.Out line.now.changes line.now.task result.0 opened result.1 (out.old, err.old) (out.new, err.new) }
+    ensures { RunsFiles S.Source O.Out E.Out (R.finds notes.old.rt.now) line.now.changes line.now.task result.0 opened result.1 (out.old, err.old)
+        (out.new, err.new) }
 {
     let (base, journal, wal) = opened;
     match journal {

@@ -49,8 +49,8 @@ pub fn run_line<R: Lookup + AllocGlobal, F: Opener, O: Out, E: Out, N: Out, W: P
     notes: &mut N,
     progress: &Progress<W>,
 ) -> u8
-    ensures { RunsLine F.opens F.opens_log F.closes F.File.Source O.Out E.Out line.entry.recovered line.entry.changes line.entry.task
-        line.entry.file.now result (system.old.files, out.old, err.old) (system.new.files, out.new, err.new) }
+    ensures { RunsLine F.opens F.opens_log F.closes F.File.Source O.Out E.Out (R.finds system.old.rt.now) line.entry.recovered line.entry.changes
+        line.entry.task line.entry.file.now result (system.old.files, out.old, err.old) (system.new.files, out.new, err.new) }
 {
     let watch = Watch::new();
     let mut notes = FileNotes::new(system.rt, line.file, &watch, system.writes, notes);
@@ -90,7 +90,8 @@ pub fn answer_words<
     notes: &mut N,
     progress: &Progress<W>,
 ) -> u8
-    ensures { AnswersWords F.opens F.opens_log F.closes F.File.Source O.Out E.Out N.Out (map (λ word. word.now) words.entry.now) result
+    ensures { AnswersWords F.opens F.opens_log F.closes F.File.Source O.Out E.Out (R.finds system.old.rt.now) N.Out
+        (map (λ word. word.now) words.entry.now) result
         (system.old.files, out.old, err.old, notes.old) (system.new.files, out.new, err.new, notes.new) }
 {
     let rt = system.rt;

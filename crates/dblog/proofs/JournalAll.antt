@@ -1,6 +1,6 @@
 -- All of a journal.
 use Rattle.std.proofs.Common.{◌≡◌, ℕ, ◌<◌, ◌≤◌, ◌+◌, true, false, List, [], ◌++◌, length, take, refl, sym, ap, subst, ◌∙◌, arith, cond, inl, inr}
-use Rattle.std.specs.Prelude.{◌&&◌, ◌^◌, nat_le, IfSome, IfErr, IfOk, Option, Some, None, Result, Ok, Err}
+use Rattle.std.specs.Prelude.{◌&&◌, ◌^◌, nat_le, nat_lt, IfSome, IfErr, IfOk, Result, Ok, Err}
 use Rattle.std.proofs.lemmas.Bool.Decides.{nat_tests}
 use Rattle.std.proofs.lemmas.List.{length-append}
 use Rattle.dbformat.specs.Log.{range}
@@ -9,9 +9,11 @@ use Rattle.dbsource.specs.Failures.{failures_after, one_more}
 use Rattle.dbsource.specs.Sources.{SourceState}
 use Rattle.dbsource.proofs.Headers.{beginning, told_len, told_len_is}
 use Rattle.dbsource.proofs.Told.{if_told, if_told_both}
-use Rattle.dblog.specs.Journal.{first_head, has_magic, is_shape, is_used, place_after, records_from, shape, used_records}
+use Rattle.dblog.specs.Journal.{cold_by, first_head, has_magic, is_shape, is_used, place_after, records_from, shape, used_records, why_cold}
 use Rattle.dblog.specs.JournalReading.{IndexesRecords, IsJournalOf, JournalIndexed, ReadsAfterHead, ReadsJournal, ReadsRecords, has_failed, is_failed}
 use Rattle.dblog.specs.Reading.{Reads}
+use Rattle.dblog.specs.declared.cold.Cold.{Cold}
+use Rattle.dblog.specs.declared.cold.Cold.TheVariants.{Short}
 use Rattle.dblog.specs.declared.entry.Entry.{Entry}
 use Rattle.dblog.specs.declared.journal_error.JournalError.{JournalError}
 use Rattle.dblog.specs.declared.journal_error.JournalError.TheVariants.{ReadFailed, TooLong}
@@ -27,14 +29,23 @@ short_unused stored h len l = let e : nat_le 512 len ≡ false = grind (arith, n
 used_of : (stored len : ℕ) (h file : List ℕ) → length file ≡ len → first_head file ≡ h → is_used stored (first_head file) (length file) ≡ is_used stored h len
 used_of stored len h file n z = ap (λ x. is_used stored x (length file)) z ∙ ap (λ m. is_used stored h m) n
 
+short_why : (h : List ℕ) (len : ℕ) → len < 512 → why_cold h len ≡ Short
+short_why h len l = let e : nat_lt len 512 ≡ true = grind (arith, nat_tests) in rw e refl
+
+head_why : (h : List ℕ) (len : ℕ) → 512 ≤ len → why_cold h len ≡ cold_by h
+head_why h len l = let e : nat_lt len 512 ≡ false = grind (arith, nat_tests) in rw e refl
+
+why_of : (len : ℕ) (h file : List ℕ) → length file ≡ len → first_head file ≡ h → why_cold (first_head file) (length file) ≡ why_cold h len
+why_of len h file n z = ap (λ x. why_cold x (length file)) z ∙ ap (λ m. why_cold h m) n
+
 pub after_none : {step : Step} (h : List ℕ) (len stored : ℕ) (old : SourceState) → 512 ≤ len → (has_magic h && is_shape (shape stored h len)) ≡ false
-    → ReadsAfterHead step h len stored (Ok None) old old
+    → ReadsAfterHead step h len stored (Ok (Err (cold_by h))) old old
 after_none {step = step} h len stored old l e = record {
   seen = [];
   reads = reads_none {step = step} 28 old old refl refl refl;
   within = omega (arith, l);
   short = omega (arith, l);
-  files = λ file n z r. used_of stored len h file n z ∙ used_test stored h len l ∙ e;
+  files = λ file n z r. (used_of stored len h file n z ∙ used_test stored h len l ∙ e, sym (why_of len h file n z ∙ head_why h len l));
   unmeasured = tt;
 }
 
@@ -52,7 +63,7 @@ after_failed entries h len stored e old new k = record {
 pub after_read : {step : Step} {X : Type 0} (entries : X → List Entry) (x : X) (h : List ℕ) (len stored : ℕ) (old new : SourceState) → 512 ≤ len
     → (has_magic h && is_shape (shape stored h len)) ≡ true
     → ReadsRecords {X = X} step (shape stored h len) h (Ok x) entries old new
-    → ReadsAfterHead step h len stored (Ok (Some (record { shape = shape stored h len; entries = entries x }))) old new
+    → ReadsAfterHead step h len stored (Ok (Ok (record { shape = shape stored h len; entries = entries x }))) old new
 after_read entries x h len stored old new l e k = record {
   seen = k.seen;
   reads = k.reads;
@@ -84,23 +95,24 @@ failed_after {step = step} {X = X} entries s h len stored e old new z k =
 pub read_after : {step : Step} {X : Type 0} (entries : X → List Entry) (x : X) (s : Shape) (h : List ℕ) (len stored : ℕ) (old new : SourceState) → 512 ≤ len
     → s ≡ shape stored h len → (has_magic h && is_shape s) ≡ true
     → ReadsRecords {X = X} step s h (Ok x) entries old new
-    → ReadsAfterHead step h len stored (Ok (Some (record { shape = s; entries = entries x }))) old new
+    → ReadsAfterHead step h len stored (Ok (Ok (record { shape = s; entries = entries x }))) old new
 read_after {step = step} {X = X} entries x s h len stored old new l z e k =
-    subst (λ y. ReadsAfterHead step h len stored (Ok (Some (record { shape = y; entries = entries x }))) old new) (sym z)
+    subst (λ y. ReadsAfterHead step h len stored (Ok (Ok (record { shape = y; entries = entries x }))) old new) (sym z)
     (after_read entries x h len stored old new l (subst (λ y. (has_magic h && is_shape y) ≡ true) z e)
     (subst (λ y. ReadsRecords {X = X} step y h (Ok x) entries old new) z k))
 
-pub none_after : {step : Step} (s : Shape) (h : List ℕ) (len stored : ℕ) (old : SourceState) → 512 ≤ len → s ≡ shape stored h len
-    → (has_magic h && is_shape s) ≡ false → ReadsAfterHead step h len stored (Ok None) old old
-none_after s h len stored old l z e = after_none h len stored old l (subst (λ y. (has_magic h && is_shape y) ≡ false) z e)
+pub none_after : {step : Step} (s : Shape) (h : List ℕ) (len stored : ℕ) (why : Cold) (old : SourceState) → 512 ≤ len → s ≡ shape stored h len
+    → (has_magic h && is_shape s) ≡ false → why ≡ cold_by h → ReadsAfterHead step h len stored (Ok (Err why)) old old
+none_after {step = step} s h len stored why old l z e w = subst (λ y. ReadsAfterHead step h len stored (Ok (Err y)) old old) (sym w)
+    (after_none h len stored old l (subst (λ y. (has_magic h && is_shape y) ≡ false) z e))
 
 -- ---- the whole
 
-counted : (r : Result (Option JournalIndexed) JournalError) (n : ℕ) → cond (has_failed r) (one_more n) n ≡ failures_after is_failed r n
+counted : (r : Result (Result JournalIndexed Cold) JournalError) (n : ℕ) → cond (has_failed r) (one_more n) n ≡ failures_after is_failed r n
 counted (Ok x) n = refl
 counted (Err e) n = refl
 
-pub journal_read : {step : Step} {lengths : Lengths} (len stored : ℕ) (seen : List ℕ) (r : Result (Option JournalIndexed) JournalError) (s t : SourceState)
+pub journal_read : {step : Step} {lengths : Lengths} (len stored : ℕ) (seen : List ℕ) (r : Result (Result JournalIndexed Cold) JournalError) (s t : SourceState)
     → (k : Reads step 0 (has_failed r) s t seen)
     → k.end ≤ len → length seen ≤ len → ((file : List ℕ) → length file ≡ len → IsRangeOf file 0 seen → IfOk r (λ found. IsJournalOf stored found file))
     → IfErr r (λ e. e ≡ TooLong → 2 ^ 35 ≤ len)
@@ -141,9 +153,12 @@ journal_unanswered stored s t b e c = record {
 }
 
 pub journal_short : {step : Step} {lengths : Lengths} (len stored : ℕ) (s t : SourceState) → t.bytes ≡ s.bytes → t.trail ≡ s.trail → t.failures ≡ s.failures
-    → len < 512 → lengths s.trail len → IfSome s.bytes (λ file. len ≡ length file) → ReadsJournal step lengths stored (Ok None) s t
-journal_short len stored s t b e c l a n = journal_read len stored [] (Ok None) s t (reads_none 0 s t b e c) (omega arith) (omega arith)
-    (λ file m r. ap (is_used stored (first_head file)) m ∙ short_unused stored (first_head file) len l) tt a n
+    → len < 512 → lengths s.trail len → IfSome s.bytes (λ file. len ≡ length file) → ReadsJournal step lengths stored (Ok (Err Short)) s t
+journal_short len stored s t b e c l a n = journal_read len stored [] (Ok (Err Short)) s t (reads_none 0 s t b e c) (omega arith) (omega arith)
+    (λ file m r. (
+      ap (is_used stored (first_head file)) m ∙ short_unused stored (first_head file) len l,
+      sym (ap (why_cold (first_head file)) m ∙ short_why (first_head file) len l),
+    )) tt a n
 
 pub journal_long : {step : Step} {lengths : Lengths} (len stored : ℕ) (s t : SourceState) → t.bytes ≡ s.bytes → t.trail ≡ s.trail → t.failures ≡ s.failures
     → 2 ^ 35 ≤ len → lengths s.trail len → IfSome s.bytes (λ file. len ≡ length file) → ReadsJournal step lengths stored (Err TooLong) s t
@@ -162,8 +177,8 @@ never : {X : Type 0} (len : ℕ) (r : Result X JournalError) → IfErr r (λ e. 
 never len (Ok x) n = tt
 never len (Err e) n = λ z. absurd (n z)
 
-pub journal_of_rest : {step : Step} {lengths : Lengths} (len stored : ℕ) (h : List ℕ) (r : Result (Option JournalIndexed) JournalError) (s m i t : SourceState)
-    → length h ≡ 28 → m.bytes ≡ s.bytes → m.trail ≡ s.trail → m.failures ≡ s.failures
+pub journal_of_rest : {step : Step} {lengths : Lengths} (len stored : ℕ) (h : List ℕ) (r : Result (Result JournalIndexed Cold) JournalError)
+    (s m i t : SourceState) → length h ≡ 28 → m.bytes ≡ s.bytes → m.trail ≡ s.trail → m.failures ≡ s.failures
     → i.bytes ≡ m.bytes → step m.trail (given 0 h) i.trail → i.failures ≡ m.failures → IfSome m.bytes (λ file. IsRangeOf file 0 h)
     → ReadsAfterHead step h len stored r i t
     → lengths s.trail len → IfSome s.bytes (λ file. len ≡ length file) → ReadsJournal step lengths stored r s t

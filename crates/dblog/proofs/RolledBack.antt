@@ -1,7 +1,7 @@
 -- By its index a rollback journal gives what SQLite rolls back.
 use Rattle.std.proofs.Common.{◌≡◌, ℕ, suc, zero, ◌<◌, ◌≤◌, ◌+◌, ◌-◌, ◌*◌, ◌/◌, ◌%◌, Bool, true, false, cond, List, [], ◌∷◌, ◌++◌, length, map, get_or}
 use Rattle.std.proofs.Common.{refl, sym, ap, ◌∙◌, arith, inl, inr}
-use Rattle.std.specs.Prelude.{◌⊎◌, ◌==◌, ◌&&◌, not, Option, Some, None, nat_le, nat_lt, slice_index}
+use Rattle.std.specs.Prelude.{◌⊎◌, ◌==◌, ◌&&◌, ◌||◌, not, Option, Some, None, Ok, nat_le, nat_lt, slice_index}
 use Rattle.std.specs.List.{range_with_len}
 use Rattle.std.proofs.lemmas.Bool.Decides.{nat_tests}
 use Rattle.dbformat.specs.Numbers.{u32_at}
@@ -178,24 +178,25 @@ same_byte found base journal is i = by_place (same_record found.entries kept (i 
 
 -- ---- the database
 
-pub journal_rolls_back : (found : JournalIndexed) (base journal : List ℕ) → IsJournalOf (stored_size base) (Some found) journal
-    → 0 < length base → names_super journal ≡ false
-    → through (placed (journal_pages found) (length base)) base journal ≡ rolled_back base journal
-journal_rolls_back found base journal (used, shaped, is) some alone =
+pub journal_rolls_back : (there : Bool) (found : JournalIndexed) (base journal : List ℕ) → IsJournalOf (stored_size base) (Ok found) journal
+    → 0 < length base → (there || not (names_super journal)) ≡ true
+    → through (placed (journal_pages found) (length base)) base journal ≡ rolled_back there base journal
+journal_rolls_back there found base journal (used, shaped, is) some alone =
     let e : nat_lt 0 (length base) ≡ true = grind (arith, nat_tests) in
-    let t : (nat_lt 0 (length base) && (not (names_super journal) && is_used (stored_size base) (first_head journal) (length journal))) ≡ true =
+    let t : (nat_lt 0 (length base) && ((there || not (names_super journal)) && is_used (stored_size base) (first_head journal) (length journal))) ≡ true =
     rw (e, alone, used) refl in
     rw t (map_each _ _ (range_with_len 0 (placed_len (placed (journal_pages found) (length base)))) (same_byte found base journal is)
     ∙ ap (λ (s : Shape). map (rolled_byte base journal s.page_size (used_records (stored_size base) journal)) (range_with_len 0 (s.pages * s.page_size)))
     shaped)
 
-pub both_logs_recover : (found : JournalIndexed) (index : Indexed) (base journal log : List ℕ) → IsJournalOf (stored_size base) (Some found) journal
-    → 0 < length base → names_super journal ≡ false → Indexes index log → 0 < index.pages → 0 < placed_len (placed (journal_pages found) (length base))
+pub both_logs_recover : (there : Bool) (found : JournalIndexed) (index : Indexed) (base journal log : List ℕ)
+    → IsJournalOf (stored_size base) (Ok found) journal → 0 < length base → (there || not (names_super journal)) ≡ true → Indexes index log → 0 < index.pages
+    → 0 < placed_len (placed (journal_pages found) (length base))
     → through (placed (wal_pages index) (placed_len (placed (journal_pages found) (length base))))
-    (through (placed (journal_pages found) (length base)) base journal) log ≡ recovered_by_both base journal log
-both_logs_recover found index base journal log is some alone indexes used long =
+    (through (placed (journal_pages found) (length base)) base journal) log ≡ recovered_by_both there base journal log
+both_logs_recover there found index base journal log is some alone indexes used long =
     let p = placed (journal_pages found) (length base) in
     let len : length (through p base journal) ≡ placed_len p = through_length p base journal in
     ap (λ n. through (placed (wal_pages index) n) (through p base journal) log) (sym len)
     ∙ index_recovers index (through p base journal) log indexes used (omega (arith, len, long))
-    ∙ ap (λ db. recovered db log) (journal_rolls_back found base journal is some alone)
+    ∙ ap (λ db. recovered db log) (journal_rolls_back there found base journal is some alone)

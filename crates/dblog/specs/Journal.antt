@@ -8,6 +8,8 @@ use Rattle.dbformat.specs.FixedPages.{lock_page}
 use Rattle.dbformat.specs.Numbers.{u32_at}
 use Rattle.dblog.specs.Sums.{plus}
 use Rattle.dblog.specs.Wal.{is_page_size}
+use Rattle.dblog.specs.declared.cold.Cold.{Cold}
+use Rattle.dblog.specs.declared.cold.Cold.TheVariants.{Short, Zeroed, NoMagic, Sizes}
 use Rattle.dblog.specs.declared.journal.Place.{Place}
 use Rattle.dblog.specs.declared.journal.Shape.{Shape}
 
@@ -57,6 +59,14 @@ pub record IsSized (s : Shape) : Type 0 where
 -- something of the journal is used: its first head is one. A journal has a sector at least, of 512 bytes where nothing else is known.
 abbrev pub is_used : ℕ → List ℕ → ℕ → Bool
 is_used stored h len = nat_le 512 len && (has_magic h && is_shape (shape stored h len))
+
+-- Why nothing of a journal is used, by its first head. One that SQLite does not need begins with 0: its transaction has ended, or nothing of
+-- the database was written since it began.
+abbrev pub cold_by : List ℕ → Cold
+cold_by h = if slice_index h 0 == 0 then Zeroed else (if has_magic h then Sizes else NoMagic)
+
+abbrev pub why_cold : List ℕ → ℕ → Cold
+why_cold h len = if nat_lt len 512 then Short else cold_by h
 
 -- ---- from one place to the next
 

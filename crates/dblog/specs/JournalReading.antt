@@ -7,8 +7,9 @@ use Rattle.dbsource.specs.Failures.{failures_after}
 use Rattle.dbsource.specs.Sources.{SourceState}
 use Rattle.dbformat.specs.Numbers.{u32_at}
 use Rattle.dblog.specs.Entries.{Gathering, Gathers, IsIndexOf}
-use Rattle.dblog.specs.Journal.{Kept, first_head, is_used, next_place, place_after, records_from, shape, used_records}
+use Rattle.dblog.specs.Journal.{Kept, first_head, is_used, next_place, place_after, records_from, shape, used_records, why_cold}
 use Rattle.dblog.specs.Reading.{InOrder, Reads}
+use Rattle.dblog.specs.declared.cold.Cold.{Cold}
 use Rattle.dblog.specs.declared.entry.Entry.{Entry}
 use Rattle.dblog.specs.declared.journal_error.JournalError.{JournalError}
 use Rattle.dblog.specs.declared.journal_error.JournalError.TheVariants.{OutOfMemory, ReadFailed, TooLong}
@@ -126,16 +127,18 @@ pub record JournalIndexed : Type 0 where
   pub shape : Shape
   pub entries : List Entry
 
--- this is what is used of that journal, beside a database whose header states this size of a page
-abbrev pub IsJournalOf : ℕ → Option JournalIndexed → List ℕ → Type 0
-IsJournalOf stored None journal = is_used stored (first_head journal) (length journal) ≡ false
-IsJournalOf stored (Some found) journal = (is_used stored (first_head journal) (length journal) ≡ true)
+-- this is what is used of that journal, or why nothing is, beside a database whose header states this size of a page
+abbrev pub IsJournalOf : ℕ → Result JournalIndexed Cold → List ℕ → Type 0
+IsJournalOf stored (Err why) journal = (is_used stored (first_head journal) (length journal) ≡ false)
+    × (why ≡ why_cold (first_head journal) (length journal))
+IsJournalOf stored (Ok found) journal = (is_used stored (first_head journal) (length journal) ≡ true)
     × (found.shape ≡ shape stored (first_head journal) (length journal)) × IndexesRecords found.entries (used_records stored journal)
 
 -- What the reading of a journal makes of its source. There is a length, which the source answered, unless it failed at that. What was asked for
 -- is the journal, once, in order, from its start. There is a journal of this length that agrees with the answers; the result is right
 -- for each; and told bytes are one.
-pub record ReadsJournal (step : Step) (lengths : Lengths) (stored : ℕ) (r : Result (Option JournalIndexed) JournalError) (old new : SourceState) : Type 0 where
+pub record ReadsJournal (step : Step) (lengths : Lengths) (stored : ℕ) (r : Result (Result JournalIndexed Cold) JournalError) (old new : SourceState)
+    : Type 0 where
   pub len : ℕ
   pub log : List Answer
   pub leads : Leads step old.trail log new.trail
@@ -152,7 +155,8 @@ pub record ReadsJournal (step : Step) (lengths : Lengths) (stored : ℕ) (r : Re
   pub count : new.failures ≡ failures_after is_failed r old.failures
 
 -- the same of the bytes after the first 28, in a journal of `len` bytes
-pub record ReadsAfterHead (step : Step) (h : List ℕ) (len stored : ℕ) (r : Result (Option JournalIndexed) JournalError) (old new : SourceState) : Type 0 where
+pub record ReadsAfterHead (step : Step) (h : List ℕ) (len stored : ℕ) (r : Result (Result JournalIndexed Cold) JournalError) (old new : SourceState)
+    : Type 0 where
   pub seen : List ℕ
   pub reads : Reads step 28 (has_failed r) old new seen
   pub within : reads.end ≤ len

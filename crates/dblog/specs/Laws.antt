@@ -1,5 +1,5 @@
 -- Laws of logs.
-use Rattle.std.specs.Prelude.{◌≡◌, ◌<◌, ◌⊎◌, ℕ, false, List, [], Some, length, map}
+use Rattle.std.specs.Prelude.{◌≡◌, ◌<◌, ◌⊎◌, ℕ, Bool, true, ◌||◌, not, List, [], Ok, length, map}
 use Rattle.std.specs.List.{All, flat_map}
 use Rattle.dbformat.specs.declared.ByteRange.{ByteRange}
 use Rattle.dbsource.specs.Answers.{Fits, Step, asked}
@@ -17,19 +17,20 @@ abbrev pub IndexRecovers : Type 0
 IndexRecovers = (index : Indexed) (base log : List ℕ) → Indexes index log → 0 < index.pages → 0 < length base
     → through (placed (wal_pages index) (length base)) base log ≡ recovered base log
 
--- Beside a file that has bytes, a journal that names no super-journal and of which something is used gives through its index what SQLite
--- rolls back, where the size of a page that the file states was known when the journal was read.
+-- Beside a file that has bytes, a journal that names no super-journal, or one that is there, and of which something is used gives through its
+-- index what SQLite rolls back, where the size of a page that the file states was known when the journal was read.
 abbrev pub JournalRollsBack : Type 0
-JournalRollsBack = (found : JournalIndexed) (base journal : List ℕ) → IsJournalOf (stored_size base) (Some found) journal
-    → 0 < length base → names_super journal ≡ false
-    → through (placed (journal_pages found) (length base)) base journal ≡ rolled_back base journal
+JournalRollsBack = (there : Bool) (found : JournalIndexed) (base journal : List ℕ) → IsJournalOf (stored_size base) (Ok found) journal
+    → 0 < length base → (there || not (names_super journal)) ≡ true
+    → through (placed (journal_pages found) (length base)) base journal ≡ rolled_back there base journal
 
 -- A log over a file over a journal, each through its index, gives what SQLite makes of all three, if the rolled back database has bytes.
 abbrev pub BothLogsRecover : Type 0
-BothLogsRecover = (found : JournalIndexed) (index : Indexed) (base journal log : List ℕ) → IsJournalOf (stored_size base) (Some found) journal
-    → 0 < length base → names_super journal ≡ false → Indexes index log → 0 < index.pages → 0 < placed_len (placed (journal_pages found) (length base))
+BothLogsRecover = (there : Bool) (found : JournalIndexed) (index : Indexed) (base journal log : List ℕ)
+    → IsJournalOf (stored_size base) (Ok found) journal → 0 < length base → (there || not (names_super journal)) ≡ true → Indexes index log → 0 < index.pages
+    → 0 < placed_len (placed (journal_pages found) (length base))
     → let p = placed (journal_pages found) (length base) in
-    through (placed (wal_pages index) (placed_len p)) (through p base journal) log ≡ recovered_by_both base journal log
+    through (placed (wal_pages index) (placed_len p)) (through p base journal) log ≡ recovered_by_both there base journal log
 
 -- What a call read of a file and a log, by what it asked of the database, and what it answered.
 pub record HasReadBoth (base_step log_step : Step) (p : Placed) (P : List ByteRange → Type 0) (Q : List ℕ → List ByteRange → Type 0)

@@ -44,10 +44,10 @@ abbrev pub shape_beside : List ℕ → List ℕ → Shape
 shape_beside db journal = shape (stored_size db) (first_head journal) (length journal)
 
 -- Whether a journal is rolled back. It has to be hot: both files have bytes, and its first byte is not 0; its magic begins with another.
--- Its first head has to be one. And it has to name no super-journal: beside one that is not there SQLite does not use it.
-abbrev pub is_rolled_back : List ℕ → List ℕ → Bool
-is_rolled_back db journal =
-    nat_lt 0 (length db) && (not (names_super journal) && is_used (stored_size db) (first_head journal) (length journal))
+-- Its first head has to be one. And if it names a super-journal, that has to be there.
+abbrev pub is_rolled_back : Bool → List ℕ → List ℕ → Bool
+is_rolled_back there db journal =
+    nat_lt 0 (length db) && ((there || not (names_super journal)) && is_used (stored_size db) (first_head journal) (length journal))
 
 -- byte i of a database: of the page in this record, if there is one, or else of the file, and 0 past its end
 abbrev pub byte_before : List ℕ → List ℕ → ℕ → Option Kept → ℕ → ℕ
@@ -60,14 +60,14 @@ rolled_byte db journal size records i = byte_before db journal size (last_of (λ
 
 -- The database that this file was before the transaction of this journal. It is the file, if the journal is not rolled back. Else it has
 -- the pages that the first head states, and each page is that of its last used record, or that of the file, with zeros past its end.
-abbrev pub rolled_back : List ℕ → List ℕ → List ℕ
-rolled_back db journal =
+abbrev pub rolled_back : Bool → List ℕ → List ℕ → List ℕ
+rolled_back there db journal =
     let s = shape_beside db journal in
-    if is_rolled_back db journal
+    if is_rolled_back there db journal
     then map (rolled_byte db journal s.page_size (used_records (stored_size db) journal)) (range_with_len 0 (s.pages * s.page_size)) else db
 
 -- ---- both
 
 -- the database that SQLite makes of a file with both: first it is rolled back, and then its log is read
-abbrev pub recovered_by_both : List ℕ → List ℕ → List ℕ → List ℕ
-recovered_by_both db journal log = recovered (rolled_back db journal) log
+abbrev pub recovered_by_both : Bool → List ℕ → List ℕ → List ℕ → List ℕ
+recovered_by_both there db journal log = recovered (rolled_back there db journal) log

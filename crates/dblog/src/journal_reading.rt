@@ -7,6 +7,7 @@ ghost use Rattle.dblog.specs.JournalReading.{FindsPlace, KeepsRecord, MovesOn, R
 ghost use Rattle.dblog.specs.Placed.{journal_pages};
 ghost use Rattle.dblog.specs.Reading.{longest_read};
 
+use crate::cold::Cold;
 use crate::entry::Entry;
 use crate::gathered::Gathered;
 use crate::journal::{HEAD_LEN, Place, Shape, has_magic};
@@ -235,7 +236,7 @@ fn read_after_head<S: Source, A: Allocator + Copy>(
     head: &[u8],
     len: u64,
     stored: u32,
-) -> Result<Option<Journal<A>>, JournalError>
+) -> Result<Result<Journal<A>, Cold>, JournalError>
     requires head { length head.now ≡ 28 }
     requires len { 512 ≤ len }
     requires fits { len < 2 ^ 35 }
@@ -243,15 +244,15 @@ fn read_after_head<S: Source, A: Allocator + Copy>(
 {
     let shape = Shape::of(head, len, stored);
     if !is_journal(head, shape) {
-        return Ok(None);
+        return Ok(Err(Cold::by_head(head)));
     }
     let entries = read_records(alloc, journal, shape, head)?;
-    Ok(Some(Journal { shape, entries }))
+    Ok(Ok(Journal { shape, entries }))
 }
 
 impl<A: Allocator + Copy> Journal<A> {
     /// Reads a rollback journal beside a database whose header states pages of `stored` bytes: its length, and then its bytes once, in
-    /// order, in pieces of at most 64 KiB or a record. `None` where nothing of it is used.
+    /// order, in pieces of at most 64 KiB or a record. Where nothing of it is used, the answer says why.
     ///
     /// # Errors
     ///
@@ -261,13 +262,13 @@ impl<A: Allocator + Copy> Journal<A> {
         alloc: A,
         journal: &mut S,
         stored: u32,
-    ) -> Result<Option<Journal<A>>, JournalError>
+    ) -> Result<Result<Journal<A>, Cold>, JournalError>
         ensures reads { ReadsJournal S.step S.lengths stored result (S.held journal.old) (S.held journal.new) }
         ensures bytes { IfSome (S.held journal.old).bytes AreBytes }
     {
         let len = journal.len()?;
         if len < LEAST_LEN {
-            return Ok(None);
+            return Ok(Err(Cold::Short));
         }
         if len >= MOST_LEN {
             return Err(JournalError::TooLong);

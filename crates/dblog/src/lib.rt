@@ -1,6 +1,7 @@
 //! The logs of SQLite, and a database as SQLite would open it beside one.
 #![tactic(auto)]
 
+mod cold;
 mod entry;
 mod error;
 mod gathered;
@@ -21,6 +22,7 @@ mod sums;
 mod tests;
 mod wal_header;
 
+pub use cold::Cold;
 pub use entry::Entry;
 pub use error::LogError;
 pub use index::{Counts, Index};

@@ -1,8 +1,10 @@
 // A database and a rollback journal beside it.
 ghost use Rattle.std.specs.Prelude.{◌≡◌, IfSome, OnOk};
+ghost use Rattle.std.specs.Option.{option_copied};
 ghost use Rattle.dbsource.specs.Sources.{AreBytes};
 ghost use Rattle.dblog.specs.Rollbacks.{FindsJournal, ReadsNamed, used_pages};
 
+use crate::cold::Cold;
 use crate::journal_error::JournalError;
 use crate::journal_reading::Journal;
 use crate::log_pages::LogPages;
@@ -12,12 +14,12 @@ use dbsource::Source;
 use std::alloc::{Allocator, Global};
 use std::marker::Model;
 
-/// What is found of a database and a rollback journal beside it: the length of the database, what is used of the journal, if something
-/// is, and the super-journal that it then names, if it names one.
+/// What is found of a database and a rollback journal beside it: the length of the database; what is used of the journal, or why nothing
+/// is; and the super-journal that it then names, if it names one.
 #[derive(Drop)]
 pub struct Rollback<A: Allocator = Global> {
     len: u64,
-    journal: Option<Journal<A>>,
+    journal: Result<Journal<A>, Cold>,
     name: Option<SuperName>,
 }
 
@@ -40,17 +42,17 @@ fn read_named<L: Source, A: Allocator + Copy>(
     ensures bytes { IfSome (L.held log.old).bytes AreBytes }
 {
     match Journal::read(alloc, log, stored) {
-        Ok(Some(journal)) => match super_name(log, journal.len()) {
+        Ok(Ok(journal)) => match super_name(log, journal.len()) {
             Ok(name) => Ok(Rollback {
                 len,
-                journal: Some(journal),
+                journal: Ok(journal),
                 name,
             }),
             Err(error) => Err(JournalError::from(error)),
         },
-        Ok(None) => Ok(Rollback {
+        Ok(Err(cold)) => Ok(Rollback {
             len,
-            journal: None,
+            journal: Err(cold),
             name: None,
         }),
         Err(error) => Err(error),
@@ -89,26 +91,30 @@ impl<A: Allocator> Rollback<A> {
         self.len
     }
 
-    /// What is used of the journal, if something is.
-    pub fn journal(&self) -> Option<&Journal<A>> {
-        self.journal.as_ref()
+    /// What is used of the journal, or why nothing is.
+    pub fn journal(&self) -> &Result<Journal<A>, Cold>
+        ensures { result.now ≡ self.now.journal }
+    {
+        &self.journal
     }
 
     /// The super-journal that it names, if it names one.
-    pub fn name(&self) -> Option<&SuperName> {
+    pub fn name(&self) -> Option<&SuperName>
+        ensures { option_copied result ≡ self.now.name }
+    {
         self.name.as_ref()
     }
 
-    /// Where the journal has its pages, if it is rolled back.
-    pub fn into_pages(self) -> Option<LogPages<A>>
-        ensures { result ≡ used_pages self }
+    /// Where the journal has its pages, if it is rolled back. One that names a super-journal is only where that is there.
+    pub fn into_pages(self, is_there: bool) -> Option<LogPages<A>>
+        ensures { result ≡ used_pages is_there self }
     {
-        if self.len == 0 || self.name.is_some() {
+        if self.len == 0 || (self.name.is_some() && !is_there) {
             return None;
         }
         match self.journal {
-            Some(journal) => Some(journal.into_pages()),
-            None => None,
+            Ok(journal) => Some(journal.into_pages()),
+            Err(_) => None,
         }
     }
 }

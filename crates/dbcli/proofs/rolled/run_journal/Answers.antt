@@ -16,6 +16,8 @@ returns-in-Some g c =
           (record { base = g.S.Source.held c.args.opened.0; log = g.S.Source.held c.args.opened.1 })
           (record { base = g.S.Source.held c.find-found.new.base; log = g.S.Source.held c.find-found.new.log })) is c.find-found.ensures.found;
       ran = (
+        c.has_super-is_there.result,
+        c.has_super-is_there.ensures,
         Some c.in-Some.pages,
         sym given ∙ c.into_pages.ensures,
         (
@@ -42,7 +44,13 @@ returns-in-None g c =
       looked = subst (λ r. FindsJournal g.S.Source.step g.S.Source.lengths g.S.Source.step g.S.Source.lengths r
           (record { base = g.S.Source.held c.args.opened.0; log = g.S.Source.held c.args.opened.1 })
           (record { base = g.S.Source.held c.find-found.new.base; log = g.S.Source.held c.find-found.new.log })) is c.find-found.ensures.found;
-      ran = (None, sym given ∙ c.into_pages.ensures, (refl, c.run_base-status.ensures));
+      ran = (
+        c.has_super-is_there.result,
+        c.has_super-is_there.ensures,
+        None,
+        sym given ∙ c.into_pages.ensures,
+        (refl, c.run_base-status.ensures),
+      );
     }
 
 pub returns-in-Err : goal.returns-in-Err

@@ -4,8 +4,8 @@ use Rattle.dblog.proofs.JournalAll.{failed_after, none_after, read_after}
 use Rattle.dblog.proofs.journal_reading.read_after_head.Goals as goal
 
 pub returns-then-not-is_journal : goal.returns-then-not-is_journal
-returns-then-not-is_journal g c = none_after c.of-shape.result c.args.head.now c.args.len c.args.stored _ c.requires.len c.of-shape.ensures
-    (sym c.if-not-is_journal.ensures.is)
+returns-then-not-is_journal g c = none_after c.of-shape.result c.args.head.now c.args.len c.args.stored c.by_head.result _ c.requires.len
+    c.of-shape.ensures (sym c.if-not-is_journal.ensures.is) c.by_head.ensures
 
 pub returns-in_err-entries : goal.returns-in_err-entries
 returns-in_err-entries g c =
