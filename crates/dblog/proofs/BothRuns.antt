@@ -5,11 +5,10 @@ use Rattle.std.specs.List.{All, flat_map}
 use Rattle.std.proofs.lemmas.List.{drop_at, map-append, take_at}
 use Rattle.std.proofs.lemmas.List.Elements.{All-head, All-tail}
 use Rattle.dbformat.specs.declared.ByteRange.{ByteRange}
-use Rattle.dbsource.specs.Answers.{Answer, Fits, FitsAnswer, Front, IsRangeOf, Leads, Step, Trail, asked, changed_by, failed, given}
+use Rattle.dbsource.specs.Answers.{Answer, Fits, FitsAnswer, Front, Leads, Step, Trail, asked, changed_by}
 use Rattle.dbsource.specs.Changes.{Change}
-use Rattle.dbsource.specs.Snapshots.{FitsAfterHeader, FitsRun}
 use Rattle.dbsource.proofs.Logs.{fits_join, fits_parts, leads_append}
-use Rattle.dbsource.proofs.Overs.{over_range}
+use Rattle.dbsource.proofs.PatchedRuns.{run_told}
 use Rattle.dbsource.proofs.Told.{if_told_both, told_all}
 use Rattle.dblog.specs.Beside.{AsksBoth, BesideStep, Both, both_trails, entry_numbers, numbers, placed_numbers, tolds, trails}
 use Rattle.dblog.specs.Laws.{BothAreRead}
@@ -151,17 +150,6 @@ below bs ls p told old new (a ∷ log) (mid, s, k) =
           (All-head (IsInOnePage p) (asked a) (map asked log) h)) (rest.of_log (All-tail (IsInOnePage p) (asked a) (map asked log) h));
     }
 
--- a file that agrees with all of a log agrees with what a run read
-after_all : (file : List ℕ) (log : List Answer) → Fits file log → FitsAfterHeader file log
-after_all file [] h = tt
-after_all file (given o bytes ∷ log) h =
-    (subst (IsRangeOf file o) (sym (over_range (take 100 file) file o bytes refl h.0)) h.0, after_all file log h.1)
-after_all file (failed r ∷ log) h = (tt, after_all file log h.1)
-
-run_all : (file : List ℕ) (log : List Answer) → Fits file log → FitsRun file log
-run_all file [] h = tt
-run_all file (a ∷ log) h = (h.0, after_all file log h.1)
-
 none_asked : (log : List Answer) → log ≡ [] → map asked log ≡ []
 none_asked log e = ap (map asked) e
 
@@ -189,5 +177,5 @@ both_are_read bs ls P Q p q m n old new h =
         | inl a ↦ inl (let s = same_both p a.placed (tolds old) a.told (trails old) a.before a.was in a.length ∙ ap placed_len (sym s.placed))
         | inr a ↦ inr (none_asked h.log a.0)
       ];
-      files = λ l f g x y. h.files (through p f g) (through_length p f g ∙ sym l) (run_all (through p f g) h.log (b.gives f g x y));
+      files = λ l f g x y. h.files (through p f g) (through_length p f g ∙ sym l) (run_told (through p f g) h.log (b.gives f g x y));
     }

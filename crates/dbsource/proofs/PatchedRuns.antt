@@ -149,7 +149,7 @@ patched_run : (changes : List Change) (file : List ℕ) (log : List Answer) → 
 patched_run changes file [] h = tt
 patched_run changes file (a ∷ log) h = (patched_answer changes file a h.0, patched_after changes file log h.1)
 
--- ---- told bytes agree
+-- ---- a file that agrees with all of a log agrees with what a run read
 
 after_told : (file : List ℕ) (log : List Answer) → Fits file log → FitsAfterHeader file log
 after_told file [] h = tt
@@ -157,7 +157,7 @@ after_told file (given o bytes ∷ log) h =
     (subst (IsRangeOf file o) (sym (over_range (take 100 file) file o bytes refl h.0)) h.0, after_told file log h.1)
 after_told file (failed r ∷ log) h = (tt, after_told file log h.1)
 
-run_told : (file : List ℕ) (log : List Answer) → Fits file log → FitsRun file log
+pub run_told : (file : List ℕ) (log : List Answer) → Fits file log → FitsRun file log
 run_told file [] h = tt
 run_told file (a ∷ log) h = (h.0, after_told file log h.1)
 
