@@ -37,8 +37,8 @@ NEEDED = {
         "neighbour_keys_only reload_per_cell reload_per_child",
     },
     "what is written is the report of the file (run, explain, map: read)": {
-        "dbentries": "fault_past_the_limit_not_counted last_entry_not_listed lost_page_listed_as_it_is_heard",
-        "dbexplain": "explained_100_at_most line_after_the_entries_of_a_failed_read",
+        "dbinjuries": "fault_past_the_limit_not_counted last_injury_not_listed lost_page_listed_as_it_is_heard",
+        "dbexplain": "explained_100_at_most line_after_the_injuries_of_a_failed_read",
         "dbpicture": "fault_not_counted picture_of_another_name square_left_out",
         "dbreport": "forms_swapped outs_swapped",
         "dbscan": "end_told_as_without_rows old_marks_kept row_never_taken",

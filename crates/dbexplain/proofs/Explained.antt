@@ -18,15 +18,15 @@ use Rattle.dbscan.specs.Finishes.{Leaves}
 use Rattle.dbreport.specs.Runs.{IsAnswerOf, SaysOk}
 use Rattle.dbreport.proofs.NotBegun.{no_failure}
 use Rattle.dbreport.proofs.RunAnswers.{if_ok, read_answer}
-use Rattle.dbentries.specs.Listed.{listed_entries, listed_faults}
-use Rattle.dbentries.specs.Listing.{entries}
-use Rattle.dbentries.specs.Lists.{ListsFirst}
+use Rattle.dbinjuries.specs.Listed.{listed_injuries, listed_faults}
+use Rattle.dbinjuries.specs.Listing.{injuries}
+use Rattle.dbinjuries.specs.Lists.{ListsFirst}
 use Rattle.dbexplain.specs.Explained.{explain_report, explain_text, found_text}
 use Rattle.dbexplain.specs.Keeping.{IsEmpty, lines_of}
 use Rattle.dbexplain.specs.Reporting.{Ends, Hears, IsReportLeft, LeavesExplained, PutsLines}
 use Rattle.dbexplain.specs.Runs.{IsExplained, OutFailures, PutsFound, WritesReport}
 use Rattle.dbexplain.specs.declared.reporter.ExplainReporter.{ExplainReporter}
-use Rattle.dbexplain.proofs.KeptEntries.{found_lines}
+use Rattle.dbexplain.proofs.KeptInjuries.{found_lines}
 use Rattle.dbexplain.proofs.Left.{is_left}
 use Rattle.dbexplain.proofs.ReadReports.{answer_is, explain_says_ok, explain_sound, out_is}
 
@@ -39,19 +39,19 @@ module _ {A O : Type 0} (held : O → OutState) (limit : ℕ) (file : List ℕ) 
   found_put k lines =
       let found : ListsFirst limit file V now.kept.now.listing = k.1 in
       let l = now.kept.now.listing in
-      let text = lines_of l.entries.listed in record {
+      let text = lines_of l.injuries.listed in record {
         text = text;
         found = record {
           told = found.told;
           first = found.first;
-          lines = found_lines limit (entries found.told) l found.shows;
+          lines = found_lines limit (injuries found.told) l found.shows;
         };
         answer = lines.put;
         put = subst (λ o. Puts lines.put (held o) (held after.out.now) text) k.0 lines.lines;
       }
 
   -- at any other answer nothing is put after the run
-  as_left : (r : Result Verdict RunError) → Writes r (held first.out.now).bytes (held now.out.now).bytes (explain_text limit file V (listed_entries file V))
+  as_left : (r : Result Verdict RunError) → Writes r (held first.out.now).bytes (held now.out.now).bytes (explain_text limit file V (listed_injuries file V))
       → after.out.now ≡ now.out.now
       → Writes r (held first.out.now).bytes (held after.out.now).bytes (explain_report limit file V).out
   as_left r w e =

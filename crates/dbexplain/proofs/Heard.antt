@@ -7,12 +7,12 @@ use Rattle.dbformat.specs.Reference.{Reference}
 use Rattle.dbformat.specs.Rows.{StatRow, stat_rows}
 use Rattle.dbformat.specs.Survey.{Survey}
 use Rattle.dbformat.specs.declared.Geometry.{Geometry}
-use Rattle.dbtrace.specs.declared.Reported.{Reported}
+use Rattle.dbtrace.specs.declared.TracedFault.{TracedFault}
 use Rattle.dbscan.specs.Notices.{run_notices}
 use Rattle.dbscan.specs.Placed.{told_faults}
-use Rattle.dbentries.specs.Lists.{HasListed, ListsFirst, heard}
-use Rattle.dbentries.proofs.Heard.{file_begun, file_heard}
-use Rattle.dbentries.proofs.ListedFaults.{heard_first}
+use Rattle.dbinjuries.specs.Lists.{HasListed, ListsFirst, heard}
+use Rattle.dbinjuries.proofs.Heard.{file_begun, file_heard}
+use Rattle.dbinjuries.proofs.ListedFaults.{heard_first}
 use Rattle.dbscan.specs.Trees.{row_noted}
 use Rattle.dbexplain.specs.Indexes.{index_noted}
 use Rattle.dbexplain.specs.Keeping.{IsEmpty}
@@ -23,7 +23,7 @@ use Rattle.dbexplain.specs.declared.reporter.ExplainReporter.{ExplainReporter}
 
 module _ {A O : Type 0} (first : ExplainReporter A O) where
   -- These faults were counted and listed, and the starts of these rows noted; nothing else changed.
-  pub record HasHeardFaults (ts : List Reported) (rs : List StatRow) (now : ExplainReporter A O) : Type 0 where
+  pub record HasHeardFaults (ts : List TracedFault) (rs : List StatRow) (now : ExplainReporter A O) : Type 0 where
     pub tally : now.kept.now.tally ≡ fold fault_told first.kept.now.tally ts
     pub listing : HasListed first.kept.now.listing ts now.kept.now.listing
     pub trees : now.kept.now.trees.known ≡ fold row_noted first.kept.now.trees.known rs
@@ -31,7 +31,7 @@ module _ {A O : Type 0} (first : ExplainReporter A O) where
     pub indexes : now.kept.now.indexes ≡ fold index_noted first.kept.now.indexes rs
     pub out : now.out.now ≡ first.out.now
 
-  one_heard : (x : Reported) (ts : List Reported) (rs : List StatRow) (s t : ExplainReporter A O) → HasHeardFaults ts rs s → Adds x s t
+  one_heard : (x : TracedFault) (ts : List TracedFault) (rs : List StatRow) (s t : ExplainReporter A O) → HasHeardFaults ts rs s → Adds x s t
       → HasHeardFaults (ts ++ x ∷ []) rs t
   one_heard x ts rs s t h a = record {
     tally = a.tally ∙ ap (λ t. fault_told t x) h.tally ∙ sym (fold-append fault_told first.kept.now.tally ts (x ∷ []));
@@ -42,7 +42,7 @@ module _ {A O : Type 0} (first : ExplainReporter A O) where
     out = a.out ∙ h.out;
   }
 
-  one_noted : (r : StatRow) (ts : List Reported) (rs : List StatRow) (s t : ExplainReporter A O) → HasHeardFaults ts rs s → Notes r s t
+  one_noted : (r : StatRow) (ts : List TracedFault) (rs : List StatRow) (s t : ExplainReporter A O) → HasHeardFaults ts rs s → Notes r s t
       → HasHeardFaults ts (rs ++ r ∷ []) t
   one_noted r ts rs s t h a = record {
     tally = a.tally ∙ h.tally;

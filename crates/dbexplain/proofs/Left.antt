@@ -9,7 +9,7 @@ use Rattle.dbformat.specs.Report.{faults}
 use Rattle.dbformat.specs.Rows.{stat_rows}
 use Rattle.dbformat.specs.Survey.{Survey}
 use Rattle.dbformat.specs.declared.Verdict.{Verdict}
-use Rattle.dbtrace.specs.declared.Reported.{Reported}
+use Rattle.dbtrace.specs.declared.TracedFault.{TracedFault}
 use Rattle.dbsource.specs.Outs.{Begins, OutState, Writes}
 use Rattle.dbsource.specs.declared.error.RunError.{RunError}
 use Rattle.dbsource.specs.declared.error.RunError.TheVariants.{Refused, ReadFailed, OutOfMemory, WriteFailed}
@@ -21,9 +21,9 @@ use Rattle.dbscan.specs.Finishes.{HasHeard, IsDeskOf, Leaves}
 use Rattle.dbscan.specs.Notices.{run_notices}
 use Rattle.dbscan.specs.Placed.{told_faults}
 use Rattle.dbscan.proofs.AllTold.{all_told}
-use Rattle.dbentries.specs.Listed.{listed_entries}
-use Rattle.dbentries.specs.Lists.{Held, ListsAll, ListsFirst}
-use Rattle.dbentries.specs.Lost.{HasNoted}
+use Rattle.dbinjuries.specs.Listed.{listed_injuries}
+use Rattle.dbinjuries.specs.Lists.{Held, ListsAll, ListsFirst}
+use Rattle.dbinjuries.specs.Lost.{HasNoted}
 use Rattle.dbexplain.specs.Explained.{explain_text}
 use Rattle.dbexplain.specs.Indexes.{AreIndexes}
 use Rattle.dbexplain.specs.Keeping.{HasAll, IsEmpty}
@@ -39,7 +39,7 @@ use Rattle.dbexplain.proofs.Tallies as tallies
 
 -- ---- the number of faults
 
-none_counted : (ts : List Reported) → counted (length ts) ≡ 0 → ts ≡ []
+none_counted : (ts : List TracedFault) → counted (length ts) ≡ 0 → ts ≡ []
 none_counted [] h = refl
 none_counted (t ∷ ts) h = absurd (let e : ⊥ = omega arith in e)
 
@@ -64,10 +64,10 @@ file_heard {limit = limit} {file = file} {V = V} {first = first} {now = now} h e
 module _ {A O : Type 0} (held : O → OutState) {limit : ℕ} {file : List ℕ} {V : List Reference} {first now : ExplainReporter A O}
     (heard : HasHeardFile limit file V first now) where
   pub all_counted : now.kept.now.tally.all ≡ counted (length (faults file V))
-  all_counted = heard.tally.all ∙ ap counted (sym (length-map (told_faults file V) (λ (t : Reported). t.fault)) ∙ ap length (all_told file V))
+  all_counted = heard.tally.all ∙ ap counted (sym (length-map (told_faults file V) (λ (t : TracedFault). t.fault)) ∙ ap length (all_told file V))
 
   abbrev text : List ℕ
-  text = explain_text limit file V (listed_entries file V)
+  text = explain_text limit file V (listed_injuries file V)
 
   -- what was put after it was heard
   pub written : {X E : Type 0} (r : Result X E) (after : O) (t : List ℕ) → t ≡ text → Writes r (held now.out.now).bytes (held after).bytes t
@@ -86,7 +86,7 @@ module _ {A O : Type 0} (held : O → OutState) {limit : ℕ} {file : List ℕ} 
       → HasAll d (record now.kept.now { listing = l }) file V
   all_kept d l desk listed some = record {
     desk = desk;
-    some = λ e. some (heard.tally.all ∙ ap (λ (ts : List Reported). counted (length ts)) e);
+    some = λ e. some (heard.tally.all ∙ ap (λ (ts : List TracedFault). counted (length ts)) e);
     listing = subst (λ n. ListsAll n file V l) (sym listed.0.room) listed.0;
     tally = heard.tally;
     zeros = listed.1.zeros heard.empty.bits.zeros;
@@ -107,9 +107,9 @@ module _ {A O : Type 0} (held : O → OutState) (file : List ℕ) (V : List Refe
   found : CutOff → (now.out.now ≡ first.out.now) × ListsFirst limit file V now.kept.now.listing
   found m = found_first first file V survey now limit (geometry file) empty m
 
-  nothing_put : CutOff → Begins (held first.out.now).bytes (held now.out.now).bytes (explain_text limit file V (listed_entries file V))
-  nothing_put m = subst (λ o. Begins (held first.out.now).bytes (held o).bytes (explain_text limit file V (listed_entries file V))) (sym (found m).0)
-      (begins_nothing (held first.out.now).bytes (explain_text limit file V (listed_entries file V)))
+  nothing_put : CutOff → Begins (held first.out.now).bytes (held now.out.now).bytes (explain_text limit file V (listed_injuries file V))
+  nothing_put m = subst (λ o. Begins (held first.out.now).bytes (held o).bytes (explain_text limit file V (listed_injuries file V))) (sym (found m).0)
+      (begins_nothing (held first.out.now).bytes (explain_text limit file V (listed_injuries file V)))
 
   stopped : (e : RunError) → CutOff → IsReportLeft held limit file V (Err e) first now
   stopped ReadFailed m = found m

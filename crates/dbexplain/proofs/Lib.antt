@@ -2,7 +2,7 @@ pub mod Below
 pub mod Desks
 pub mod Explained
 pub mod Heard
-pub mod KeptEntries
+pub mod KeptInjuries
 pub mod IndexesNoted
 pub mod Left
 pub mod RangesKept

@@ -8,7 +8,7 @@ use Rattle.dbformat.specs.declared.Fixed.{Fixed}
 use Rattle.dbformat.specs.declared.Geometry.{Geometry}
 use Rattle.dbscan.specs.declared.place.Place.{Place}
 use Rattle.dbscan.specs.declared.place.Place.TheVariants as place
-use Rattle.dbentries.specs.Lines.{indented}
+use Rattle.dbinjuries.specs.Lines.{indented}
 use Rattle.dbscan.specs.Texts.{place_text}
 use Rattle.dbexplain.specs.Below.{page_place_line}
 use Rattle.dbscan.specs.Texts.{place_front, place_tree}

@@ -9,9 +9,9 @@ use Rattle.dbformat.specs.FixedPages.{most_pages}
 use Rattle.dbformat.specs.Lines.{counted}
 use Rattle.dbformat.specs.Reference.{Reference}
 use Rattle.dbsurvey.proofs.Ranges.{count_push}
-use Rattle.dbtrace.specs.declared.Reported.{Reported}
+use Rattle.dbtrace.specs.declared.TracedFault.{TracedFault}
 use Rattle.dbformat.specs.Starts.{start_at}
-use Rattle.dbentries.specs.Bits.{has_bit}
+use Rattle.dbinjuries.specs.Bits.{has_bit}
 use Rattle.dbexplain.specs.Summary.{start_count, is_reached, is_told}
 use Rattle.dbexplain.specs.Tallies.{Tallied, IsTallyTo, counted_start, no_count, one_reached_page, page_reached}
 use Rattle.dbexplain.proofs.Tallies.{slot}
@@ -24,7 +24,7 @@ at_most p a n = let b = count_by-le-length p (range_with_len a n) in let l = len
 capped : (n m : ℕ) → n < most_pages → m ≡ n + 1 → min (n + 1) (2 ^ 32 - 1) ≡ m
 capped n m l e = omega arith
 
-module _ (V : List Reference) (ts : List Reported) (n : ℕ) (few : n < most_pages) where
+module _ (V : List Reference) (ts : List TracedFault) (n : ℕ) (few : n < most_pages) where
   abbrev p : ℕ
   p = n + 1
 

@@ -17,29 +17,29 @@ use Rattle.dbformat.specs.declared.Verdict.{Verdict}
 use Rattle.dbformat.specs.declared.Verdict.TheVariants.{Clean}
 use Rattle.dbformat.proofs.Theory.{one_survey}
 use Rattle.dbsound.proofs.Soundness.{sound_by_faults, sound_by_verdict}
-use Rattle.dbtrace.specs.declared.Reported.{Reported}
+use Rattle.dbtrace.specs.declared.TracedFault.{TracedFault}
 use Rattle.dbscan.specs.Placed.{faults_of, told_faults}
 use Rattle.dbscan.proofs.AllTold.{all_told}
 use Rattle.dbscan.specs.Roots.{listed_rows}
-use Rattle.dbentries.specs.Listed.{listed_entries}
-use Rattle.dbentries.specs.Listing.{Entry, size}
-use Rattle.dbentries.specs.Zeros.{zero_pages}
+use Rattle.dbinjuries.specs.Listed.{listed_injuries}
+use Rattle.dbinjuries.specs.Listing.{Injury, size}
+use Rattle.dbinjuries.specs.Zeros.{zero_pages}
 use Rattle.dbreport.specs.Runs.{SaysOk}
 use Rattle.dbreport.proofs.RunAnswers.{said_ok}
 use Rattle.dbreport.proofs.RunReports.{check_answer}
-use Rattle.dbexplain.specs.Explained.{entry_text, explain_report, explain_text}
+use Rattle.dbexplain.specs.Explained.{injury_text, explain_report, explain_text}
 use Rattle.dbexplain.specs.Summary.{code_line, count_text, start_sum_line, summary, trees_text, whole_line, whole_trees, zeros_text}
 use Rattle.dbexplain.proofs.Reports.{none_told, ok_text}
 
 module _ (limit : ℕ) (file : List ℕ) (V : List Reference) (read : refusal file ≡ None) where
   abbrev read_report : Report
-  read_report = record { out = explain_text limit file V (listed_entries file V); err = []; answer = Ok (verdict (faults file V)) }
+  read_report = record { out = explain_text limit file V (listed_injuries file V); err = []; answer = Ok (verdict (faults file V)) }
 
   explain_is : explain_report limit file V ≡ read_report
   unfolding explain_report
   explain_is = rw read refl
 
-  pub out_is : explain_text limit file V (listed_entries file V) ≡ (explain_report limit file V).out
+  pub out_is : explain_text limit file V (listed_injuries file V) ≡ (explain_report limit file V).out
   out_is = sym (ap (λ (r : Report). r.out) explain_is)
 
   pub answer_is : (v : Verdict) → v ≡ verdict (faults file V) → (explain_report limit file V).answer ≡ Ok v
@@ -70,7 +70,7 @@ count_long : (one : Bool) (n : ℕ) → 4 ≤ length (decimal n ++ (if one then 
 count_long true n = word_long (decimal n) (codes " fault") (let q : 4 ≤ 6 = omega arith in q)
 count_long false n = word_long (decimal n) (codes " faults") (let q : 4 ≤ 7 = omega arith in q)
 
-summary_long : (file : List ℕ) (V : List Reference) (ts : List Reported) → 4 ≤ length (summary file V ts)
+summary_long : (file : List ℕ) (V : List Reference) (ts : List TracedFault) → 4 ≤ length (summary file V ts)
 summary_long file V ts =
     let zeros = zeros_text (geometry file).page_size (zero_pages file V) in
     let trees = trees_text (whole_trees false (listed_rows file V) ts) (whole_trees true (listed_rows file V) ts) in
@@ -81,12 +81,12 @@ summary_long file V ts =
     (front_long (count ++ by_code) by_start (front_long count by_code (count_long (length ts == 1) (counted (length ts))))))
 
 module _ (limit : ℕ) (file : List ℕ) (V : List Reference) where
-  -- so is the report of a file that has entries
-  longer : (e : Entry) (es : List Entry) → 4 ≤ length (explain_text limit file V (e ∷ es))
-  longer e es = end_long (flat_map (entry_text file V) (take limit (e ∷ es))) (more_text (sum_by size (drop limit (e ∷ es))))
+  -- so is the report of a file that has injuries
+  longer : (e : Injury) (es : List Injury) → 4 ≤ length (explain_text limit file V (e ∷ es))
+  longer e es = end_long (flat_map (injury_text file V) (take limit (e ∷ es))) (more_text (sum_by size (drop limit (e ∷ es))))
       (summary file V (told_faults file V)) (summary_long file V (told_faults file V))
 
-  none_by_text : (es : List Entry) → listed_entries file V ≡ es → explain_text limit file V es ≡ ok_line → faults file V ≡ []
+  none_by_text : (es : List Injury) → listed_injuries file V ≡ es → explain_text limit file V es ≡ ok_line → faults file V ≡ []
   none_by_text [] is e = sym (all_told file V) ∙ ap faults_of (none_told file V is)
   none_by_text (k ∷ es) is e = absurd
       (let x = longer k es in let y : length (explain_text limit file V (k ∷ es)) ≡ 3 = ap length e in let f : ⊥ = omega (arith, x, y) in f)
@@ -96,10 +96,10 @@ module _ (limit : ℕ) (file : List ℕ) (V : List Reference) where
   by_text e = by_refusal (refusal file) refl
     where
       by_refusal : (o : Option Refusal) → refusal file ≡ o → (refusal file ≡ None) × (faults file V ≡ [])
-      by_refusal None r = (r, none_by_text (listed_entries file V) refl (out_is limit file V r ∙ e))
+      by_refusal None r = (r, none_by_text (listed_injuries file V) refl (out_is limit file V r ∙ e))
       by_refusal (Some why) r = let h = rw r at e in cc
 
-  none_of : (ts : List Reported) → faults_of ts ≡ [] → ts ≡ []
+  none_of : (ts : List TracedFault) → faults_of ts ≡ [] → ts ≡ []
   none_of [] e = refl
   none_of (t ∷ ts) e = cc
 

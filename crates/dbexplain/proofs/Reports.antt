@@ -4,27 +4,27 @@ use Rattle.std.specs.Prelude.{filter, flat_map, not, sum_by}
 use Rattle.dbformat.specs.Lines.{ok_line}
 use Rattle.dbformat.specs.Reference.{Reference}
 use Rattle.dbformat.specs.Report.{more_text}
-use Rattle.dbtrace.specs.declared.Reported.{Reported}
-use Rattle.dbentries.specs.Listing as listing
-use Rattle.dbentries.specs.Listing.{entries, size}
+use Rattle.dbtrace.specs.declared.TracedFault.{TracedFault}
+use Rattle.dbinjuries.specs.Listing as listing
+use Rattle.dbinjuries.specs.Listing.{injuries, size}
 use Rattle.dbscan.specs.Placed.{told_faults}
 use Rattle.dbreport.proofs.Checks.{more_counted}
-use Rattle.dbentries.specs.Listed.{is_lost, listed_entries, listed_faults, looked_at, others_of}
-use Rattle.dbentries.specs.Lists.{Held, Shows}
-use Rattle.dbexplain.specs.Explained.{entry_text, explain_text}
+use Rattle.dbinjuries.specs.Listed.{is_lost, listed_injuries, listed_faults, looked_at, others_of}
+use Rattle.dbinjuries.specs.Lists.{Held, Shows}
+use Rattle.dbexplain.specs.Explained.{injury_text, explain_text}
 use Rattle.dbexplain.specs.Summary.{summary}
-use Rattle.dbexplain.proofs.KeptEntries.{some_listed}
+use Rattle.dbexplain.proofs.KeptInjuries.{some_listed}
 
--- the line that counts the faults of the other entries
-pub rest_line : (limit : ℕ) (es : List listing.Entry) (l : Held) → Shows limit es l → more_text l.entries.rest ≡ more_text (sum_by size (drop limit es))
+-- the line that counts the faults of the other injuries
+pub rest_line : (limit : ℕ) (es : List listing.Injury) (l : Held) → Shows limit es l → more_text l.injuries.rest ≡ more_text (sum_by size (drop limit es))
 rest_line limit es l shown = ap more_text shown.rest ∙ more_counted (sum_by size (drop limit es))
 
--- where faults were reported, there are entries
-none_of : (file : List ℕ) (V : List Reference) (ts : List Reported) → others_of ts ++ map (looked_at file V) (filter is_lost ts) ≡ [] → ts ≡ []
+-- where faults were reported, there are injuries
+none_of : (file : List ℕ) (V : List Reference) (ts : List TracedFault) → others_of ts ++ map (looked_at file V) (filter is_lost ts) ≡ [] → ts ≡ []
 none_of file V [] h = refl
 none_of file V (t ∷ ts) h = by_case (is_lost t) h
   where
-    some : (xs ys : List Reported) (y : Reported) → xs ++ y ∷ ys ≡ [] → ⊥
+    some : (xs ys : List TracedFault) (y : TracedFault) → xs ++ y ∷ ys ≡ [] → ⊥
     some [] ys y h = cc
     some (x ∷ xs) ys y h = cc
 
@@ -33,21 +33,21 @@ none_of file V (t ∷ ts) h = by_case (is_lost t) h
     by_case true h = absurd (some (others_of ts) (map (looked_at file V) (filter is_lost ts)) (looked_at file V t) h)
     by_case false h = cc
 
-pub none_told : (file : List ℕ) (V : List Reference) → listed_entries file V ≡ [] → told_faults file V ≡ []
+pub none_told : (file : List ℕ) (V : List Reference) → listed_injuries file V ≡ [] → told_faults file V ≡ []
 none_told file V h = none_of file V (told_faults file V) (some_listed (listed_faults file V) h)
 
-text_some : (limit : ℕ) (file : List ℕ) (V : List Reference) (es : List listing.Entry) → (es ≡ [] → ⊥)
-    → flat_map (entry_text file V) (take limit es) ++ (more_text (sum_by size (drop limit es)) ++ summary file V (told_faults file V))
+text_some : (limit : ℕ) (file : List ℕ) (V : List Reference) (es : List listing.Injury) → (es ≡ [] → ⊥)
+    → flat_map (injury_text file V) (take limit es) ++ (more_text (sum_by size (drop limit es)) ++ summary file V (told_faults file V))
     ≡ explain_text limit file V es
 text_some limit file V [] h = absurd (h refl)
 text_some limit file V (e ∷ es) h = refl
 
 pub report_text : (limit : ℕ) (file : List ℕ) (V : List Reference) → (told_faults file V ≡ [] → ⊥)
-    → flat_map (entry_text file V) (take limit (listed_entries file V))
-    ++ (more_text (sum_by size (drop limit (listed_entries file V))) ++ summary file V (told_faults file V))
-    ≡ explain_text limit file V (listed_entries file V)
-report_text limit file V some = text_some limit file V (listed_entries file V) (λ e. some (none_told file V e))
+    → flat_map (injury_text file V) (take limit (listed_injuries file V))
+    ++ (more_text (sum_by size (drop limit (listed_injuries file V))) ++ summary file V (told_faults file V))
+    ≡ explain_text limit file V (listed_injuries file V)
+report_text limit file V some = text_some limit file V (listed_injuries file V) (λ e. some (none_told file V e))
 
 -- and else there is the line of a file without a fault
-pub ok_text : (limit : ℕ) (file : List ℕ) (V : List Reference) → told_faults file V ≡ [] → explain_text limit file V (listed_entries file V) ≡ ok_line
-ok_text limit file V none = ap (λ ts. explain_text limit file V (entries (others_of ts ++ map (looked_at file V) (filter is_lost ts)))) none
+pub ok_text : (limit : ℕ) (file : List ℕ) (V : List Reference) → told_faults file V ≡ [] → explain_text limit file V (listed_injuries file V) ≡ ok_line
+ok_text limit file V none = ap (λ ts. explain_text limit file V (injuries (others_of ts ++ map (looked_at file V) (filter is_lost ts)))) none

@@ -7,7 +7,7 @@ use Rattle.std.proofs.lemmas.Bool.Decides.{nat_tests}
 use Rattle.std.proofs.lemmas.List.{length-take, take-append-le, take_all}
 use Rattle.dbformat.specs.Address.{freelist_start}
 use Rattle.dbformat.specs.Lines.{counted, line_feed}
-use Rattle.dbtrace.specs.declared.Reported.{Reported}
+use Rattle.dbtrace.specs.declared.TracedFault.{TracedFault}
 use Rattle.dbexplain.specs.KeptLines.{kept_line, kept_text, piece}
 use Rattle.dbexplain.specs.KeptRanges.{AreAllKept, KeptRanges}
 use Rattle.dbexplain.specs.Ranges.{is_of, other_ranges}
@@ -37,7 +37,7 @@ line_same kind rs n = ap₂ (λ b w. cond ((length rs == 0) && b) []
 
 -- ---- by what is kept
 
-pub kept_lines : (ts : List Reported) (r : KeptRanges) → AreAllKept ts r → (k : ℕ) → k ≤ freelist_start → kept_text r k ≡ rows_text ts k
+pub kept_lines : (ts : List TracedFault) (r : KeptRanges) → AreAllKept ts r → (k : ℕ) → k ≤ freelist_start → kept_text r k ≡ rows_text ts k
 kept_lines ts r is k l = ap₂ (λ a b. a ++ b) (ap₂ (λ a b. a ++ b) (of_kind NotReached) (of_kind OnFaulty)) (of_kind CutShort)
   where
     of_kind : (kind : RowsKind) → kept_line r k kind ≡ kind_line ts k kind

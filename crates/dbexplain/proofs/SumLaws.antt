@@ -19,7 +19,7 @@ use Rattle.dbformat.specs.declared.FaultCode.TheVariants.{H01}
 use Rattle.dbformat.proofs.Rising.{starts_rise}
 use Rattle.dbtrace.specs.declared.Part.{Part}
 use Rattle.dbtrace.specs.declared.Part.TheVariants as part
-use Rattle.dbtrace.specs.declared.Reported.{Reported}
+use Rattle.dbtrace.specs.declared.TracedFault.{TracedFault}
 use Rattle.dbscan.specs.Placed.{told_faults}
 use Rattle.dbscan.proofs.Reached.{of_starts}
 use Rattle.dbexplain.specs.Summary.{is_part_of_start, is_whole, CodesAddUp, StartsAddUp}
@@ -59,10 +59,11 @@ one_code : (code : FaultCode) → count_by (is_code code) all_codes ≡ 1
 one_code H01 = refl
 one_code _ = refl
 
-pub codes_add_up : (ts : List Reported) → CodesAddUp ts
+pub codes_add_up : (ts : List TracedFault) → CodesAddUp ts
 codes_add_up ts =
-    let a = all_once (λ code (t : Reported). is_code t.fault.code code) (λ t. false) all_codes ts (λ t i. let e = one_code t.fault.code in omega (arith, e)) in
-    let b = count_none (λ (t : Reported). false) ts (λ t i. refl) in
+    let a = all_once (λ code (t : TracedFault). is_code t.fault.code code) (λ t. false) all_codes ts (λ t i. let e = one_code t.fault.code in omega
+    (arith, e)) in
+    let b = count_none (λ (t : TracedFault). false) ts (λ t i. refl) in
     omega (arith, a, b)
 
 -- ---- starts
@@ -91,7 +92,7 @@ once_in (l ∷ ls) k rise (inr i) =
     omega (arith, a, b)
 
 module _ (file : List ℕ) (V : List Reference) (s : Survey file V) where
-  one_part : (t : Reported) → IsIn t (told_faults file V) → count_by (λ (l : Link Way). is_part_of_start l.step t.part) (starts file V)
+  one_part : (t : TracedFault) → IsIn t (told_faults file V) → count_by (λ (l : Link Way). is_part_of_start l.step t.part) (starts file V)
       + cond (is_whole t.part) 1 0 ≡ 1
   one_part t i = by_part t.part refl
     where
@@ -102,5 +103,5 @@ module _ (file : List ℕ) (V : List Reference) (s : Survey file V) where
       by_part part.End e = let a = count_none (λ (l : Link Way). false) (starts file V) (λ l i. refl) in omega (arith, a)
 
   pub starts_add_up : StartsAddUp file V
-  starts_add_up = all_once (λ (l : Link Way) (t : Reported). is_part_of_start l.step t.part) (λ t. is_whole t.part) (starts file V) (told_faults file V)
+  starts_add_up = all_once (λ (l : Link Way) (t : TracedFault). is_part_of_start l.step t.part) (λ t. is_whole t.part) (starts file V) (told_faults file V)
       one_part

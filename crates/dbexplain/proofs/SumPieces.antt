@@ -6,7 +6,7 @@ use Rattle.dbformat.specs.Lines.{counted, line_feed}
 use Rattle.dbformat.specs.SchemaRow.{SchemaRow}
 use Rattle.dbformat.specs.declared.Encoding.{Encoding}
 use Rattle.dbscan.specs.Texts.{tree_of_row}
-use Rattle.dbentries.specs.Lines.{indented}
+use Rattle.dbinjuries.specs.Lines.{indented}
 use Rattle.dbscan.specs.Roots.{root_page}
 use Rattle.dbexplain.specs.Summary.{aligned, faulty_pages_text, start_name}
 use Rattle.dbexplain.specs.Sums.{start_sum, sum_front}

@@ -34,17 +34,17 @@ use Rattle.dbsource.specs.Headers.{IsHeaderOf}
 use Rattle.dbscan.specs.Roots.{AreListed, listed_rows}
 use Rattle.dbtrace.specs.declared.Part.{Part}
 use Rattle.dbtrace.specs.declared.Part.TheVariants as part
-use Rattle.dbtrace.specs.declared.Reported.{Reported}
+use Rattle.dbtrace.specs.declared.TracedFault.{TracedFault}
 use Rattle.dbformat.proofs.BelowStarts.{before_freelist, rows_start}
 use Rattle.dbformat.proofs.Rising.{rows_end}
 use Rattle.dbscan.specs.Placed.{told_faults}
 use Rattle.dbscan.proofs.Reached.{of_starts}
-use Rattle.dbentries.specs.Lines.{indented}
-use Rattle.dbentries.specs.Bits.{has_bit}
-use Rattle.dbentries.specs.Kept.{no_runs, run_added}
-use Rattle.dbentries.specs.Zeros.{AreZeros, zero_pages}
-use Rattle.dbentries.specs.declared.runs.Runs.{Runs}
-use Rattle.dbentries.proofs.Belonging.{runs_kept}
+use Rattle.dbinjuries.specs.Lines.{indented}
+use Rattle.dbinjuries.specs.Bits.{has_bit}
+use Rattle.dbinjuries.specs.Kept.{no_runs, run_added}
+use Rattle.dbinjuries.specs.Zeros.{AreZeros, zero_pages}
+use Rattle.dbinjuries.specs.declared.page_runs.PageRuns.{PageRuns}
+use Rattle.dbinjuries.proofs.Belonging.{runs_kept}
 use Rattle.dbexplain.specs.Summary.{aligned, code_count, code_line, count_text, faulty_pages, is_of_kind, is_part_of_start}
 use Rattle.dbexplain.specs.Summary.{has_rowids, is_index_start, rows_below}
 use Rattle.dbexplain.specs.Summary.{faulty_pages_text, reached_pages, start_count, start_sum_line, start_name, sum_line, summary, trees_text}
@@ -100,7 +100,7 @@ room : (k n : ℕ) → 1 + k ≤ n → 0 + suc k ≤ n
 room k n h = omega arith
 
 module _ (file : List ℕ) (V : List Reference) (s : Survey file V) where
-  abbrev ts : List Reported
+  abbrev ts : List TracedFault
   ts = told_faults file V
 
   abbrev n : ℕ
@@ -135,7 +135,8 @@ module _ (file : List ℕ) (V : List Reference) (s : Survey file V) where
 
   -- no fault was reported at the freelist's start where there is no first trunk
   none_free : freelist_starts file ≡ [] → start_count ts freelist_start ≡ 0
-  none_free none = count_none (λ (t : Reported). is_part_of_start freelist_start t.part) ts (λ t i. by_case t i (is_part_of_start freelist_start t.part) refl)
+  none_free none = count_none (λ (t : TracedFault). is_part_of_start freelist_start t.part) ts (λ t i. by_case t i
+      (is_part_of_start freelist_start t.part) refl)
     where
       before : (l : Link Way) → IsIn l (schema_link ∷ (map (root_start file) (enumerate_from 1 rows) ++ freelist_starts file)) → l.step < freelist_start
       before l (inl e) = subst (λ k. k < freelist_start) (sym (ap (λ (l : Link Way). l.step) e)) (before_freelist 0 0 (omega arith) (omega arith))
@@ -147,7 +148,7 @@ module _ (file : List ℕ) (V : List Reference) (s : Survey file V) where
       not_both : (a b : ℕ) → a ≡ b → b < a → ⊥
       not_both a b e l = omega arith
 
-      by_case : (t : Reported) → IsIn t ts → (b : Bool) → is_part_of_start freelist_start t.part ≡ b → is_part_of_start freelist_start t.part ≡ false
+      by_case : (t : TracedFault) → IsIn t ts → (b : Bool) → is_part_of_start freelist_start t.part ≡ b → is_part_of_start freelist_start t.part ≡ false
       by_case t i false e = e
       by_case t i true e =
           let at = (of_starts file V s t i freelist_start (start_is freelist_start t.part e)).start in
@@ -206,14 +207,14 @@ module _ (file : List ℕ) (V : List Reference) (s : Survey file V) where
     abbrev last_lines : List ℕ
     last_lines = zeros_text (geometry file).page_size (zero_pages file V) ++ trees_text (whole_trees false rows ts) (whole_trees true rows ts)
 
-    last_part : (size : ℕ) (r : Runs) → zeros_sum size r ≡ zeros_text (geometry file).page_size (zero_pages file V) → last_sum size r rows t
+    last_part : (size : ℕ) (r : PageRuns) → zeros_sum size r ≡ zeros_text (geometry file).page_size (zero_pages file V) → last_sum size r rows t
         ≡ last_lines
     last_part size r zeros = ap₂ (λ a b. a ++ b) zeros (ap₂ trees_text (trees_whole false) (trees_whole true))
 
     whole_part : sum_line t.all t.whole (codes "in the whole file") ≡ whole_line ts
     whole_part = ap₂ (λ n k. sum_line n k (codes "in the whole file")) is.all is.whole ∙ sum_same (length ts) (whole_count ts) (codes "in the whole file")
 
-    summary_same : (size : ℕ) (r : Runs) → zeros_sum size r ≡ zeros_text (geometry file).page_size (zero_pages file V)
+    summary_same : (size : ℕ) (r : PageRuns) → zeros_sum size r ≡ zeros_text (geometry file).page_size (zero_pages file V)
         → summary_by size r (encoding file) rows below t ≡ summary file V ts
     summary_same size r zeros =
         joined
@@ -235,7 +236,7 @@ module _ (file : List ℕ) (V : List Reference) (s : Survey file V) where
 
 -- so it is of what is put by the list of roots, and by the runs of the pages that are zeros
 pub known_summary : (file : List ℕ) (V : List Reference) → Survey file V
-    → (h : HeaderBytes) (rows : List SchemaRow) (e : Encoding) (t : Tallied) (size : ℕ) (r : Runs) (below : ℕ → List ℕ)
+    → (h : HeaderBytes) (rows : List SchemaRow) (e : Encoding) (t : Tallied) (size : ℕ) (r : PageRuns) (below : ℕ → List ℕ)
     → IsHeaderOf h file → AreListed file V rows → e ≡ encoding h.bytes → IsTallyTo (geometry file).pages V (told_faults file V) (geometry file).pages t
     → zeros_sum size r ≡ zeros_text (geometry file).page_size (zero_pages file V)
     → ((k : ℕ) → k ≤ freelist_start → below k ≡ rows_below file V (told_faults file V) k)
@@ -272,7 +273,7 @@ min_taken n xs all = by_case (nat_le n 10) refl
         ap (λ k. take k xs) m ∙ take_all 10 xs (omega (arith, all)) ∙ sym (take_all n xs (omega (arith, all, l)))
 
 -- what is put of these runs
-pub known_zeros : (file : List ℕ) (V : List Reference) (g : Geometry) (words : List ℕ) (r : Runs) → g ≡ geometry file → AreZeros file V words
+pub known_zeros : (file : List ℕ) (V : List Reference) (g : Geometry) (words : List ℕ) (r : PageRuns) → g ≡ geometry file → AreZeros file V words
     → r ≡ fold run_added no_runs (filter (has_bit words) (range_with_len 1 g.pages))
     → zeros_sum g.page_size r ≡ zeros_text (geometry file).page_size (zero_pages file V)
 known_zeros file V g words r e are is =

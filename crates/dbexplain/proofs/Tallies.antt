@@ -17,13 +17,13 @@ use Rattle.dbformat.specs.declared.FaultCode.{FaultCode}
 use Rattle.dbtrace.specs.declared.Cause.{Cause}
 use Rattle.dbtrace.specs.declared.Part.{Part}
 use Rattle.dbtrace.specs.declared.Part.TheVariants as part
-use Rattle.dbtrace.specs.declared.Reported.{Reported}
+use Rattle.dbtrace.specs.declared.TracedFault.{TracedFault}
 use Rattle.dbscan.specs.StartTable.{most_starts}
 use Rattle.dbscan.proofs.Slots.{get_set, get_set_other}
-use Rattle.dbentries.specs.Bits.{bit_set, has_bit}
+use Rattle.dbinjuries.specs.Bits.{bit_set, has_bit}
 use Rattle.dbexplain.specs.Summary.{code_count, is_part_of_start, is_told, is_whole}
 use Rattle.dbexplain.specs.Tallies.{Tallied, IsTallyOf, counted_start, no_count, one_fault, fault_told}
-use Rattle.dbentries.proofs.Bits.{set_is}
+use Rattle.dbinjuries.proofs.Bits.{set_is}
 
 -- ---- counts
 
@@ -44,20 +44,20 @@ slot xs j k d f a b at on off = by_case (j == k) refl
     by_case false e =
         get_set_other xs j k (f (slice_index_or xs j d)) (λ q. let t : (j == k) ≡ true = grind (arith, nat_tests) in cc) ∙ at ∙ ap Some (off e)
 
-module _ (pages : ℕ) (ts : List Reported) (f : Fault) (why : Cause) (t : Tallied) (is : IsTallyOf pages ts t) where
-  abbrev one : Part → Reported
+module _ (pages : ℕ) (ts : List TracedFault) (f : Fault) (why : Cause) (t : Tallied) (is : IsTallyOf pages ts t) where
+  abbrev one : Part → TracedFault
   one p = record { part = p; fault = f; cause = why }
 
-  abbrev with : Part → List Reported
+  abbrev with : Part → List TracedFault
   with p = ts ++ one p ∷ []
 
   -- a count that stays, and one that goes up
-  stays : (test : Reported → Bool) (p : Part) → test (one p) ≡ false → counted (count_by test ts) ≡ counted (count_by test (with p))
+  stays : (test : TracedFault → Bool) (p : Part) → test (one p) ≡ false → counted (count_by test ts) ≡ counted (count_by test (with p))
   stays test p e =
       let a = count-append test ts (one p ∷ []) in
       let b : count_by test (one p ∷ []) ≡ 0 = rw e refl in omega (arith, a, b)
 
-  rises : (test : Reported → Bool) (p : Part) → test (one p) ≡ true → counted (counted (count_by test ts) + 1) ≡ counted (count_by test (with p))
+  rises : (test : TracedFault → Bool) (p : Part) → test (one p) ≡ true → counted (counted (count_by test ts) + 1) ≡ counted (count_by test (with p))
   rises test p e =
       let a = count-append test ts (one p ∷ []) in
       let b : count_by test (one p ∷ []) ≡ 1 = rw e refl in omega (arith, a, b)
@@ -71,8 +71,8 @@ module _ (pages : ℕ) (ts : List Reported) (f : Fault) (why : Cause) (t : Talli
       here : slice_get (slice_set t.codes (code_index f.code) (counted (slice_index_or t.codes (code_index f.code) 0 + 1))) (code_index c)
           ≡ Some (counted (code_count (with p) c))
       here = slot t.codes (code_index f.code) (code_index c) 0 (λ n. counted (n + 1)) _ _ (is.codes c)
-          (λ e. rises (λ (t : Reported). is_code t.fault.code c) p (apart f.code c ∙ e))
-          (λ e. stays (λ (t : Reported). is_code t.fault.code c) p (apart f.code c ∙ e))
+          (λ e. rises (λ (t : TracedFault). is_code t.fault.code c) p (apart f.code c ∙ e))
+          (λ e. stays (λ (t : TracedFault). is_code t.fault.code c) p (apart f.code c ∙ e))
 
       by_part : (q : Part) → slice_get (fault_told t (one q)).codes (code_index c) ≡ Some (counted (code_count (with p) c))
       by_part part.Header = here
@@ -82,7 +82,7 @@ module _ (pages : ℕ) (ts : List Reported) (f : Fault) (why : Cause) (t : Talli
   -- pages of faults that were reported at starts
   any_more : (p : Part) (q : ℕ) → is_told (with p) q ≡ (is_told ts q || (not (is_whole p) && (f.page == q)))
   any_more p q =
-      list_any-append (λ (t : Reported). not (is_whole t.part) && (t.fault.page == q)) ts (one p ∷ [])
+      list_any-append (λ (t : TracedFault). not (is_whole t.part) && (t.fault.page == q)) ts (one p ∷ [])
       ∙ ap (λ b. is_told ts q || b) (or-false (not (is_whole p) && (f.page == q)))
 
   pub told_more : (p : Part) → IsTallyOf pages (with p) (fault_told t (one p))
@@ -90,8 +90,8 @@ module _ (pages : ℕ) (ts : List Reported) (f : Fault) (why : Cause) (t : Talli
     all = all_more part.Header;
     codes = codes_more part.Header;
     starts = λ k l. is.starts k l ∙ ap (λ n. Some (record { faults = n; reached = 0; faulty = 0 }))
-        (stays (λ (t : Reported). is_part_of_start k t.part) part.Header refl);
-    whole = ap (λ n. counted (n + 1)) is.whole ∙ rises (λ (t : Reported). is_whole t.part) part.Header refl;
+        (stays (λ (t : TracedFault). is_part_of_start k t.part) part.Header refl);
+    whole = ap (λ n. counted (n + 1)) is.whole ∙ rises (λ (t : TracedFault). is_whole t.part) part.Header refl;
     room = is.room;
     bits = λ q l. is.bits q l ∙ sym (any_more part.Header q ∙ or-false (is_told ts q));
   }
@@ -99,8 +99,8 @@ module _ (pages : ℕ) (ts : List Reported) (f : Fault) (why : Cause) (t : Talli
     all = all_more part.End;
     codes = codes_more part.End;
     starts = λ k l. is.starts k l ∙ ap (λ n. Some (record { faults = n; reached = 0; faulty = 0 }))
-        (stays (λ (t : Reported). is_part_of_start k t.part) part.End refl);
-    whole = ap (λ n. counted (n + 1)) is.whole ∙ rises (λ (t : Reported). is_whole t.part) part.End refl;
+        (stays (λ (t : TracedFault). is_part_of_start k t.part) part.End refl);
+    whole = ap (λ n. counted (n + 1)) is.whole ∙ rises (λ (t : TracedFault). is_whole t.part) part.End refl;
     room = is.room;
     bits = λ q l. is.bits q l ∙ sym (any_more part.End q ∙ or-false (is_told ts q));
   }
@@ -108,16 +108,16 @@ module _ (pages : ℕ) (ts : List Reported) (f : Fault) (why : Cause) (t : Talli
     all = all_more (part.Start j);
     codes = codes_more (part.Start j);
     starts = λ k l. slot t.starts j k no_count one_fault (counted_start [] ts 0 k) (counted_start [] (with (part.Start j)) 0 k) (is.starts k l)
-        (λ e. ap (λ n. record { faults = n; reached = 0; faulty = 0 }) (rises (λ (t : Reported). is_part_of_start k t.part) (part.Start j) e))
-        (λ e. ap (λ n. record { faults = n; reached = 0; faulty = 0 }) (stays (λ (t : Reported). is_part_of_start k t.part) (part.Start j) e));
-    whole = is.whole ∙ stays (λ (t : Reported). is_whole t.part) (part.Start j) refl;
+        (λ e. ap (λ n. record { faults = n; reached = 0; faulty = 0 }) (rises (λ (t : TracedFault). is_part_of_start k t.part) (part.Start j) e))
+        (λ e. ap (λ n. record { faults = n; reached = 0; faulty = 0 }) (stays (λ (t : TracedFault). is_part_of_start k t.part) (part.Start j) e));
+    whole = is.whole ∙ stays (λ (t : TracedFault). is_whole t.part) (part.Start j) refl;
     room = let l : length (bit_set f.page t.pages) ≡ length t.pages = length-set t.pages (f.page / 64) _ in let h = is.room in omega (arith, l, h);
     bits = λ q l. set_is t.pages f.page q (let h = is.room in omega (arith, h, l)) ∙ ap (λ b. b || (f.page == q)) (is.bits q l)
         ∙ sym (any_more (part.Start j) q);
   }
 
 -- fault after fault
-pub all_told : (pages : ℕ) (xs ts : List Reported) (t : Tallied) → IsTallyOf pages ts t → IsTallyOf pages (ts ++ xs) (fold fault_told t xs)
+pub all_told : (pages : ℕ) (xs ts : List TracedFault) (t : Tallied) → IsTallyOf pages ts t → IsTallyOf pages (ts ++ xs) (fold fault_told t xs)
 all_told pages [] ts t is = subst (λ l. IsTallyOf pages l t) (sym (append-nil ts)) is
 all_told pages (x ∷ xs) ts t is =
     subst (λ l. IsTallyOf pages l (fold fault_told (fault_told t x) xs)) (append_assoc ts (x ∷ []) xs)

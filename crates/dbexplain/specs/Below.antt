@@ -11,7 +11,7 @@ use Rattle.dbformat.specs.declared.Fault.{Fault}
 use Rattle.dbformat.specs.declared.FaultCode.{FaultCode}
 use Rattle.dbformat.specs.declared.FaultCode.TheVariants.{H01, H02, H03, H04, H05, H06, H07, H08, H09, H10, R01, R02, R03, T04, O01, M01, M02}
 use Rattle.dbformat.specs.declared.Geometry.{Geometry}
-use Rattle.dbentries.specs.Lines.{indented}
+use Rattle.dbinjuries.specs.Lines.{indented}
 use Rattle.dbformat.specs.Starts.{start_at}
 use Rattle.dbscan.specs.Owners.{place_of}
 use Rattle.dbscan.specs.Texts.{place_text, tree_text}

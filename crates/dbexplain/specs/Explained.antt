@@ -13,17 +13,17 @@ use Rattle.dbformat.specs.declared.FaultCode.{FaultCode}
 use Rattle.dbformat.specs.declared.FaultCode.TheVariants.{H06}
 use Rattle.dbtrace.specs.declared.Cause.{Cause}
 use Rattle.dbtrace.specs.declared.Cause.TheVariants as cause
-use Rattle.dbtrace.specs.declared.Reported.{Reported}
-use Rattle.dbentries.specs.Lines.{cause_text, indented}
-use Rattle.dbentries.specs.Listing.{Entry, entries, size}
-use Rattle.dbentries.specs.Others.{others_text}
-use Rattle.dbentries.specs.Listed.{IsBeginning, listed_entries, listed_faults}
+use Rattle.dbtrace.specs.declared.TracedFault.{TracedFault}
+use Rattle.dbinjuries.specs.Lines.{cause_text, indented}
+use Rattle.dbinjuries.specs.Listing.{Injury, injuries, size}
+use Rattle.dbinjuries.specs.Others.{others_text}
+use Rattle.dbinjuries.specs.Listed.{IsBeginning, listed_injuries, listed_faults}
 use Rattle.dbexplain.specs.Below.{lines_below, place_line}
 use Rattle.dbscan.specs.Placed.{told_faults}
 use Rattle.dbexplain.specs.Facts.{facts_text, run_text}
 use Rattle.dbexplain.specs.Summary.{pages_text, summary}
 
--- ---- what is written of an entry
+-- ---- what is written of an injury
 
 -- where a file is shorter than the header states: the pages after its last one, up to the stated number
 abbrev pub missing_line : List ℕ → FaultCode → List ℕ
@@ -49,30 +49,30 @@ abbrev pub front_text : List ℕ → List Reference → Fault → List ℕ
 front_text file V f = fault_line f ++ (lines_below file V f f.code ++ missing_line file f.code)
 
 -- and what the fault goes back to, and the faults that belong to it
-abbrev pub entry_text : List ℕ → List Reference → Entry → List ℕ
-entry_text file V e = front_text file V e.first.fault ++ (cause_lines file V e.first.fault.page e.first.cause ++ others_text e)
+abbrev pub injury_text : List ℕ → List Reference → Injury → List ℕ
+injury_text file V e = front_text file V e.first.fault ++ (cause_lines file V e.first.fault.page e.first.cause ++ others_text e)
 
 -- ---- the report
 
--- the first entries, how many faults belong to none of them, and the summary; or that there is no fault
-abbrev pub explain_text : ℕ → List ℕ → List Reference → List Entry → List ℕ
+-- the first injuries, how many faults belong to none of them, and the summary; or that there is no fault
+abbrev pub explain_text : ℕ → List ℕ → List Reference → List Injury → List ℕ
 explain_text limit file V [] = ok_line
 explain_text limit file V (e ∷ es) =
-    flat_map (entry_text file V) (take limit (e ∷ es)) ++ (more_text (sum_by size (drop limit (e ∷ es))) ++ summary file V (told_faults file V))
+    flat_map (injury_text file V) (take limit (e ∷ es)) ++ (more_text (sum_by size (drop limit (e ∷ es))) ++ summary file V (told_faults file V))
 
--- the report of `explain` with at most `limit` entries: its verdict is that of `check`
+-- the report of `explain` with at most `limit` injuries: its verdict is that of `check`
 unfoldable pub explain_report : ℕ → List ℕ → List Reference → Report
 explain_report limit file V = option_map_or refused_report (refusal file)
-    (record { out = explain_text limit file V (listed_entries file V); err = []; answer = Ok (verdict (faults file V)) })
+    (record { out = explain_text limit file V (listed_injuries file V); err = []; answer = Ok (verdict (faults file V)) })
 
 -- ---- what is written after a failed read
 
--- the fault lines of the first entries
-abbrev pub found_text : ℕ → List Entry → List ℕ
-found_text limit es = flat_map (λ (e : Entry). fault_line e.first.fault) (take limit es)
+-- the fault lines of the first injuries
+abbrev pub found_text : ℕ → List Injury → List ℕ
+found_text limit es = flat_map (λ (e : Injury). fault_line e.first.fault) (take limit es)
 
--- The fault lines of the first entries of the faults found so far: of a beginning of those that are listed.
+-- The fault lines of the first injuries of the faults found so far: of a beginning of those that are listed.
 pub record IsFoundText (limit : ℕ) (file : List ℕ) (V : List Reference) (text : List ℕ) : Type 0 where
-  pub told : List Reported
+  pub told : List TracedFault
   pub first : IsBeginning told (listed_faults file V)
-  pub lines : text ≡ found_text limit (entries told)
+  pub lines : text ≡ found_text limit (injuries told)

@@ -5,7 +5,7 @@ use Rattle.std.specs.Option.{option_map_or}
 use Rattle.dbformat.specs.Text.{hex_text}
 use Rattle.dbformat.specs.declared.ByteRun.{ByteRun}
 use Rattle.dbtrace.specs.declared.PageFacts.{PageFacts}
-use Rattle.dbentries.specs.Lines.{indented}
+use Rattle.dbinjuries.specs.Lines.{indented}
 
 -- where a page begins in a file with pages of this size
 abbrev pub page_begin : ℕ → ℕ → ℕ

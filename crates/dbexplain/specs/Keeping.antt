@@ -5,10 +5,10 @@ use Rattle.dbformat.specs.Lines.{fault_line}
 use Rattle.dbformat.specs.Reference.{Reference}
 use Rattle.dbformat.specs.Rows.{stat_rows}
 use Rattle.dbformat.specs.declared.Geometry.{Geometry}
-use Rattle.dbentries.specs.Lines.{cause_text}
-use Rattle.dbentries.specs.Others.{kept_others_text}
-use Rattle.dbentries.specs.declared.entry.Entry.{Entry}
-use Rattle.dbentries.specs.Lists.{HasBits, IsUnused, ListsAll}
+use Rattle.dbinjuries.specs.Lines.{cause_text}
+use Rattle.dbinjuries.specs.Others.{kept_others_text}
+use Rattle.dbinjuries.specs.declared.injury.Injury.{Injury}
+use Rattle.dbinjuries.specs.Lists.{HasBits, IsUnused, ListsAll}
 use Rattle.dbscan.specs.Desks.{DeskView}
 use Rattle.dbscan.specs.Finishes.{IsDeskOf}
 use Rattle.dbscan.specs.Placed.{told_faults}
@@ -18,21 +18,21 @@ use Rattle.dbexplain.specs.Indexes.{AreIndexes}
 use Rattle.dbexplain.specs.KeptRanges.{AreAllKept, AreRangesOf}
 use Rattle.dbexplain.specs.Notes.{AreOwnersOf}
 use Rattle.dbexplain.specs.Tallies.{IsTallyOf, Tallied}
-use Rattle.dbentries.specs.Zeros.{AreZeros}
+use Rattle.dbinjuries.specs.Zeros.{AreZeros}
 use Rattle.dbexplain.specs.declared.kept.Kept.{Kept}
 use Rattle.dbexplain.specs.declared.owners.Owners.{Owners}
 use Rattle.dbexplain.specs.declared.starts.RowNotes.{RowNotes}
 
--- what is written of an entry, by what is kept of it
-abbrev pub kept_entry_text : List ℕ → List Reference → Entry → List ℕ
-kept_entry_text file V k =
+-- what is written of an injury, by what is kept of it
+abbrev pub kept_injury_text : List ℕ → List Reference → Injury → List ℕ
+kept_injury_text file V k =
     front_text file V k.first.fault ++ (cause_text k.first.cause ++ (after_cause file V k.first.fault.page k.first.cause ++ kept_others_text k))
 
--- the fault lines of what is kept of some entries
-abbrev pub lines_of : List Entry → List ℕ
-lines_of kept = flat_map (λ (e : Entry). fault_line e.first.fault) kept
+-- the fault lines of what is kept of some injuries
+abbrev pub lines_of : List Injury → List ℕ
+lines_of kept = flat_map (λ (e : Injury). fault_line e.first.fault) kept
 
--- nothing is known of a file of this shape, and there is room for `limit` entries and for its pages
+-- nothing is known of a file of this shape, and there is room for `limit` injuries and for its pages
 pub record IsEmpty {A : Type 0} (limit : ℕ) (g : Geometry) (k : Kept A) : Type 0 where
   pub listing : IsUnused limit k.listing
   pub tally : IsTallyOf g.pages [] k.tally
@@ -45,7 +45,7 @@ pub record IsEmpty {A : Type 0} (limit : ℕ) (g : Geometry) (k : Kept A) : Type
 pub record HasAll {A : Type 0} (d : DeskView) (k : Kept A) (file : List ℕ) (V : List Reference) : Type 0 where
   pub desk : IsDeskOf d file V
   pub some : told_faults file V ≡ [] → ⊥
-  pub listing : ListsAll k.listing.entries.limit file V k.listing
+  pub listing : ListsAll k.listing.injuries.limit file V k.listing
   pub tally : IsTallyOf (geometry file).pages (told_faults file V) k.tally
   pub zeros : AreZeros file V k.listing.zeros
   pub ranges : AreRangesOf (told_faults file V) k.ranges

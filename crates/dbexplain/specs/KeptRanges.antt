@@ -4,7 +4,7 @@ use Rattle.std.specs.Prelude.{nat_lt, vec_capacity, drop, take, if◌then◌else
 use Rattle.dbformat.specs.Address.{freelist_start}
 use Rattle.dbformat.specs.Lines.{counted}
 use Rattle.dbscan.specs.StartTable.{most_starts}
-use Rattle.dbtrace.specs.declared.Reported.{Reported}
+use Rattle.dbtrace.specs.declared.TracedFault.{TracedFault}
 use Rattle.dbexplain.specs.Ranges.{all_ranges, grown, is_of, joins, most_ranges, range_of, ranges_found}
 use Rattle.dbexplain.specs.declared.ranges.RangeCount.{RangeCount}
 use Rattle.dbexplain.specs.declared.ranges.RowRange.{RowRange}
@@ -71,7 +71,7 @@ abbrev pub range_if : KeptRanges → Option RowRange → KeptRanges
 range_if k None = k
 range_if k (Some r) = range_added k r
 
-abbrev pub range_told : KeptRanges → Reported → KeptRanges
+abbrev pub range_told : KeptRanges → TracedFault → KeptRanges
 range_told k t = range_if k (range_of t)
 
 -- the last one is put to the others
@@ -92,10 +92,10 @@ pub record AreKept (rs : List RowRange) (kept : List RowRange) (more : List Rang
   pub long : length more ≡ most_starts
 
 -- these are the ranges of some faults
-pub record AreRangesOf (ts : List Reported) (k : KeptRanges) : Type 0 where
+pub record AreRangesOf (ts : List TracedFault) (k : KeptRanges) : Type 0 where
   pub last : k.last ≡ (ranges_found ts).last
   pub kept : AreKept (ranges_found ts).done k.kept k.more
 
 -- and these all of them, where the last one was put to the others
-abbrev pub AreAllKept : List Reported → KeptRanges → Type 0
+abbrev pub AreAllKept : List TracedFault → KeptRanges → Type 0
 AreAllKept ts k = AreKept (all_ranges (ranges_found ts)) k.kept k.more

@@ -9,7 +9,7 @@ use Rattle.dbtrace.specs.declared.Cause.{Cause}
 use Rattle.dbtrace.specs.declared.Cause.TheVariants as cause
 use Rattle.dbtrace.specs.declared.Part.{Part}
 use Rattle.dbtrace.specs.declared.Part.TheVariants as part
-use Rattle.dbtrace.specs.declared.Reported.{Reported}
+use Rattle.dbtrace.specs.declared.TracedFault.{TracedFault}
 use Rattle.dbtrace.specs.declared.RowidBounds.{RowidBounds}
 use Rattle.dbexplain.specs.declared.ranges.RowRange.{RowRange}
 use Rattle.dbexplain.specs.declared.ranges.RowsKind.{RowsKind}
@@ -63,7 +63,7 @@ if_some_rows None = None
 if_some_rows (Some r) = if is_no_range r.rowids then None else Some r
 
 -- the rows of a reported fault, if there are any
-abbrev pub range_of : Reported → Option RowRange
+abbrev pub range_of : TracedFault → Option RowRange
 range_of t = at_part t.part
   where
     at_part : Part → Option RowRange
@@ -124,10 +124,10 @@ abbrev pub found_with : Found → Option RowRange → Found
 found_with f None = f
 found_with f (Some r) = found_after f.done f.last r
 
-abbrev pub found_more : Found → Reported → Found
+abbrev pub found_more : Found → TracedFault → Found
 found_more f t = found_with f (range_of t)
 
-abbrev pub ranges_found : List Reported → Found
+abbrev pub ranges_found : List TracedFault → Found
 ranges_found ts = fold found_more none_found ts
 
 abbrev pub all_ranges : Found → List RowRange
@@ -142,8 +142,8 @@ abbrev pub is_of : ℕ → RowsKind → RowRange → Bool
 is_of k kind r = (r.start == k) && same_kind r.kind kind
 
 -- those of the first 1000 ranges, and how many of the others there are
-abbrev pub shown_ranges : List Reported → ℕ → RowsKind → List RowRange
+abbrev pub shown_ranges : List TracedFault → ℕ → RowsKind → List RowRange
 shown_ranges ts k kind = filter (is_of k kind) (take most_ranges (all_ranges (ranges_found ts)))
 
-abbrev pub other_ranges : List Reported → ℕ → RowsKind → ℕ
+abbrev pub other_ranges : List TracedFault → ℕ → RowsKind → ℕ
 other_ranges ts k kind = count_by (is_of k kind) (drop most_ranges (all_ranges (ranges_found ts)))

@@ -6,16 +6,16 @@ use Rattle.dbformat.specs.Reference.{Reference}
 use Rattle.dbformat.specs.Report.{faults, verdict}
 use Rattle.dbformat.specs.Rows.{StatRow}
 use Rattle.dbformat.specs.declared.Verdict.{Verdict}
-use Rattle.dbtrace.specs.declared.Reported.{Reported}
+use Rattle.dbtrace.specs.declared.TracedFault.{TracedFault}
 use Rattle.dbsource.specs.Outs.{Begins, OutState, Puts}
 use Rattle.dbsource.specs.declared.error.RunError.{RunError}
 use Rattle.dbsource.specs.declared.error.RunError.TheVariants.{ReadFailed}
 use Rattle.dbsource.specs.declared.out.WriteFailed.{WriteFailed}
 use Rattle.dbwalk.specs.Telling.{SinkState, one_out}
 use Rattle.dbscan.specs.Notices.{Notice}
-use Rattle.dbentries.specs.Listed.{listed_entries}
-use Rattle.dbentries.specs.Lists.{ListsFirst, heard}
-use Rattle.dbentries.specs.Reported.{HearsReported}
+use Rattle.dbinjuries.specs.Listed.{listed_injuries}
+use Rattle.dbinjuries.specs.Lists.{ListsFirst, heard}
+use Rattle.dbinjuries.specs.Traced.{HearsTraced}
 use Rattle.dbscan.specs.Trees.{row_noted}
 use Rattle.dbexplain.specs.Explained.{explain_text}
 use Rattle.dbexplain.specs.Indexes.{index_noted}
@@ -26,7 +26,7 @@ use Rattle.dbexplain.specs.declared.reporter.ExplainReporter.{ExplainReporter}
 
 module _ {A O : Type 0} where
   -- A fault was counted, and listed, and its rows noted.
-  pub record Adds (x : Reported) (s t : ExplainReporter A O) : Type 0 where
+  pub record Adds (x : TracedFault) (s t : ExplainReporter A O) : Type 0 where
     pub tally : t.kept.now.tally ≡ fault_told s.kept.now.tally x
     pub listing : t.kept.now.listing ≡ heard s.kept.now.listing x
     pub ranges : t.kept.now.ranges ≡ range_told s.kept.now.ranges x
@@ -45,7 +45,7 @@ module _ {A O : Type 0} where
 
   -- a notice was taken: a fault was added, or a row noted, and nothing else changes it
   abbrev pub Hears : ExplainReporter A O → Notice → ExplainReporter A O → Type 0
-  Hears = HearsReported Adds Notes
+  Hears = HearsTraced Adds Notes
 
   module _ (held : O → OutState) where
     -- it borrows its Out, whose failures are counted; nothing is put before its end
@@ -55,19 +55,19 @@ module _ {A O : Type 0} where
     -- By the answer of a run over a file: the report was put, and this was found; after a failed read nothing was put yet, and the first
     -- faults are listed; and at another error a beginning of the report was put.
     abbrev pub IsReportLeft : ℕ → List ℕ → List Reference → Result Verdict RunError → ExplainReporter A O → ExplainReporter A O → Type 0
-    IsReportLeft limit file V (Ok v) s t = Appends (held s.out.now).bytes (held t.out.now).bytes (explain_text limit file V (listed_entries file V))
+    IsReportLeft limit file V (Ok v) s t = Appends (held s.out.now).bytes (held t.out.now).bytes (explain_text limit file V (listed_injuries file V))
         × (v ≡ verdict (faults file V))
     IsReportLeft limit file V (Err ReadFailed) s t = (t.out.now ≡ s.out.now) × ListsFirst limit file V t.kept.now.listing
-    IsReportLeft limit file V (Err e) s t = Begins (held s.out.now).bytes (held t.out.now).bytes (explain_text limit file V (listed_entries file V))
+    IsReportLeft limit file V (Err e) s t = Begins (held s.out.now).bytes (held t.out.now).bytes (explain_text limit file V (listed_injuries file V))
 
     -- what a run leaves of a reporter of which nothing had been heard
     abbrev pub LeavesExplained : List ℕ → List Reference → Result Verdict RunError → ExplainReporter A O → ExplainReporter A O → Type 0
     LeavesExplained file V r s t = (limit : ℕ) → IsEmpty limit (geometry file) s.kept.now → IsReportLeft limit file V r s t
 
-    -- What the end of a run makes of it: after a failed read the lines of the entries found so far were put, as far as the Out took them.
+    -- What the end of a run makes of it: after a failed read the lines of the injuries found so far were put, as far as the Out took them.
     pub record PutsLines (s t : ExplainReporter A O) : Type 0 where
       pub put : Result (Unit {0}) WriteFailed
-      pub lines : Puts put (held s.out.now) (held t.out.now) (lines_of s.kept.now.listing.entries.listed)
+      pub lines : Puts put (held s.out.now) (held t.out.now) (lines_of s.kept.now.listing.injuries.listed)
 
     -- by the answer
     abbrev pub Ends : Result Verdict RunError → ExplainReporter A O → ExplainReporter A O → Type 0

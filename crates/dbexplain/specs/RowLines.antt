@@ -6,7 +6,7 @@ use Rattle.std.specs.Fmt.{signed_decimal}
 use Rattle.std.specs.List.{list_any}
 use Rattle.std.specs.Option.{option_map_or}
 use Rattle.dbformat.specs.Lines.{counted, line_feed}
-use Rattle.dbtrace.specs.declared.Reported.{Reported}
+use Rattle.dbtrace.specs.declared.TracedFault.{TracedFault}
 use Rattle.dbtrace.specs.declared.RowidBounds.{RowidBounds}
 use Rattle.dbexplain.specs.Ranges.{other_ranges, shown_ranges}
 use Rattle.dbexplain.specs.declared.ranges.RowRange.{RowRange}
@@ -63,9 +63,9 @@ rows_line kind rs others =
     if (length rs == 0) && (others == 0) then [] else codes "        " ++ words_of kind ++ ranges_text kind rs others ++ line_feed ∷ []
 
 -- that of start k and a kind, by the faults of a file
-abbrev pub kind_line : List Reported → ℕ → RowsKind → List ℕ
+abbrev pub kind_line : List TracedFault → ℕ → RowsKind → List ℕ
 kind_line ts k kind = rows_line kind (shown_ranges ts k kind) (other_ranges ts k kind)
 
 -- the lines of start k
-abbrev pub rows_text : List Reported → ℕ → List ℕ
+abbrev pub rows_text : List TracedFault → ℕ → List ℕ
 rows_text ts k = kind_line ts k NotReached ++ kind_line ts k OnFaulty ++ kind_line ts k CutShort

@@ -21,14 +21,14 @@ use Rattle.dbsource.specs.declared.source.Source.{Ghosts as SourceWords}
 use Rattle.dbreport.specs.Runs.{IsAnswerOf, SaysOk}
 use Rattle.dbexplain.specs.Explained.{IsFoundText, explain_report}
 
--- After a failed read the lines of the entries found so far were put, and nothing else: a beginning of them where the Out failed too.
+-- After a failed read the lines of the injuries found so far were put, and nothing else: a beginning of them where the Out failed too.
 pub record PutsFound (limit : ℕ) (file : List ℕ) (V : List Reference) (old new : OutState) : Type 0 where
   pub text : List ℕ
   pub found : IsFoundText limit file V text
   pub answer : Result (Unit {0}) WriteFailed
   pub put : Puts answer old new text
 
--- What was written: after a failed read the entries found so far; else the report, at an error a beginning of it.
+-- What was written: after a failed read the injuries found so far; else the report, at an error a beginning of it.
 abbrev pub WritesReport : ℕ → List ℕ → List Reference → Result Verdict RunError → OutState → OutState → Type 0
 WritesReport limit file V (Err ReadFailed) old new = PutsFound limit file V old new
 WritesReport limit file V r old new = Writes r old.bytes new.bytes (explain_report limit file V).out

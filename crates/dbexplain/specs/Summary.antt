@@ -18,16 +18,16 @@ use Rattle.dbformat.specs.declared.Encoding.{Encoding}
 use Rattle.dbformat.specs.declared.FaultCode.{FaultCode}
 use Rattle.dbformat.specs.declared.RowKind.{RowKind}
 use Rattle.dbformat.specs.declared.RowKind.TheVariants as row
-use Rattle.dbentries.specs.Lines.{indented, number_text}
-use Rattle.dbentries.specs.Others.{runs}
-use Rattle.dbentries.specs.Zeros.{zero_pages}
-use Rattle.dbentries.specs.declared.runs.Run.{Run}
+use Rattle.dbinjuries.specs.Lines.{indented, number_text}
+use Rattle.dbinjuries.specs.Others.{runs}
+use Rattle.dbinjuries.specs.Zeros.{zero_pages}
+use Rattle.dbinjuries.specs.declared.page_runs.PageRun.{PageRun}
 use Rattle.dbexplain.specs.Facts.{bytes_text, page_begin}
 use Rattle.dbexplain.specs.Indexes.{is_index_page}
 use Rattle.dbexplain.specs.RowLines.{rows_text}
 use Rattle.dbtrace.specs.declared.Part.{Part}
 use Rattle.dbtrace.specs.declared.Part.TheVariants as part
-use Rattle.dbtrace.specs.declared.Reported.{Reported}
+use Rattle.dbtrace.specs.declared.TracedFault.{TracedFault}
 use Rattle.dbscan.specs.Texts.{tree_of_row}
 use Rattle.dbformat.specs.Starts.{start_at}
 use Rattle.dbscan.specs.Placed.{told_faults}
@@ -47,15 +47,15 @@ is_whole (part.Start j) = false
 is_whole _ = true
 
 -- how many faults have a code
-abbrev pub code_count : List Reported → FaultCode → ℕ
+abbrev pub code_count : List TracedFault → FaultCode → ℕ
 code_count ts code = count_by (λ t. is_code t.fault.code code) ts
 
 -- how many were reported at start k
-abbrev pub start_count : List Reported → ℕ → ℕ
+abbrev pub start_count : List TracedFault → ℕ → ℕ
 start_count ts k = count_by (λ t. is_part_of_start k t.part) ts
 
 -- and how many of the whole file
-abbrev pub whole_count : List Reported → ℕ
+abbrev pub whole_count : List TracedFault → ℕ
 whole_count ts = count_by (λ t. is_whole t.part) ts
 
 -- Pages.
@@ -69,11 +69,11 @@ abbrev pub reached_pages : List ℕ → List Reference → ℕ → ℕ
 reached_pages file V k = count_by (is_reached V k) (page_numbers (geometry file))
 
 -- whether page p has a fault that was reported at a start
-abbrev pub is_told : List Reported → ℕ → Bool
+abbrev pub is_told : List TracedFault → ℕ → Bool
 is_told ts p = list_any (λ t. not (is_whole t.part) && (t.fault.page == p)) ts
 
 -- how many of the pages that were reached from start k have one
-abbrev pub faulty_pages : List ℕ → List Reference → List Reported → ℕ → ℕ
+abbrev pub faulty_pages : List ℕ → List Reference → List TracedFault → ℕ → ℕ
 faulty_pages file V ts k = count_by (λ p. is_reached V k p && is_told ts p) (page_numbers (geometry file))
 
 -- Trees.
@@ -96,7 +96,7 @@ abbrev pub is_of_kind : Bool → List SchemaRow → ℕ → Bool
 is_of_kind index rows k = option_map_or (λ r. if index then is_index r else not (is_index r)) (slice_get rows (k - 1)) false
 
 -- how many trees of this kind the rows name, and how many of them have no fault
-abbrev pub whole_trees : Bool → List SchemaRow → List Reported → TreeSum
+abbrev pub whole_trees : Bool → List SchemaRow → List TracedFault → TreeSum
 whole_trees index rows ts = record {
   whole = count_by (λ k. is_of_kind index rows k && (start_count ts k == 0)) (range_with_len 1 (length rows));
   all = count_by (is_of_kind index rows) (range_with_len 1 (length rows));
@@ -117,7 +117,7 @@ abbrev pub count_text : ℕ → List ℕ
 count_text n = decimal (counted n) ++ (if n == 1 then codes " fault" else codes " faults") ++ line_feed ∷ []
 
 -- how many have a code
-abbrev pub code_line : List Reported → FaultCode → List ℕ
+abbrev pub code_line : List TracedFault → FaultCode → List ℕ
 code_line ts code = sum_line (length ts) (code_count ts code) (code_text code ++ codes " " ++ code_words code)
 
 -- on how many of the pages that were reached from a start
@@ -135,17 +135,17 @@ abbrev pub has_rowids : List ℕ → List Reference → ℕ → Bool
 has_rowids file V k = not (is_index_start (listed_rows file V) k) && not (list_any (is_index_page k) (stat_rows file V))
 
 -- which rows of it the faults are of, where there are any
-abbrev pub rows_below : List ℕ → List Reference → List Reported → ℕ → List ℕ
+abbrev pub rows_below : List ℕ → List Reference → List TracedFault → ℕ → List ℕ
 rows_below file V ts k = if has_rowids file V k then rows_text ts k else []
 
 -- how many were reported at start k, and of which rows
-abbrev pub start_sum_line : List ℕ → List Reference → List Reported → ℕ → List ℕ
+abbrev pub start_sum_line : List ℕ → List Reference → List TracedFault → ℕ → List ℕ
 start_sum_line file V ts k = sum_line (length ts) (start_count ts k)
     (codes "in " ++ start_name (encoding file) (listed_rows file V) k ++ faulty_pages_text (faulty_pages file V ts k) (reached_pages file V k))
     ++ (if start_count ts k == 0 then [] else rows_below file V ts k)
 
 -- how many of the whole file
-abbrev pub whole_line : List Reported → List ℕ
+abbrev pub whole_line : List TracedFault → List ℕ
 whole_line ts = sum_line (length ts) (whole_count ts) (codes "in the whole file")
 
 -- how many of some trees have none
@@ -164,7 +164,7 @@ pages_text first last =
     if first == last then codes "page " ++ decimal first ++ codes " is" else codes "pages " ++ decimal first ++ codes " to " ++ decimal last ++ codes " are"
 
 -- a run of pages that are zeros, where pages have this size
-abbrev pub zero_run_line : ℕ → Run → List ℕ
+abbrev pub zero_run_line : ℕ → PageRun → List ℕ
 zero_run_line page_size r = indented (pages_text r.first r.last ++ codes " zeros: " ++ bytes_text (page_begin page_size r.first) (r.last * page_size - 1))
 
 -- how many more runs there are
@@ -172,7 +172,7 @@ abbrev pub more_zeros_line : ℕ → List ℕ
 more_zeros_line k = if k == 0 then [] else indented (codes "and " ++ number_text k (codes " more run") (codes " more runs") ++ codes " of zero pages")
 
 -- these runs, and k more
-abbrev pub zero_runs_text : ℕ → List Run → ℕ → List ℕ
+abbrev pub zero_runs_text : ℕ → List PageRun → ℕ → List ℕ
 zero_runs_text page_size rs k = flat_map (zero_run_line page_size) rs ++ more_zeros_line k
 
 -- the runs of the pages that are zeros, ten at most, and how many more there are
@@ -181,7 +181,7 @@ zeros_text page_size pages = zero_runs_text page_size (take 10 (runs pages)) (co
 
 -- the summary of these faults of a file with survey V: their number, by code, by start in the order of the starts, the pages that
 -- are zeros, and the tables and indexes
-abbrev pub summary : List ℕ → List Reference → List Reported → List ℕ
+abbrev pub summary : List ℕ → List Reference → List TracedFault → List ℕ
 summary file V ts =
     count_text (length ts) ++ flat_map (code_line ts) all_codes ++ flat_map (λ l. start_sum_line file V ts l.step) (starts file V) ++ whole_line ts
     ++ (zeros_text (geometry file).page_size (zero_pages file V)
@@ -190,7 +190,7 @@ summary file V ts =
 -- Laws.
 
 -- the numbers of the codes add up to that of all faults
-abbrev pub CodesAddUp : List Reported → Type 0
+abbrev pub CodesAddUp : List TracedFault → Type 0
 CodesAddUp ts = sum_by (code_count ts) all_codes ≡ length ts
 
 -- and so do those of the starts and of the whole file

@@ -8,7 +8,7 @@ use Rattle.dbformat.specs.Lines.{code_text, code_words}
 use Rattle.dbformat.specs.SchemaRow.{SchemaRow}
 use Rattle.dbformat.specs.declared.Encoding.{Encoding}
 use Rattle.dbformat.specs.declared.FaultCode.{FaultCode}
-use Rattle.dbentries.specs.declared.runs.Runs.{Runs}
+use Rattle.dbinjuries.specs.declared.page_runs.PageRuns.{PageRuns}
 use Rattle.dbexplain.specs.KeptLines.{kept_text}
 use Rattle.dbexplain.specs.KeptRanges.{KeptRanges}
 use Rattle.dbexplain.specs.Summary.{aligned, count_text, faulty_pages_text, is_index_start, is_of_kind, start_name, sum_line, trees_text, zero_runs_text}
@@ -52,14 +52,14 @@ abbrev pub trees_sum : List SchemaRow → Tallied → List ℕ
 trees_sum rows t = trees_text (trees_by false rows t) (trees_by true rows t)
 
 -- the lines of the pages that are zeros, by what is kept of their runs, and the last line
-abbrev pub zeros_sum : ℕ → Runs → List ℕ
+abbrev pub zeros_sum : ℕ → PageRuns → List ℕ
 zeros_sum page_size r = zero_runs_text page_size (take (min r.count 10) r.kept) (r.count - 10)
 
-abbrev pub last_sum : ℕ → Runs → List SchemaRow → Tallied → List ℕ
+abbrev pub last_sum : ℕ → PageRuns → List SchemaRow → Tallied → List ℕ
 last_sum page_size r rows t = zeros_sum page_size r ++ trees_sum rows t
 
 -- the summary
-abbrev pub summary_by : ℕ → Runs → Encoding → List SchemaRow → (ℕ → List ℕ) → Tallied → List ℕ
+abbrev pub summary_by : ℕ → PageRuns → Encoding → List SchemaRow → (ℕ → List ℕ) → Tallied → List ℕ
 summary_by page_size r e rows below t =
     count_text t.all ++ (flat_map (code_sum t) all_codes ++ (tree_sums t (start_name e rows) below rows
     ++ (numbered_sum t (start_name e rows) below freelist_start ++ (sum_line t.all t.whole (codes "in the whole file")

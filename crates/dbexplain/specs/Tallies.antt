@@ -9,8 +9,8 @@ use Rattle.dbformat.specs.Reference.{Reference}
 use Rattle.dbformat.specs.declared.FaultCode.{FaultCode}
 use Rattle.dbtrace.specs.declared.Part.{Part}
 use Rattle.dbtrace.specs.declared.Part.TheVariants as part
-use Rattle.dbtrace.specs.declared.Reported.{Reported}
-use Rattle.dbentries.specs.Bits.{bit_set, has_bit, HasPageBit}
+use Rattle.dbtrace.specs.declared.TracedFault.{TracedFault}
+use Rattle.dbinjuries.specs.Bits.{bit_set, has_bit, HasPageBit}
 use Rattle.dbexplain.specs.Summary.{code_count, start_count, whole_count, is_reached, is_told}
 use Rattle.dbexplain.specs.declared.tally.StartCount.{StartCount}
 use Rattle.dbexplain.specs.declared.tally.Tally.TheInside.{Inside}
@@ -54,7 +54,7 @@ abbrev pub part_told : Part → ℕ → Tallied → Tallied
 part_told (part.Start k) page t = record t { starts = slice_set t.starts k (one_fault (count_at t k)); pages = bit_set page t.pages }
 part_told _ page t = record t { whole = counted (t.whole + 1) }
 
-abbrev pub fault_told : Tallied → Reported → Tallied
+abbrev pub fault_told : Tallied → TracedFault → Tallied
 fault_told t x = part_told x.part x.fault.page (code_told x.fault.code t)
 
 -- ---- a page more
@@ -74,7 +74,7 @@ page_reached (Some k) p t = start_reached k p t
 -- ---- what it all means
 
 -- What was counted at start k: its faults, and of the first n pages those that were reached from it, and those of them with a fault.
-abbrev pub counted_start : List Reference → List Reported → ℕ → ℕ → StartCount
+abbrev pub counted_start : List Reference → List TracedFault → ℕ → ℕ → StartCount
 counted_start V ts n k = record {
   faults = counted (start_count ts k);
   reached = count_by (is_reached V k) (range_with_len 1 n);
@@ -82,7 +82,7 @@ counted_start V ts n k = record {
 }
 
 -- The tally is that of these faults, of a file with this number of pages, and of its first n pages.
-pub record IsTallyTo (pages : ℕ) (V : List Reference) (ts : List Reported) (n : ℕ) (t : Tallied) : Type 0 where
+pub record IsTallyTo (pages : ℕ) (V : List Reference) (ts : List TracedFault) (n : ℕ) (t : Tallied) : Type 0 where
   pub all : t.all ≡ counted (length ts)
   pub codes : (code : FaultCode) → slice_get t.codes (code_index code) ≡ Some (counted (code_count ts code))
   pub starts : (k : ℕ) → k ≤ freelist_start → slice_get t.starts k ≡ Some (counted_start V ts n k)
@@ -91,5 +91,5 @@ pub record IsTallyTo (pages : ℕ) (V : List Reference) (ts : List Reported) (n 
   pub bits : (p : ℕ) → p ≤ pages → has_bit t.pages p ≡ is_told ts p
 
 -- The tally is that of these faults, where no page is counted yet.
-abbrev pub IsTallyOf : ℕ → List Reported → Tallied → Type 0
+abbrev pub IsTallyOf : ℕ → List TracedFault → Tallied → Type 0
 IsTallyOf pages ts t = IsTallyTo pages [] ts 0 t

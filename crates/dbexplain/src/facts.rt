@@ -6,8 +6,8 @@ ghost use Rattle.dblines.specs.Writing.{Wrote};
 ghost use Rattle.dbexplain.specs.Facts.{bound_text, facts_text, rowids_text, run_line, run_text};
 
 use arrayvec::ArrayVec;
-use dbentries::append_signed;
 use dbformat::{ByteRun, Geometry, hex_byte};
+use dbinjuries::append_signed;
 use dblines::{Writer, append, append_number};
 use dbsource::Out;
 use dbwalk::{PageFacts, RowidBounds};

@@ -6,7 +6,7 @@ ghost use Rattle.dbexplain.specs.Keeping.{IsEmpty};
 use crate::indexes::no_indexes;
 use crate::ranges::RowRanges;
 use crate::tally::Tally;
-use dbentries::Listing;
+use dbinjuries::Listing;
 use dbscan::{PageTrees, StartTable};
 use dbsource::{Geometry, NoMemory};
 use std::alloc::{Allocator, Global};
@@ -24,7 +24,7 @@ pub(crate) struct Kept<A: Allocator = Global> {
 }
 
 impl<A: Allocator + Copy> Kept<A> {
-    // For a file of this shape, before it is read, with room for `limit` entries. It takes no memory after this.
+    // For a file of this shape, before it is read, with room for `limit` injuries. It takes no memory after this.
     pub(crate) fn new_in(alloc: A, limit: u32, geometry: &Geometry) -> Result<Kept<A>, NoMemory>
         requires { IsInRange geometry.now }
         ensures { IfOk result (IsEmpty limit geometry.now) }

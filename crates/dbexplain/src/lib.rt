@@ -11,9 +11,9 @@
 #![tactic(auto)]
 
 mod after_end;
-mod entry_lines;
 mod facts;
 mod indexes;
+mod injury_lines;
 mod kept;
 mod laws;
 mod missing;

@@ -1,7 +1,7 @@
 // The pages that a file lacks.
 ghost use Rattle.std.specs.Prelude.{◌≡◌, ◌++◌, codes};
 ghost use Rattle.dblines.specs.Writing.{WroteOf};
-ghost use Rattle.dbentries.specs.Lines.{indented};
+ghost use Rattle.dbinjuries.specs.Lines.{indented};
 ghost use Rattle.dbexplain.specs.Explained.{missing_line};
 ghost use Rattle.dbexplain.specs.Notes.{AreOwnersOf};
 ghost use Rattle.dbexplain.specs.Summary.{pages_text};

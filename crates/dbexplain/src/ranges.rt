@@ -7,7 +7,7 @@ use dbformat::{Fault, FaultCode};
 use dbscan::StartTable;
 use dbsource::NoMemory;
 use dbsource::memory::with_room;
-use dbtrace::{Cause, Part, Reported, RowidBounds};
+use dbtrace::{Cause, Part, RowidBounds, TracedFault};
 use std::alloc::{Allocator, Global};
 use std::marker::Model;
 
@@ -126,7 +126,7 @@ fn is_no_range(rowids: &RowidBounds) -> bool
 }
 
 // The rows that a fault is of, if there are any.
-fn range_of(told: &Reported) -> Option<RowRange>
+fn range_of(told: &TracedFault) -> Option<RowRange>
     ensures { result ≡ range_of told.now }
 {
     let Part::Start(start) = told.part else {
@@ -296,7 +296,7 @@ impl<A: Allocator> RowRanges<A> {
     }
 
     /// Adds the rows that a fault is of, if there are any.
-    pub fn hear(&mut self, told: &Reported)
+    pub fn hear(&mut self, told: &TracedFault)
         ensures { self.new ≡ range_told self.old told.now }
     {
         if let Some(range) = range_of(told) {

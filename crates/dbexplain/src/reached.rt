@@ -2,7 +2,7 @@
 ghost use Rattle.std.specs.Prelude.{ℕ, List};
 ghost use Rattle.dbformat.specs.File.{geometry};
 ghost use Rattle.dbformat.specs.Reference.{Reference};
-ghost use Rattle.dbtrace.specs.declared.Reported.{Reported};
+ghost use Rattle.dbtrace.specs.declared.TracedFault.{TracedFault};
 ghost use Rattle.dbexplain.specs.Notes.{AreOwnersOf};
 ghost use Rattle.dbexplain.specs.Tallies.{IsTallyOf, IsTallyTo};
 
@@ -12,7 +12,7 @@ use std::alloc::Allocator;
 
 /// Counts all pages of a file, each at the start that it was reached from.
 pub(crate) fn count_pages<A: Allocator>(tally: &mut Tally<A>, owners: &Owners<'_, A>)
-    ensures { (file : List ℕ) (V : List Reference) (ts : List Reported) → AreOwnersOf owners.now file V
+    ensures { (file : List ℕ) (V : List Reference) (ts : List TracedFault) → AreOwnersOf owners.now file V
         → IsTallyOf (geometry file).pages ts tally.old → IsTallyTo (geometry file).pages V ts (geometry file).pages tally.new }
 {
     for index in 0..owners.marks.pages() {

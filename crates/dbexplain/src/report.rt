@@ -2,11 +2,11 @@
 ghost use Rattle.std.specs.Prelude.{◌≡◌};
 ghost use Rattle.dblines.specs.Writing.{PutsOf};
 ghost use Rattle.dbsource.specs.Outs.{Puts};
-ghost use Rattle.dbentries.specs.Listed.{listed_entries};
+ghost use Rattle.dbinjuries.specs.Listed.{listed_injuries};
 ghost use Rattle.dbexplain.specs.Explained.{explain_text};
 ghost use Rattle.dbexplain.specs.Keeping.{HasAll, lines_of};
 
-use crate::entry_lines::{put_entries, put_fault_lines};
+use crate::injury_lines::{put_fault_lines, put_injuries};
 use crate::kept::Kept;
 use crate::owners::Owners;
 use crate::starts::RowNotes;
@@ -16,7 +16,7 @@ use dbscan::Desk;
 use dbsource::{Out, WriteFailed};
 use std::alloc::Allocator;
 
-/// Puts the report of a file in which faults were found: the first entries, how many faults belong to none of them, and the
+/// Puts the report of a file in which faults were found: the first injuries, how many faults belong to none of them, and the
 /// summary.
 ///
 /// # Errors
@@ -28,7 +28,7 @@ pub(crate) fn put_report<A: Allocator, O: Out>(
     out: &mut O,
 ) -> Result<(), WriteFailed>
     ensures { PutsOf result (O.held out.old) (O.held out.new) (HasAll desk.now kept.old)
-        (λ file V. explain_text kept.old.listing.entries.limit file V (listed_entries file V)) }
+        (λ file V. explain_text kept.old.listing.injuries.limit file V (listed_injuries file V)) }
 {
     let mut writer = Writer::new(out);
     let owners = Owners {
@@ -37,7 +37,7 @@ pub(crate) fn put_report<A: Allocator, O: Out>(
         roots: desk.roots(),
         trees: &kept.trees,
     };
-    put_entries(&mut writer, &owners, kept.listing.listed());
+    put_injuries(&mut writer, &owners, kept.listing.listed());
     writer.put_rest(kept.listing.rest());
     kept.ranges.close();
     let rows = RowNotes {
@@ -48,7 +48,7 @@ pub(crate) fn put_report<A: Allocator, O: Out>(
     writer.end()
 }
 
-/// Puts the fault lines of the entries found so far.
+/// Puts the fault lines of the injuries found so far.
 ///
 /// # Errors
 ///
@@ -57,7 +57,7 @@ pub(crate) fn put_found<A: Allocator, O: Out>(
     kept: &Kept<A>,
     out: &mut O,
 ) -> Result<(), WriteFailed>
-    ensures { Puts result (O.held out.old) (O.held out.new) (lines_of kept.now.listing.entries.listed) }
+    ensures { Puts result (O.held out.old) (O.held out.new) (lines_of kept.now.listing.injuries.listed) }
 {
     let mut writer = Writer::new(out);
     put_fault_lines(&mut writer, kept.listing.listed());

@@ -6,8 +6,8 @@ ghost use Rattle.dbexplain.specs.Reporting.{Adds, Ends, Notes, explain_held};
 use crate::indexes::note_index;
 use crate::kept::Kept;
 use crate::report::{put_found, put_report};
-use dbentries::Reported;
 use dbformat::Verdict;
+use dbinjuries::TracedFault;
 use dblines::put_ok;
 use dbscan::{Desk, Finish, Notice, Reporter};
 use dbsource::{Out, RunError, Source};
@@ -32,7 +32,7 @@ impl<'a, A: Allocator, O: Out> ExplainReporter<'a, A, O> {
     }
 
     // Counts a fault, lists it, and notes its rows.
-    fn add(&mut self, told: &Reported)
+    fn add(&mut self, told: &TracedFault)
         ensures added { Adds told.now self.old self.new }
         ensures held { explain_held O.held self.new ≡ explain_held O.held self.old }
     {
@@ -50,7 +50,7 @@ impl<'a, A: Allocator, O: Out> ExplainReporter<'a, A, O> {
         note_index(&mut self.kept.indexes, row);
     }
 
-    /// After a failed read, puts the lines of the entries found so far. That the Out fails then too is not reported.
+    /// After a failed read, puts the lines of the injuries found so far. That the Out fails then too is not reported.
     pub(crate) fn end(&mut self, answer: &Result<Verdict, RunError>)
         ensures lines { Ends O.held answer.now self.old self.new }
         ensures same_out { self.new.out.ghost_name ≡ self.old.out.ghost_name }

@@ -10,7 +10,7 @@ ghost use Rattle.dbexplain.specs.RowLines.{and_more, bounds_text, is_all, lead_o
 
 use crate::ranges::{RowRange, RowRanges, RowsKind, is_of};
 use arrayvec::ArrayVec;
-use dbentries::append_signed;
+use dbinjuries::append_signed;
 use dblines::{Writer, append, append_number};
 use dbsource::Out;
 use dbtrace::RowidBounds;

@@ -18,14 +18,14 @@ use std::alloc::Allocator;
 /// what it goes back to, and how many faults belong to it. Then how many faults there are by code and by tree. It reads what a
 /// check reads, and then each page to which nothing refers, once, for what it looks like.
 ///
-/// What it keeps is in memory from `alloc`, which may be any allocator: a [`Desk`](dbscan::Desk), `limit` entries, 1000 ranges of rows,
+/// What it keeps is in memory from `alloc`, which may be any allocator: a [`Desk`](dbscan::Desk), `limit` injuries, 1000 ranges of rows,
 /// counts for each start, and for each page four bytes and three bits. All of this is there before the first page is read; only the list of roots grows
 /// after that.
 ///
 /// # Errors
 ///
 /// [`RunError::Refused`] where the file is not read at all: then nothing but its header was asked for, and nothing was written.
-/// [`RunError::ReadFailed`] where the source failed: then the fault lines of the entries found so far were written.
+/// [`RunError::ReadFailed`] where the source failed: then the fault lines of the injuries found so far were written.
 /// [`RunError::OutOfMemory`] where a growth was refused, and [`RunError::WriteFailed`] where the Out failed: then it holds what
 /// it had and a beginning of the report.
 pub fn explain<A: Allocator + Copy, S: Source, O: Out>(

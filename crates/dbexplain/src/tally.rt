@@ -2,11 +2,11 @@
 ghost use Rattle.std.specs.Prelude.{◌≡◌, [], IfOk};
 ghost use Rattle.dbexplain.specs.Tallies.{code_told, count_at, count_of, fault_told, IsTallyOf, one_reached_page, part_told, start_reached};
 
-use dbentries::PageBits;
 use dbformat::{FaultCode, Geometry};
+use dbinjuries::PageBits;
 use dbscan::StartTable;
 use dbsource::NoMemory;
-use dbtrace::{Part, Reported};
+use dbtrace::{Part, TracedFault};
 use std::alloc::{Allocator, Global};
 use std::marker::Model;
 
@@ -99,7 +99,7 @@ impl<A: Allocator> Tally<A> {
     }
 
     /// Counts a fault, with its code and at its start, and notes its page.
-    pub fn add(&mut self, told: &Reported)
+    pub fn add(&mut self, told: &TracedFault)
         ensures { self.new ≡ fault_told self.old told.now }
     {
         self.count_code(told.fault.code);

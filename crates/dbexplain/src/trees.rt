@@ -7,8 +7,8 @@ ghost use Rattle.dbexplain.specs.Sums.{trees_by, trees_sum};
 
 use crate::tally::Tally;
 use arrayvec::ArrayVec;
-use dbentries::append_count;
 use dbformat::RowKind;
+use dbinjuries::append_count;
 use dblines::{Writer, append, append_number};
 use dbscan::RootList;
 use dbsource::Out;

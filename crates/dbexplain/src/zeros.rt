@@ -8,8 +8,8 @@ ghost use Rattle.dbexplain.specs.Summary.{more_zeros_line, pages_text, zero_run_
 ghost use Rattle.dbexplain.specs.Sums.{zeros_sum};
 
 use arrayvec::ArrayVec;
-use dbentries::{Run, Runs, append_count};
 use dbformat::Geometry;
+use dbinjuries::{PageRun, PageRuns, append_count};
 use dblines::{Writer, append, append_number};
 use dbsource::Out;
 
@@ -33,7 +33,7 @@ pub(crate) fn append_pages<const CAP: usize>(line: &mut ArrayVec<u8, CAP>, first
 }
 
 // The line of a run of pages that are zeros.
-fn zero_run_line(shape: Geometry, run: Run) -> ArrayVec<u8, 160>
+fn zero_run_line(shape: Geometry, run: PageRun) -> ArrayVec<u8, 160>
     requires { IsInRange shape }
     ensures { result.items ≡ zero_run_line shape.page_size run }
 {
@@ -64,7 +64,7 @@ fn more_zeros_line(more: u64) -> ArrayVec<u8, 96>
 }
 
 // Writes the lines of some runs.
-fn put_runs<O: Out>(writer: &mut Writer<'_, O>, shape: Geometry, runs: &[Run])
+fn put_runs<O: Out>(writer: &mut Writer<'_, O>, shape: Geometry, runs: &[PageRun])
     requires { IsInRange shape }
     ensures { Wrote O.held writer.old (flat_map (zero_run_line shape.page_size) runs.now) writer.new }
 {
@@ -74,7 +74,7 @@ fn put_runs<O: Out>(writer: &mut Writer<'_, O>, shape: Geometry, runs: &[Run])
 }
 
 /// Writes the runs of the pages that are zeros, ten at most, and how many more there are.
-pub(crate) fn put_zeros<O: Out>(writer: &mut Writer<'_, O>, shape: Geometry, runs: &Runs)
+pub(crate) fn put_zeros<O: Out>(writer: &mut Writer<'_, O>, shape: Geometry, runs: &PageRuns)
     requires { IsInRange shape }
     ensures { Wrote O.held writer.old (zeros_sum shape.page_size runs.now) writer.new }
 {

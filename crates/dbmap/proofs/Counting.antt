@@ -13,7 +13,7 @@ use Rattle.dbformat.specs.Rows.{stat_rows}
 use Rattle.dbformat.specs.Survey.{Survey}
 use Rattle.dbformat.specs.declared.Verdict.{Verdict}
 use Rattle.dbformat.proofs.Verdicts.{verdict_counted}
-use Rattle.dbtrace.specs.declared.Reported.{Reported}
+use Rattle.dbtrace.specs.declared.TracedFault.{TracedFault}
 use Rattle.dbsource.proofs.Puts.{keeps_same}
 use Rattle.dbsource.specs.Outs.{OutState}
 use Rattle.dbsource.specs.declared.error.RunError.{RunError}
@@ -22,8 +22,8 @@ use Rattle.dbscan.specs.Finishes.{Leaves}
 use Rattle.dbscan.specs.Notices.{run_notices}
 use Rattle.dbscan.specs.Placed.{told_faults}
 use Rattle.dbscan.proofs.AllTold.{all_told}
-use Rattle.dbentries.specs.Lists.{HasListed, Held, ListsAll}
-use Rattle.dbentries.specs.Lost.{HasNoted}
+use Rattle.dbinjuries.specs.Lists.{HasListed, Held, ListsAll}
+use Rattle.dbinjuries.specs.Lost.{HasNoted}
 use Rattle.dbpicture.specs.Keeping.{AreNoted, HasFaults, HearsNone}
 use Rattle.dbpicture.specs.Faults.{fault_signs}
 use Rattle.dbscan.specs.Trees.{AreTrees}
@@ -43,7 +43,7 @@ module _ {A O : Type 0} (file : List ℕ) (V : List Reference) (survey : Survey 
     all = all_heard file V survey s t empty heard
 
     as_many : length (told_faults file V) ≡ length (faults file V)
-    as_many = sym (length-map (told_faults file V) (λ (x : Reported). x.fault)) ∙ ap length (all_told file V)
+    as_many = sym (length-map (told_faults file V) (λ (x : TracedFault). x.fault)) ∙ ap length (all_told file V)
 
     pub map_counts : t.kept.now.faults ≡ counted (length (faults file V))
     map_counts = all.count ∙ ap counted as_many

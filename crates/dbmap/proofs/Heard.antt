@@ -8,24 +8,25 @@ use Rattle.dbformat.specs.Lines.{counted}
 use Rattle.dbformat.specs.Reference.{Reference}
 use Rattle.dbformat.specs.Rows.{StatRow, stat_rows}
 use Rattle.dbformat.specs.Survey.{Survey}
-use Rattle.dbtrace.specs.declared.Reported.{Reported}
+use Rattle.dbtrace.specs.declared.TracedFault.{TracedFault}
 use Rattle.dbscan.specs.Notices.{run_notices}
 use Rattle.dbscan.specs.Placed.{faults_of, told_faults}
-use Rattle.dbentries.specs.Lists.{HasListed, heard}
-use Rattle.dbentries.proofs.Heard.{file_begun, file_heard}
+use Rattle.dbinjuries.specs.Lists.{HasListed, heard}
+use Rattle.dbinjuries.proofs.Heard.{file_begun, file_heard}
 use Rattle.dbscan.specs.Trees.{row_noted, Trees}
 use Rattle.dbpicture.specs.Keeping.{Adds, AreNoted, HearsNone, Notes}
 use Rattle.dbpicture.specs.Faults.{fault_signs}
 use Rattle.dbmap.specs.MapRuns.{Changes, Hears}
 use Rattle.dbmap.specs.declared.map_reporter.MapReporter.{MapReporter}
 
-told_more : (ts : List Reported) (x : Reported) → flat_map fault_signs (faults_of ts) ++ fault_signs x.fault ≡ flat_map fault_signs (faults_of (ts ++ x ∷ []))
+told_more : (ts : List TracedFault) (x : TracedFault) → flat_map fault_signs (faults_of ts) ++ fault_signs x.fault
+    ≡ flat_map fault_signs (faults_of (ts ++ x ∷ []))
 told_more [] x = refl
 told_more (t ∷ ts) x = ap (λ l. fault_signs t.fault ++ l) (told_more ts x)
 
 module _ {A O : Type 0} where
   -- These faults were counted, noted and listed, and the starts of these rows noted; nothing else changed.
-  pub record HasNotedFaults (pages : ℕ) (first : MapReporter A O) (ts : List Reported) (rs : List StatRow) (now : MapReporter A O) : Type 0 where
+  pub record HasNotedFaults (pages : ℕ) (first : MapReporter A O) (ts : List TracedFault) (rs : List StatRow) (now : MapReporter A O) : Type 0 where
     pub count : now.kept.now.faults ≡ counted (length ts)
     pub notes : AreNoted pages (flat_map fault_signs (faults_of ts)) now.kept.now.notes
     pub listing : HasListed first.kept.now.listing ts now.kept.now.listing
@@ -33,7 +34,7 @@ module _ {A O : Type 0} where
     pub out : now.out ≡ first.out
     pub name : now.name ≡ first.name
 
-  one_heard : (pages : ℕ) (first : MapReporter A O) (x : Reported) (ts : List Reported) (rs : List StatRow) (s t : MapReporter A O)
+  one_heard : (pages : ℕ) (first : MapReporter A O) (x : TracedFault) (ts : List TracedFault) (rs : List StatRow) (s t : MapReporter A O)
       → HasNotedFaults pages first ts rs s → Changes (Adds x) s t → HasNotedFaults pages first (ts ++ x ∷ []) rs t
   one_heard pages first x ts rs s t h a = record {
     count = let e = a.kept.count in let n = h.count in let l = length-append ts (x ∷ []) in omega (arith, e, n, l);
@@ -44,7 +45,7 @@ module _ {A O : Type 0} where
     name = a.name ∙ h.name;
   }
 
-  one_noted : (pages : ℕ) (first : MapReporter A O) (r : StatRow) (ts : List Reported) (rs : List StatRow) (s t : MapReporter A O)
+  one_noted : (pages : ℕ) (first : MapReporter A O) (r : StatRow) (ts : List TracedFault) (rs : List StatRow) (s t : MapReporter A O)
       → HasNotedFaults pages first ts rs s → Changes (Notes r) s t → HasNotedFaults pages first ts (rs ++ r ∷ []) t
   one_noted pages first r ts rs s t h a = record {
     count = a.kept.count ∙ h.count;

@@ -8,7 +8,7 @@ use Rattle.dbsource.specs.Outs.{OutState}
 use Rattle.dbsource.specs.declared.error.RunError.{RunError}
 use Rattle.dbwalk.specs.Telling.{SinkState, one_out}
 use Rattle.dbscan.specs.Notices.{Notice}
-use Rattle.dbentries.specs.Reported.{HearsReported}
+use Rattle.dbinjuries.specs.Traced.{HearsTraced}
 use Rattle.dbpicture.specs.Keeping.{Adds, HearsNone, Notes}
 use Rattle.dbpicture.specs.Pictures.{map_picture}
 use Rattle.dbmap.specs.Maps.{PutsMap}
@@ -24,7 +24,7 @@ module _ {A O : Type 0} where
 
   -- a notice was taken: a fault was added, or a row noted, and nothing else changes it
   abbrev pub Hears : MapReporter A O → Notice → MapReporter A O → Type 0
-  Hears = HearsReported (λ x. Changes (Adds x)) (λ r. Changes (Notes r))
+  Hears = HearsTraced (λ x. Changes (Adds x)) (λ r. Changes (Notes r))
 
 -- it borrows its Out, whose failures are counted; nothing is put before its end
 abbrev pub map_held : {A O : Type 0} → (O → OutState) → MapReporter A O → SinkState

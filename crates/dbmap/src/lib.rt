@@ -1,4 +1,4 @@
-//! A picture of what the pages of a database are used for: one self-contained SVG, with a square for each page, or for a run of pages, in
+//! A picture of what the pages of a database are used for: one self-contained SVG, with a square for each page, or for a group of pages, in
 //! the colour of the tree that owns it.
 //!
 //! ```

@@ -1,7 +1,7 @@
 -- What is written of a search for changes.
 use Rattle.std.specs.Prelude.{ℕ, ◌+◌, ◌-◌, ◌/◌, ◌%◌, List, [], ◌∷◌, ◌++◌, codes, decimal, ◌==◌, if◌then◌else◌}
 use Rattle.std.specs.List.{flat_map}
-use Rattle.dbentries.specs.Lines.{number_text}
+use Rattle.dbinjuries.specs.Lines.{number_text}
 use Rattle.dbformat.specs.Lines.{line_feed, ok_line}
 use Rattle.dbformat.specs.Text.{hex_text}
 

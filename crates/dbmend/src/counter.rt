@@ -5,7 +5,7 @@ ghost use Rattle.dbmend.specs.Counts.{Counts};
 use dbformat::{Fault, FaultCode, Verdict};
 use dbscan::{Cause, Desk, Finish, Notice, Reporter};
 use dbsource::{RunError, Source};
-use dbtrace::Reported;
+use dbtrace::TracedFault;
 use std::alloc::Allocator;
 
 // How many faults are noted, and how many of one code.
@@ -33,7 +33,7 @@ impl Noted {
         key_item: 0,
     };
 
-    fn of(told: &Reported) -> Noted {
+    fn of(told: &TracedFault) -> Noted {
         let (key_page, key_item) = match told.cause {
             Cause::Key(key, _) => (key.page, key.item),
             _ => (0, 0),
@@ -72,7 +72,7 @@ impl Counter {
     }
 
     // Counts a fault.
-    fn add(&mut self, told: &Reported)
+    fn add(&mut self, told: &TracedFault)
         ensures { Counts self.old 1 self.new }
     {
         self.faults = self.faults.saturating_add(1);

@@ -5,7 +5,7 @@ use crate::edit::Edit;
 use crate::fit::{Root, Span};
 use crate::reading::{Paper, read_page};
 use arrayvec::ArrayVec;
-use dbentries::PageBits;
+use dbinjuries::PageBits;
 use dbpage::PageView;
 use dbscan::{Desk, PageKind};
 use dbsource::{NoMemory, RunError, Source};

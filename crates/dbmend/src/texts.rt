@@ -4,12 +4,12 @@ ghost use Rattle.std.specs.Prelude.{◌≡◌, ◌+◌, ◌*◌, ◌≤◌, ◌�
 ghost use Rattle.std.specs.List.{flat_map};
 ghost use Rattle.dbformat.specs.Lines.{line_feed, ok_line};
 ghost use Rattle.dbformat.specs.Text.{hex_text};
-ghost use Rattle.dbentries.specs.Lines.{number_text};
+ghost use Rattle.dbinjuries.specs.Lines.{number_text};
 ghost use Rattle.dbmend.specs.Texts.{change_line, end_text, first_text, left_text, page_line, still_text};
 
 use arrayvec::ArrayVec;
-use dbentries::append_count;
 use dbformat::hex_byte;
+use dbinjuries::append_count;
 use dblines::{append, append_number};
 
 // The line that counts some things, of which there may be one.

@@ -11,18 +11,18 @@ use Rattle.std.proofs.lemmas.List.{get_or-set_other, get_or-set_same}
 use Rattle.std.proofs.lemmas.List.Folds.{list_any-append}
 use Rattle.std.proofs.lemmas.Nat.Bits.{bit_at_set_other, bit_at_set_same}
 use Rattle.std.proofs.lemmas.Option.{slice_get_within}
-use Rattle.dbentries.specs.Bits.{has_bit}
-use Rattle.dbentries.proofs.Bits.{set_is}
+use Rattle.dbinjuries.specs.Bits.{has_bit}
+use Rattle.dbinjuries.proofs.Bits.{set_is}
 use Rattle.dbformat.specs.Codes.{all_codes, code_index}
 use Rattle.dbformat.proofs.CodeTables.{listed}
 use Rattle.dbpicture.specs.Keeping.{AreBits, AreNoted, bits_if, square_at}
 use Rattle.dbpicture.specs.Faults.{shown, shows, sign_added, sign_bit}
-use Rattle.dbpicture.specs.Grids.{is_of_square, run_for, square_of}
+use Rattle.dbpicture.specs.Grids.{is_of_square, group_for, square_of}
 use Rattle.dbpicture.specs.declared.fault_notes.FaultNotes.{FaultNotes}
 use Rattle.dbpicture.specs.declared.faults.Sign.{Sign}
 use Rattle.dbpicture.specs.declared.faults.Sign.TheVariants.{Blank, Code, Faulty, Framed, Zeros}
 use Rattle.dbpicture.specs.declared.faults.SquareFaults.{SquareFaults}
-use Rattle.dbpicture.proofs.Runs.{square_within}
+use Rattle.dbpicture.proofs.Groups.{square_within}
 
 pub unequal : (x y : ℕ) → (x ≡ y → ⊥) → (x == y) ≡ false
 unequal x y d = by_case (x == y) refl
@@ -92,17 +92,17 @@ module _ (signs : List (ℕ × Sign)) (p : ℕ) (s : Sign) where
 -- ---- the squares of pages
 
 -- a page that there is, is of its own square
-own_square : (pages index p : ℕ) → 1 ≤ p → p ≤ pages → (square_of (run_for pages) p == index) ≡ is_of_square pages index p
+own_square : (pages index p : ℕ) → 1 ≤ p → p ≤ pages → (square_of (group_for pages) p == index) ≡ is_of_square pages index p
 own_square pages index p l m =
     let a : nat_le 1 p ≡ true = grind (arith, nat_tests) in
     let b : nat_le p pages ≡ true = grind (arith, nat_tests) in
-    sym (ap₂ (λ x y. x && y && (square_of (run_for pages) p == index)) a b)
+    sym (ap₂ (λ x y. x && y && (square_of (group_for pages) p == index)) a b)
 
 -- and no other page is of any
 no_square : (pages index p : ℕ) → (1 ≤ p → p ≤ pages → ⊥) → is_of_square pages index p ≡ false
 no_square pages index p d = by_case (nat_le 1 p) refl (nat_le p pages) refl
   where
-    by_case : (x : Bool) → nat_le 1 p ≡ x → (y : Bool) → nat_le p pages ≡ y → (x && y && (square_of (run_for pages) p == index)) ≡ false
+    by_case : (x : Bool) → nat_le 1 p ≡ x → (y : Bool) → nat_le p pages ≡ y → (x && y && (square_of (group_for pages) p == index)) ≡ false
     by_case true e true f =
         let l : 1 ≤ p = grind (arith, nat_tests) in
         let m : p ≤ pages = grind (arith, nat_tests) in
@@ -124,7 +124,7 @@ module _ {A : Type 0} (count : ℕ) (signs : List (ℕ × Sign)) (p : ℕ) (s : 
     pub not_noted : AreNoted count (signs ++ (p, s) ∷ []) n
     not_noted = record {
       pages = are.pages;
-      run = are.run;
+      group = are.group;
       room = are.room;
       squares = λ index. are.squares index ∙ (λ i t. shows_same signs p s (is_of_square count index) t (no_square count index p none) i);
       faulty = no_bits Faulty n.faulty are.faulty;
@@ -133,15 +133,15 @@ module _ {A : Type 0} (count : ℕ) (signs : List (ℕ × Sign)) (p : ℕ) (s : 
 
   -- of a page that there is
   module _ (first : 1 ≤ p) (last : p ≤ count) (m : FaultNotes A)
-      (squares : m.squares.items ≡ set n.squares.items (square_of n.run p) (sign_added s (square_at n.squares.items (square_of n.run p)))) where
-    at : square_of n.run p ≡ square_of (run_for count) p
-    at = ap (λ r. square_of r p) are.run
+      (squares : m.squares.items ≡ set n.squares.items (square_of n.group p) (sign_added s (square_at n.squares.items (square_of n.group p)))) where
+    at : square_of n.group p ≡ square_of (group_for count) p
+    at = ap (λ r. square_of r p) are.group
 
     shows_at : (index : ℕ) (t : Sign) → shown (square_at m.squares.items index).bits t ≡ shows (signs ++ (p, s) ∷ []) (is_of_square count index) t
     shows_at index t =
         let within = square_within count p first last in
         ap (λ l. shown (square_at l index).bits t) squares
-        ∙ square_more n.squares.items (square_of n.run p) index s t (omega (arith, within, at, are.room))
+        ∙ square_more n.squares.items (square_of n.group p) index s t (omega (arith, within, at, are.room))
         ∙ ap₂ (λ a b. a || (b && (sign_bit s == sign_bit t))) (λ i. are.squares index i t) (ap (λ q. q == index) at ∙ own_square count index p first last)
         ∙ sym (shows_more signs p s (is_of_square count index) t)
 
@@ -160,11 +160,11 @@ module _ {A : Type 0} (count : ℕ) (signs : List (ℕ × Sign)) (p : ℕ) (s : 
           are = λ q l k. ap (λ (w : List ℕ). has_bit w q) e ∙ h.are q l k ∙ shows_other signs p s (λ r. r == q) t f;
         }
 
-    pub noted : m.pages ≡ n.pages → m.run ≡ n.run → m.faulty ≡ bits_if (sign_bit s == 62) p n.faulty → m.framed ≡ bits_if (sign_bit s == 63) p n.framed
+    pub noted : m.pages ≡ n.pages → m.group ≡ n.group → m.faulty ≡ bits_if (sign_bit s == 62) p n.faulty → m.framed ≡ bits_if (sign_bit s == 63) p n.framed
         → AreNoted count (signs ++ (p, s) ∷ []) m
-    noted pages run faulty framed = record {
+    noted pages group faulty framed = record {
       pages = pages ∙ are.pages;
-      run = run ∙ are.run;
+      group = group ∙ are.group;
       room = ap length squares ∙ length-set n.squares.items _ _ ∙ are.room;
       squares = λ index. (λ i t. shows_at index t i);
       faulty = bits_more Faulty n.faulty m.faulty are.faulty faulty;

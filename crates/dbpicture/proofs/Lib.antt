@@ -3,7 +3,7 @@ pub mod FaultBits
 pub mod FirstMost
 pub mod KeptTexts
 pub mod Pictured
-pub mod Runs
+pub mod Groups
 pub mod Steps
 pub mod Texts
 pub mod Waiting

@@ -1,4 +1,4 @@
--- What is shown of faults: the codes of a square's pages, and the frames. The strong frame is of the pages of the first entries, of those that
+-- What is shown of faults: the codes of a square's pages, and the frames. The strong frame is of the pages of the first injuries, of those that
 -- the values of their first faults name, and of the causes of these.
 use Rattle.std.specs.Prelude.{ℕ, ◌+◌, ◌-◌, ◌*◌, ◌%◌, ◌^◌, ℤ, pos, Bool, List, [], ◌∷◌, map, min, flat_map, nat_lt, if◌then◌else◌, not, ◌&&◌, ◌++◌}
 use Rattle.std.specs.Prelude.{codes, take, ◌==◌}
@@ -14,12 +14,12 @@ use Rattle.dbformat.specs.Reference.{Reference}
 use Rattle.dbformat.specs.Report.{faults}
 use Rattle.dbtrace.specs.declared.Cause.{Cause}
 use Rattle.dbtrace.specs.declared.Cause.TheVariants as cause
-use Rattle.dbtrace.specs.declared.Reported.{Reported}
-use Rattle.dbentries.specs.Kept.{kept_of}
-use Rattle.dbentries.specs.Listed.{listed_entries}
-use Rattle.dbentries.specs.Zeros.{blank_pages, zero_pages}
-use Rattle.dbentries.specs.declared.entry.Entry.{Entry}
-use Rattle.dbentries.specs.declared.runs.Run.{Run}
+use Rattle.dbtrace.specs.declared.TracedFault.{TracedFault}
+use Rattle.dbinjuries.specs.Kept.{kept_of}
+use Rattle.dbinjuries.specs.Listed.{listed_injuries}
+use Rattle.dbinjuries.specs.Zeros.{blank_pages, zero_pages}
+use Rattle.dbinjuries.specs.declared.injury.Injury.{Injury}
+use Rattle.dbinjuries.specs.declared.page_runs.PageRun.{PageRun}
 use Rattle.dbpicture.specs.Owners.{capped_pages}
 use Rattle.dbpicture.specs.declared.faults.Sign.{Sign}
 use Rattle.dbpicture.specs.declared.faults.Sign.TheVariants.{Blank, Code, Faulty, Framed, Zeros}
@@ -48,11 +48,11 @@ cause_page (cause.Leaf page rowids) = page
 cause_page (cause.Chain c) = c.page
 cause_page _ = 0
 
--- the pages of a run, and those of the faults that belong to an entry, as far as they are kept: its first ten runs
-abbrev pub run_pages : Run → List ℕ
+-- the pages of a run, and those of the faults that belong to an injury, as far as they are kept: its first ten runs
+abbrev pub run_pages : PageRun → List ℕ
 run_pages r = range_with_len r.first (capped_pages (r.last + 1) - r.first)
 
-abbrev pub other_pages : Entry → List ℕ
+abbrev pub other_pages : Injury → List ℕ
 other_pages e = flat_map run_pages (take (min e.others.runs.count 10) e.others.runs.kept)
 
 -- the bit of a sign: those below 60 are of codes
@@ -68,15 +68,15 @@ abbrev pub fault_signs : Fault → List (ℕ × Sign)
 fault_signs f = (f.page, Code f.code) ∷ (f.page, Faulty) ∷ []
 
 -- and those of a fault that leads: its own page, the one that its value names, and that of its cause have the strong frame
-abbrev pub frame_signs : Reported → List (ℕ × Sign)
+abbrev pub frame_signs : TracedFault → List (ℕ × Sign)
 frame_signs x = (x.fault.page, Framed) ∷ (value_page x.fault.code x.fault.value, Framed) ∷ (cause_page x.cause, Framed) ∷ []
 
--- and those of an entry: the pages of the faults that belong to it have the strong frame too
+-- and those of an injury: the pages of the faults that belong to it have the strong frame too
 abbrev pub framed : List ℕ → List (ℕ × Sign)
 framed pages = map (λ p. (p, Framed)) pages
 
-abbrev pub entry_signs : Entry → List (ℕ × Sign)
-entry_signs e = frame_signs e.first ++ framed (other_pages e)
+abbrev pub injury_signs : Injury → List (ℕ × Sign)
+injury_signs e = frame_signs e.first ++ framed (other_pages e)
 
 -- and those of pages that are zeros, or one byte throughout
 abbrev pub with_sign : Sign → List ℕ → List (ℕ × Sign)
@@ -107,10 +107,10 @@ frame_of has = if has Framed then frame.Strong else (if has Faulty then frame.We
 
 -- ---- the faults of a file with survey V
 
--- the signs of the pages: of all faults, of the first 100 entries, which `explain` lists if no other number is given, and of those that are
+-- the signs of the pages: of all faults, of the first 100 injuries, which `explain` lists if no other number is given, and of those that are
 -- zeros or one byte throughout
 abbrev pub signs_of : List ℕ → List Reference → List (ℕ × Sign)
-signs_of file V = flat_map fault_signs (faults file V) ++ flat_map entry_signs (map kept_of (take 100 (listed_entries file V)))
+signs_of file V = flat_map fault_signs (faults file V) ++ flat_map injury_signs (map kept_of (take 100 (listed_injuries file V)))
     ++ with_sign Zeros (zero_pages file V) ++ with_sign Blank (blank_pages file V)
 
 -- whether page p has a sign

@@ -10,13 +10,13 @@ use Rattle.dbpicture.specs.declared.grid.Width.{Width}
 use Rattle.dbpicture.specs.declared.grid.Width.TheVariants.{Medium, Narrow, Wide}
 
 -- how many pages a square covers after n steps, each of which doubles it while the file has more than 16384 squares
-unfoldable pub run_after : ℕ → ℕ → ℕ
-run_after pages zero = 1
-run_after pages (suc n) = if nat_lt 16384 (div_ceil pages (run_after pages n)) then run_after pages n * 2 else run_after pages n
+unfoldable pub group_after : ℕ → ℕ → ℕ
+group_after pages zero = 1
+group_after pages (suc n) = if nat_lt 16384 (div_ceil pages (group_after pages n)) then group_after pages n * 2 else group_after pages n
 
 -- the smallest power of two of pages that keeps a file within 16384 squares: it has fewer than 2 ^ 32 pages
-abbrev pub run_for : ℕ → ℕ
-run_for pages = run_after pages 18
+abbrev pub group_for : ℕ → ℕ
+group_for pages = group_after pages 18
 
 -- the width of the rows, by how many squares there are
 abbrev pub width_of : ℕ → Width
@@ -34,18 +34,18 @@ abbrev pub grid_of : ℕ → Outside → Grid
 grid_of pages outside = record {
   pages = pages;
   outside = outside;
-  run = run_for pages;
-  squares = div_ceil pages (run_for pages);
-  width = width_of (div_ceil pages (run_for pages));
+  group = group_for pages;
+  squares = div_ceil pages (group_for pages);
+  width = width_of (div_ceil pages (group_for pages));
 }
 
--- the square of page p, where a square covers `run` pages
+-- the square of page p, where a square covers `group` pages
 abbrev pub square_of : ℕ → ℕ → ℕ
-square_of run p = (p - 1) / max run 1
+square_of group p = (p - 1) / max group 1
 
 -- whether page p of a file of `pages` pages is one of a square
 abbrev pub is_of_square : ℕ → ℕ → ℕ → Bool
-is_of_square pages index p = nat_le 1 p && nat_le p pages && (square_of (run_for pages) p == index)
+is_of_square pages index p = nat_le 1 p && nat_le p pages && (square_of (group_for pages) p == index)
 
 -- how many squares are in a row
 abbrev pub columns_of : Width → ℕ
@@ -60,7 +60,7 @@ side_of w = 896 / columns_of w
 -- how many squares and outlines there are: an outline at least where a page is outlined, and no more rows of outlines alone than the file
 -- has rows
 abbrev pub places : Grid → ℕ
-places g = max (min (div_ceil g.outside.last (max g.run 1)) (div_ceil g.squares (columns_of g.width) * 2 * columns_of g.width))
+places g = max (min (div_ceil g.outside.last (max g.group 1)) (div_ceil g.squares (columns_of g.width) * 2 * columns_of g.width))
     (capped_pages (g.squares + (if g.outside.last - g.pages == 0 then 0 else 1)))
 
 -- how many rows there are
@@ -72,13 +72,13 @@ abbrev pub places_of : Grid → ℕ → ℕ → ℕ × ℕ
 places_of g row most = (min (row * columns_of g.width) most, min ((row + 1) * columns_of g.width) most)
 
 -- the first and the last page of a place, in a file of `pages` pages
-abbrev pub run_of : Grid → ℕ → ℕ → ℕ × ℕ
-run_of g place pages = (min (place * g.run + 1) pages, min (place * g.run + g.run) pages)
+abbrev pub group_of : Grid → ℕ → ℕ → ℕ × ℕ
+group_of g place pages = (min (place * g.group + 1) pages, min (place * g.group + g.group) pages)
 
 -- the first and the last page of an outline: the first outline also has those that the last square would cover
 abbrev pub missing_of : Grid → ℕ → ℕ × ℕ
 missing_of g place =
-    (if place == g.squares then capped_pages (g.pages + 1) else (run_of g place g.outside.last).0, (run_of g place g.outside.last).1)
+    (if place == g.squares then capped_pages (g.pages + 1) else (group_of g place g.outside.last).0, (group_of g place g.outside.last).1)
 
 -- where a square begins in its row, and where a row begins, in pixels
 abbrev pub x_of : Grid → ℕ → ℕ
@@ -89,4 +89,4 @@ top_of g row = 64 + row * side_of g.width
 
 -- the first page of a row
 abbrev pub page_of_row : Grid → ℕ → ℕ
-page_of_row g row = counted (counted (row * columns_of g.width * g.run) + 1)
+page_of_row g row = counted (counted (row * columns_of g.width * g.group) + 1)

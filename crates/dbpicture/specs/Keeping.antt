@@ -13,21 +13,21 @@ use Rattle.dbformat.specs.declared.Geometry.{Geometry}
 use Rattle.dbformat.specs.FixedPages.{geometry_of}
 use Rattle.dbformat.specs.Lines.{counted}
 use Rattle.dbformat.specs.Starts.{start_at}
-use Rattle.dbtrace.specs.declared.Reported.{Reported}
+use Rattle.dbtrace.specs.declared.TracedFault.{TracedFault}
 use Rattle.dbmarks.specs.Marking.{page_mark}
 use Rattle.dbmarks.specs.declared.marks.Mark.{Mark}
 use Rattle.dbscan.specs.Desks.{DeskView}
 use Rattle.dbscan.specs.Finishes.{IsDeskOf}
-use Rattle.dbentries.specs.Bits.{bit_set, has_bit, HasPageBit}
-use Rattle.dbentries.specs.Lists.{HasBits, IsUnused, ListsAll, heard}
-use Rattle.dbentries.specs.Zeros.{AreBlank, AreZeros}
+use Rattle.dbinjuries.specs.Bits.{bit_set, has_bit, HasPageBit}
+use Rattle.dbinjuries.specs.Lists.{HasBits, IsUnused, ListsAll, heard}
+use Rattle.dbinjuries.specs.Zeros.{AreBlank, AreZeros}
 use Rattle.dbscan.specs.Trees.{AreTrees, place_by, row_noted}
 use Rattle.dbscan.specs.Texts.{tree_of_row}
 use Rattle.dbscan.specs.declared.place.Place.{Place}
 use Rattle.dbscan.specs.declared.tree_names.TreeNames.{TreeNames}
 use Rattle.dbpicture.specs.Names.{short_text}
 use Rattle.dbpicture.specs.Faults.{fault_signs, shown, shows}
-use Rattle.dbpicture.specs.Grids.{is_of_square, run_for}
+use Rattle.dbpicture.specs.Grids.{is_of_square, group_for}
 use Rattle.dbpicture.specs.declared.fault_notes.FaultNotes.{FaultNotes}
 use Rattle.dbpicture.specs.declared.faults.Sign.{Sign}
 use Rattle.dbpicture.specs.declared.faults.Sign.TheVariants.{Faulty, Framed}
@@ -57,13 +57,13 @@ pub record AreBits (count : ℕ) (signs : List (ℕ × Sign)) (sign : Sign) (bit
 -- These signs of the pages of a file of `count` pages were noted, each with its page.
 pub record AreNoted {A : Type 0} (count : ℕ) (signs : List (ℕ × Sign)) (n : FaultNotes A) : Type 0 where
   pub pages : n.pages ≡ count
-  pub run : n.run ≡ run_for count
-  pub room : length n.squares.items ≡ div_ceil count (run_for count)
+  pub group : n.group ≡ group_for count
+  pub room : length n.squares.items ≡ div_ceil count (group_for count)
   pub squares : (index : ℕ) → noted_at n index ≡ shows signs (is_of_square count index)
   pub faulty : AreBits count signs Faulty n.faulty
   pub framed : AreBits count signs Framed n.framed
 
--- No fault was reported of a file of this shape. There is room for 100 entries, and for the starts of the pages.
+-- No fault was reported of a file of this shape. There is room for 100 injuries, and for the starts of the pages.
 pub record HearsNone {A : Type 0} (g : Geometry) (k : KeptFaults A) : Type 0 where
   pub none : k.faults ≡ 0
   pub room : g.pages < length k.trees.known
@@ -72,7 +72,7 @@ pub record HearsNone {A : Type 0} (g : Geometry) (k : KeptFaults A) : Type 0 whe
   pub bits : HasBits g k.listing
 
 -- a fault is counted, noted at its page, and listed
-pub record Adds {A : Type 0} (x : Reported) (old new : KeptFaults A) : Type 0 where
+pub record Adds {A : Type 0} (x : TracedFault) (old new : KeptFaults A) : Type 0 where
   pub count : new.faults ≡ counted (old.faults + 1)
   pub notes : (count : ℕ) (signs : List (ℕ × Sign)) → AreNoted count signs old.notes → AreNoted count (signs ++ fault_signs x.fault) new.notes
   pub listing : new.listing ≡ heard old.listing x

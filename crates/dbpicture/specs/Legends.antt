@@ -9,7 +9,7 @@ use Rattle.std.specs.List.{concat, flat_map, range_with_len}
 use Rattle.dbformat.specs.declared.Geometry.{Geometry}
 use Rattle.dbpicture.specs.Pieces.{tenths_text}
 use Rattle.dbpicture.specs.Marks.{shade_letter}
-use Rattle.dbpicture.specs.Runs.{name_text}
+use Rattle.dbpicture.specs.Groups.{name_text}
 use Rattle.dbformat.specs.Lines.{counted}
 use Rattle.dbpicture.specs.declared.owner_shares.Share.{Share}
 use Rattle.dbpicture.specs.declared.legend.Label.{Label}

@@ -8,7 +8,7 @@ pub mod Owners
 pub mod Pictures
 pub mod Pieces
 pub mod Puts
-pub mod Runs
+pub mod Groups
 pub mod Squares
 pub mod Tallies
 pub mod Widths

@@ -47,9 +47,9 @@ stroke _ Weak = codes " stroke=\"#BE0700\" stroke-width=\"2\" paint-order=\"stro
 stroke Narrow Strong = codes " stroke=\"#BE0700\" stroke-width=\"4\""
 stroke _ Strong = codes " stroke=\"#BE0700\" stroke-width=\"2\""
 
--- the pages of a run, after the word
-abbrev pub run_pages_text : ℕ → ℕ → List ℕ
-run_pages_text first last = concat (codes "s " ∷ decimal first ∷ codes " to " ∷ decimal last ∷ [])
+-- the pages of a group, after the word
+abbrev pub group_pages_text : ℕ → ℕ → List ℕ
+group_pages_text first last = concat (codes "s " ∷ decimal first ∷ codes " to " ∷ decimal last ∷ [])
 
 -- how an outline goes on
 abbrev pub outline_tail : Width → List ℕ

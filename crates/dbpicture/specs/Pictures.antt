@@ -11,7 +11,7 @@ use Rattle.dbpicture.specs.declared.grid.Grid.{Grid}
 use Rattle.dbpicture.specs.declared.grid.Outside.{Outside}
 use Rattle.dbpicture.specs.declared.legend.LegendLine.{LegendLine}
 use Rattle.dbpicture.specs.declared.legend.NotedPages.{NotedPages}
-use Rattle.dbentries.specs.Zeros.{blank_pages}
+use Rattle.dbinjuries.specs.Zeros.{blank_pages}
 use Rattle.dbpicture.specs.declared.picture.Heading.{Heading}
 use Rattle.dbformat.specs.File.{geometry}
 use Rattle.dbformat.specs.Header.{is_size_valid, stated_pages}
@@ -65,15 +65,15 @@ size_text g =
 
 -- how many pages a square covers
 abbrev pub unit_text : ℕ → List ℕ
-unit_text run =
-    if run == 1 then codes "; a square is a page, in the order of the file</text>\n"
-    else concat (codes "; a square is " ∷ decimal run ∷ codes " pages, in the order of the file</text>\n" ∷ [])
+unit_text group =
+    if group == 1 then codes "; a square is a page, in the order of the file</text>\n"
+    else concat (codes "; a square is " ∷ decimal group ∷ codes " pages, in the order of the file</text>\n" ∷ [])
 
 -- the two lines above the squares
 unfoldable pub heading_text : Heading → ℕ → List ℕ
-heading_text h run =
+heading_text h group =
     codes "<text x=\"20\" y=\"26\" font-size=\"16\" font-weight=\"bold\">" ++ (shown_text h.file 72
-    ++ (codes "</text>\n<text x=\"20\" y=\"46\" fill=\"#444444\">" ++ (size_text h.geometry ++ (fault_count_text h.faults ++ unit_text run))))
+    ++ (codes "</text>\n<text x=\"20\" y=\"46\" fill=\"#444444\">" ++ (size_text h.geometry ++ (fault_count_text h.faults ++ unit_text group))))
 
 -- the first page of a row before it; where rows are narrow, before each second one
 abbrev pub row_label_text : Grid → ℕ → List ℕ
@@ -90,7 +90,7 @@ row_names g = codes "<g font-size=\"10\" fill=\"#666666\" text-anchor=\"end\">\n
 unfoldable pub picture_text : Heading → Drawn → List LegendLine → List ℕ
 picture_text h g lines =
     head_text h.file (top_of g.grid (rows g.grid) + height lines)
-    ++ (heading_text h g.grid.run ++ (row_names g.grid ++ (rows_text g
+    ++ (heading_text h g.grid.group ++ (row_names g.grid ++ (rows_text g
     ++ (legend_text lines g.names h.geometry (top_of g.grid (rows g.grid)) ++ codes "</svg>\n"))))
 
 -- the number of pages that a header states, where it counts

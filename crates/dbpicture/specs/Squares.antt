@@ -5,20 +5,20 @@ use Rattle.std.specs.List.{concat, flat_map, range_with_len}
 use Rattle.dbscan.specs.Texts.{place_from, place_front, place_tree, place_words}
 use Rattle.dbscan.specs.declared.place.Place.{Place}
 use Rattle.dbpicture.specs.Pieces.{shown_text}
-use Rattle.dbpicture.specs.Marks.{extent, inset, outline_tail, run_pages_text, shade_letter, stroke}
+use Rattle.dbpicture.specs.Marks.{extent, inset, outline_tail, group_pages_text, shade_letter, stroke}
 use Rattle.dbpicture.specs.Faults.{faults_text, frame_of}
 use Rattle.dbpicture.specs.Owners.{capped_pages, is_overflow, owner_by, shares_by}
 use Rattle.dbpicture.specs.declared.faults.Sign.{Sign}
 use Rattle.dbpicture.specs.declared.faults.Sign.TheVariants.{Blank, Zeros}
 use Rattle.dbpicture.specs.declared.grid.Width.{Width}
 use Rattle.dbpicture.specs.declared.page.PageSquare.{PageSquare}
-use Rattle.dbpicture.specs.Grids.{missing_of, places, places_of, rows, run_of, top_of, x_of}
+use Rattle.dbpicture.specs.Grids.{missing_of, places, places_of, rows, group_of, top_of, x_of}
 use Rattle.dbpicture.specs.declared.grid.Grid.{Grid}
 use Rattle.dbpicture.specs.declared.grid.Outside.{Outside}
 use Rattle.dbformat.specs.FixedPages.{fixed_use}
 use Rattle.dbformat.specs.declared.Geometry.{Geometry}
-use Rattle.dbpicture.specs.Runs.{run_text}
-use Rattle.dbpicture.specs.declared.run.RunSquare.{RunSquare}
+use Rattle.dbpicture.specs.Groups.{group_text}
+use Rattle.dbpicture.specs.declared.group.GroupSquare.{GroupSquare}
 
 -- the page that a page is reached from, where it is no root
 abbrev pub from_text : Place → List ℕ
@@ -47,7 +47,7 @@ page_text s width tree f =
 
 -- which pages an outline is of, and the outline
 abbrev pub outline_pages : Grid → ℕ × ℕ → List ℕ
-outline_pages g p = if g.run == 1 then codes " " ++ decimal p.0 else run_pages_text p.0 p.1
+outline_pages g p = if g.group == 1 then codes " " ++ decimal p.0 else group_pages_text p.0 p.1
 
 -- why these have no square
 abbrev pub outside_words : Outside → List ℕ
@@ -85,7 +85,7 @@ pub record Drawn : Type 0 where
 -- ---- a square that is a page
 
 abbrev pub page_at : Drawn → ℕ → ℕ
-page_at g index = (run_of g.grid index g.grid.pages).0
+page_at g index = (group_of g.grid index g.grid.pages).0
 
 abbrev pub page_square : Drawn → ℕ → PageSquare
 page_square g index = record {
@@ -101,24 +101,24 @@ abbrev pub page_square_text : Drawn → ℕ → List ℕ
 page_square_text g index =
     page_text (page_square g index) g.grid.width (option_map_or g.tree (place_tree (g.place (page_at g index)) (g.start (page_at g index))) []) (g.faults index)
 
--- ---- a square of a run of pages
+-- ---- a square of a group of pages
 
-abbrev pub run_square : Drawn → ℕ → RunSquare
-run_square g index = record {
+abbrev pub group_square : Drawn → ℕ → GroupSquare
+group_square g index = record {
   x = x_of g.grid index;
-  first = (run_of g.grid index g.grid.pages).0;
-  last = (run_of g.grid index g.grid.pages).1;
-  shares = shares_by g.largest g.place g.start (run_of g.grid index g.grid.pages).0
-      (capped_pages ((run_of g.grid index g.grid.pages).1 + 1) - (run_of g.grid index g.grid.pages).0);
+  first = (group_of g.grid index g.grid.pages).0;
+  last = (group_of g.grid index g.grid.pages).1;
+  shares = shares_by g.largest g.place g.start (group_of g.grid index g.grid.pages).0
+      (capped_pages ((group_of g.grid index g.grid.pages).1 + 1) - (group_of g.grid index g.grid.pages).0);
 }
 
-abbrev pub run_square_text : Drawn → ℕ → List ℕ
-run_square_text g index = run_text (run_square g index) g.grid.width g.names (g.faults index)
+abbrev pub group_square_text : Drawn → ℕ → List ℕ
+group_square_text g index = group_text (group_square g index) g.grid.width g.names (g.faults index)
 
 -- ---- all squares
 
 abbrev pub square_text : Drawn → ℕ → List ℕ
-square_text g index = if g.grid.run == 1 then page_square_text g index else run_square_text g index
+square_text g index = if g.grid.group == 1 then page_square_text g index else group_square_text g index
 
 -- those from a place to another, and those of a row
 abbrev pub squares_between : Drawn → ℕ × ℕ → List ℕ

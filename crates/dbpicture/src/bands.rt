@@ -1,7 +1,7 @@
 // How a square of several owners is divided in bands.
 ghost use Rattle.std.specs.Prelude.{◌≡◌, ◌≤◌, ◌<◌, get_or, replicate};
 ghost use Rattle.dbpicture.specs.Owners.{first_most};
-ghost use Rattle.dbpicture.specs.Runs.{bands_of, claim, claims};
+ghost use Rattle.dbpicture.specs.Groups.{bands_of, claim, claims};
 
 use crate::owner_shares::{OWNERS, OwnerShares};
 

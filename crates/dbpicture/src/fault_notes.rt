@@ -1,7 +1,7 @@
 // Which squares and pages have a fault, and which are framed.
 ghost use Rattle.std.specs.Prelude.{◌≡◌, ℕ, [], ◌∷◌, ◌++◌, List, IfOk, count_by, slice_set};
 ghost use Rattle.std.specs.List.{range_with_len};
-ghost use Rattle.dbentries.specs.Bits.{has_bit};
+ghost use Rattle.dbinjuries.specs.Bits.{has_bit};
 ghost use Rattle.dbpicture.specs.declared.faults.Sign.{Sign};
 ghost use Rattle.dbpicture.specs.Keeping.{AreNoted, bits_if, noted_at, square_at};
 ghost use Rattle.dbpicture.specs.Faults.{is_weak, shown, sign_added};
@@ -9,7 +9,7 @@ ghost use Rattle.dbpicture.specs.Grids.{square_of};
 
 use crate::faults::{Sign, SquareFaults};
 use crate::grid::{Grid, Outside};
-use dbentries::PageBits;
+use dbinjuries::PageBits;
 use dbsource::NoMemory;
 use dbsource::memory::filled;
 use std::alloc::{Allocator, Global};
@@ -19,7 +19,7 @@ use std::alloc::{Allocator, Global};
 pub(crate) struct FaultNotes<A: Allocator = Global> {
     pages: u32,
     // How many pages a square covers.
-    run: u32,
+    group: u32,
     squares: Vec<SquareFaults, A>,
     faulty: PageBits<A>,
     framed: PageBits<A>,
@@ -40,7 +40,7 @@ impl<A: Allocator + Copy> FaultNotes<A> {
         let framed = PageBits::new_in(alloc, pages)?;
         Ok(FaultNotes {
             pages,
-            run: grid.run,
+            group: grid.group,
             squares,
             faulty,
             framed,
@@ -51,9 +51,9 @@ impl<A: Allocator + Copy> FaultNotes<A> {
 impl<A: Allocator> FaultNotes<A> {
     // The square of a page.
     fn square_of(&self, page: u32) -> usize
-        ensures { result ≡ square_of self.now.run page }
+        ensures { result ≡ square_of self.now.group page }
     {
-        (page.saturating_sub(1) / self.run.max(1)) as usize
+        (page.saturating_sub(1) / self.group.max(1)) as usize
     }
 
     /// Notes that a page has a sign, if there is one with this number.

@@ -36,7 +36,7 @@ pub(crate) struct Outside {
 pub(crate) struct Grid {
     pub(crate) pages: u32,
     pub(crate) outside: Outside,
-    pub(crate) run: u32,
+    pub(crate) group: u32,
     pub(crate) squares: u32,
     pub(crate) width: Width,
 }
@@ -53,17 +53,17 @@ fn width_of(squares: u32) -> Width
 }
 
 // The smallest power of two of pages that keeps the squares of a file within [`MOST_SQUARES`]: it has fewer than 2^32 pages.
-fn run_for(pages: u32) -> u32
-    ensures run { result ≡ grids.run_for pages }
+fn group_for(pages: u32) -> u32
+    ensures group { result ≡ grids.group_for pages }
     ensures some { 1 ≤ result }
 {
-    let mut run = 1u32;
+    let mut group = 1u32;
     for _ in 0..18u32 {
-        if pages.div_ceil(run) > MOST_SQUARES {
-            run *= 2;
+        if pages.div_ceil(group) > MOST_SQUARES {
+            group *= 2;
         }
     }
-    run
+    group
 }
 
 impl Outside {
@@ -98,12 +98,12 @@ impl Grid {
     pub(crate) fn new(pages: u32, outside: Outside) -> Grid
         ensures { result ≡ grids.grid_of pages outside }
     {
-        let run = run_for(pages);
-        let squares = pages.div_ceil(run);
+        let group = group_for(pages);
+        let squares = pages.div_ceil(group);
         Grid {
             pages,
             outside,
-            run,
+            group,
             squares,
             width: width_of(squares),
         }
@@ -143,7 +143,7 @@ impl Grid {
     {
         let rows = self.squares.div_ceil(self.columns());
         let most = u64::from(rows) * 2 * u64::from(self.columns());
-        let ends = self.outside.last.div_ceil(self.run.max(1));
+        let ends = self.outside.last.div_ceil(self.group.max(1));
         let least = self.squares.saturating_add(u32::from(self.missing() != 0));
         (u64::from(ends).min(most) as u32).max(least)
     }
@@ -174,13 +174,13 @@ impl Grid {
     }
 
     /// The first and the last page of a place, of this number of pages at most.
-    pub(crate) fn run_of(&self, place: u32, pages: u32) -> (u32, u32)
-        ensures { result ≡ grids.run_of self.now place pages }
+    pub(crate) fn group_of(&self, place: u32, pages: u32) -> (u32, u32)
+        ensures { result ≡ grids.group_of self.now place pages }
     {
         let most = u64::from(pages);
-        let before = u64::from(place) * u64::from(self.run);
+        let before = u64::from(place) * u64::from(self.group);
         let first = (before + 1).min(most);
-        let last = (before + u64::from(self.run)).min(most);
+        let last = (before + u64::from(self.group)).min(most);
         (first as u32, last as u32)
     }
 
@@ -188,7 +188,7 @@ impl Grid {
     pub(crate) fn missing_of(&self, place: u32) -> (u32, u32)
         ensures { result ≡ grids.missing_of self.now place }
     {
-        let (first, last) = self.run_of(place, self.outside.last);
+        let (first, last) = self.group_of(place, self.outside.last);
         if place == self.squares {
             (self.pages.saturating_add(1), last)
         } else {
@@ -209,6 +209,8 @@ impl Grid {
         ensures { result ≡ grids.page_of_row self.now row }
     {
         let before = u64::from(row) * u64::from(self.columns());
-        before.saturating_mul(u64::from(self.run)).saturating_add(1)
+        before
+            .saturating_mul(u64::from(self.group))
+            .saturating_add(1)
     }
 }

@@ -7,14 +7,14 @@ ghost use Rattle.dbpicture.specs.Keeping.{Adds, HearsNone, Notes};
 use crate::fault_notes::FaultNotes;
 use crate::faults::Sign;
 use crate::tally::PageTally;
-use dbentries::{Listing, Reported};
+use dbinjuries::{Listing, TracedFault};
 use dbscan::PageTrees;
 use dbsource::{Geometry, NoMemory};
 use dbwalk::Row;
 use std::alloc::{Allocator, Global};
 
-// How many entries are kept: as many as `explain` lists where no other number is given.
-const ENTRIES: u32 = 100;
+// How many injuries are kept: as many as `explain` lists where no other number is given.
+const INJURIES: u32 = 100;
 
 /// What a map keeps of a file beside what a check keeps.
 #[derive(Drop)]
@@ -23,7 +23,7 @@ pub struct KeptFaults<A: Allocator = Global> {
     pub(crate) trees: PageTrees<A>,
     // The pages of each tree.
     pub(crate) tally: PageTally<A>,
-    // The pages that faults are found at, and those of the entries that are listed, and of their causes.
+    // The pages that faults are found at, and those of the injuries that are listed, and of their causes.
     pub(crate) notes: FaultNotes<A>,
     /// What is listed of the faults.
     pub listing: Listing<A>,
@@ -33,7 +33,7 @@ pub struct KeptFaults<A: Allocator = Global> {
 
 impl<A: Allocator + Copy> KeptFaults<A> {
     /// Nothing yet, with room for a file of this shape: a number of four bytes and four bits for each page, eight bytes for each
-    /// square, the counts of 65538 starts, and 100 entries of faults. Each of these is one growth, and the four bits are four.
+    /// square, the counts of 65538 starts, and 100 injuries of faults. Each of these is one growth, and the four bits are four.
     ///
     /// # Errors
     ///
@@ -45,7 +45,7 @@ impl<A: Allocator + Copy> KeptFaults<A> {
         let trees = PageTrees::new_in(alloc, geometry)?;
         let tally = PageTally::new_in(alloc)?;
         let notes = FaultNotes::new_in(alloc, geometry.pages)?;
-        let listing = Listing::new_in(alloc, ENTRIES, geometry)?;
+        let listing = Listing::new_in(alloc, INJURIES, geometry)?;
         Ok(KeptFaults {
             trees,
             tally,
@@ -58,7 +58,7 @@ impl<A: Allocator + Copy> KeptFaults<A> {
 
 impl<A: Allocator> KeptFaults<A> {
     /// Counts a fault, notes its page, and lists it.
-    pub fn note(&mut self, told: &Reported)
+    pub fn note(&mut self, told: &TracedFault)
         ensures { Adds told.now self.old self.new }
     {
         self.faults = self.faults.saturating_add(1);

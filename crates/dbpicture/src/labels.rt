@@ -2,7 +2,7 @@
 ghost use Rattle.std.specs.Prelude.{◌≡◌, ◌≤◌, length, map};
 ghost use Rattle.dbpicture.specs.Keeping.{shown_tree};
 ghost use Rattle.dblines.specs.Writing.{Wrote};
-ghost use Rattle.dbpicture.specs.Runs.{name_text};
+ghost use Rattle.dbpicture.specs.Groups.{name_text};
 
 use crate::pieces::WritePieces;
 use crate::shown::Shown;

@@ -1,4 +1,4 @@
-//! The picture of a file: one self-contained SVG, with a square for each page, or for a run of pages, in the colour of the tree that
+//! The picture of a file: one self-contained SVG, with a square for each page, or for a group of pages, in the colour of the tree that
 //! owns it. Nothing here reads a file: what is known of it was noted in [`KeptFaults`] and on the desk of its run.
 //!
 //! ```
@@ -10,13 +10,13 @@
 //! ```
 //!
 //! The marks and the list of roots say which tree each page belongs to (`dbscan`); a first pass over the pages counts those of each
-//! tree, and a second one writes the squares. The entries are kept as `explain` keeps them (`dbentries`): their pages, and those of the
+//! tree, and a second one writes the squares. The injuries are kept as `explain` keeps them (`dbinjuries`): their pages, and those of the
 //! causes of their first faults, have a stronger frame than other pages with a fault. A page that is one byte throughout is white, with a
 //! thin cross.
 //!
-//! The picture is a function of the file, its survey and its name (specs/Pictures). Each page, or run of pages, has one square, in their
-//! order. The square of a page says what the page is and names its tree; that of a run of several owners is divided in six bands
-//! (specs/Runs); each has the frame and the codes of the faults that the file's report has of its pages. The heading has the file's name,
+//! The picture is a function of the file, its survey and its name (specs/Pictures). Each page, or group of pages, has one square, in their
+//! order. The square of a page says what the page is and names its tree; that of a group with several owners is divided in six bands
+//! (specs/Groups); each has the frame and the codes of the faults that the file's report has of its pages. The heading has the file's name,
 //! and the legend a line for each owner of pages and each frame, with how many pages it has.
 //!
 //! The text of the document is put together of pieces, which are markup and numbers, and of texts of the file or of the command line,
@@ -30,6 +30,7 @@ mod fault_notes;
 mod faults;
 mod frame;
 mod grid;
+mod group;
 mod kept;
 mod kept_bytes;
 mod labels;
@@ -41,7 +42,6 @@ mod owner_shares;
 mod page;
 mod picture;
 mod pieces;
-mod run;
 mod shown;
 mod size;
 mod squares;

@@ -1,15 +1,15 @@
-// The pages of the entries that are listed, and of their causes, and the pages that are one byte throughout.
+// The pages of the injuries that are listed, and of their causes, and the pages that are one byte throughout.
 ghost use Rattle.std.specs.Prelude.{◌≡◌, ℕ, ◌++◌, List, filter, flat_map, length};
 ghost use Rattle.std.specs.List.{range_with_len};
-ghost use Rattle.dbentries.specs.Bits.{has_bit};
+ghost use Rattle.dbinjuries.specs.Bits.{has_bit};
 ghost use Rattle.dbpicture.specs.declared.faults.Sign.{Sign};
-ghost use Rattle.dbpicture.specs.Faults.{cause_page, entry_signs, frame_signs, framed, page_of_value, run_pages, value_page, with_sign};
+ghost use Rattle.dbpicture.specs.Faults.{cause_page, injury_signs, frame_signs, framed, page_of_value, run_pages, value_page, with_sign};
 ghost use Rattle.dbpicture.specs.Keeping.{AreNoted};
 
 use crate::fault_notes::FaultNotes;
 use crate::faults::Sign;
-use dbentries::{Cause, Entry, PageBits, Reported, Run};
 use dbformat::{Fault, FaultCode};
+use dbinjuries::{Cause, Injury, PageBits, PageRun, TracedFault};
 use std::alloc::Allocator;
 
 // The page that a value is the number of, or 0.
@@ -48,7 +48,7 @@ fn cause_page(cause: Cause) -> u32
 }
 
 // Notes the strong frame of the pages of a fault that leads: its own, the one that its value names, and that of its cause.
-fn note_pages<A: Allocator>(notes: &mut FaultNotes<A>, first: &Reported)
+fn note_pages<A: Allocator>(notes: &mut FaultNotes<A>, first: &TracedFault)
     ensures { (count : ℕ) (signs : List (ℕ × Sign)) → AreNoted count signs notes.old → AreNoted count (signs ++ frame_signs first.now) notes.new }
 {
     let fault = &first.fault;
@@ -58,7 +58,7 @@ fn note_pages<A: Allocator>(notes: &mut FaultNotes<A>, first: &Reported)
 }
 
 // Notes the strong frame of the pages of a run.
-fn note_run<A: Allocator>(notes: &mut FaultNotes<A>, run: Run)
+fn note_run<A: Allocator>(notes: &mut FaultNotes<A>, run: PageRun)
     ensures { (count : ℕ) (signs : List (ℕ × Sign)) → AreNoted count signs notes.old → AreNoted count (signs ++ framed (run_pages run)) notes.new }
 {
     for page in run.first..run.last.saturating_add(1) {
@@ -67,7 +67,7 @@ fn note_run<A: Allocator>(notes: &mut FaultNotes<A>, run: Run)
 }
 
 // Notes the strong frame of the pages of some runs.
-fn note_runs<A: Allocator>(notes: &mut FaultNotes<A>, runs: &[Run])
+fn note_runs<A: Allocator>(notes: &mut FaultNotes<A>, runs: &[PageRun])
     ensures { (count : ℕ) (signs : List (ℕ × Sign)) → AreNoted count signs notes.old
         → AreNoted count (signs ++ framed (flat_map run_pages runs.now)) notes.new }
 {
@@ -76,12 +76,12 @@ fn note_runs<A: Allocator>(notes: &mut FaultNotes<A>, runs: &[Run])
     }
 }
 
-// Notes the strong frame of the pages of an entry.
-fn note_entry<A: Allocator>(notes: &mut FaultNotes<A>, entry: &Entry)
-    ensures { (count : ℕ) (signs : List (ℕ × Sign)) → AreNoted count signs notes.old → AreNoted count (signs ++ entry_signs entry.now) notes.new }
+// Notes the strong frame of the pages of an injury.
+fn note_injury<A: Allocator>(notes: &mut FaultNotes<A>, injury: &Injury)
+    ensures { (count : ℕ) (signs : List (ℕ × Sign)) → AreNoted count signs notes.old → AreNoted count (signs ++ injury_signs injury.now) notes.new }
 {
-    note_pages(notes, &entry.first);
-    let runs = &entry.others.runs;
+    note_pages(notes, &injury.first);
+    let runs = &injury.others.runs;
     note_runs(notes, &runs.kept[..runs.count.min(10) as usize]);
 }
 
@@ -106,12 +106,12 @@ pub(crate) fn note_bits<A: Allocator>(
     count
 }
 
-/// Notes the pages of some entries.
-pub(crate) fn note_listed<A: Allocator>(notes: &mut FaultNotes<A>, listed: &[Entry])
+/// Notes the pages of some injuries.
+pub(crate) fn note_listed<A: Allocator>(notes: &mut FaultNotes<A>, listed: &[Injury])
     ensures { (count : ℕ) (signs : List (ℕ × Sign)) → AreNoted count signs notes.old
-        → AreNoted count (signs ++ flat_map entry_signs listed.now) notes.new }
+        → AreNoted count (signs ++ flat_map injury_signs listed.now) notes.new }
 {
-    for entry in listed {
-        note_entry(notes, entry);
+    for injury in listed {
+        note_injury(notes, injury);
     }
 }

@@ -7,8 +7,8 @@ ghost use Rattle.dbpicture.specs.Squares.{outline_pages, outline_text, outlines_
 
 use crate::frame::outline_tail;
 use crate::grid::{Grid, Outside};
+use crate::group::draw_group_pages;
 use crate::pieces::{Piece, WritePieces};
-use crate::run::draw_run_pages;
 use dblines::Writer;
 use dbsource::Out;
 
@@ -44,10 +44,10 @@ fn draw_pages<O: Out>(writer: &mut Writer<'_, O>, grid: &Grid, place: u32)
     ensures { Wrote O.held writer.old (outline_pages grid.now (missing_of grid.now place)) writer.new }
 {
     let (first, last) = grid.missing_of(place);
-    if grid.run == 1 {
+    if grid.group == 1 {
         writer.write_all(&[Piece::Markup(" "), Piece::Number(first as u64)]);
     } else {
-        draw_run_pages(writer, first, last);
+        draw_group_pages(writer, first, last);
     }
 }
 

@@ -121,25 +121,25 @@ fn draw_size<O: Out>(writer: &mut Writer<'_, O>, geometry: Geometry)
 }
 
 // Draws how many pages a square covers.
-fn draw_unit<O: Out>(writer: &mut Writer<'_, O>, run: u32)
-    ensures { Wrote O.held writer.old (pictures.unit_text run) writer.new }
+fn draw_unit<O: Out>(writer: &mut Writer<'_, O>, group: u32)
+    ensures { Wrote O.held writer.old (pictures.unit_text group) writer.new }
 {
-    if run == 1 {
+    if group == 1 {
         writer.write_all(&[Piece::Markup(
             "; a square is a page, in the order of the file</text>\n",
         )]);
     } else {
         writer.write_all(&[
             Piece::Markup("; a square is "),
-            Piece::Number(run as u64),
+            Piece::Number(group as u64),
             Piece::Markup(" pages, in the order of the file</text>\n"),
         ]);
     }
 }
 
 // Draws the two lines above the squares.
-fn draw_heading<O: Out>(writer: &mut Writer<'_, O>, heading: &Heading, run: u32)
-    ensures { Wrote O.held writer.old (pictures.heading_text heading.now run) writer.new }
+fn draw_heading<O: Out>(writer: &mut Writer<'_, O>, heading: &Heading, group: u32)
+    ensures { Wrote O.held writer.old (pictures.heading_text heading.now group) writer.new }
 {
     writer.write_all(&[Piece::Markup(
         "<text x=\"20\" y=\"26\" font-size=\"16\" font-weight=\"bold\">",
@@ -148,7 +148,7 @@ fn draw_heading<O: Out>(writer: &mut Writer<'_, O>, heading: &Heading, run: u32)
     writer.write_all(&[Piece::Markup("</text>\n<text x=\"20\" y=\"46\" fill=\"#444444\">")]);
     draw_size(writer, heading.geometry);
     draw_faults(writer, heading.faults);
-    draw_unit(writer, run);
+    draw_unit(writer, group);
 }
 
 // Draws the first page of a row before it; where rows are narrow, of each second one.
@@ -192,7 +192,7 @@ pub(crate) fn draw_picture<A: Allocator, O: Out>(
     let bottom = grid.top_of(grid.rows());
     let height = u64::from(legend.height());
     draw_head(writer, &heading.file, bottom + height);
-    draw_heading(writer, heading, grid.run);
+    draw_heading(writer, heading, grid.group);
     draw_row_names(writer, grid);
     squares.draw(writer);
     legend.draw(writer, heading.geometry, &squares.labels, bottom);

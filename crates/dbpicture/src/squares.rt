@@ -5,17 +5,17 @@ ghost use Rattle.dbformat.specs.Starts.{start_at};
 ghost use Rattle.dblines.specs.Writing.{WroteOf};
 ghost use Rattle.dbpicture.specs.Keeping.{AreOf, drawn_by, HoldsTreeName, marked_place};
 ghost use Rattle.dbpicture.specs.Owners.{capped_pages, owner_by, shares_by};
-ghost use Rattle.dbpicture.specs.Squares.{row_text, rows_text, run_square_text, square_text, squares_text};
+ghost use Rattle.dbpicture.specs.Squares.{row_text, rows_text, group_square_text, square_text, squares_text};
 
 use crate::fault_notes::FaultNotes;
 use crate::grid::Grid;
+use crate::group::GroupSquare;
 use crate::labels::Labels;
 use crate::outlines::draw_outlines;
 use crate::owner_shares::{FIXED, FREELIST, NOBODY, OwnerShares, is_overflow};
 use crate::page::PageSquare;
 use crate::picture::LEFT;
 use crate::pieces::{Piece, WritePieces};
-use crate::run::RunSquare;
 use crate::tally::{COLOURED, rank_of};
 use crate::tree_text::NamedTree;
 use arrayvec::ArrayVec;
@@ -115,11 +115,11 @@ impl<'a, A: Allocator> Squares<'a, A> {
         ensures tree { HoldsTreeName self.now.names tree.new }
     {
         let grid = &self.grid;
-        if grid.run != 1 {
-            self.draw_run(writer, index);
+        if grid.group != 1 {
+            self.draw_group(writer, index);
             return;
         }
-        let (page, _) = grid.run_of(index, grid.pages);
+        let (page, _) = grid.group_of(index, grid.pages);
         let place = place_of(self.marks, page);
         let start = self.trees.start_of(self.marks, page);
         tree.turn_to(&self.names, place_tree(place, start));
@@ -133,19 +133,19 @@ impl<'a, A: Allocator> Squares<'a, A> {
         square.draw(writer, grid.width, &tree.name, self.notes.of_square(index));
     }
 
-    // Draws the square of a run of pages.
-    fn draw_run<O: Out>(&self, writer: &mut Writer<'_, O>, index: u32)
-        ensures { WroteOf O.held writer.old (AreOf self.now) (λ file V. run_square_text (drawn_by self.now V) index) writer.new }
+    // Draws the square of a group of pages.
+    fn draw_group<O: Out>(&self, writer: &mut Writer<'_, O>, index: u32)
+        ensures { WroteOf O.held writer.old (AreOf self.now) (λ file V. group_square_text (drawn_by self.now V) index) writer.new }
     {
         let grid = &self.grid;
-        let (first, last) = grid.run_of(index, grid.pages);
-        let run = RunSquare {
+        let (first, last) = grid.group_of(index, grid.pages);
+        let group = GroupSquare {
             x: grid.x_of(index),
             first,
             last,
             shares: self.shares(first, last),
         };
-        run.draw(
+        group.draw(
             writer,
             grid.width,
             &self.labels,

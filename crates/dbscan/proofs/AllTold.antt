@@ -12,12 +12,12 @@ use Rattle.dbformat.specs.Story.{Event, telling}
 use Rattle.dbformat.specs.declared.Fault.{Fault}
 use Rattle.dbtrace.specs.Causes.{cause_of}
 use Rattle.dbtrace.specs.declared.Part.TheVariants as part
-use Rattle.dbtrace.specs.declared.Reported.{Reported}
+use Rattle.dbtrace.specs.declared.TracedFault.{TracedFault}
 use Rattle.dbscan.specs.Notices.{at_start, of_file}
 use Rattle.dbscan.specs.Placed.{walk_told, told_faults, faults_of}
 
 -- the faults alone, whatever each is reported with
-bare : (tell : Fault → Reported) → ((f : Fault) → (tell f).fault ≡ f) → (fs : List Fault) → faults_of (map tell fs) ≡ fs
+bare : (tell : Fault → TracedFault) → ((f : Fault) → (tell f).fault ≡ f) → (fs : List Fault) → faults_of (map tell fs) ≡ fs
 bare tell same [] = refl
 bare tell same (f ∷ fs) = ap₂ (λ g gs. g ∷ gs) (same f) (bare tell same fs)
 
@@ -28,7 +28,7 @@ of_walk file V =
     ∙ flat_map-same (λ t. faults_of (here t)) (λ t. event_faults file V t.event) (telling file V)
     (λ t i. bare (λ f. at_start (start_of t.key) f (cause_of file V t.event f.code)) (λ f. refl) (event_faults file V t.event))
   where
-    here : story.Told Event → List Reported
+    here : story.Told Event → List TracedFault
     here t = map (λ f. at_start (start_of t.key) f (cause_of file V t.event f.code)) (event_faults file V t.event)
 
 pub all_told : (file : List ℕ) (V : List Reference) → faults_of (told_faults file V) ≡ faults file V

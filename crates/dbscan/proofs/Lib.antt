@@ -16,7 +16,7 @@ pub mod PagesHeard
 pub mod PageMarks
 pub mod PlacedFaults
 pub mod Reached
-pub mod Reported
+pub mod Traced
 pub mod RootLists
 pub mod RootsTaken
 pub mod RowsBelow

@@ -29,7 +29,7 @@ use Rattle.dbformat.proofs.Visited.{has_address}
 use Rattle.dbtrace.specs.Causes.{cause_of}
 use Rattle.dbtrace.specs.declared.Part.{Part}
 use Rattle.dbtrace.specs.declared.Part.TheVariants as part
-use Rattle.dbtrace.specs.declared.Reported.{Reported}
+use Rattle.dbtrace.specs.declared.TracedFault.{TracedFault}
 use Rattle.dbtrace.proofs.Told.{IsOf, told_of}
 use Rattle.dbformat.specs.Starts.{start_at}
 use Rattle.dbformat.proofs.BelowStarts.{one_below, start_here, start_of-step, start_visited}
@@ -139,7 +139,7 @@ module _ (file : List ℕ) (V : List Reference) (s : Survey file V) where
       of_event t.key t.event (told_of file (start_errands file V) V (no_tell [] (starts file V)) t told) (refused_at t told)
 
   -- so are the faults of the walk
-  of_walk : (x : Reported) → IsIn x (walk_told file V) → IsOfStart file V x
+  of_walk : (x : TracedFault) → IsIn x (walk_told file V) → IsOfStart file V x
   of_walk x i =
       let m = IsIn-from_flat_map (λ t. map (λ f. at_start (start_of t.key) f (cause_of file V t.event f.code)) (event_faults file V t.event)) (telling file V) x
       i in
@@ -152,12 +152,12 @@ module _ (file : List ℕ) (V : List Reference) (s : Survey file V) where
         reached = λ d. ap (start_at V) page ∙ at.reached (λ z. d (page ∙ z)) ∙ ap Some same;
       })
 
-  of_others : (p : Part) → ((k : ℕ) → p ≡ part.Start k → ⊥) → (fs : List Fault) → (x : Reported) → IsIn x (map (of_file p) fs) → IsOfStart file V x
+  of_others : (p : Part) → ((k : ℕ) → p ≡ part.Start k → ⊥) → (fs : List Fault) → (x : TracedFault) → IsIn x (map (of_file p) fs) → IsOfStart file V x
   of_others p none fs x i =
       let m = IsIn-from_map (of_file p) fs x i in
       subst (IsOfStart file V) (sym m.2) (λ k e. absurd (none k e))
 
-  pub of_starts : (x : Reported) → IsIn x (told_faults file V) → IsOfStart file V x
+  pub of_starts : (x : TracedFault) → IsIn x (told_faults file V) → IsOfStart file V x
   of_starts x i =
       let first = map (of_file part.Header) (header_faults file (length file)) in
       let last = map (of_file part.End) (end_faults file V) in

@@ -20,7 +20,7 @@ use Rattle.dbtrace.specs.declared.Cause.{Cause}
 use Rattle.dbtrace.specs.declared.Cause.TheVariants.{Itself}
 use Rattle.dbtrace.specs.declared.Part.{Part}
 use Rattle.dbtrace.specs.declared.Part.TheVariants as part
-use Rattle.dbtrace.specs.declared.Reported.{Reported}
+use Rattle.dbtrace.specs.declared.TracedFault.{TracedFault}
 use Rattle.dbwalk.specs.Rows.{row_of}
 use Rattle.dbscan.specs.Roots.{listed_rows}
 use Rattle.dbscan.specs.Starts.{At, at_schema, at_row, at_freelist, schema_reference}
@@ -30,17 +30,17 @@ use Rattle.dbscan.specs.declared.notice.Notice.TheVariants as lent
 -- A fault, with its part and its cause; a row of the tree of a start; the end of the tree of a start; or, when all walks have ended, a
 -- page and its mark.
 pub data Notice : Type 0 where
-  heard_fault : Reported → Notice
+  heard_fault : TracedFault → Notice
   heard_row : At → StatRow → Notice
   ended : At → Notice
   marked : Geometry → ℕ → Mark → Notice
 
 -- a fault at start k
-abbrev pub at_start : ℕ → Fault → Cause → Reported
+abbrev pub at_start : ℕ → Fault → Cause → TracedFault
 at_start k f why = record { part = part.Start k; fault = f; cause = why }
 
 -- a fault of the whole file, which goes back to nothing else
-abbrev pub of_file : Part → Fault → Reported
+abbrev pub of_file : Part → Fault → TracedFault
 of_file where_told f = record { part = where_told; fault = f; cause = Itself }
 
 -- what is found at a start

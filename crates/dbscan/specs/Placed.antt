@@ -12,31 +12,31 @@ use Rattle.dbformat.specs.declared.Fault.{Fault}
 use Rattle.dbtrace.specs.Causes.{cause_of}
 use Rattle.dbtrace.specs.declared.Part.{Part}
 use Rattle.dbtrace.specs.declared.Part.TheVariants as part
-use Rattle.dbtrace.specs.declared.Reported.{Reported}
+use Rattle.dbtrace.specs.declared.TracedFault.{TracedFault}
 use Rattle.dbformat.specs.Starts.{start_at}
 use Rattle.dbscan.specs.Notices.{Notice, at_start, heard_fault, heard_row, ended, of_file}
 
 -- Faults with their causes.
 
 -- the faults of the walk, each at the start of the address that it is reported at
-abbrev pub walk_told : List ℕ → List Reference → List Reported
+abbrev pub walk_told : List ℕ → List Reference → List TracedFault
 walk_told file V = flat_map (λ t. map (λ f. at_start (start_of t.key) f (cause_of file V t.event f.code)) (event_faults file V t.event)) (telling file V)
 
 -- all faults of a file
-abbrev pub told_faults : List ℕ → List Reference → List Reported
+abbrev pub told_faults : List ℕ → List Reference → List TracedFault
 told_faults file V = map (of_file part.Header) (header_faults file (length file)) ++ walk_told file V ++ map (of_file part.End) (end_faults file V)
 
 -- without part and cause
-abbrev pub faults_of : List Reported → List Fault
+abbrev pub faults_of : List TracedFault → List Fault
 faults_of ts = map (λ t. t.fault) ts
 
 -- the fault of a notice, if it is one
-abbrev pub reported_of : Notice → Option Reported
+abbrev pub reported_of : Notice → Option TracedFault
 reported_of (heard_fault x) = Some x
 reported_of _ = None
 
 -- those among notices
-abbrev pub reported_in : List Notice → List Reported
+abbrev pub reported_in : List Notice → List TracedFault
 reported_in notices = filter_map reported_of notices
 
 -- Where faults at starts are.
@@ -47,7 +47,7 @@ pub record IsAtStart (file : List ℕ) (V : List Reference) (f : Fault) (k : ℕ
   pub reached : (f.page ≡ 0 → ⊥) → start_at V f.page ≡ Some k
 
 -- so it is of a fault with its part
-abbrev pub IsOfStart : List ℕ → List Reference → Reported → Type 0
+abbrev pub IsOfStart : List ℕ → List Reference → TracedFault → Type 0
 IsOfStart file V t = (k : ℕ) → t.part ≡ part.Start k → IsAtStart file V t.fault k
 
 -- Starts of notices.

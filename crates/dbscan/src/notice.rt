@@ -1,7 +1,7 @@
 // What a reporter hears, one thing at a time.
 use crate::start::Start;
 use dbformat::Geometry;
-use dbtrace::Reported;
+use dbtrace::TracedFault;
 use dbwalk::{Mark, Row};
 
 /// One thing that is found in a file; that a tree has ended; or a page, once all walks have ended. The freelist is no tree, so no `Ended`
@@ -9,7 +9,7 @@ use dbwalk::{Mark, Row};
 #[derive(Clone, Copy)]
 pub enum Notice<'a> {
     /// A fault, with the part of the report that it belongs to and what it goes back to.
-    Fault(&'a Reported),
+    Fault(&'a TracedFault),
     /// A row of the tree of a start.
     Row(&'a Start<'a>, &'a Row<'a>),
     /// The tree of a start has ended.

@@ -4,7 +4,7 @@ ghost use Rattle.dbsurvey.specs.Address.{IsIn};
 ghost use Rattle.dbformat.specs.Reference.{Reference};
 ghost use Rattle.dbformat.specs.Report.{faults};
 ghost use Rattle.dbformat.specs.Survey.{Survey};
-ghost use Rattle.dbtrace.specs.declared.Reported.{Reported};
+ghost use Rattle.dbtrace.specs.declared.TracedFault.{TracedFault};
 ghost use Rattle.dbscan.specs.Notices.{run_notices, start_notices};
 ghost use Rattle.dbscan.specs.Placed.{AreStarts, IsOfStart, StartsRise, faults_of, reported_in, told_faults, walk_told};
 
@@ -21,5 +21,5 @@ pub fn faults_are_told_with_their_causes()
 /// A fault that is reported at a start is of a page that was reached from there, if it is of a page at all; and the start is one of the
 /// file.
 pub fn faults_are_of_reached_pages()
-    ensures { (file : List ℕ) (V : List Reference) → Survey file V → (t : Reported) → IsIn t (told_faults file V) → IsOfStart file V t }
+    ensures { (file : List ℕ) (V : List Reference) → Survey file V → (t : TracedFault) → IsIn t (told_faults file V) → IsOfStart file V t }
 {}

@@ -10,7 +10,7 @@ use crate::notice::Notice;
 use crate::reporter::{Reporter, ask};
 use dbformat::Fault;
 use dbsource::{Header, RunError};
-use dbtrace::{Cause, Part, Reported};
+use dbtrace::{Cause, Part, TracedFault};
 
 // Reports those that are faults, in this part of the report, and asks whether all were taken.
 pub(crate) fn tell_all<K: Reporter>(
@@ -23,7 +23,7 @@ pub(crate) fn tell_all<K: Reporter>(
 {
     for fault in faults {
         if let Some(fault) = fault {
-            reporter.hear(&Notice::Fault(&Reported {
+            reporter.hear(&Notice::Fault(&TracedFault {
                 part,
                 fault: *fault,
                 cause: Cause::Itself,

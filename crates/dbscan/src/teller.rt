@@ -12,7 +12,7 @@ use crate::reporter::{Reporter, ask};
 use crate::start::Start;
 use dbformat::SCHEMA_START;
 use dbsource::RunError;
-use dbtrace::{Part, Reported};
+use dbtrace::{Part, TracedFault};
 use dbwalk::{Cause, Fault, PageType, Row, Sink};
 
 // Hands on what it hears, and notes whether the schema has a row.
@@ -67,7 +67,7 @@ impl<K: Reporter> Sink for Teller<'_, K> {
     ghost held = { lent_by K.held };
 
     fn fault(&mut self, fault: &Fault, cause: &Cause) {
-        self.reporter.hear(&Notice::Fault(&Reported {
+        self.reporter.hear(&Notice::Fault(&TracedFault {
             part: Part::Start(self.start.number()),
             fault: *fault,
             cause: *cause,

@@ -142,7 +142,7 @@ pub enum Part {
 
 /// A fault, the part of the report that it belongs to, and what it goes back to.
 #[derive(Clone, Copy)]
-pub struct Reported {
+pub struct TracedFault {
     pub part: Part,
     pub fault: Fault,
     pub cause: Cause,

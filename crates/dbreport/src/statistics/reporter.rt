@@ -20,7 +20,7 @@ use dbformat::{Encoding, Verdict};
 use dblines::put_fault;
 use dbscan::{Desk, Finish, Notice, Reporter, Start};
 use dbsource::{Geometry, Out, RunError, Source, WriteFailed};
-use dbtrace::Reported;
+use dbtrace::TracedFault;
 use dbwalk::{Mark, Row};
 use std::alloc::Allocator;
 
@@ -83,7 +83,7 @@ impl<'a, O: Out, E: Out> StatReporter<'a, O, E> {
     }
 
     // Writes the line of a fault, and counts it.
-    fn fault(&mut self, told: &Reported) -> Result<(), WriteFailed>
+    fn fault(&mut self, told: &TracedFault) -> Result<(), WriteFailed>
         ensures { Writes O.held E.held result self.old (heard_fault told.now) self.new }
     {
         self.out.flush()?;

@@ -3,7 +3,7 @@ use Rattle.dbformat.specs.File.{geometry}
 use Rattle.dbformat.specs.Header.{stated_pages}
 use Rattle.dbformat.specs.declared.Geometry.{Geometry}
 use Rattle.dbformat.proofs.HeaderPrefix.{stated_pages_within}
-use Rattle.dbentries.specs.Lines.{indented}
+use Rattle.dbinjuries.specs.Lines.{indented}
 use Rattle.dbexplain.specs.Explained.{missing_line}
 use Rattle.dbexplain.specs.Summary.{pages_text}
 use Rattle.dbexplain.proofs.missing.put_missing.Goals as goal

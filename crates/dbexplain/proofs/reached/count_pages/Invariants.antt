@@ -1,12 +1,12 @@
 use Rattle.std.proofs.Common.{ℕ, List}
 use Rattle.dbformat.specs.File.{geometry}
 use Rattle.dbformat.specs.Reference.{Reference}
-use Rattle.dbtrace.specs.declared.Reported.{Reported}
+use Rattle.dbtrace.specs.declared.TracedFault.{TracedFault}
 use Rattle.dbexplain.specs.Notes.{AreOwnersOf}
 use Rattle.dbexplain.specs.Tallies.{IsTallyOf, IsTallyTo}
 use Rattle.dbexplain.proofs.reached.count_pages.Given as goal
 
 abbrev pub invariant-loop-index : goal.invariant-loop-index
 invariant-loop-index g l =
-    (file : List ℕ) (V : List Reference) (ts : List Reported) → AreOwnersOf l.owners file V → IsTallyOf (geometry file).pages ts l.fn.tally
+    (file : List ℕ) (V : List Reference) (ts : List TracedFault) → AreOwnersOf l.owners file V → IsTallyOf (geometry file).pages ts l.fn.tally
     → IsTallyTo (geometry file).pages V ts l.index l.tally

@@ -3,30 +3,30 @@ use Rattle.dbformat.specs.Reference.{Reference}
 use Rattle.dbformat.specs.Report.{more_text}
 use Rattle.dblines.proofs.Writing.{of_all, of_as, of_known, of_then, put_of}
 use Rattle.dbscan.specs.Placed.{told_faults}
-use Rattle.dbentries.specs.Listed.{listed_entries}
-use Rattle.dbexplain.specs.Explained.{entry_text}
+use Rattle.dbinjuries.specs.Listed.{listed_injuries}
+use Rattle.dbexplain.specs.Explained.{injury_text}
 use Rattle.dbexplain.specs.Keeping.{HasAll}
 use Rattle.dbexplain.specs.KeptRanges.{AreAllKept}
 use Rattle.dbexplain.proofs.RangesKept.{all_closed}
 use Rattle.dbexplain.specs.Summary.{summary}
 use Rattle.dbexplain.proofs.Desks.{of_desk}
-use Rattle.dbexplain.proofs.KeptEntries.{kept_texts}
+use Rattle.dbexplain.proofs.KeptInjuries.{kept_texts}
 use Rattle.dbexplain.proofs.Reports.{report_text, rest_line}
 use Rattle.dbexplain.proofs.report.put_report.Goals as goal
 
 pub returns : goal.returns
 returns g c =
     let k = c.args.kept.now in
-    let n = k.listing.entries.limit in
+    let n = k.listing.injuries.limit in
     let owners = λ (file : List ℕ) (V : List Reference) (h : HasAll c.args.desk.now k file V).
     of_desk _ c.args.desk.now file V c.header.ensures.value c.marks.ensures c.roots.ensures h.desk h.trees in
     let wrote = of_as (λ (file : List ℕ) (V : List Reference) (h : HasAll c.args.desk.now k file V).
     ap₂ (λ es m. es ++ (more_text m ++ summary file V (told_faults file V)))
     (kept_texts file V _ _ (c.listed.ensures ∙ h.listing.listed)) c.rest.ensures
-    ∙ ap (λ r. flat_map (entry_text file V) (take n (listed_entries file V)) ++ (r ++ summary file V (told_faults file V)))
-    (rest_line n (listed_entries file V) k.listing h.listing)
+    ∙ ap (λ r. flat_map (injury_text file V) (take n (listed_injuries file V)) ++ (r ++ summary file V (told_faults file V)))
+    (rest_line n (listed_injuries file V) k.listing h.listing)
     ∙ report_text n file V h.some)
-    (of_then (of_known owners c.put_entries.ensures) (of_then (of_all c.put_rest.ensures) (of_known (λ file V h. record {
+    (of_then (of_known owners c.put_injuries.ensures) (of_then (of_all c.put_rest.ensures) (of_known (λ file V h. record {
       owners = owners file V h;
       tally = h.tally;
       zeros = h.zeros;

@@ -8,17 +8,17 @@ use Rattle.dbformat.specs.Report.{faults}
 use Rattle.dbformat.specs.SchemaRow.{SchemaRow}
 use Rattle.dbformat.specs.Starts.{start_at}
 use Rattle.dbformat.specs.declared.Geometry.{Geometry}
-use Rattle.dbentries.specs.Bits.{has_bit}
-use Rattle.dbentries.specs.Kept.{kept_of}
-use Rattle.dbentries.specs.Listed.{listed_entries}
-use Rattle.dbentries.specs.declared.entry.Entry.{Entry}
+use Rattle.dbinjuries.specs.Bits.{has_bit}
+use Rattle.dbinjuries.specs.Kept.{kept_of}
+use Rattle.dbinjuries.specs.Listed.{listed_injuries}
+use Rattle.dbinjuries.specs.declared.injury.Injury.{Injury}
 use Rattle.dbscan.proofs.PageMarks.{place_is}
 use Rattle.dbscan.specs.Roots.{Listed, listed_rows}
 use Rattle.dbsource.specs.HeaderBytes.{HeaderBytes}
 use Rattle.dbscan.specs.Texts.{tree_of_row}
 use Rattle.dbpicture.specs.Names.{short_text}
 use Rattle.dbpicture.specs.Keeping.{AreNoted, marked_place, shown_tree}
-use Rattle.dbpicture.specs.Faults.{entry_signs, fault_signs, is_weak, page_shows, signs_of, with_sign}
+use Rattle.dbpicture.specs.Faults.{injury_signs, fault_signs, is_weak, page_shows, signs_of, with_sign}
 use Rattle.dbpicture.specs.declared.faults.Sign.{Sign}
 use Rattle.dbpicture.specs.declared.faults.Sign.TheVariants.{Blank, Faulty, Framed, Zeros}
 use Rattle.dbpicture.specs.Grids.{grid_of, outside_by}
@@ -43,7 +43,7 @@ returns g c =
           let desk = known.desk in
           let has = known.kept in
           let notes = c.note_bits-blank.new.notes in
-          let strong_noted = subst (λ (es : List Entry). AreNoted (geometry file).pages (flat_map fault_signs (faults file V) ++ flat_map entry_signs es)
+          let strong_noted = subst (λ (es : List Injury). AreNoted (geometry file).pages (flat_map fault_signs (faults file V) ++ flat_map injury_signs es)
           c.note_listed.new.notes) (c.listed.ensures ∙ has.listing.listed) (c.note_listed.ensures (geometry file).pages _ has.notes) in
           let shape = c.geometry-geometry.ensures.shape ∙ desk.header.shape in
           let here : c.geometry-geometry.result.pages ≡ (geometry file).pages = ap (λ (s : Geometry). s.pages) shape in
@@ -51,7 +51,7 @@ returns g c =
           let blanks = (λ i. filter (has_bit (c.blank.ensures i)) (range_with_len 1 (here i))) ∙ has.blank in
           let noted : AreNoted (geometry file).pages (signs_of file V) notes =
           subst (λ (l : List (ℕ × Sign)). AreNoted (geometry file).pages l notes)
-          (ap₂ (λ zs bs. flat_map fault_signs (faults file V) ++ flat_map entry_signs (map kept_of (take 100 (listed_entries file V)))
+          (ap₂ (λ zs bs. flat_map fault_signs (faults file V) ++ flat_map injury_signs (map kept_of (take 100 (listed_injuries file V)))
           ++ with_sign Zeros zs ++ with_sign Blank bs) zeros blanks)
           (c.note_bits-blank.ensures.noted (geometry file).pages _ (c.note_bits.ensures.noted (geometry file).pages _ strong_noted)) in
           let blank = c.note_bits-blank.ensures.count ∙ ap (λ (ps : List ℕ). length ps) blanks in

@@ -4,7 +4,7 @@ use Rattle.std.specs.Prelude.{filter, flat_map}
 use Rattle.std.specs.List.{range_with_len}
 use Rattle.std.proofs.lemmas.List.Elements.{filter-append}
 use Rattle.dbsurvey.proofs.Ranges.{range_push}
-use Rattle.dbentries.specs.Bits.{has_bit}
+use Rattle.dbinjuries.specs.Bits.{has_bit}
 use Rattle.dbpicture.specs.Faults.{with_sign}
 use Rattle.dbpicture.specs.Keeping.{AreNoted}
 use Rattle.dbpicture.specs.declared.fault_notes.FaultNotes.{FaultNotes}

@@ -1,7 +1,7 @@
 use Rattle.std.proofs.Common.{◌≡◌, ◌≤◌, ℕ, ◌++◌, List, length}
 use Rattle.std.specs.Prelude.{filter}
 use Rattle.std.specs.List.{range_with_len}
-use Rattle.dbentries.specs.Bits.{has_bit}
+use Rattle.dbinjuries.specs.Bits.{has_bit}
 use Rattle.dbpicture.specs.Faults.{with_sign}
 use Rattle.dbpicture.specs.Keeping.{AreNoted}
 use Rattle.dbpicture.specs.declared.faults.Sign.{Sign}

@@ -2,17 +2,17 @@ use Rattle.std.proofs.Common.{◌≡◌, ℕ, ◌++◌, [], ◌∷◌, List, tak
 use Rattle.std.specs.Prelude.{flat_map}
 use Rattle.std.proofs.lemmas.List.{map-append, take_all, take_more}
 use Rattle.std.proofs.lemmas.Grind.{flat_map-append}
-use Rattle.dbentries.specs.declared.runs.Run.{Run}
+use Rattle.dbinjuries.specs.declared.page_runs.PageRun.{PageRun}
 use Rattle.dbpicture.specs.Faults.{framed, run_pages}
 use Rattle.dbpicture.specs.Keeping.{AreNoted}
 use Rattle.dbpicture.specs.declared.faults.Sign.{Sign}
 use Rattle.dbpicture.specs.declared.faults.Sign.TheVariants.{Framed}
 use Rattle.dbpicture.proofs.listed.note_runs.Goals as goal
 
-abbrev pages_to : List Run → List (ℕ × Sign)
+abbrev pages_to : List PageRun → List (ℕ × Sign)
 pages_to rs = framed (flat_map run_pages rs)
 
-pages_push : (xs : List Run) (r : Run) → pages_to xs ++ framed (run_pages r) ≡ pages_to (xs ++ r ∷ [])
+pages_push : (xs : List PageRun) (r : PageRun) → pages_to xs ++ framed (run_pages r) ≡ pages_to (xs ++ r ∷ [])
 pages_push xs r =
     sym (map-append (λ (p : ℕ). let s : ℕ × Sign = (p, Framed) in s) (flat_map run_pages xs) (run_pages r))
     ∙ ap framed (ap (λ l. flat_map run_pages xs ++ l) (sym (append-nil (run_pages r))) ∙ sym (flat_map-append run_pages xs (r ∷ [])))
@@ -27,6 +27,6 @@ loop-run-preserved g c = λ count signs h.
 
 pub returns : goal.returns
 returns g c = λ count signs h.
-    subst (λ (l : List Run). AreNoted count (signs ++ pages_to l) c.loop-run.notes)
+    subst (λ (l : List PageRun). AreNoted count (signs ++ pages_to l) c.loop-run.notes)
     (take_all c.loop-run.run-index c.args.runs.now c.loop-run-test.false)
     (c.loop-run.invariant count signs h)

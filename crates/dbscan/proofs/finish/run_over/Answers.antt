@@ -4,7 +4,7 @@ use Rattle.dbsource.specs.Headed.{HeadedStep}
 use Rattle.dbsource.proofs.Runs.{same_front}
 use Rattle.dbscan.specs.Finishes.{HasReported, Leaves}
 use Rattle.dbscan.proofs.Keeping.{keeps_error, keeps_then}
-use Rattle.dbscan.proofs.Reported.{run_reported, scan_finished, scan_stopped}
+use Rattle.dbscan.proofs.Traced.{run_reported, scan_finished, scan_stopped}
 use Rattle.dbscan.proofs.finish.run_over.Goals as goal
 
 pub returns-in_err-scan : goal.returns-in_err-scan

@@ -8,8 +8,8 @@ use Rattle.dbsource.proofs.Logs.{asks_weaker}
 use Rattle.dbwalk.specs.Telling.{one_out}
 use Rattle.dbscan.proofs.Finished.{finished}
 use Rattle.dbexplain.specs.Reporting.{Hears, LeavesExplained, explain_held}
-use Rattle.dbentries.proofs.Desks.{desk_kept, looked_keeps}
-use Rattle.dbentries.specs.Listed.{listed_entries}
+use Rattle.dbinjuries.proofs.Desks.{desk_kept, looked_keeps}
+use Rattle.dbinjuries.specs.Listed.{listed_injuries}
 use Rattle.dbexplain.specs.Explained.{explain_text}
 use Rattle.dbexplain.proofs.Left.{all_counted, all_kept, clean_put, file_heard, written}
 use Rattle.dbexplain.proofs.reporter.ExplainReporterFinishDesk.finish.Goals as goal
@@ -70,7 +70,7 @@ returns-in_err-put_report g c =
           let here = desk_kept c.args.desk.now c.look_at_lost.new.desk file V look.desk heard.desk in
           written held k (cut c.in_err-put_report.field-0.0) c.put_report.new.out put.all
           (put.is file V (all_kept held k _ c.look_at_lost.new.self here listed some)
-          ∙ ap (λ n. explain_text n file V (listed_entries file V)) listed.0.room) put.puts.held);
+          ∙ ap (λ n. explain_text n file V (listed_injuries file V)) listed.0.room) put.puts.held);
       keeps = looked_keeps look.desk (record { lent = refl; failures = inl (put.puts.count, refl) }) (inr refl);
     }))
 
@@ -86,7 +86,7 @@ returns g c =
           let here = desk_kept c.args.desk.now c.look_at_lost.new.desk file V look.desk heard.desk in (
             written held k done c.put_report.new.out put.all
                 (put.is file V (all_kept held k _ c.look_at_lost.new.self here listed some)
-                ∙ ap (λ n. explain_text n file V (listed_entries file V)) listed.0.room) put.puts.held,
+                ∙ ap (λ n. explain_text n file V (listed_injuries file V)) listed.0.room) put.puts.held,
             c.of-verdict.ensures.faults (faults file V) (c.all-faults.ensures ∙ all_counted held k),
           ));
       keeps = looked_keeps look.desk (ap (λ n. one_out c.args.self.now.out.ghost_name n false) put.puts.count) tt;

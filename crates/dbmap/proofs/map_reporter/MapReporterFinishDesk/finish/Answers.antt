@@ -5,7 +5,7 @@ use Rattle.dbsource.specs.Outs.{Begins}
 use Rattle.dbsource.specs.declared.error.RunError.TheVariants.{ReadFailed, WriteFailed}
 use Rattle.dbsource.proofs.Logs.{asks_weaker}
 use Rattle.dbwalk.specs.Telling.{one_out}
-use Rattle.dbentries.proofs.Desks.{desk_kept, looked_keeps}
+use Rattle.dbinjuries.proofs.Desks.{desk_kept, looked_keeps}
 use Rattle.dbmap.proofs.Counting.{map_counts, map_finds, map_keeps, map_hears, map_put, map_unput}
 use Rattle.dbmap.proofs.map_reporter.MapReporterFinishDesk.finish.Goals as goal
 

@@ -1,6 +1,6 @@
 use Rattle.std.proofs.Common.{◌≡◌, ℕ, ◌+◌, List, length, get_or, set, add-one, sym, ap, ◌∙◌, arith}
 use Rattle.std.proofs.Math.ListN.{length-set}
-use Rattle.dbpicture.specs.Runs.{given, next_owner, one_band}
+use Rattle.dbpicture.specs.Groups.{given, next_owner, one_band}
 use Rattle.dbpicture.specs.Owners.{capped_pages}
 use Rattle.dbpicture.proofs.bands.Bands.divide.Goals as goal
 

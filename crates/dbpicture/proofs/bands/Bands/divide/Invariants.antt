@@ -1,5 +1,5 @@
 use Rattle.std.proofs.Common.{◌≡◌, length}
-use Rattle.dbpicture.specs.Runs.{given}
+use Rattle.dbpicture.specs.Groups.{given}
 use Rattle.dbpicture.proofs.bands.Bands.divide.Given as goal
 
 abbrev pub invariant-loop : goal.invariant-loop

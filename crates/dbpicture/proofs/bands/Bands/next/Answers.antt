@@ -1,5 +1,5 @@
 use Rattle.std.proofs.Common.{arith}
-use Rattle.dbpicture.specs.Runs.{claims}
+use Rattle.dbpicture.specs.Groups.{claims}
 use Rattle.dbpicture.proofs.FirstMost.{first_before, first_here, none_first}
 use Rattle.dbpicture.proofs.bands.Bands.next.Goals as goal
 use Rattle.dbpicture.proofs.bands.Bands.next.Goals.{else-claim-most, then-claim-most}

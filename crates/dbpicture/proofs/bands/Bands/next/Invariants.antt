@@ -1,5 +1,5 @@
 use Rattle.std.proofs.Common.{◌≤◌}
-use Rattle.dbpicture.specs.Runs.{claims}
+use Rattle.dbpicture.specs.Groups.{claims}
 use Rattle.dbpicture.proofs.FirstMost.{IsFirst}
 use Rattle.dbpicture.proofs.bands.Bands.next.Given as goal
 

@@ -2,7 +2,7 @@ use Rattle.std.proofs.Common.{◌≡◌, ℕ, ◌+◌, ◌≤◌, Bool, true, fa
 use Rattle.std.specs.List.{range_with_len}
 use mir.Val.{bool_byte}
 use Rattle.dbsurvey.proofs.Ranges.{count_push}
-use Rattle.dbentries.specs.Bits.{has_bit}
+use Rattle.dbinjuries.specs.Bits.{has_bit}
 use Rattle.dbpicture.specs.Faults.{is_weak}
 use Rattle.dbpicture.proofs.fault_notes.FaultNotes.framed.Goals as goal
 

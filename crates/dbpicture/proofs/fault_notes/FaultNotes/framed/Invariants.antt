@@ -1,7 +1,7 @@
 use Rattle.std.proofs.Common.{◌≡◌, ◌≤◌}
 use Rattle.std.specs.Prelude.{count_by}
 use Rattle.std.specs.List.{range_with_len}
-use Rattle.dbentries.specs.Bits.{has_bit}
+use Rattle.dbinjuries.specs.Bits.{has_bit}
 use Rattle.dbpicture.specs.Faults.{is_weak}
 use Rattle.dbpicture.proofs.fault_notes.FaultNotes.framed.Given as goal
 

@@ -1,5 +1,0 @@
-use Rattle.std.proofs.Common.{rules}
-use Rattle.dbentries.proofs.listing.Listing.put_new.Goals as goal
-
-pub returns-else-self-len : goal.returns-else-self-len
-returns-else-self-len g c = search rules

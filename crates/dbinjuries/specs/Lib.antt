@@ -1,0 +1,11 @@
+pub mod Bits
+pub mod Kept
+pub mod Lines
+pub mod Listed
+pub mod Listing
+pub mod Lists
+pub mod Lost
+pub mod Others
+pub mod Traced
+pub mod Store
+pub mod Zeros
