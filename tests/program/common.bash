@@ -191,9 +191,8 @@ at_first_note() {
 
 # log_notes FILE: the notes on the logs of a database, as the program names it: wal and journal.
 log_notes() {
-    local rest='is not read, and may hold changes;'
-    wal="dbck: note: $1-wal $rest --recovered reads it"$'\n'
-    journal="dbck: note: $1-journal $rest --recovered reads it"$'\n'
+    wal="dbck: note: $1-wal is not read, and may hold changes; --recovered reads it"$'\n'
+    journal="dbck: note: $1-journal is not read, and may undo changes; --recovered reads it"$'\n'
 }
 
 # changed_note FILE: the note on a file that was written meanwhile.

@@ -6,7 +6,7 @@ load common
 noted() {
     cp "$data/empty.db" "$work/noted.db"
     wal="dbck: note: $work/noted.db-wal is not read, and may hold changes; --recovered reads it"$'\n'
-    journal="dbck: note: $work/noted.db-journal is not read, and may hold changes; --recovered reads it"$'\n'
+    journal="dbck: note: $work/noted.db-journal is not read, and may undo changes; --recovered reads it"$'\n'
 }
 
 @test 'an empty log holds nothing, and a folder is none' {
@@ -16,7 +16,7 @@ noted() {
     expect 0 $'ok\n' '' check "$work/noted.db"
 }
 
-@test 'each log that may hold changes has a note' {
+@test 'each log that is not read has a note, if it has bytes' {
     noted
     echo log > "$work/noted.db-wal"
     : > "$work/noted.db-journal"

@@ -6,8 +6,17 @@ use crate::shown::Shown;
 use dbsource::Out;
 use std::alloc::AllocError;
 
-// What a log's name has after that of its database.
-const LOGS: [&str; 2] = [WAL, JOURNAL];
+// What a log's name has after that of its database, and what is said of it: a -wal has changes, and a -journal what undoes some.
+const LOGS: [(&str, &str); 2] = [
+    (
+        WAL,
+        " is not read, and may hold changes; --recovered reads it",
+    ),
+    (
+        JOURNAL,
+        " is not read, and may undo changes; --recovered reads it",
+    ),
+];
 
 // Whether there is a file at this path that is not empty.
 fn has_bytes<R: Lookup>(rt: &R, path: &str) -> bool {
@@ -21,16 +30,14 @@ fn has_bytes<R: Lookup>(rt: &R, path: &str) -> bool {
 fn put_note<R: Lookup + AllocGlobal, N: Out>(
     rt: &R,
     database: &str,
-    suffix: &str,
+    log: (&str, &'static str),
     notes: &mut NoteOut<'_, N>,
 ) -> Result<(), AllocError> {
+    let (suffix, said) = log;
     let path = format!(in rt.alloc(); "{database}{suffix}")?;
     if has_bytes(rt, path.as_str()) {
         let name = Shown::of(rt.alloc(), path.as_str())?;
-        notes.put(
-            &name,
-            &[Piece::Words(" is not read, and may hold changes; --recovered reads it")],
-        );
+        notes.put(&name, &[Piece::Words(said)]);
     }
     Ok(())
 }

@@ -20,7 +20,7 @@ const CASES: [Case; 8] = [
         out: "ok\n",
         err: "",
         notes: "dbck: note: s\\x1b[2J\\x0a\\xc2\\x9b\\xe2\\x80\\xae\\x5c-wal is not read, and may hold changes; --recovered reads it\n\
-            dbck: note: s\\x1b[2J\\x0a\\xc2\\x9b\\xe2\\x80\\xae\\x5c-journal is not read, and may hold changes; --recovered reads it\n",
+            dbck: note: s\\x1b[2J\\x0a\\xc2\\x9b\\xe2\\x80\\xae\\x5c-journal is not read, and may undo changes; --recovered reads it\n",
         printed: "",
     },
     Case {
