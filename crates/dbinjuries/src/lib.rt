@@ -1,4 +1,4 @@
-//! What `explain` lists of a file, and `map` frames: the faults that lead, each with the faults that go back to the same injury.
+//! What `explain` lists of a file, and `map` frames: the faults that lead, each with the faults that belong to it.
 //!
 //! A fault leads if no earlier fault of its code and part goes back to the same cause. [`Listing`] keeps the first of
 //! them, and for each how many faults belong to it and on which pages; and which pages are zeros. It takes memory when it is

@@ -162,7 +162,7 @@ impl<A: Allocator> Listing<A> {
         &self.injuries[..self.shown]
     }
 
-    /// How many faults belong to the other injuries: these injuries, and the faults that belong to them.
+    /// How many faults are in the injuries that are not kept, those that lead included.
     pub fn rest(&self) -> u64
         ensures { result ≡ self.now.injuries.rest }
     {

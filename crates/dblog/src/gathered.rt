@@ -11,8 +11,8 @@ use std::marker::Model;
 // So many entries are gathered before the first are dropped.
 const LEAST: usize = 4096;
 
-/// The entries, and how many frames are committed. When there are as many as the limit, those that others replace are
-/// dropped; so there are never more than twice as many as a page has entries, or the least number.
+/// The entries, and how many frames are committed. At the limit, those that others replace are dropped, and the limit
+/// becomes twice what is left, at least `LEAST`.
 #[derive(Drop)]
 pub(crate) struct Gathered<A: Allocator> {
     entries: Vec<Entry, A>,

@@ -9,7 +9,7 @@ use std::alloc::{Allocator, Global};
 use std::marker::Model;
 
 /// Where a log has the pages that it gives, and how many pages the database then has. The entry of a page names a frame: the page of
-/// frame 0 begins at the first byte, and that of each later frame a stride after the one before.
+/// frame 0 begins at byte `first`, and that of each later frame `stride` bytes after the one before.
 #[derive(Drop)]
 pub struct LogPages<A: Allocator = Global> {
     page_size: u32,

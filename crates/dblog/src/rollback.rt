@@ -105,7 +105,7 @@ impl<A: Allocator> Rollback<A> {
         self.name.as_ref()
     }
 
-    /// Where the journal has its pages, if it is rolled back. One that names a super-journal is only where that is there.
+    /// Where the journal has its pages, if it is rolled back. One that names a super-journal is rolled back only if that exists.
     pub fn into_pages(self, is_there: bool) -> Option<LogPages<A>>
         ensures { result ≡ used_pages is_there self }
     {

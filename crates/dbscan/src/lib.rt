@@ -7,8 +7,8 @@
 //! [`tell_end`] reports what is left when all pages have been visited: each page with its mark, and then the faults that the marks, the
 //! header and the pages of the pointer map show.
 //!
-//! Who owns a page, and what the page is, is said by the marks and the list of roots, without a page read anew. [`PageTrees`] keeps four
-//! bytes a page: of a page of a tree or a chain the start that its row was heard with; the marks say the rest. specs/Owners says it by the
+//! Marks and rows say who owns a page and what it is; no page is read again. [`PageTrees`] keeps, in four bytes a page, the start of each
+//! page of a tree or a chain, as its row was heard; the marks say the rest. specs/Owners says it by the
 //! survey of a file, of which nothing but the visits is used: the start that a page belongs to ([`PageTrees::start_of`]), what it is there
 //! ([`place_of`]), and that the tree of a root page owns it ([`visited_pages_are_owned`]). specs/Texts has the texts of trees and pages:
 //! [`TreeNames`] puts that of a tree, and [`place_front`], [`place_words`] and [`place_from`] give what a page is in its tree.

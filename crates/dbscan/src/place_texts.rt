@@ -5,7 +5,7 @@ ghost use Rattle.dbscan.specs.Texts.{place_from, place_front, place_tree, place_
 use crate::place::Place;
 use dbsource::Fixed;
 
-/// What comes before the tree of a page, by the page's fixed use, if it has one.
+/// The text before that of a page's tree, by the page's fixed use, if it has one.
 pub fn place_front(fixed: Option<Fixed>, place: Place) -> &'static str
     ensures text { result.now ≡ place_front fixed place }
     ensures short { length result.now ≤ 39 }

@@ -27,7 +27,8 @@ use std::alloc::Allocator;
 /// # Errors
 ///
 /// [`RunError::ReadFailed`] exactly where the source failed, [`RunError::WriteFailed`] exactly where the reporter failed, and
-/// [`RunError::OutOfMemory`] exactly where the list of roots was refused memory. Then the reporter heard a prefix of the notices.
+/// [`RunError::OutOfMemory`] exactly where the list of roots was refused memory. After any of them the reporter has heard a prefix of
+/// the notices.
 pub fn scan<A: Allocator, S: Source, K: Reporter>(
     desk: &mut Desk<A>,
     source: &mut S,
