@@ -65,7 +65,7 @@ takes() {
     ends_within "$(room "$2" "$1" "$least")" "$work/out" "${@:3}" "$work/pages-$1.db"
 }
 
-@test 'for each eight of 1048577 pages a command takes 32 bytes, explain 66 and map 67' {
+@test 'for each eight of 1048577 pages a command takes 32 bytes, explain 67 and map 68' {
     of_pages 65537
     of_pages 1048577
     while read -r bytes words; do
@@ -74,19 +74,19 @@ takes() {
     done << 'END'
 32 check --limit 1
 32 stat
-66 explain --limit 1
-67 map
+67 explain --limit 1
+68 map
 END
 }
 
-@test 'for each eight of 16777217 pages explain takes 66 bytes' {
+@test 'for each eight of 16777217 pages explain takes 67 bytes' {
     of_pages 65537
     of_pages 16777217
-    row 'explain of 16777217 pages' takes 16777217 66 explain --limit 1
+    row 'explain of 16777217 pages' takes 16777217 67 explain --limit 1
 }
 
-@test 'for each eight of 16777217 pages map takes 67 bytes' {
+@test 'for each eight of 16777217 pages map takes 68 bytes' {
     of_pages 65537
     of_pages 16777217
-    row 'map of 16777217 pages' takes 16777217 67 map
+    row 'map of 16777217 pages' takes 16777217 68 map
 }
