@@ -30,7 +30,7 @@ use Rattle.dbformat.specs.declared.FaultCode.{FaultCode}
 use Rattle.dbformat.specs.declared.FaultCode.TheVariants.{P01, P02, P03, P10, T05}
 use Rattle.dbwalk.specs.LeafCells.{leaf_cause}
 
--- so many bytes of a page that was read are usable
+-- a page that was read has this many usable bytes
 pub record IsUsable (usable : ℕ) (page : List ℕ) : Type 0 where
   pub whole : usable ≤ length page
   pub least : 480 ≤ usable
