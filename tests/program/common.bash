@@ -222,27 +222,37 @@ large_database() {
     pages=$(($(wc -c < "$work/large.db") / 512))
 }
 
-# paired: makes pair.db, whose last transaction is in pair.db-wal alone, and whole.db, which SQLite recovered of a copy of both.
-paired() {
+# logged NAME: makes NAME.db, a table t(a) in pages of 512 bytes, and its log. The log has what the statements of standard input do, one a
+# line; each is a transaction, but for what is between BEGIN and COMMIT.
+logged() {
     needs python3
-    python3 - "$work" << 'END'
+    python3 -c '
 import shutil, sqlite3, sys
-work = sys.argv[1]
-db = sqlite3.connect(work + "/made.db", isolation_level=None)
+made = sys.argv[1] + "/made.db"
+db = sqlite3.connect(made, isolation_level=None)
 db.execute("PRAGMA page_size = 512")
 db.execute("PRAGMA journal_mode = WAL")
 db.execute("PRAGMA wal_autocheckpoint = 0")
 db.execute("CREATE TABLE t(a)")
 db.execute("PRAGMA wal_checkpoint(TRUNCATE)")
-db.execute("BEGIN")
-for k in range(40):
-    db.execute("INSERT INTO t VALUES (?)", ("row %d" % k,))
-db.execute("COMMIT")
-for name in ("pair", "whole"):
-    shutil.copy(work + "/made.db", work + "/%s.db" % name)
-    shutil.copy(work + "/made.db-wal", work + "/%s.db-wal" % name)
-db.close()
-db = sqlite3.connect(work + "/whole.db", isolation_level=None)
+for statement in sys.stdin:
+    db.execute(statement)
+for suffix in ("", "-wal"):
+    shutil.copy(made + suffix, "%s/%s.db%s" % (*sys.argv[1:], suffix))
+' "$work" "$1"
+}
+
+# paired: makes pair.db, whose last transaction is in pair.db-wal alone, and whole.db, which SQLite recovered of a copy of both.
+paired() {
+    {
+        echo BEGIN
+        for k in {0..39}; do echo "INSERT INTO t VALUES ('row $k')"; done
+        echo COMMIT
+    } | logged pair
+    for suffix in '' -wal; do cp "$work/pair.db$suffix" "$work/whole.db$suffix"; done
+    python3 - "$work/whole.db" << 'END'
+import sqlite3, sys
+db = sqlite3.connect(sys.argv[1], isolation_level=None)
 db.execute("PRAGMA wal_checkpoint(TRUNCATE)")
 db.close()
 END

@@ -5,8 +5,7 @@ load common
 # noted: makes noted.db; $wal and $journal are the notes on its logs.
 noted() {
     cp "$data/empty.db" "$work/noted.db"
-    wal="dbck: note: $work/noted.db-wal is not read, and may hold changes; --recovered reads it"$'\n'
-    journal="dbck: note: $work/noted.db-journal is not read, and may undo changes; --recovered reads it"$'\n'
+    log_notes "$work/noted.db"
 }
 
 @test 'an empty log holds nothing, and a folder is none' {

@@ -43,26 +43,6 @@ load common
     exactly 4 '' "dbck: note: $work/x.db-wal: a directory"$'\n'"$unread" check --recovered "$work/x.db"
 }
 
-# logged: makes t.db, pages of 512 bytes, and its log of these transactions: four rows, a frame each, and one of several frames.
-logged() {
-    needs python3
-    python3 - "$work" << 'END'
-import shutil, sqlite3, sys
-work = sys.argv[1]
-db = sqlite3.connect(work + "/made.db", isolation_level=None)
-db.execute("PRAGMA page_size = 512")
-db.execute("PRAGMA journal_mode = WAL")
-db.execute("PRAGMA wal_autocheckpoint = 0")
-db.execute("CREATE TABLE t(a)")
-db.execute("PRAGMA wal_checkpoint(TRUNCATE)")
-for k in range(4):
-    db.execute("INSERT INTO t VALUES (?)", (k,))
-db.execute("INSERT INTO t VALUES (?)", ("x" * 600,))
-for suffix in ("", "-wal"):
-    shutil.copy(work + "/made.db" + suffix, work + "/t.db" + suffix)
-END
-}
-
 # noted NOTE..: the notes of a run over t.db and its log are these, in their order.
 noted() {
     local notes=
@@ -75,7 +55,11 @@ noted() {
 }
 
 @test 'notes say which frames of a log are left out' {
-    logged
+    # Four rows, a frame each, and one of several frames.
+    {
+        for k in {0..3}; do echo "INSERT INTO t VALUES ($k)"; done
+        echo "INSERT INTO t VALUES ('$(printf '%600s' '' | tr ' ' x)')"
+    } | logged t
     # A head of 32 bytes, and frames of 24 + 512: frame 5 begins at byte 2176, and frame 3 at byte 1104.
     cp "$work/t.db-wal" "$work/kept-wal"
     head -c 2176 "$work/kept-wal" > "$work/t.db-wal"
