@@ -38,5 +38,5 @@ IsHanded (Err e) r out out' err err' = (r ≡ Err e) × TriesToFlush out out' ×
 abbrev pub IsMendHanded : Result Verdict RunError → Result Verdict RunError → OutState → OutState → OutState → OutState → Type 0
 IsMendHanded (Err (Refused e)) (Ok v) out out' err err' = ⊥
 IsMendHanded (Err (Refused e)) (Err f) out out' err err' =
-    ((f ≡ Refused e) × IsFlushed out out' ⊎ (f ≡ WriteFailed) × Flushes {A = Unit {0}} (Err tt) out out') × (err' ≡ err)
+    ((f ≡ Refused e) × IsFlushed out out' ⊎ (f ≡ WriteFailed) × Flushes {A = Unit {0}} {E = Unit {0}} (Err tt) out out') × (err' ≡ err)
 IsMendHanded answer r out out' err err' = IsHanded answer r out out' err err'

@@ -123,11 +123,16 @@ fn hand_on_mend<O: Out, E: Out>(
 ) -> Result<Verdict, RunError>
     ensures { IsMendHanded answer result (O.held out.old) (O.held out.new) (E.held err.old) (E.held err.new) }
 {
-    if let Err(RunError::Refused(_)) = answer {
-        out.flush()?;
-        return answer;
+    match answer {
+        Ok(_) => hand_on(out, err, answer),
+        Err(error) => match error {
+            RunError::Refused(_) => {
+                out.flush()?;
+                answer
+            }
+            _ => hand_on(out, err, answer),
+        },
     }
-    hand_on(out, err, answer)
 }
 
 /// Mends the file that the source gives, with at most `limit` changes, and answers the exit status, which is that of the file as it is.

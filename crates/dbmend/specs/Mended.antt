@@ -44,13 +44,13 @@ AreSteps before faults (f ∷ fixes) deeds =
 abbrev pub fix_text : Fix → List ℕ
 fix_text f = change_line f.change.offset f.change.bytes f.was ++ (page_line f.count.page_size f.change.offset ++ still_text f.count.faults)
 
--- how many faults there are before any: a file that is refused has more than are counted of any other
+-- how many faults there are before any: a file that is refused has as many as are ever counted
 abbrev pub faults_of : Result Count RunError → ℕ
 faults_of (Ok c) = c.faults
 faults_of (Err e) = 2 ^ 64 - 1
 
--- and of all: how many faults there are, each change, and how many faults are left. Of a file that is refused: each change, of which the
--- first makes that it is read, and how many faults are left; nothing, if there is none.
+-- and of all: how many faults there are, each change, and how many faults are left. Of a file that is refused: each change, and how many
+-- faults are left, as with the first of them it is read; nothing, if there is none.
 abbrev pub mend_text : Result Count RunError → List Fix → List ℕ
 mend_text (Ok c) fixes = first_text c.faults ++ (flat_map fix_text fixes ++ end_text (left_after c.faults fixes))
 mend_text (Err e) [] = []

@@ -4,7 +4,7 @@ ghost use Rattle.std.specs.Prelude.{◌≡◌, ◌-◌, ◌^◌};
 use crate::counting::Findings;
 use std::alloc::Allocator;
 
-// What a run found. A file that is refused has no findings, and more faults than are counted of any other.
+// What a run found. A file that is refused has no findings, and as many faults as are ever counted.
 #[derive(Drop)]
 pub(crate) struct Known<A: Allocator> {
     pub(crate) faults: u64,
