@@ -55,6 +55,54 @@ are_put() {
     [ "$rows" -gt 140 ]
 }
 
+# refused NAME OFFSET BYTES TEXT [WORDS..]: NAME.db of tests with these bytes at an offset is refused, and mend writes this, and the notes and
+# the error of check.
+refused() {
+    local name=$1 offset=$2 bytes=$3 text=$4
+    cp "$data/$name.db" "$work/refused.db"
+    put_at "$work/refused.db" "$offset" "$bytes"
+    dbck check "$work/refused.db"
+    cp "$work/err" "$work/complaint"
+    row "check of $name refused" ended 3 '' "*dbck: E[1-7] *"
+    exactly 3 "$text" "$(< "$work/complaint")"$'\n' mend "${@:5}" "$work/refused.db"
+}
+
+@test 'of a file that is refused mend first writes a change with which it is read' {
+    zeros='\0\0\0\0\0\0\0\0\0\0\0\0\0\0\0\0'
+    magic='at byte 0 put 53514c69746520666f726d6174203300 for 00000000000000000000000000000000
+    page 1 at byte 0
+'
+    refused whole 0 "$zeros" "$magic"$'ok\n'
+    # Its first letter alone.
+    refused whole 0 'X' $'at byte 0 put 53514c69746520666f726d6174203300 for 58514c69746520666f726d6174203300\n    page 1 at byte 0\nok\n'
+    # The page size, which is 512.
+    refused whole 16 '\0\0' $'at byte 16 put 0200 for 0000\n    page 1 at byte 0\nok\n'
+    # 255 bytes of each page are reserved.
+    refused whole 20 '\0377' $'at byte 20 put 00 for ff\n    page 1 at byte 0\nok\n'
+    # Then the root of a table, as of the file that is not refused.
+    refused two-tables 0 "$zeros" "$magic"$'    2 faults are left\nat byte 1526 put 00000007 for 00000005\n    page 3 at byte 1024\nok\n'
+    refused two-tables 0 "$zeros" "$magic"$'    2 faults are left\n2 faults are left\n' --limit 1
+    # Two numbers of which each alone is refused, and no database at all.
+    cp "$data/whole.db" "$work/two.db"
+    put_at "$work/two.db" 0 "$zeros\0\0"
+    dbck mend "$work/two.db"
+    row 'mend of two numbers that are refused' ended 3 '' '*dbck: E2 *'
+    dbck mend "$0"
+    row 'mend of a text' ended 3 '' '*dbck: E2 *'
+    head -c 99 "$data/whole.db" > "$work/short.db"
+    dbck mend "$work/short.db"
+    row 'mend of a short file' ended 3 '' '*dbck: E1 *'
+}
+
+@test 'the text of a refused file that cannot be written is status 6' {
+    cp "$data/two-tables.db" "$work/refused.db"
+    put_at "$work/refused.db" 0 X
+    status=0
+    "$DBCK" mend "$work/refused.db" > /dev/full 2> "$work/err" < /dev/null 3>&- || status=$?
+    : > "$work/out"
+    row 'mend of a refused file to a full disk' ended 6 '' "*$full$unwritten"
+}
+
 @test 'of databases of which numbers were overwritten, what mend calls ok is sound' {
     needs python3 sqlite3
     row 'numbers overwritten' tests/mend.py --copies 1 --shape rowid-512 --shape full-vacuum-512 --shape freelist-1024 "$DBCK" "$work/numbers"

@@ -7,6 +7,7 @@ use Rattle.std.proofs.lemmas.List.{append-nil}
 use Rattle.dbformat.specs.Reference.{Reference}
 use Rattle.dbformat.specs.Report.{Report, faults, report, verdict}
 use Rattle.dbformat.specs.Sound.{Sound}
+use Rattle.dbformat.specs.declared.Refusal.{Refusal}
 use Rattle.dbformat.specs.declared.Verdict.{Verdict}
 use Rattle.dbformat.specs.declared.Verdict.TheVariants.{Clean, Faulty}
 use Rattle.dbreport.specs.Runs.{AsksHeaderAlone, IsAnswerOf, IsRunBy, IsUnwritten}
@@ -26,7 +27,7 @@ use Rattle.dbcli.proofs.Failures.{FewFailed, after_one, failed_then, few_then, f
 use Rattle.dbcli.proofs.Failures.{same_count}
 use Rattle.dbcli.specs.ErrorLines.{error_line}
 use Rattle.dbcli.specs.Exit.{EndsWithLine, OutHasFailed, IsHandedOn, IsHandedOnOrFailed, failures_at_4, first_most, second_most, unread_most}
-use Rattle.dbcli.specs.Handing.{IsHanded, StopsFlushing, TriesToFlush}
+use Rattle.dbcli.specs.Handing.{IsHanded, IsMendHanded, StopsFlushing, TriesToFlush}
 use Rattle.dbexplain.specs.Explained.{explain_report}
 use Rattle.dbexplain.specs.Runs.{WritesReport}
 use Rattle.dbcli.specs.Requests.{IsRunFor, OutsFail}
@@ -401,3 +402,12 @@ line_untried (Err x) (Err y) line a b c g h m n = record {
 pub tried_of : (r : Result Verdict RunError) (a b : OutState) → IfErr r (λ error. EndsWithLine (error_line error) 2 a b) → OnErr r (IsHandedOnOrFailed 2 a b)
 tried_of (Ok v) a b line = tt
 tried_of (Err e) a b line = line.tried
+
+-- a mend is handed on as a run is, but at a refusal
+pub handed_as_a_run : (answer r : Result Verdict RunError) (out out' err err' : OutState) → ((why : Refusal) → answer ≡ Err (Refused why) → ⊥)
+    → IsHanded answer r out out' err err' → IsMendHanded answer r out out' err err'
+handed_as_a_run (Ok v) r out out' err err' not h = h
+handed_as_a_run (Err (Refused why)) r out out' err err' not h = absurd (not why refl)
+handed_as_a_run (Err ReadFailed) r out out' err err' not h = h
+handed_as_a_run (Err OutOfMemory) r out out' err err' not h = h
+handed_as_a_run (Err WriteFailed) r out out' err err' not h = h

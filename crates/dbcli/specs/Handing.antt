@@ -1,10 +1,10 @@
 -- What handing on leaves of the outcome of a run.
-use Rattle.std.specs.Prelude.{◌≡◌, ℕ, ◌-◌, List, [], length, slice_get, Some, Result, Ok, Err}
+use Rattle.std.specs.Prelude.{◌≡◌, ◌⊎◌, ℕ, ◌-◌, List, [], length, slice_get, Some, Result, Ok, Err}
 use Rattle.std.specs.Io.KnownBytes.{Keeps}
 use Rattle.dbformat.specs.declared.Verdict.{Verdict}
 use Rattle.dbreport.specs.StatReporter.{IsFlushed, failures_of_each}
 use Rattle.dbsource.specs.Failures.{HasOneMore}
-use Rattle.dbsource.specs.Outs.{OutState}
+use Rattle.dbsource.specs.Outs.{Flushes, OutState}
 use Rattle.dbsource.specs.declared.error.RunError.{RunError}
 use Rattle.dbsource.specs.declared.error.RunError.TheVariants.{Refused, WriteFailed}
 use Rattle.dbcli.specs.Exit.{IsHandedOnOrFailed}
@@ -32,3 +32,11 @@ IsHanded (Ok v) (Ok w) out out' err err' = (w ≡ v) × IsFlushed out out' × Is
 IsHanded (Ok v) (Err e) out out' err err' = (e ≡ WriteFailed) × StopsFlushing out out' err err'
 IsHanded (Err (Refused e)) r out out' err err' = (r ≡ Err (Refused e)) × (out' ≡ out) × (err' ≡ err)
 IsHanded (Err e) r out out' err err' = (r ≡ Err e) × TriesToFlush out out' × (err' ≡ err)
+
+-- The same of a mend, but at a refusal: all of its text was written then, so the first Out was flushed, and where it fails the outcome is a
+-- failed write.
+abbrev pub IsMendHanded : Result Verdict RunError → Result Verdict RunError → OutState → OutState → OutState → OutState → Type 0
+IsMendHanded (Err (Refused e)) (Ok v) out out' err err' = ⊥
+IsMendHanded (Err (Refused e)) (Err f) out out' err err' =
+    ((f ≡ Refused e) × IsFlushed out out' ⊎ (f ≡ WriteFailed) × Flushes {A = Unit {0}} {E = Unit {0}} (Err tt) out out') × (err' ≡ err)
+IsMendHanded answer r out out' err err' = IsHanded answer r out out' err err'

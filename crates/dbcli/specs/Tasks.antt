@@ -10,7 +10,7 @@ use Rattle.dbmend.specs.Mended.{HasMended}
 use Rattle.dbcli.specs.ErrorLines.{error_line}
 use Rattle.dbcli.specs.Exit.{EndsWithLine}
 use Rattle.dbcli.specs.Finishing.{Finishes}
-use Rattle.dbcli.specs.Handing.{IsHanded}
+use Rattle.dbcli.specs.Handing.{IsMendHanded}
 use Rattle.dbcli.specs.Status.{exit_status}
 use Rattle.dbcli.specs.declared.task.Task.{Task}
 use Rattle.dbcli.specs.declared.task.Task.TheVariants.{Run, Mend}
@@ -33,7 +33,7 @@ module _ {S O E : Type 0} (source : SourceWords S) (out : OutWords O) (err : Out
     -- what it wrote was handed on, and this is the outcome
     pub outcome : Result Verdict RunError
     pub second : E
-    pub handed : IsHanded answer outcome (out.held written) (out.held new.1) (err.held old.2) (err.held second)
+    pub handed : IsMendHanded answer outcome (out.held written) (out.held new.1) (err.held old.2) (err.held second)
     -- the status is that of the outcome
     pub is_status : status ≡ exit_status outcome
     -- the second Out got nothing, or the line of the error

@@ -73,7 +73,7 @@ fn recovered_arg<'a>(alloc: Global) -> Arg<'a>
     ensures rule { rule_of result ≡ flag_rule (codes "recovered") }
     ensures local { result.global ≡ false }
 {
-    let help = "Report the database that SQLite would recover from FILE and its logs";
+    let help = "Report FILE as SQLite would open it next, with its -journal and -wal";
     flag_arg(alloc, "recovered", help)
 }
 

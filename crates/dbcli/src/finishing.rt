@@ -4,7 +4,7 @@ ghost use Rattle.dbreport.specs.Runs.{IsUnwritten};
 ghost use Rattle.dbcli.specs.ErrorLines.{error_line, unrun_line};
 ghost use Rattle.dbcli.specs.Exit.{EndsWithLine, IsKnown};
 ghost use Rattle.dbcli.specs.Finishing.{FailsByStatus, IsFinished, LeavesFirst, LeavesSecond, RunsInside, ToldFilesAreFinished};
-ghost use Rattle.dbcli.specs.Handing.{IsHanded};
+ghost use Rattle.dbcli.specs.Handing.{IsHanded, IsMendHanded};
 ghost use Rattle.dbcli.specs.Status.{exit_status};
 ghost use Rattle.dbcli.specs.Tasks.{Does, LeavesMend};
 
@@ -115,6 +115,26 @@ pub fn finish<S: Source, O: Out, E: Out, N: Notes>(
     end(err, outcome, notes)
 }
 
+// Hands on what a mend wrote, as `hand_on` does of a run. At a refusal all of its text was written, so `out` is flushed then, too.
+fn hand_on_mend<O: Out, E: Out>(
+    out: &mut O,
+    err: &mut E,
+    answer: Result<Verdict, RunError>,
+) -> Result<Verdict, RunError>
+    ensures { IsMendHanded answer result (O.held out.old) (O.held out.new) (E.held err.old) (E.held err.new) }
+{
+    match answer {
+        Ok(_) => hand_on(out, err, answer),
+        Err(error) => match error {
+            RunError::Refused(_) => {
+                out.flush()?;
+                answer
+            }
+            _ => hand_on(out, err, answer),
+        },
+    }
+}
+
 /// Mends the file that the source gives, with at most `limit` changes, and answers the exit status, which is that of the file as it is.
 /// The text is handed on before the status is decided; after an error the line of it is put to `err` and handed on, if it can be.
 pub(crate) fn finish_mend<S: Source, O: Out, E: Out, N: Notes>(
@@ -128,7 +148,7 @@ pub(crate) fn finish_mend<S: Source, O: Out, E: Out, N: Notes>(
     ensures { LeavesMend S.Source O.Out E.Out limit result (source.old, out.old, err.old) (source.new, out.new, err.new) }
 {
     let answer = mend(alloc, limit, source, out);
-    let outcome = hand_on(out, err, answer);
+    let outcome = hand_on_mend(out, err, answer);
     end(err, outcome, notes)
 }
 

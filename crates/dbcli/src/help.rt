@@ -44,7 +44,9 @@ pub(crate) const MEND_ABOUT: &str =
 
 pub(crate) const MEND_EXAMPLES: &str =
     "For each change: at which byte of FILE which bytes are to be put for which; what its page is; and
-how many faults are left after it, or 'ok'. Sound is not yet right: look at the rows of that page.
+how many faults are left after it, or 'ok'. A file with 'ok' may still hold wrong rows: look at
+those of that page. With --recovered the bytes are those of the recovered database: let SQLite
+write the log into a copy of FILE before you put them there.
 
 Examples:
   dbck mend notes.db            At most 8 changes, each found by runs over notes.db with other bytes

@@ -29,6 +29,11 @@ pub trait Lookup {
         ensures { finds self.now name.now result };
 }
 
+// Whether there is something at a path, by its metadata: anything but a file without bytes.
+pub(crate) fn is_something(metadata: &Metadata) -> bool {
+    !metadata.is_file() || metadata.len() > 0
+}
+
 impl<R: Files + AllocGlobal> Lookup for R {
     ghost use Rattle.std.specs.Prelude.{⊤};
 
@@ -52,7 +57,7 @@ impl<R: Files + AllocGlobal> Lookup for R {
             return false;
         };
         match fs::metadata(self, path) {
-            Ok(metadata) => !metadata.is_file() || metadata.len() > 0,
+            Ok(metadata) => is_something(&metadata),
             Err(_) => false,
         }
     }

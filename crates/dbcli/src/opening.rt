@@ -1,5 +1,5 @@
 // Who opens a file, and gets it back.
-use crate::lookup::Lookup;
+use crate::lookup::{Lookup, is_something};
 use crate::unwritten::system_text;
 use dbsource::{FileSource, NoMemory, ReadFailed, RunError, Source, memory};
 use std::alloc::AllocError;
@@ -132,10 +132,10 @@ pub(crate) fn log_name<R: Lookup + AllocGlobal>(
     Ok(name)
 }
 
-// Whether there is something at this path, that is not a file without bytes.
+// Whether there is something at this path, or that cannot be seen.
 fn has_log<R: Files + AllocGlobal>(rt: &R, path: &str) -> bool {
     match rt.metadata(path) {
-        Ok(metadata) => !metadata.is_file() || metadata.len() > 0,
+        Ok(metadata) => is_something(&metadata),
         Err(error) => error.kind() != io::ErrorKind::NotFound,
     }
 }

@@ -69,6 +69,14 @@ after_more before faults xs ys {changes = changes} {left = left} h k = record {
   still = k.still ∙ ap (λ n. left_after n ys) h.still ∙ sym (left_append faults xs ys);
 }
 
+nil_left : (xs ys : List Fix) → xs ++ ys ≡ [] → xs ≡ []
+nil_left [] ys e = refl
+nil_left (x ∷ xs) ys e = absurd (let k : x ∷ (xs ++ ys) ≡ [] = e in cc)
+
+nil_right : (xs ys : List Fix) → xs ++ ys ≡ [] → ys ≡ []
+nil_right [] ys e = e
+nil_right (x ∷ xs) ys e = absurd (let k : x ∷ (xs ++ ys) ≡ [] = e in cc)
+
 -- ---- what was done
 
 module _ {S O : Type 0} (source : SourceWords S) (out : OutWords O) where
@@ -84,6 +92,7 @@ module _ {S O : Type 0} (source : SourceWords S) (out : OutWords O) where
     few = omega arith;
     of = of;
     written = appends_nothing (out.held s.1).bytes;
+    idle = λ e. refl;
     reads = refl;
     writes = refl;
     only = tt;
@@ -110,6 +119,7 @@ module _ {S O : Type 0} (source : SourceWords S) (out : OutWords O) where
         written = subst (λ (t : List ℕ). Writes r (out.held old.1).bytes (out.held new.1).bytes t) (sym (flat_map-append fix_text h.fixes k.fixes))
             (writes_then r (out.held old.1).bytes (out.held m.1).bytes (out.held new.1).bytes (flat_map fix_text h.fixes) (flat_map fix_text k.fixes)
             h.written k.written);
+        idle = λ e. k.idle (nil_right h.fixes k.fixes e) ∙ h.idle (nil_left h.fixes k.fixes e);
         reads = k.reads ∙ ap (failures_after is_read_failed r) h.reads;
         writes = k.writes ∙ ap (failures_after is_write_failed r) h.writes;
         only = k.only;
@@ -128,6 +138,7 @@ module _ {S O : Type 0} (source : SourceWords S) (out : OutWords O) where
     few = omega arith;
     of = of;
     written = appends_nothing (out.held o).bytes;
+    idle = λ e. refl;
     reads = h.reads;
     writes = refl;
     only = tt;
@@ -146,6 +157,7 @@ module _ {S O : Type 0} (source : SourceWords S) (out : OutWords O) where
     few = let e = h.few in omega (arith, e, m);
     of = q h.fixes h.of;
     written = h.written;
+    idle = h.idle;
     reads = h.reads;
     writes = h.writes;
     only = tt;
@@ -163,6 +175,7 @@ module _ {S O : Type 0} (source : SourceWords S) (out : OutWords O) where
     few = let e = h.few in omega (arith, e, m);
     of = tt;
     written = h.written;
+    idle = h.idle;
     reads = h.reads;
     writes = h.writes;
     only = h.only;
@@ -180,6 +193,7 @@ module _ {S O : Type 0} (source : SourceWords S) (out : OutWords O) where
     few = omega arith;
     of = tt;
     written = begins_nothing (out.held o).bytes [];
+    idle = λ e. refl;
     reads = h.reads;
     writes = by_error e h.only (out.held o).failures;
     only = elim h.only [ inl r ↦ inl (inl r) | inr m ↦ inr m ];
@@ -212,6 +226,7 @@ module _ {S O : Type 0} (source : SourceWords S) (out : OutWords O) where
       few = omega arith;
       of = record { are = refl; still = refl };
       written = subst (λ text. Appends (out.held o).bytes (out.held p).bytes text) one_text put.held;
+      idle = λ e. absurd (let k : f ∷ [] ≡ [] = e in cc);
       reads = h.reads;
       writes = put.count;
       only = tt;
@@ -229,6 +244,7 @@ module _ {S O : Type 0} (source : SourceWords S) (out : OutWords O) where
       few = omega arith;
       of = tt;
       written = subst (λ text. Begins (out.held o).bytes (out.held p).bytes text) one_text put.held;
+      idle = λ e. absurd (let k : f ∷ [] ≡ [] = e in cc);
       reads = h.reads;
       writes = put.count;
       only = inl (inr refl);

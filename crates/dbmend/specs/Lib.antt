@@ -2,6 +2,7 @@ pub mod Counts
 pub mod Deeds
 pub mod LentSources
 pub mod Mended
+pub mod Searched
 pub mod Sizes
 pub mod Stepped
 pub mod Texts

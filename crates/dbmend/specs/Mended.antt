@@ -1,5 +1,5 @@
 -- What a search for changes leaves.
-use Rattle.std.specs.Prelude.{◌≡◌, ◌≤◌, ℕ, List, [], ◌∷◌, ◌++◌, flat_map, length, map, min, Result, Ok, Err, IfOk, IfSome}
+use Rattle.std.specs.Prelude.{◌≡◌, ◌≤◌, ◌-◌, ◌^◌, ◌⊎◌, ℕ, List, [], ◌∷◌, ◌++◌, flat_map, length, map, min, Option, None, Some, Result, Ok, Err, IfSome}
 use Rattle.dbformat.specs.Log.{IsSomeRunLog}
 use Rattle.dbformat.specs.Report.{verdict_of}
 use Rattle.dbformat.specs.Sound.{Sound}
@@ -10,6 +10,7 @@ use Rattle.dbsource.specs.Failures.{failures_after}
 use Rattle.dbsource.specs.Outs.{Writes}
 use Rattle.dbsource.specs.Snapshots.{HasRead}
 use Rattle.dbsource.specs.declared.error.RunError.{RunError}
+use Rattle.dbsource.specs.declared.error.RunError.TheVariants.{Refused}
 use Rattle.dbsource.specs.declared.out.Out.{Ghosts as OutWords}
 use Rattle.dbsource.specs.declared.source.Source.{Ghosts as SourceWords}
 use Rattle.dbwalk.specs.Telling.{IsReadWriteOrMemory}
@@ -43,17 +44,32 @@ AreSteps before faults (f ∷ fixes) deeds =
 abbrev pub fix_text : Fix → List ℕ
 fix_text f = change_line f.change.offset f.change.bytes f.was ++ (page_line f.count.page_size f.change.offset ++ still_text f.count.faults)
 
--- and of all: how many faults there are, each change, and how many faults are left; nothing of a file that is not read
+-- how many faults there are before any: a file that is refused has as many as are ever counted
+abbrev pub faults_of : Result Count RunError → ℕ
+faults_of (Ok c) = c.faults
+faults_of (Err e) = 2 ^ 64 - 1
+
+-- and of all: how many faults there are, each change, and how many faults are left. Of a file that is refused: each change, and how many
+-- faults are left, as with the first of them it is read; nothing, if there is none.
 abbrev pub mend_text : Result Count RunError → List Fix → List ℕ
 mend_text (Ok c) fixes = first_text c.faults ++ (flat_map fix_text fixes ++ end_text (left_after c.faults fixes))
-mend_text (Err e) fixes = []
+mend_text (Err e) [] = []
+mend_text (Err e) (f ∷ fixes) = flat_map fix_text (f ∷ fixes) ++ end_text (left_after f.count.faults fixes)
 
--- What is answered, by what the run without changes answered: its verdict, if nothing failed after it; its error, and nothing was done
--- after it and nothing put.
-abbrev pub Follows : {O : Type 0} → Result Count RunError → List Deed → Result Verdict RunError → O → O → Type 0
-Follows (Ok c) deeds (Ok v) old new = v ≡ verdict_of c.faults
-Follows (Ok c) deeds (Err e) old new = IsReadWriteOrMemory e
-Follows (Err e) deeds r old new = (r ≡ Err e) × (deeds ≡ []) × (new ≡ old)
+-- What is answered, by what the run without changes answered: its verdict or its refusal, if nothing failed after it. After a refusal
+-- nothing was put, if there is no change; after another error nothing was done.
+abbrev pub Follows : {O : Type 0} → Result Count RunError → List Deed → List Fix → Result Verdict RunError → O → O → Type 0
+Follows (Ok c) deeds fixes (Ok v) old new = v ≡ verdict_of c.faults
+Follows (Ok c) deeds fixes (Err e) old new = IsReadWriteOrMemory e
+Follows (Err (Refused why)) deeds fixes (Ok v) old new = ⊥
+Follows (Err (Refused why)) deeds fixes (Err e) old new = ((e ≡ Refused why) ⊎ IsReadWriteOrMemory e) × (fixes ≡ [] → new ≡ old)
+Follows (Err e) deeds fixes r old new = (r ≡ Err e) × (deeds ≡ []) × (new ≡ old)
+
+-- Whether all of the text was written: a refusal is the answer to all of it, as a verdict is.
+abbrev pub ended : Result Verdict RunError → Result (Option Verdict) RunError
+ended (Ok v) = Ok (Some v)
+ended (Err (Refused why)) = Ok None
+ended (Err e) = Err e
 
 module _ {S : Type 0} (source : SourceWords S) where
   -- A run over a file with these changes found it sound: there is a file that agrees with what it read, and of each such file the file with
@@ -85,12 +101,12 @@ module _ {S O : Type 0} (source : SourceWords S) (out : OutWords O) where
     pub runs : runs_in deeds ≤ 255
     -- the changes that are written: each of a run with it and all before it, and with fewer faults than before it
     pub fixes : List Fix
-    pub steps : IfOk first (λ c. AreSteps [] c.faults fixes deeds)
+    pub steps : AreSteps [] (faults_of first) fixes deeds
     pub few : length fixes ≤ min limit 16
     -- the text of these, at an error a beginning of it
-    pub written : Writes r (out.held old.1).bytes (out.held new.1).bytes (mend_text first fixes)
-    -- the verdict of the run without changes
-    pub answer : Follows first deeds r old.1 new.1
+    pub written : Writes (ended r) (out.held old.1).bytes (out.held new.1).bytes (mend_text first fixes)
+    -- the verdict of the run without changes, or its refusal
+    pub answer : Follows first deeds fixes r old.1 new.1
     -- the source failed, once, exactly at a failed read, and the Out exactly at a failed write
     pub reads : (source.held new.0).failures ≡ failures_after is_read_failed r (source.held old.0).failures
     pub writes : (out.held new.1).failures ≡ failures_after is_write_failed r (out.held old.1).failures
@@ -99,5 +115,5 @@ module _ {S O : Type 0} (source : SourceWords S) (out : OutWords O) where
   pub record WritesOkOfSound (r : Result Verdict RunError) (old new : S × O) : Type 0 where
     pub first : Result Count RunError
     pub fixes : List Fix
-    pub written : Writes r (out.held old.1).bytes (out.held new.1).bytes (mend_text first fixes)
-    pub sound : IfOk first (λ c. left_after c.faults fixes ≡ 0 → IsMended source (changes_of fixes) old.0 new.0)
+    pub written : Writes (ended r) (out.held old.1).bytes (out.held new.1).bytes (mend_text first fixes)
+    pub sound : left_after (faults_of first) fixes ≡ 0 → IsMended source (changes_of fixes) old.0 new.0

@@ -4,6 +4,7 @@ use Rattle.std.specs.Mem.{FitsInMemory}
 use Rattle.std.specs.declared.alloc.Allocator.{Ghosts}
 use Rattle.dbscan.specs.DeskSizes.{DeskFitsInMemory}
 use Rattle.dbmend.specs.contracts.counting.Findings as of_findings
+use Rattle.dbmend.specs.contracts.known.Known as of_known
 use Rattle.dbmend.specs.contracts.stepping.Step as of_step
 use Rattle.dbmend.specs.contracts.trying.Trial as of_trial
 
@@ -12,5 +13,6 @@ use Rattle.dbmend.specs.contracts.trying.Trial as of_trial
 pub record SearchFitsInMemory (A : RattleType) (heap : Ghosts A.Denot) : Type 0 where
   pub desk : DeskFitsInMemory A heap
   pub findings : FitsInMemory (of_findings.the_row A heap)
+  pub known : FitsInMemory (of_known.the_row A heap)
   pub trial : FitsInMemory (of_trial.the_row A heap)
   pub step : FitsInMemory (of_step.the_row A heap)

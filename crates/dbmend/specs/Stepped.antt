@@ -1,5 +1,5 @@
 -- Changes that a search writes one after another.
-use Rattle.std.specs.Prelude.{◌≡◌, ◌+◌, ◌≤◌, ℕ, List, ◌++◌, flat_map, length, Result, IfErr}
+use Rattle.std.specs.Prelude.{◌≡◌, ◌+◌, ◌≤◌, ℕ, List, [], ◌++◌, flat_map, length, Result, IfErr}
 use Rattle.dbsource.specs.Changes.{Change}
 use Rattle.dbsource.specs.Errors.{is_read_failed, is_write_failed}
 use Rattle.dbsource.specs.Failures.{failures_after}
@@ -18,7 +18,7 @@ pub record IsAfter (before : List Change) (faults : ℕ) (fixes : List Fix) (cha
 
 module _ {S O : Type 0} (source : SourceWords S) (out : OutWords O) where
   -- What a call did: some deeds, with the runs that it left at most those that it had; and it wrote at most `most` changes after some
-  -- others, each of a run, of which this is so.
+  -- others, each of a run, of which this is so; without one it put nothing.
   pub record HasPut {A : Type 0} (before : List Change) (faults had left most : ℕ) (r : Result A RunError)
       (Of : List Fix → Type 0) (old new : S × O) : Type 0 where
     pub deeds : List Deed
@@ -29,6 +29,7 @@ module _ {S O : Type 0} (source : SourceWords S) (out : OutWords O) where
     pub few : length fixes ≤ most
     pub of : Of fixes
     pub written : Writes r (out.held old.1).bytes (out.held new.1).bytes (flat_map fix_text fixes)
+    pub idle : fixes ≡ [] → new.1 ≡ old.1
     pub reads : (source.held new.0).failures ≡ failures_after is_read_failed r (source.held old.0).failures
     pub writes : (out.held new.1).failures ≡ failures_after is_write_failed r (out.held old.1).failures
     pub only : IfErr r IsReadWriteOrMemory

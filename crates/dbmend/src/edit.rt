@@ -5,11 +5,11 @@ use arrayvec::ArrayVec;
 use dbsource::{Change, Changes};
 use std::marker::Model;
 
-/// Up to eight bytes at an offset.
+/// Up to 16 bytes at an offset.
 #[derive(Drop)]
 pub struct Edit {
     offset: u64,
-    bytes: [u8; 8],
+    bytes: [u8; 16],
     count: usize,
 }
 
@@ -21,7 +21,7 @@ impl Model for Edit {
 
     ghost view = { λ e. record { offset = e.offset; bytes = take e.count e.bytes } };
 
-    ghost invariant = { λ e. e.count ≤ 8 };
+    ghost invariant = { λ e. e.count ≤ 16 };
 }
 
 // What is in an unused place of a list.
@@ -34,10 +34,10 @@ impl Default for Edit {
 impl Edit {
     /// These bytes at this offset.
     pub fn new(offset: u64, bytes: &[u8]) -> Edit
-        requires { length bytes.now ≤ 8 }
+        requires { length bytes.now ≤ 16 }
         ensures { result ≡ record { offset = offset; bytes = bytes.now } }
     {
-        let mut kept = [0u8; 8];
+        let mut kept = [0u8; 16];
         kept[..bytes.len()].copy_from_slice(bytes);
         Edit {
             offset,
@@ -79,7 +79,7 @@ impl Edit {
     /// The bytes.
     pub fn bytes(&self) -> &[u8]
         ensures bytes { result.now ≡ self.now.bytes }
-        ensures few { length result.now ≤ 8 }
+        ensures few { length result.now ≤ 16 }
     {
         &self.bytes[..self.count]
     }

@@ -1,13 +1,13 @@
 //! Looks for the changes that make a damaged database sound.
 //!
-//! [`mend`] writes them, each of a run over the file with it and those before it, and how many faults each leaves. Nothing is written to
-//! the file.
+//! [`mend`] writes each change, and how many faults a run over the file with it and all changes before it found. Nothing is written to the
+//! file.
 //!
 //! [`count_changed`] counts the faults of a file with some changes, as a check does of the file itself. It writes nothing. So whether a
 //! file would be sound with other bytes is answered before they are written.
 //!
-//! [`candidates`] gives, by what a run found, the edits that are worth a trial: a reference that is wrong and the lost pages that no
-//! other lost page names, or a number with one right value. What it finds is tested, not proved: it is plain code, of which is proved that it
+//! [`candidates`] gives, by what a run found, the edits that are worth a trial: for a reference that may be wrong the pages that it may have
+//! named, and for another number the few values that fit. What it finds is tested, not proved: it is plain code, of which is proved that it
 //! ends, and that it reads pages and nothing else.
 #![tactic(auto)]
 
@@ -19,6 +19,7 @@ mod edit;
 mod fit;
 mod header_edits;
 mod key;
+mod known;
 mod lent;
 mod looking;
 mod lost;
@@ -28,6 +29,7 @@ mod places;
 mod pointers;
 mod ranked;
 mod reading;
+mod refused;
 mod schema_rows;
 mod stepping;
 mod texts;

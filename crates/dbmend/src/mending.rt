@@ -1,17 +1,20 @@
 // The search for the changes that leave the fewest faults.
 ghost use Rattle.std.specs.Prelude.{◌≡◌, ◌-◌, ◌≤◌, ◌++◌, ◌∷◌, [], min, MatchOption, MatchResult, Ok, Err};
 ghost use Rattle.dbsource.specs.Outs.{Puts};
+ghost use Rattle.dbsource.specs.declared.error.RunError.TheVariants.{Refused};
 ghost use Rattle.dbmend.specs.Mended.{HasMended, WritesOkOfSound, left_after};
+ghost use Rattle.dbmend.specs.Searched.{HasSearched};
 ghost use Rattle.dbmend.specs.Sizes.{SearchFitsInMemory};
 ghost use Rattle.dbmend.specs.Stepped.{HasPut, IsAfter};
 ghost use Rattle.dbmend.specs.Texts.{change_line, page_line, still_text};
 
 use crate::counting::{Findings, count_changed};
 use crate::edit::Edits;
+use crate::known::Known;
 use crate::stepping::{Step, next_step};
 use crate::texts::{change_line, end_text, first_text, page_line, still_text};
 use arrayvec::ArrayVec;
-use dbformat::Verdict;
+use dbformat::{Refusal, Verdict};
 use dbsource::{Changes, Out, RunError, Source, WriteFailed};
 use std::alloc::Allocator;
 
@@ -52,7 +55,7 @@ fn put_step<A: Allocator, O: Out>(step: &Step<A>, out: &mut O) -> Result<(), Wri
 fn put_next<A: Allocator + Copy, S: Source, O: Out>(
     alloc: A,
     edits: &Edits,
-    found: Findings<A>,
+    known: Known<A>,
     most: usize,
     source: &mut S,
     out: &mut O,
@@ -60,15 +63,15 @@ fn put_next<A: Allocator + Copy, S: Source, O: Out>(
     requires fits { SearchFitsInMemory A.row A.Allocator }
     ensures { MatchResult result
         (λ o. MatchOption o
-        (HasPut S.Source O.Out {A = Unit {0}} edits.now.items found.count.faults most 0 1 (Ok tt) (λ fixes. fixes ≡ [])
+        (HasPut S.Source O.Out {A = Unit {0}} edits.now.items known.faults most 0 1 (Ok tt) (λ fixes. fixes ≡ [])
         (source.old, out.old) (source.new, out.new))
-        (λ s. HasPut S.Source O.Out {A = Unit {0}} edits.now.items found.count.faults most (most - s.tried) 1 (Ok tt)
-        (λ fixes. IsAfter edits.now.items found.count.faults fixes (edits.now.items ++ s.edit ∷ []) s.found.count.faults)
+        (λ s. HasPut S.Source O.Out {A = Unit {0}} edits.now.items known.faults most (most - s.tried) 1 (Ok tt)
+        (λ fixes. IsAfter edits.now.items known.faults fixes (edits.now.items ++ s.edit ∷ []) s.found.count.faults)
         (source.old, out.old) (source.new, out.new) × (s.tried ≤ most)))
-        (λ e. HasPut S.Source O.Out {A = Unit {0}} edits.now.items found.count.faults most 0 1 (Err e) (λ fixes. Unit {0})
+        (λ e. HasPut S.Source O.Out {A = Unit {0}} edits.now.items known.faults most 0 1 (Err e) (λ fixes. Unit {0})
         (source.old, out.old) (source.new, out.new)) }
 {
-    let step = next_step(alloc, edits, found, most, source)?;
+    let step = next_step(alloc, edits, known, most, source)?;
     let Some(step) = step else {
         return Ok(None);
     };
@@ -80,35 +83,76 @@ fn put_next<A: Allocator + Copy, S: Source, O: Out>(
 fn put_steps<A: Allocator + Copy, S: Source, O: Out>(
     alloc: A,
     limit: u32,
-    first: Findings<A>,
+    first: Known<A>,
     source: &mut S,
     out: &mut O,
 ) -> Result<u64, RunError>
     requires fits { SearchFitsInMemory A.row A.Allocator }
     ensures { MatchResult result
-        (λ n. HasPut S.Source O.Out {A = Unit {0}} [] first.count.faults 255 0 (min limit 16) (Ok tt) (λ fixes. n ≡ left_after first.count.faults fixes)
+        (λ n. HasPut S.Source O.Out {A = Unit {0}} [] first.faults 255 0 (min limit 16) (Ok tt) (λ fixes. n ≡ left_after first.faults fixes)
         (source.old, out.old) (source.new, out.new))
-        (λ e. HasPut S.Source O.Out {A = Unit {0}} [] first.count.faults 255 0 (min limit 16) (Err e) (λ fixes. Unit {0})
+        (λ e. HasPut S.Source O.Out {A = Unit {0}} [] first.faults 255 0 (min limit 16) (Err e) (λ fixes. Unit {0})
         (source.old, out.old) (source.new, out.new)) }
 {
     let mut edits: Edits = ArrayVec::new();
-    let mut found = first;
+    let mut known = first;
     let mut most = MOST_RUNS;
     for round in 0..limit.min(MOST_CHANGES) {
-        let faults = found.count.faults;
+        let faults = known.faults;
         if faults == 0 {
             return Ok(0);
         }
-        match put_next(alloc, &edits, found, most, source, out)? {
+        match put_next(alloc, &edits, known, most, source, out)? {
             Some(step) => {
                 edits.push(step.edit);
-                found = step.found;
+                known = Known::of(step.found);
                 most -= step.tried;
             }
             None => return Ok(faults),
         }
     }
-    Ok(found.count.faults)
+    Ok(known.faults)
+}
+
+// The search in a file of which a run found this.
+fn search_read<A: Allocator + Copy, S: Source, O: Out>(
+    alloc: A,
+    limit: u32,
+    first: Findings<A>,
+    source: &mut S,
+    out: &mut O,
+) -> Result<Verdict, RunError>
+    requires fits { SearchFitsInMemory A.row A.Allocator }
+    ensures { HasSearched S.Source O.Out limit (Ok first.count) result (source.old, out.old) (source.new, out.new) }
+{
+    let faults = first.count.faults;
+    let front = first_text(faults);
+    out.put(front.as_slice())?;
+    let left = put_steps(alloc, limit, Known::of(first), source, out)?;
+    let end = end_text(left);
+    out.put(end.as_slice())?;
+    Ok(Verdict::of(faults))
+}
+
+// The search in a file that is refused. Nothing is put if no change is found with which it is read.
+fn search_refused<A: Allocator + Copy, S: Source, O: Out>(
+    alloc: A,
+    limit: u32,
+    refusal: Refusal,
+    source: &mut S,
+    out: &mut O,
+) -> Result<Verdict, RunError>
+    requires fits { SearchFitsInMemory A.row A.Allocator }
+    ensures { HasSearched S.Source O.Out limit (Err (Refused refusal)) result (source.old, out.old) (source.new, out.new) }
+{
+    let first = Known::of_refused();
+    let faults = first.faults;
+    let left = put_steps(alloc, limit, first, source, out)?;
+    if left < faults {
+        let end = end_text(left);
+        out.put(end.as_slice())?;
+    }
+    Err(RunError::Refused(refusal))
 }
 
 // The search, as one text.
@@ -121,14 +165,13 @@ fn search<A: Allocator + Copy, S: Source, O: Out>(
     requires fits { SearchFitsInMemory A.row A.Allocator }
     ensures { HasMended S.Source O.Out limit result (source.old, out.old) (source.new, out.new) }
 {
-    let first = count_changed(alloc, &Changes::new(), source)?;
-    let faults = first.count.faults;
-    let front = first_text(faults);
-    out.put(front.as_slice())?;
-    let left = put_steps(alloc, limit, first, source, out)?;
-    let end = end_text(left);
-    out.put(end.as_slice())?;
-    Ok(Verdict::of(faults))
+    match count_changed(alloc, &Changes::new(), source) {
+        Ok(first) => search_read(alloc, limit, first, source, out),
+        Err(error) => match error {
+            RunError::Refused(refusal) => search_refused(alloc, limit, refusal, source, out),
+            _ => Err(error),
+        },
+    }
 }
 
 /// Looks for the changes that leave the fewest faults in the database that `source` gives, and writes them to `out`.
@@ -139,12 +182,15 @@ fn search<A: Allocator + Copy, S: Source, O: Out>(
 /// many faults are left after it; at the end `ok`, or how many faults are left. Of a file without a fault `ok` is all that is written. It
 /// answers the verdict of the run without changes.
 ///
+/// If that run refuses the file, the first change is one with which the file is read: what a database begins with, a page size, or
+/// that no bytes are reserved. The others follow as above. If there is no such change, nothing is written.
+///
 /// There are at most 256 runs, and each keeps what a check keeps: what the best run of a change found is kept beside the one at hand.
 /// All memory is from `alloc`, which may be any allocator. Nothing is written to the file.
 ///
 /// # Errors
 ///
-/// [`RunError::Refused`] where the file without changes is not read at all: then nothing was written. [`RunError::ReadFailed`] where the
+/// [`RunError::Refused`] where the file without changes is refused: all of the text was written then. [`RunError::ReadFailed`] where the
 /// source failed, [`RunError::OutOfMemory`] where a growth was refused, and [`RunError::WriteFailed`] where the Out failed: then it
 /// holds what it had and a beginning of the text.
 pub fn mend<A: Allocator + Copy, S: Source, O: Out>(

@@ -7,8 +7,10 @@ ghost use Rattle.dbmend.specs.Trials.{IsStep, WasThere};
 use crate::choosing::candidates;
 use crate::counting::Findings;
 use crate::edit::{Edit, Edits};
+use crate::known::Known;
 use crate::looking::look_at;
 use crate::ranked::Tries;
+use crate::refused::reading_tries;
 use crate::trying::best_of;
 use dbsource::{ReadFailed, RunError, Source};
 use std::alloc::Allocator;
@@ -27,7 +29,7 @@ pub(crate) struct Step<A: Allocator> {
 fn look_before<S: Source>(edit: &Edit, source: &mut S) -> Result<Edit, RunError>
     ensures { HasDone S.Source result 0 0 (λ was deeds. WasThere edit.now was.bytes deeds) source.old source.new }
 {
-    let mut was = [0u8; 8];
+    let mut was = [0u8; 16];
     let bytes = &mut was[..edit.bytes().len()];
     look_at(source, edit.offset(), bytes)?;
     Ok(Edit::new(edit.offset(), bytes))
@@ -37,12 +39,16 @@ fn look_before<S: Source>(edit: &Edit, source: &mut S) -> Result<Edit, RunError>
 fn tries_of<A: Allocator + Copy, S: Source>(
     alloc: A,
     before: &Edits,
-    found: Findings<A>,
+    known: Known<A>,
     source: &mut S,
 ) -> Result<Tries, RunError>
+    requires fits { SearchFitsInMemory A.row A.Allocator }
     ensures { HasDone S.Source result 0 0 (λ tries deeds. Unit {0}) source.old source.new }
 {
-    candidates(alloc, before.as_slice(), &found, source)
+    match &known.findings {
+        Some(found) => candidates(alloc, before.as_slice(), found, source),
+        None => Ok(reading_tries()),
+    }
 }
 
 // The first `most` of them, or all.
@@ -57,17 +63,17 @@ fn first_of(tries: &Tries, most: usize) -> &[Edit]
 pub(crate) fn next_step<A: Allocator + Copy, S: Source>(
     alloc: A,
     before: &Edits,
-    found: Findings<A>,
+    known: Known<A>,
     most: usize,
     source: &mut S,
 ) -> Result<Option<Step<A>>, RunError>
     requires fits { SearchFitsInMemory A.row A.Allocator }
     ensures { HasDone S.Source result most 0
-        (λ o deeds. IfSome o (λ s. IsStep before.now.items found.count.faults s.edit s.was.bytes s.found.count deeds
+        (λ o deeds. IfSome o (λ s. IsStep before.now.items known.faults s.edit s.was.bytes s.found.count deeds
         × (runs_in deeds ≤ s.tried) × (s.tried ≤ most))) source.old source.new }
 {
-    let faults = found.count.faults;
-    let tries = tries_of(alloc, before, found, source)?;
+    let faults = known.faults;
+    let tries = tries_of(alloc, before, known, source)?;
     let first = first_of(&tries, most);
     let best = best_of(alloc, before, first, faults, source)?;
     let Some(best) = best else {

@@ -112,9 +112,9 @@ fn append_hex<const CAP: usize>(line: &mut ArrayVec<u8, CAP>, bytes: &[u8])
 
 // What a change puts, and for what.
 #[tactic(auto, unfolding(crate::specs::Texts::change_line))]
-pub(crate) fn change_line(offset: u64, bytes: &[u8], was: &[u8]) -> ArrayVec<u8, 80>
-    requires bytes { length bytes.now ≤ 8 }
-    requires was { length was.now ≤ 8 }
+pub(crate) fn change_line(offset: u64, bytes: &[u8], was: &[u8]) -> ArrayVec<u8, 112>
+    requires bytes { length bytes.now ≤ 16 }
+    requires was { length was.now ≤ 16 }
     ensures { result.items ≡ change_line offset bytes.now was.now }
 {
     let mut line = ArrayVec::new();

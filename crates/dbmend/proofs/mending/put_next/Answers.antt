@@ -10,11 +10,11 @@ use Rattle.dbmend.proofs.mending.put_next.Goals as goal
 pub returns-in_err-step : goal.returns-in_err-step
 returns-in_err-step g c =
     let q = err_from_is_err_and c.from_residual.result c.from_residual.ensures.1 in
-    rw q.1 (rw q.2 (put_unread g.S.Source g.O.Out c.in_err-step.field-0.0 c.args.edits.now.items c.args.found.count.faults c.args.most 0 1
+    rw q.1 (rw q.2 (put_unread g.S.Source g.O.Out c.in_err-step.field-0.0 c.args.edits.now.items c.args.known.faults c.args.most 0 1
     c.args.out.now c.in_err-step.ensures))
 
 pub returns-in_default : goal.returns-in_default
-returns-in_default g c = put_looked g.S.Source g.O.Out c.in_ok-step.step tt c.args.edits.now.items c.args.found.count.faults c.args.most 0 1
+returns-in_default g c = put_looked g.S.Source g.O.Out c.in_ok-step.step tt c.args.edits.now.items c.args.known.faults c.args.most 0 1
     c.args.out.now c.in_ok-step.ensures refl
 
 pub returns-in_err-put_step : goal.returns-in_err-put_step
@@ -22,7 +22,7 @@ returns-in_err-put_step g c =
     let q = err_from_is_err_and c.from_residual-in_err-put_step.result c.from_residual-in_err-put_step.ensures.1 in
     let step = c.in-Some.step in
     let before = c.args.edits.now.items in
-    let faults = c.args.found.count.faults in
+    let faults = c.args.known.faults in
     let most = c.args.most in
     rw q.1 (rw q.2 (put_unfixed g.S.Source g.O.Out before faults most step.tried
     (record { change = step.edit; was = step.was.bytes; count = step.found.count }) c.args.source.now c.next_step.new.source c.args.out.now c.put_step.new.out
@@ -35,7 +35,7 @@ pub returns : goal.returns
 returns g c =
     let step = c.in-Some.step in
     let before = c.args.edits.now.items in
-    let faults = c.args.found.count.faults in
+    let faults = c.args.known.faults in
     let most = c.args.most in
     let h = c.in_ok-step.ensures in
     let k = subst (λ (o : Option (Step g.row.A.Denot)). IfSome o (λ s. IsStep before faults s.edit s.was.bytes s.found.count h.deeds
@@ -51,12 +51,12 @@ returns g c =
     )
 
 pub next_step-requires : goal.next_step-requires
-next_step-requires g c = let h = c.requires.fits in (h.findings, (h.step, h))
+next_step-requires g c = let h = c.requires.fits in (h.known, (h.step, h))
 
 pub put_step-requires : goal.put_step-requires
 put_step-requires g c =
     let before = c.args.edits.now.items in
-    let faults = c.args.found.count.faults in
+    let faults = c.args.known.faults in
     let most = c.args.most in
     let h = c.in_ok-step.ensures in
     let k = subst (λ (o : Option (Step g.row.A.Denot)). IfSome o (λ s. IsStep before faults s.edit s.was.bytes s.found.count h.deeds

@@ -43,7 +43,7 @@ pub returns : goal.returns
 returns g c =
     let l : length c.first_of-first.result.now ≤ c.args.most = c.first_of-first.ensures in
     let before = c.args.before.now.items in
-    let faults = c.args.found.count.faults in
+    let faults = c.args.known.faults in
     let best = c.in-Some.best in
     let here = done_both g.S.Source c.in_ok-tries.tries (Ok c.in_ok-best.best) {R = λ o deeds. IsTrial before best.edit best.found.count faults deeds}
     c.in_ok-tries.ensures c.in_ok-best.ensures
@@ -56,3 +56,6 @@ returns g c =
 
 pub best_of-requires : goal.best_of-requires
 best_of-requires g c = (c.requires.fits.trial, c.requires.fits.desk)
+
+pub tries_of-requires : goal.tries_of-requires
+tries_of-requires g c = (c.requires.fits.known, c.requires.fits)
