@@ -5,6 +5,7 @@ pub mod Heard
 pub mod KeptInjuries
 pub mod IndexesNoted
 pub mod Left
+pub mod RangeCounts
 pub mod RangesKept
 pub mod RowLines
 pub mod RowLoops
@@ -12,6 +13,7 @@ pub mod PagePieces
 pub mod ReachedPages
 pub mod ReadReports
 pub mod Reports
+pub mod StartCounts
 pub mod SumLaws
 pub mod SumPieces
 pub mod Summaries

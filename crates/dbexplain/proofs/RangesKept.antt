@@ -130,14 +130,6 @@ kept_more rs s k is = by_room (nat_lt (length k.kept) most_ranges) refl
         (record k { more = slice_set k.more s.start (one_more s.kind (slice_index_or k.more s.start no_more)) })).more) (sym e)
         (full rs s k.kept k.more is l)
 
--- where there is no room
-pub kept_full : (k : KeptRanges) (r : RowRange) → 1000 ≤ length k.kept
-    → record k { more = slice_set k.more r.start (one_more r.kind (slice_index_or k.more r.start no_more)) } ≡ range_kept k r
-kept_full k r l =
-    let none : nat_lt (length k.kept) most_ranges ≡ false = grind (arith, nat_tests, l) in
-    sym (ap (λ b. cond b (record k { kept = k.kept ++ r ∷ [] })
-    (record k { more = slice_set k.more r.start (one_more r.kind (slice_index_or k.more r.start no_more)) })) none)
-
 -- ---- fault after fault
 
 -- what is kept belongs to what is found

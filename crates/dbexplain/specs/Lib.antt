@@ -5,11 +5,13 @@ pub mod Indexes
 pub mod Keeping
 pub mod KeptLines
 pub mod KeptRanges
+pub mod RangeCounts
 pub mod Notes
 pub mod Ranges
 pub mod Reporting
 pub mod RowLines
 pub mod Runs
+pub mod StartCounts
 pub mod Summary
 pub mod Sums
 pub mod Tallies

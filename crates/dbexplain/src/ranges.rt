@@ -1,10 +1,10 @@
 // Which rows the faults of a tree are of: ranges of rowids, as the keys around them say.
 ghost use Rattle.std.specs.Prelude.{◌≡◌, [], IfOk};
-ghost use Rattle.dbexplain.specs.Ranges.{grown, is_no_range, is_of, joins, kind_of, one_row, range_by, range_of, same_bounds, same_key, same_kind, touches};
-ghost use Rattle.dbexplain.specs.KeptRanges.{AreRangesOf, closed, count_of, one_more, range_added, range_kept, range_told, unkept};
+ghost use Rattle.dbexplain.specs.Ranges.{if_some_rows, is_no_range, is_of, joins, kind_of, one_row, range_by, range_of, rows_at, same_bounds, same_key, same_kind, touches};
+ghost use Rattle.dbexplain.specs.KeptRanges.{AreRangesOf, closed, count_of, range_added, range_if, range_kept, range_told, unkept};
 
+use crate::range_counts::RangeCounts;
 use dbformat::{Fault, FaultCode};
-use dbscan::StartTable;
 use dbsource::NoMemory;
 use dbsource::memory::with_room;
 use dbtrace::{Cause, Part, RowidBounds, TracedFault};
@@ -47,7 +47,7 @@ pub struct RangeCount {
 pub struct RowRanges<A: Allocator = Global> {
     kept: Vec<RowRange, A>,
     last: Option<RowRange>,
-    more: StartTable<RangeCount, A>,
+    more: RangeCounts<A>,
 }
 
 impl<A: Allocator> Model for RowRanges<A> {
@@ -92,29 +92,6 @@ fn one_row(rowid: i64) -> RowidBounds
     }
 }
 
-// The rows that a fault at a start is of, if it is of any.
-fn range_by(start: u32, fault: &Fault, cause: &Cause) -> Option<RowRange>
-    ensures { result ≡ range_by start fault.now cause.now }
-{
-    let (kind, rowids) = match cause {
-        Cause::Itself => return None,
-        Cause::Rows(rowids) => (kind_of(fault.code), *rowids),
-        Cause::Key(_, Some(left)) => (RowsKind::OnFaulty, *left),
-        Cause::Key(_, None) => (RowsKind::OnFaulty, one_row(fault.value)),
-        Cause::Leaf(_, rowids) => (RowsKind::OnFaulty, *rowids),
-        Cause::Chain(chain) => match chain.rowid {
-            Some(rowid) => (RowsKind::CutShort, one_row(rowid)),
-            None => return None,
-        },
-        Cause::Page(_, facts) | Cause::Look(_, facts) => (kind_of(fault.code), facts.rowids),
-    };
-    Some(RowRange {
-        start,
-        kind,
-        rowids,
-    })
-}
-
 // Whether no row is within these bounds.
 fn is_no_range(rowids: &RowidBounds) -> bool
     ensures { result ≡ is_no_range rowids.now }
@@ -125,30 +102,65 @@ fn is_no_range(rowids: &RowidBounds) -> bool
     }
 }
 
+// Rows of the tree of a start, if there are any.
+fn rows_at(start: u32, kind: RowsKind, rowids: RowidBounds) -> Option<RowRange>
+    ensures { result ≡ if_some_rows (rows_at start kind rowids) }
+{
+    if is_no_range(&rowids) {
+        return None;
+    }
+    Some(RowRange {
+        start,
+        kind,
+        rowids,
+    })
+}
+
+// One row of the tree of a start. Such a range is never empty.
+fn row_at(start: u32, kind: RowsKind, rowid: i64) -> Option<RowRange>
+    ensures { result ≡ if_some_rows (rows_at start kind (one_row rowid)) }
+{
+    Some(RowRange {
+        start,
+        kind,
+        rowids: one_row(rowid),
+    })
+}
+
+// The rows that a fault at a start is of, if there are any.
+fn range_by(start: u32, fault: &Fault, cause: &Cause) -> Option<RowRange>
+    ensures { result ≡ if_some_rows (range_by start fault.now cause.now) }
+{
+    match cause {
+        Cause::Itself => None,
+        Cause::Rows(rowids) => rows_at(start, kind_of(fault.code), *rowids),
+        Cause::Key(_, Some(left)) => rows_at(start, RowsKind::OnFaulty, *left),
+        Cause::Key(_, None) => row_at(start, RowsKind::OnFaulty, fault.value),
+        Cause::Leaf(_, rowids) => rows_at(start, RowsKind::OnFaulty, *rowids),
+        Cause::Chain(chain) => match chain.rowid {
+            Some(rowid) => row_at(start, RowsKind::CutShort, rowid),
+            None => None,
+        },
+        Cause::Page(_, facts) | Cause::Look(_, facts) => {
+            rows_at(start, kind_of(fault.code), facts.rowids)
+        }
+    }
+}
+
 // The rows that a fault is of, if there are any.
 fn range_of(told: &TracedFault) -> Option<RowRange>
     ensures { result ≡ range_of told.now }
 {
-    let Part::Start(start) = told.part else {
-        return None;
-    };
-    let range = range_by(start, &told.fault, &told.cause)?;
-    if is_no_range(&range.rowids) {
-        None
-    } else {
-        Some(range)
+    match told.part {
+        Part::Start(start) => range_by(start, &told.fault, &told.cause),
+        Part::Header | Part::End => None,
     }
 }
 
-fn same_kind(one: RowsKind, other: RowsKind) -> bool
+pub(crate) fn same_kind(one: RowsKind, other: RowsKind) -> bool
     ensures { result ≡ same_kind one other }
 {
-    matches!(
-        (one, other),
-        (RowsKind::NotReached, RowsKind::NotReached)
-            | (RowsKind::OnFaulty, RowsKind::OnFaulty)
-            | (RowsKind::CutShort, RowsKind::CutShort)
-    )
+    one as u8 == other as u8
 }
 
 fn same_key(one: Option<i64>, other: Option<i64>) -> bool
@@ -195,22 +207,8 @@ fn joins(one: &RowRange, other: &RowRange) -> bool
             || (!same_kind(one.kind, RowsKind::CutShort) && touches(&one.rowids, &other.rowids)))
 }
 
-// A range with those after it.
-fn grown(one: &RowRange, other: &RowRange) -> RowRange
-    ensures { result ≡ grown one.now other.now }
-{
-    RowRange {
-        start: one.start,
-        kind: one.kind,
-        rowids: RowidBounds {
-            above: one.rowids.above,
-            up_to: other.rowids.up_to,
-        },
-    }
-}
-
 // How many of this kind found no room.
-fn count_of(count: RangeCount, kind: RowsKind) -> u64
+pub(crate) fn count_of(count: RangeCount, kind: RowsKind) -> u64
     ensures { result ≡ count_of kind count }
 {
     match kind {
@@ -218,19 +216,6 @@ fn count_of(count: RangeCount, kind: RowsKind) -> u64
         RowsKind::OnFaulty => count.on_faulty,
         RowsKind::CutShort => count.cut_short,
     }
-}
-
-// One more of this kind.
-fn one_more(count: RangeCount, kind: RowsKind) -> RangeCount
-    ensures { result ≡ one_more kind count }
-{
-    let mut more = count;
-    match kind {
-        RowsKind::NotReached => more.not_reached = more.not_reached.saturating_add(1),
-        RowsKind::OnFaulty => more.on_faulty = more.on_faulty.saturating_add(1),
-        RowsKind::CutShort => more.cut_short = more.cut_short.saturating_add(1),
-    }
-    more
 }
 
 impl<A: Allocator + Copy> RowRanges<A> {
@@ -243,7 +228,7 @@ impl<A: Allocator + Copy> RowRanges<A> {
         ensures { IfOk result (AreRangesOf []) }
     {
         let kept = with_room(alloc, MAX_RANGES)?;
-        let more = StartTable::new_in(alloc, RangeCount::default())?;
+        let more = RangeCounts::new_in(alloc)?;
         Ok(RowRanges {
             kept,
             last: None,
@@ -257,7 +242,7 @@ impl<A: Allocator> RowRanges<A> {
     pub(crate) fn unkept(&self, start: u32, kind: RowsKind) -> u64
         ensures { result ≡ unkept self.now start kind }
     {
-        count_of(self.more.get(start).unwrap_or(RangeCount::default()), kind)
+        count_of(self.more.get(start), kind)
     }
 
     /// The ranges that are kept.
@@ -268,7 +253,7 @@ impl<A: Allocator> RowRanges<A> {
     }
 
     // Keeps a range, or counts it if there is no room.
-    #[inline(always)]
+    #[inline(never)]
     fn keep(&mut self, range: RowRange)
         ensures { self.new ≡ range_kept self.old range }
     {
@@ -276,31 +261,58 @@ impl<A: Allocator> RowRanges<A> {
             // There is room, so this is not refused.
             let _ = self.kept.push(range);
         } else {
-            let count = self.more.get(range.start).unwrap_or(RangeCount::default());
-            self.more.set(range.start, one_more(count, range.kind));
+            self.more.add(range.start, range.kind);
         }
     }
 
     // Adds a range.
+    #[inline(always)]
     fn add(&mut self, range: RowRange)
         ensures { self.new ≡ range_added self.old range }
     {
-        if let Some(last) = self.last {
-            if joins(&last, &range) {
-                self.last = Some(grown(&last, &range));
+        if let Some(last) = &mut self.last {
+            if joins(last, &range) {
+                last.rowids.up_to = range.rowids.up_to;
                 return;
             }
+            if self.kept.len() == MAX_RANGES && is_of(range.start, range.kind, last) {
+                self.more.add(range.start, range.kind);
+                last.rowids = range.rowids;
+                return;
+            }
+            let last = *last;
             self.keep(last);
         }
         self.last = Some(range);
+    }
+
+    // Adds a range, if there is one.
+    #[inline(always)]
+    fn add_if(&mut self, range: Option<RowRange>)
+        ensures { self.new ≡ range_if self.old range }
+    {
+        if let Some(range) = range {
+            self.add(range);
+        }
+    }
+
+    // Adds the rows that a fault of any kind is of, if there are any.
+    #[inline(never)]
+    fn add_any(&mut self, told: &TracedFault)
+        ensures { self.new ≡ range_told self.old told.now }
+    {
+        self.add_if(range_of(told));
     }
 
     /// Adds the rows that a fault is of, if there are any.
     pub fn hear(&mut self, told: &TracedFault)
         ensures { self.new ≡ range_told self.old told.now }
     {
-        if let Some(range) = range_of(told) {
-            self.add(range);
+        // Where a file has many faults, most are rowids out of order.
+        if let (Part::Start(start), Cause::Key(_, None)) = (told.part, &told.cause) {
+            self.add_if(row_at(start, RowsKind::OnFaulty, told.fault.value));
+        } else {
+            self.add_any(told);
         }
     }
 

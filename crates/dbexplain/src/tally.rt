@@ -2,9 +2,9 @@
 ghost use Rattle.std.specs.Prelude.{◌≡◌, [], IfOk};
 ghost use Rattle.dbexplain.specs.Tallies.{code_told, count_at, count_of, fault_told, IsTallyOf, one_reached_page, part_told, start_reached};
 
+use crate::start_counts::StartCounts;
 use dbformat::{FaultCode, Geometry};
 use dbinjuries::PageBits;
-use dbscan::StartTable;
 use dbsource::NoMemory;
 use dbtrace::{Part, TracedFault};
 use std::alloc::{Allocator, Global};
@@ -26,7 +26,7 @@ pub struct Tally<A: Allocator = Global> {
     all: u64,
     // By the index of the code.
     codes: [u64; FaultCode::COUNT],
-    starts: StartTable<StartCount, A>,
+    starts: StartCounts<StartCount, A>,
     whole: u64,
     pages: PageBits<A>,
 }
@@ -61,7 +61,7 @@ impl<A: Allocator + Copy> Tally<A> {
     pub fn new_in(alloc: A, geometry: &Geometry) -> Result<Tally<A>, NoMemory>
         ensures { IfOk result (IsTallyOf geometry.now.pages []) }
     {
-        let starts = StartTable::new_in(alloc, StartCount::default())?;
+        let starts = StartCounts::new_in(alloc, StartCount::default())?;
         let pages = PageBits::new_in(alloc, geometry.pages)?;
         Ok(Tally {
             all: 0,

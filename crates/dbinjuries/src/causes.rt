@@ -1,17 +1,35 @@
 // Whether two faults go back to the same, and how many of a code are listed.
-ghost use Rattle.std.specs.Prelude.{◌≡◌, ◌≤◌};
+ghost use Rattle.std.specs.Prelude.{◌≡◌, ◌≤◌, ◌&&◌, ◌==◌};
 ghost use Rattle.dbinjuries.specs.Kept.{look_cells};
 ghost use Rattle.dbinjuries.specs.Listing.{most, same_cause, same_kind, same_look};
 
 use dbformat::{FaultCode, Look, PageKind};
-use dbtrace::Cause;
+use dbtrace::{Cause, CellKey};
 
-// Whether two causes are the same: the same cell or page, or pages that look alike.
+// Whether two causes are the same: the same cell or page, or pages that look alike. Where a file has many faults, most go back to keys.
 pub(crate) fn same_cause(one: &Cause, other: &Cause) -> bool
     ensures { result ≡ same_cause one.now other.now }
 {
     match (one, other) {
-        (Cause::Key(a, _), Cause::Key(b, _)) => a.page == b.page && a.item == b.item,
+        (Cause::Key(a, _), Cause::Key(b, _)) => same_cell(a, b),
+        _ => same_source(one, other),
+    }
+}
+
+// Whether two keys are of one cell.
+fn same_cell(one: &CellKey, other: &CellKey) -> bool
+    ensures { result ≡ ((one.now.page == other.now.page) && (one.now.item == other.now.item)) }
+{
+    one.page == other.page && one.item == other.item
+}
+
+// The same, of causes of any kind.
+#[inline(never)]
+fn same_source(one: &Cause, other: &Cause) -> bool
+    ensures { result ≡ same_cause one.now other.now }
+{
+    match (one, other) {
+        (Cause::Key(a, _), Cause::Key(b, _)) => same_cell(a, b),
         (Cause::Leaf(a, _), Cause::Leaf(b, _)) => *a == *b,
         (Cause::Page(a, _), Cause::Page(b, _)) => *a == *b,
         (Cause::Look(a, _), Cause::Look(b, _)) => same_look(a, b),

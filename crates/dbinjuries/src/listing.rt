@@ -1,5 +1,5 @@
 // The injuries of the reported faults, and which pages are zeros.
-ghost use Rattle.std.specs.Prelude.{◌≡◌, ◌≤◌, ◌<◌, IfOk, filter, fold, length};
+ghost use Rattle.std.specs.Prelude.{◌≡◌, ℕ, ◌≤◌, ◌<◌, IfOk, false, filter, fold, length};
 ghost use Rattle.std.specs.List.{range_with_len};
 ghost use Rattle.dbinjuries.specs.Bits.{has_bit};
 ghost use Rattle.dbinjuries.specs.Kept.{no_runs, run_added};
@@ -113,6 +113,17 @@ fn is_of_one_byte(usable: u32, cause: &Cause) -> bool
     }
 }
 
+// Whether a fault with this cause may be of a page of one byte throughout.
+fn shows_bytes(cause: &Cause) -> bool
+    ensures zeros { result ≡ false → is_of_zeros cause.now ≡ false }
+    ensures one_byte { result ≡ false → (usable : ℕ) → is_of_one_byte usable cause.now ≡ false }
+{
+    match cause {
+        Cause::Page(_, _) | Cause::Look(_, _) | Cause::Chain(_) => true,
+        _ => false,
+    }
+}
+
 impl<A: Allocator + Copy> Listing<A> {
     /// No injuries, with room for `limit`, and two bits for each page of a file of this shape: three growths from any allocator. After
     /// that it takes no memory.
@@ -146,8 +157,7 @@ impl<A: Allocator> Listing<A> {
     pub(crate) fn add(&mut self, told: &TracedFault)
         ensures { self.new ≡ added self.old told.now }
     {
-        self.note_zeros(told);
-        self.note_blank(told);
+        self.note_bytes(told);
         self.turn_to(rank(told.part));
         match self.home(told) {
             Some(slot) => self.put_kept(slot, told),
@@ -240,6 +250,20 @@ impl<A: Allocator> Listing<A> {
             self.shown += 1;
         } else {
             self.rest = self.rest.saturating_add(1);
+        }
+    }
+
+    // Notes whether the page of a fault is zeros, and whether it is one byte throughout.
+    #[inline(always)]
+    fn note_bytes(&mut self, told: &TracedFault)
+        ensures { self.new ≡ record self.old {
+          zeros = noted is_of_zeros self.old.zeros told.now;
+          blank = noted (is_of_one_byte self.old.usable) self.old.blank told.now;
+        } }
+    {
+        if shows_bytes(&told.cause) {
+            self.note_zeros(told);
+            self.note_blank(told);
         }
     }
 

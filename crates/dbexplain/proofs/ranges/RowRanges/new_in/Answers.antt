@@ -1,6 +1,4 @@
-use Rattle.std.proofs.Common.{List, None, ap₂, ◌∙◌}
-use Rattle.std.specs.Prelude.{replicate}
-use Rattle.dbscan.specs.StartTable.{most_starts}
+use Rattle.std.proofs.Common.{List, None, ap₂}
 use Rattle.dbexplain.specs.KeptRanges.{KeptRanges, no_ranges}
 use Rattle.dbexplain.specs.declared.ranges.RangeCount.{RangeCount}
 use Rattle.dbexplain.specs.declared.ranges.RowRange.{RowRange}
@@ -12,7 +10,4 @@ of_parts kept more = record { kept = kept; last = None; more = more }
 
 pub returns : goal.returns
 unfolding no_ranges
-returns g c =
-    let zero = c.default.ensures in
-    none_added _ (ap₂ of_parts c.in_ok-kept.ensures.items (c.in_ok-more.ensures
-    ∙ (λ i. replicate most_starts (record { not_reached = zero.0 i; on_faulty = zero.1.0 i; cut_short = zero.1.1 i }))))
+returns g c = none_added _ (ap₂ of_parts c.in_ok-kept.ensures.items c.in_ok-more.ensures)

@@ -1,15 +1,9 @@
 use Rattle.std.proofs.Common.{ap, sym, ◌∙◌}
-use Rattle.dbtrace.specs.declared.TracedFault.{TracedFault}
 use Rattle.dbinjuries.specs.Listing.{rank}
 use Rattle.dbinjuries.specs.Lists.{Held}
 use Rattle.dbinjuries.specs.Store.{put_at, put_here, turned_to}
-use Rattle.dbinjuries.specs.Zeros.{is_of_one_byte, noted}
 use Rattle.dbinjuries.proofs.Adding.{kept_within}
 use Rattle.dbinjuries.proofs.listing.Listing.add.Goals as goal
-
--- with the bit of a page that is one byte throughout
-abbrev blank_noted : TracedFault → Held → Held
-blank_noted x s = record s { blank = noted (is_of_one_byte s.usable) s.blank x }
 
 pub put_kept-requires : goal.put_kept-requires
 put_kept-requires g c = kept_within c.args.told.now c.turn_to.new.self.injuries c.in-Some.slot (sym c.in-Some.ensures)
@@ -18,22 +12,22 @@ pub returns-in-Some : goal.returns-in-Some
 returns-in-Some g c =
     let told = c.args.told.now in
     let here = c.turn_to.new.self in
-    let marked = c.note_blank.new.self in
+    let marked = c.note_bytes.new.self in
     c.put_kept.ensures
     ∙ ap (λ o. record here { injuries = put_at o told here.injuries }) c.in-Some.ensures
     ∙ ap (λ (s : Held). record s { injuries = put_here s.injuries told })
     (c.turn_to.ensures ∙ ap (λ p. record marked { injuries = turned_to p marked.injuries }) c.rank.ensures
     ∙ ap (λ (s : Held). record s { injuries = turned_to (rank told.part) s.injuries })
-    (c.note_blank.ensures ∙ ap (blank_noted told) c.note_zeros.ensures))
+    c.note_bytes.ensures)
 
 pub returns-in-None : goal.returns-in-None
 returns-in-None g c =
     let told = c.args.told.now in
     let here = c.turn_to.new.self in
-    let marked = c.note_blank.new.self in
+    let marked = c.note_bytes.new.self in
     c.put_new.ensures
     ∙ ap (λ o. record here { injuries = put_at o told here.injuries }) c.in-None.ensures
     ∙ ap (λ (s : Held). record s { injuries = put_here s.injuries told })
     (c.turn_to.ensures ∙ ap (λ p. record marked { injuries = turned_to p marked.injuries }) c.rank.ensures
     ∙ ap (λ (s : Held). record s { injuries = turned_to (rank told.part) s.injuries })
-    (c.note_blank.ensures ∙ ap (blank_noted told) c.note_zeros.ensures))
+    c.note_bytes.ensures)
