@@ -1,6 +1,6 @@
 -- What a status says of what was asked of a file, by the outcome that it belongs to.
 use Rattle.std.proofs.Common.{inl, inr, ◌≡◌, ◌↔◌, ℕ, List, [], Option, Some, None, Result, Ok, Err, ◌≤◌, ◌%◌, ◌^◌, refl, sym, ◌∙◌, ap, subst, arith}
-use Rattle.std.specs.Prelude.{◌⊎◌, OnErr, OnOk, IfErr, IfOk}
+use Rattle.std.specs.Prelude.{OnErr, OnOk, IfErr, IfOk}
 use Rattle.std.specs.Io.KnownBytes.{Appends, Keeps}
 use Rattle.std.proofs.KnownBytes.{Appends-trans}
 use Rattle.std.proofs.lemmas.List.{append-nil}

@@ -1,5 +1,5 @@
 -- A mend over a source over a source, and one after a question that changed nothing that contracts see.
-use Rattle.std.proofs.Common.{◌≡◌, ℕ, List, [], ◌∷◌, Result, Ok, Err, ap, subst}
+use Rattle.std.proofs.Common.{◌≡◌, ℕ, List, [], ◌∷◌, Result, ap, subst}
 use Rattle.dbformat.specs.File.{geometry}
 use Rattle.dbformat.specs.Log.{IsRunLog, IsSomeRunLog}
 use Rattle.dbformat.specs.declared.Verdict.{Verdict}

@@ -6,7 +6,7 @@ use Rattle.dbformat.specs.Log.{IsRunLog, IsSomeRunLog}
 use Rattle.dbsource.specs.Changes.{Change, patched}
 use Rattle.dbsource.specs.Failures.{one_more}
 use Rattle.dbsource.specs.Headers.{IsOpenLog}
-use Rattle.dbsource.specs.Patched.{ChangedLength, ChangedStep, Over, changed}
+use Rattle.dbsource.specs.Patched.{Over, changed}
 use Rattle.dbsource.specs.Snapshots.{HasRead}
 use Rattle.dbsource.specs.Sources.{HasRanges, SourceState}
 use Rattle.dbsource.specs.declared.error.OpenError.TheVariants as opening

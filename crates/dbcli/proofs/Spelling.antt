@@ -1,8 +1,8 @@
 -- What texts spell, and that each spells at most one change.
-use Rattle.std.proofs.Common.{◌≡◌, ℕ, suc, zero, ◌+◌, ◌*◌, ◌<◌, ◌≤◌, ◌⊎◌, List, [], ◌∷◌, ◌++◌, length, take, drop}
+use Rattle.std.proofs.Common.{◌≡◌, ℕ, suc, zero, ◌+◌, ◌*◌, ◌<◌, ◌⊎◌, List, [], ◌∷◌, ◌++◌, length, take, drop}
 use Rattle.std.proofs.Common.{refl, sym, ap, ap₂, subst, ◌∙◌, arith, true, false}
 use Rattle.std.proofs.Common.{slice_index, slice_index_or, length-append, rules}
-use Rattle.std.specs.Prelude.{All, Err, Ok, nat_lt, ◌==◌, if◌then◌else◌}
+use Rattle.std.specs.Prelude.{All, Err, Ok, ◌==◌, if◌then◌else◌}
 use Rattle.std.proofs.Common.{inl, inr, Bool}
 use Rattle.std.specs.Char.{digit_value}
 use Rattle.std.specs.List.{AllZip, list_any}
@@ -14,7 +14,7 @@ use Rattle.std.specs.Prelude.{map}
 use Rattle.std.proofs.lemmas.List.Folds.{list_any_none}
 use Rattle.std.proofs.lemmas.Bool.Decides.{nat_tests}
 use Rattle.clap.specs.Words.{Text}
-use Rattle.dbsource.specs.Changes.{AreChanges, Change, IsChange, change_at, changes_with, overlaps}
+use Rattle.dbsource.specs.Changes.{AreChanges, Change, IsChange, changes_with, overlaps}
 use Rattle.dbsource.specs.declared.change.ChangeError.{ChangeError}
 use Rattle.dbsource.specs.declared.change.ChangeError.TheVariants.{Overlaps, TooMany}
 use Rattle.dbcli.specs.Spelled.{SpellsBytes, SpellsChange}

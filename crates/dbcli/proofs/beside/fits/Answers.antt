@@ -1,4 +1,4 @@
-use Rattle.std.proofs.Common.{◌≡◌, ◌∙◌, ℕ, ap, ap₂, Ok, Err}
+use Rattle.std.proofs.Common.{ℕ, ap₂, Ok, Err}
 use Rattle.std.specs.Prelude.{◌==◌}
 use Rattle.dbformat.specs.declared.Geometry.{Geometry}
 use Rattle.dbcli.proofs.beside.fits.Goals as goal

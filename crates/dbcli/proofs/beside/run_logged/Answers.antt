@@ -1,4 +1,4 @@
-use Rattle.std.proofs.Common.{rules, ◌≡◌, ◌∙◌, ap, refl, sym, subst, true, false, Ok, Err}
+use Rattle.std.proofs.Common.{rules, ◌≡◌, refl, subst, true, false, Ok, Err}
 use Rattle.dbcli.specs.Beside.{LooksAtHeader}
 use Rattle.dbcli.proofs.beside.run_logged.Goals as goal
 

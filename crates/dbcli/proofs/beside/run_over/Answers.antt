@@ -1,4 +1,4 @@
-use Rattle.std.proofs.Common.{◌≡◌, ◌∙◌, ap, [], sym, subst}
+use Rattle.std.proofs.Common.{◌≡◌, ◌∙◌, ap, sym, subst}
 use Rattle.dbsource.specs.Patched.{Over}
 use Rattle.dbcli.proofs.Patching.{patched_words, runs_below}
 use Rattle.dbcli.proofs.Watching.{runs_left}

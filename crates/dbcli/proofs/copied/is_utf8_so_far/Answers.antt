@@ -1,6 +1,5 @@
-use Rattle.std.proofs.Common.{◌≡◌, ◌∙◌, ap, refl, rules, length, drop}
-use Rattle.std.specs.Prelude.{None}
-use Rattle.std.specs.Str.Lossy.{utf8_error_len, utf8_valid_len}
+use Rattle.std.proofs.Common.{◌∙◌, ap, rules, drop}
+use Rattle.std.specs.Str.Lossy.{utf8_error_len}
 use Rattle.std.proofs.lemmas.Str.{utf8_valid_len-IsUtf8}
 use Rattle.std.proofs.Math.Seq.{drop-length}
 use Rattle.dbcli.proofs.copied.is_utf8_so_far.Goals as goal

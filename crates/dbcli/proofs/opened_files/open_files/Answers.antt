@@ -1,4 +1,4 @@
-use Rattle.std.proofs.Common.{rules, ◌≡◌, ◌∙◌, true, false, sym, subst, refl, Ok, Err}
+use Rattle.std.proofs.Common.{rules, ◌≡◌, true, false, subst, refl, Ok, Err}
 use Rattle.dbcli.specs.OpeningFiles.{OpensLogs}
 use Rattle.dbcli.proofs.opened_files.open_files.Goals as goal
 

@@ -1,8 +1,8 @@
-use Rattle.std.proofs.Common.{◌≡◌, List, ℕ, [], ◌∷◌, true, false, refl, sym, ap, ◌∙◌, subst, arith}
+use Rattle.std.proofs.Common.{◌≡◌, List, ℕ, [], ◌∷◌, true, false, refl, subst, arith}
 use Rattle.std.specs.Prelude.{codes, decimal, ◌==◌}
 use Rattle.std.proofs.lemmas.Bool.Decides.{nat_tests}
 use Rattle.dbcli.specs.NoteLines.{PutsIfRoom, said_line}
-use Rattle.dbcli.specs.Rest.{after_words, read_words, rest_said, whole_words}
+use Rattle.dbcli.specs.Rest.{rest_said}
 use Rattle.dbcli.proofs.rest.put_counts.Goals as goal
 
 pub returns-then-pages-eq0 : goal.returns-then-pages-eq0

@@ -1,4 +1,4 @@
-use Rattle.std.proofs.Common.{◌≡◌, ℕ, ◌<◌, ◌/◌, zero, suc, Option, None, Some, refl, sym, ap, ◌∙◌, subst, arith, rules}
+use Rattle.std.proofs.Common.{◌≡◌, ℕ, ◌<◌, ◌/◌, zero, suc, Option, None, Some, sym, ◌∙◌, subst, rules}
 use Rattle.std.specs.Prelude.{SomeIff, unwrap_or}
 use Rattle.std.proofs.Math.Nat.{div-zero}
 use Rattle.dbcli.specs.NoteLines.{PutsIfRoom, said_line}
