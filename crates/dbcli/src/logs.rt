@@ -1,14 +1,22 @@
 // The logs of SQLite beside a database that are not read.
 use crate::lookup::Lookup;
 use crate::note::{NoteOut, Piece};
+use crate::opened_files::{JOURNAL, WAL};
 use crate::shown::Shown;
 use dbsource::Out;
+use std::alloc::AllocError;
 
-/// What is said of a -wal.
-pub(crate) const MAY_HOLD: &str = " is not read, and may hold changes; --recovered reads it";
-
-/// What is said of a -journal, which has what undoes changes.
-pub(crate) const MAY_UNDO: &str = " is not read, and may undo changes; --recovered reads it";
+// What a log's name has after that of its database, and what is said of it: a -wal has changes, and a -journal what undoes some.
+const LOGS: [(&str, &str); 2] = [
+    (
+        WAL,
+        " is not read, and may hold changes; --recovered reads it",
+    ),
+    (
+        JOURNAL,
+        " is not read, and may undo changes; --recovered reads it",
+    ),
+];
 
 // Whether there is a file at this path that is not empty.
 fn has_bytes<R: Lookup>(rt: &R, path: &str) -> bool {
@@ -18,16 +26,34 @@ fn has_bytes<R: Lookup>(rt: &R, path: &str) -> bool {
     }
 }
 
-/// Puts a note on the log at a path, if it is not empty. An error in looking for it is ignored, and so is a line that cannot be put.
-pub(crate) fn put_log_note<R: Lookup + AllocGlobal, N: Out>(
+// Puts a note on the log that is named so beside a database, if it is not empty.
+fn put_note<R: Lookup + AllocGlobal, N: Out>(
     rt: &R,
-    path: &str,
-    said: &'static str,
+    database: &str,
+    log: (&str, &'static str),
+    notes: &mut NoteOut<'_, N>,
+) -> Result<(), AllocError> {
+    let (suffix, said) = log;
+    let path = format!(in rt.alloc(); "{database}{suffix}")?;
+    if has_bytes(rt, path.as_str()) {
+        let name = Shown::of(rt.alloc(), path.as_str())?;
+        notes.put(&name, &[Piece::Words(said)]);
+    }
+    Ok(())
+}
+
+/// Puts a note for each log of SQLite beside the database at `file` that is not empty: beside the database itself, where `file` is a link
+/// to it. An error in looking for one is ignored, and so is a line that cannot be put.
+pub(crate) fn put_log_notes<R: Lookup + AllocGlobal, N: Out>(
+    rt: &R,
+    file: &str,
     notes: &mut NoteOut<'_, N>,
 ) {
-    if has_bytes(rt, path)
-        && let Ok(name) = Shown::of(rt.alloc(), path)
-    {
-        notes.put(&name, &[Piece::Words(said)]);
+    let Ok(target) = rt.link_target(file) else {
+        return;
+    };
+    let database = target.as_deref().unwrap_or(file);
+    for log in LOGS {
+        let _ = put_note(rt, database, log, notes);
     }
 }

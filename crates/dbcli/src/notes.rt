@@ -9,7 +9,7 @@ use crate::finishing::Notes;
 use crate::format::Format;
 use crate::journal_notes::{put_journal, put_unread};
 use crate::log_notes::put_found;
-use crate::logs::{MAY_HOLD, MAY_UNDO, put_log_note};
+use crate::logs::put_log_notes;
 use crate::lookup::Lookup;
 use crate::note::{NoteOut, Piece};
 use crate::opened_files::{JOURNAL, WAL};
@@ -83,8 +83,7 @@ impl<'a, R: Lookup + AllocGlobal, N: Out> FileNotes<'a, R, N> {
     {
         self.is_open = true;
         if !recovered {
-            self.note_log(WAL, MAY_HOLD);
-            self.note_log(JOURNAL, MAY_UNDO);
+            put_log_notes(self.rt, self.file, &mut self.notes);
         }
     }
 
@@ -154,15 +153,6 @@ impl<'a, R: Lookup + AllocGlobal, N: Out> FileNotes<'a, R, N> {
         }
         let name = log_name(self.rt, self.file, suffix).ok()?;
         String::from_str(alloc, str::from_utf8(name.as_slice()).ok()?).ok()
-    }
-
-    // Puts a note on a log of the file that is not read, by what its name has after that of the database.
-    fn note_log(&mut self, suffix: &str, said: &'static str)
-        ensures { self.new.rt.now ≡ self.old.rt.now }
-    {
-        if let Some(path) = self.name_of(suffix) {
-            put_log_note(self.rt, path.as_str(), said, &mut self.notes);
-        }
     }
 
     // Puts a note of the file's name, and of what is said of it.
