@@ -136,6 +136,11 @@ impl<'a, R: Lookup + AllocGlobal, N: Out> FileNotes<'a, R, N> {
         self.is_read = false;
     }
 
+    /// Says that the header of the file and a log of it, as one, could not be read.
+    pub fn header_unread(&mut self) {
+        self.watch.header_failed();
+    }
+
     /// Says that the file and its log are run as one: the changes of a mend are then not those of the file.
     pub fn joined(&mut self, task: Task<'_>) {
         if let Task::Mend { .. } = task {
