@@ -38,6 +38,8 @@ pub struct FileNotes<'a, R, N> {
     is_open: bool,
     // Whether its log could be read, if it has one that is read.
     is_read: bool,
+    // Whether the note on the changes of a mend was put.
+    is_joined: bool,
     // The file's name, and why it cannot be opened, if that is known.
     reason: Option<Shown>,
 }
@@ -63,6 +65,7 @@ impl<'a, R: Lookup + AllocGlobal, N: Out> FileNotes<'a, R, N> {
             before: Stamp::at(rt, file),
             is_open: false,
             is_read: true,
+            is_joined: false,
             reason: None,
         }
     }
@@ -136,18 +139,22 @@ impl<'a, R: Lookup + AllocGlobal, N: Out> FileNotes<'a, R, N> {
         self.is_read = false;
     }
 
-    /// Says that the header of the file and a log of it, as one, could not be read.
-    pub fn header_unread(&mut self) {
-        self.watch.header_failed();
-    }
-
-    /// Says that the file and its log are run as one: the changes of a mend are then not those of the file.
+    /// Says that the file and a log of it are run as one: the changes of a mend are then not those of the file. One note says so, if both
+    /// logs are used.
     pub fn joined(&mut self, task: Task<'_>) {
-        if let Task::Mend { .. } = task {
+        if let Task::Mend { .. } = task
+            && !self.is_joined
+        {
+            self.is_joined = true;
             self.put_of_file(&[Piece::Words(
                 ": the changes are of the database that SQLite would recover, not of this file",
             )]);
         }
+    }
+
+    /// Says that the header of the file and a log of it, as one, could not be read.
+    pub fn header_unread(&mut self) {
+        self.watch.header_failed();
     }
 
     // The name of the file, or of a log of it, by what that has after the name of the database.
