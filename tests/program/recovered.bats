@@ -320,6 +320,18 @@ END
     expect 3 '' "dbck: note: $work/pair.db-wal has a version that SQLite does not open"$'\ndbck: E11 the log does not fit the database\n' check --recovered "$work/pair.db"
 }
 
+@test 'a log that is written while the database is read has a note' {
+    local suffix
+    large_database
+    flags=(--recovered)
+    for suffix in journal wal; do
+        echo log > "$work/large.db-$suffix"
+        meanwhile "$work/large.db" dd if=/dev/zero of="$work/large.db-$suffix" bs=1 count=9 status=none
+        row "the note on a -$suffix" ended 0 '*' "dbck: note: $work/large.db-$suffix *"$'\n'"dbck: note: $work/large.db-$suffix was changed while it was read; the report may be of no state that it had"$'\n'
+        rm "$work/large.db-$suffix"
+    done
+}
+
 @test 'a log of pages of another size does not fit' {
     paired
     # The header states pages of 1024 bytes.
