@@ -4,9 +4,9 @@
     tests/failing.py DBCK FOLDER
 
 A library that is loaded before the C library lets the call of one number fail; `cc` makes it in FOLDER. A read that fails has to end the run
-with status 4 and E8, a growth that is refused with 5 and E9; or all is as it is without: a longer read is made again, of the page alone, and
+with status 4 and E8 and one note on what cannot be read, a growth that is refused with 5 and E9; or all is as it is without: a longer read is made again, of the page alone, and
 a growth may be one of a note. What was written by then is a beginning of the report, of whole lines; of `explain` the first lines of what it
-found. The pair is as it was.
+found. The pair is as it was. One run has a link to the pair.
 """
 
 import os
@@ -68,21 +68,29 @@ ERRORS = {"FAILS_READ": (4, b"dbck: E8 the file cannot be read\n"), "FAILS_GROWT
 
 
 def ran(words, library, what, number):
-    """How a run ended whose call of this number failed, what it wrote, and whether there was such a call."""
+    """How a run ended whose call of this number failed, what it wrote, whether there was such a call, and the notes."""
     told, tells = os.pipe()
     env = {"LD_PRELOAD": library, "TOLD": str(tells), what: str(number)}
     done = subprocess.run(words, stdout=subprocess.PIPE, stderr=subprocess.PIPE, pass_fds=(tells,), env=env, check=False, timeout=60)
     os.close(tells)
     has_failed = os.read(told, 1) != b""
     os.close(told)
-    said = b"".join(line for line in done.stderr.splitlines(keepends=True) if not line.startswith(b"dbck: note: "))
-    return (done.returncode, done.stdout, said), has_failed
+    lines = done.stderr.splitlines(keepends=True)
+    notes = [line for line in lines if line.startswith(b"dbck: note: ")]
+    return (done.returncode, done.stdout, b"".join(line for line in lines if line not in notes)), has_failed, notes
 
 
 def are_lines_of(out, whole):
     """Whether these are whole lines of a report, in its order."""
     rest = iter(whole.splitlines(keepends=True))
     return out[-1:] in (b"", b"\n") and all(line in rest for line in out.splitlines(keepends=True))
+
+
+def are_right(what, status, notes):
+    """Whether the notes of a run in which a read failed say so, once, and not that another call did."""
+    if what == "FAILS_GROWTH" or status != ERRORS[what][0]:
+        return True
+    return sum(b"cannot be read" in note for note in notes) == 1 and not any(b": its length is not known" in note for note in notes)
 
 
 def is_right(command, what, got, whole):
@@ -107,15 +115,18 @@ def run(dbck, folder):
         (logs.wal_pair if suffix == "-wal" else logs.hot_pair)(folder + "/pair", rnd)
         pair = (folder + "/pair/kept", folder + "/pair/kept" + suffix)
         before = logs.seen(pair)
-        for command in COMMANDS:
-            words = [dbck] + command + more + ["--recovered", pair[0]]
-            whole, _ = ran(words, library, "FAILS_READ", 0)
+        link = folder + "/pair/link"
+        os.symlink("kept", link)
+        for command, path in [(command, pair[0]) for command in COMMANDS] + [(["stat", "--all"], link)]:
+            words = [dbck] + command + more + ["--recovered", path]
+            whole, _, _ = ran(words, library, "FAILS_READ", 0)
             for what in ERRORS:
                 number, has_failed = 0, True
                 while has_failed:
                     number += 1
-                    got, has_failed = ran(words, library, what, number)
-                    if got != whole if not has_failed else not is_right(command, what, got, whole):
+                    got, has_failed, notes = ran(words, library, what, number)
+                    ends_well = is_right(command, what, got, whole) and are_right(what, got[0], notes)
+                    if got != whole if not has_failed else not ends_well:
                         wrong += 1
                         print("%s, %s %d: status %d, %d bytes, %r" % (" ".join(command), what, number, got[0], len(got[1]), got[2][-80:]))
                 print("%s: %s, %d calls, ends with %d without" % (" ".join(command), what, number - 1, whole[0]))

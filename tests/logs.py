@@ -126,23 +126,23 @@ def names_super(journal):
     return name[0] > 0 and total & 0xFFFFFFFF == u32(journal, len(journal) - 12)
 
 
+def has_shape(db, journal):
+    """Whether the sizes that the first head of a journal states can be."""
+    sector, size = u32(journal, 20), u32(journal, 24) or stored_size(db)
+    return is_power(size, 512, 65536) and is_power(sector, 32, 65536) and sector <= len(journal)
+
+
 def journal_shape(db, journal):
     """The sizes of a sector and of a page, and the pages that the database had; or None where the journal is not rolled back."""
-    if not db or len(journal) < 512 or journal[:8] != JOURNAL_MAGIC or names_super(journal):
+    if not db or len(journal) < 512 or journal[:8] != JOURNAL_MAGIC or names_super(journal) or not has_shape(db, journal):
         return None
-    pages, sector, size = (u32(journal, at) for at in (16, 20, 24))
-    size = size or stored_size(db)
-    is_shape = is_power(size, 512, 65536) and is_power(sector, 32, 65536) and sector <= len(journal)
-    return (sector, size, pages) if is_shape else None
+    return u32(journal, 20), u32(journal, 24) or stored_size(db), u32(journal, 16)
 
 
-def after_journal(db, journal):
-    """The file that the journal makes of the database."""
-    shape = journal_shape(db, journal)
-    if shape is None:
-        return db
-    sector, size, pages = shape
-    out, at = bytearray(db[: pages * size].ljust(pages * size, b"\0")), 0
+def used_records(db, journal):
+    """The pages that a journal that is rolled back gives, each with its bytes, in their order."""
+    sector, size, _ = journal_shape(db, journal)
+    records, at = [], 0
     while at + sector <= len(journal) and journal[at : at + 8] == JOURNAL_MAGIC:
         count, nonce = (u32(journal, at + k) for k in (8, 12))
         if count == 0xFFFFFFFF:
@@ -150,12 +150,23 @@ def after_journal(db, journal):
         at += sector
         for _ in range(count):
             if at + size + 8 > len(journal) or not is_record(journal, at, nonce, size):
-                return bytes(out)
-            page = u32(journal, at)
-            if page <= pages:
-                out[(page - 1) * size : page * size] = journal[at + 4 : at + 4 + size]
+                return records
+            records.append((u32(journal, at), journal[at + 4 : at + 4 + size]))
             at += size + 8
         at = -(-at // sector) * sector
+    return records
+
+
+def after_journal(db, journal):
+    """The file that the journal makes of the database."""
+    shape = journal_shape(db, journal)
+    if shape is None:
+        return db
+    _, size, pages = shape
+    out = bytearray(db[: pages * size].ljust(pages * size, b"\0"))
+    for page, data in used_records(db, journal):
+        if page <= pages:
+            out[(page - 1) * size : page * size] = data
     return bytes(out)
 
 
@@ -375,6 +386,61 @@ def ran(dbck, words):
     return done.returncode, done.stdout, b"".join(line for line in lines if not line.startswith(b"dbck: note: "))
 
 
+def counted(n, one, more):
+    return "%d %s" % (n, one if n == 1 else more)
+
+
+def wal_notes(db, wal):
+    """What the notes say of a write-ahead log, after its name."""
+    if not is_log(wal):
+        return [" holds nothing that SQLite would read"]
+    if u32(wal, 4) != VERSION:
+        return [" has a version that SQLite does not open"]
+    valid, used, size = valid_frames(wal), used_frames(wal), u32(wal, 8) + 24
+    said = [" holds nothing that SQLite would read"]
+    if used and db:
+        given = {u32(frame, 0) for frame in used if u32(frame, 0) <= u32(used[-1], 4)}
+        of = counted(sum(u32(frame, 4) > 0 for frame in used), "transaction", "transactions")
+        said = [": %s of %s %s read from it" % (counted(len(given), "page", "pages"), of, "is" if len(given) == 1 else "are")]
+    left = len(valid) - len(used)
+    if left:
+        said.append(": %s of a transaction that was not committed %s left out" % (counted(left, "frame", "frames"), "is" if left == 1 else "are"))
+    broken = 32 + size * len(valid)
+    if broken < len(wal):
+        later = sum(wal[at + 8 : at + 16] == wal[16:24] for at in range(broken + size, len(wal) - size + 1, size))
+        have = "frame after it has the log's salts, and is" if later == 1 else "frames after it have the log's salts, and are"
+        said.append(": frame %d is not valid, at byte %d; %d %s left out" % (len(valid) + 1, broken, later, have))
+    return said
+
+
+def journal_notes(db, journal):
+    """What the note says of a rollback journal, after its name; the super-journal that it names is not there."""
+    if len(journal) < 512:
+        return [" has fewer than 512 bytes, and is not rolled back: ask for all of it"]
+    if journal[0] == 0:
+        return [" begins with 0, and is not rolled back: SQLite does not need it"]
+    if journal[:8] != JOURNAL_MAGIC:
+        return [" does not begin as a journal does, and is not rolled back: ask for it again"]
+    if not has_shape(db, journal):
+        return [" states a size of a page or sector that cannot be, and is not rolled back: ask for it again"]
+    if names_super(journal):
+        name = journal[len(journal) - 16 - u32(journal, len(journal) - 16) : len(journal) - 16].decode()
+        return [" names the super-journal %s, which is not here, and is not rolled back (see the manual)" % name]
+    if not db:
+        return [" holds nothing that SQLite would read"]
+    had = u32(journal, 16)
+    given = {page for page, _ in used_records(db, journal) if page <= had}
+    read = "%s read from it" % counted(len(given), "page is", "pages are")
+    return [": %s; the database had %s" % (read, counted(had, "page", "pages"))]
+
+
+def noted(dbck, pair, suffix):
+    """The notes of a run on the log of a pair, after its name."""
+    done = subprocess.run([dbck, "check", "--recovered", pair], stdout=subprocess.PIPE, stderr=subprocess.PIPE, check=False, timeout=60)
+    named = "dbck: note: " + pair + suffix
+    return [line[len(named) :] for line in done.stderr.decode(errors="replace").splitlines() if line.startswith(named)]
+
+
 def put(path, data):
     with open(path, "wb") as out:
         out.write(data)
@@ -402,6 +468,9 @@ def reports(dbck, folder, db, log, suffix, recovered):
         wanted = (3, b"", UNFIT) if recovered is None else ran(dbck, command + [whole])
         if got != wanted:
             wrong.append("%s: status %d, and not %d" % (" ".join(command), got[0], wanted[0]))
+    said = (wal_notes if suffix == "-wal" else journal_notes)(db, log) if log else []
+    if noted(dbck, pair, suffix) != said:
+        wrong.append("the notes are not %s" % said)
     if seen((pair, pair + suffix)) != before:
         wrong.append("the pair was changed")
     return wrong

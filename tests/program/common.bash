@@ -23,6 +23,7 @@ setup() {
     cd "$root" || return
     work=$(mktemp -d "${BATS_TMPDIR:-/tmp}/dbck.XXXXXX")
     as=()
+    flags=()
     rows=0
     failing=$BATS_TEST_TMPDIR/failing
 }
@@ -131,13 +132,13 @@ on_terminal() {
     script -qec "$1" /dev/null > "$work/out" 2> "$work/err" < /dev/null 3>&- || status=$?
 }
 
-# meanwhile FILE COMMAND..: runs the statistics of all pages of a file, and the command while the run waits for its reader: the
-# rows have to be so many that they fit into no pipe.
+# meanwhile FILE COMMAND..: runs the statistics of all pages of a file, with `flags`, and the command while the run waits for its reader:
+# the rows have to be so many that they fit into no pipe.
 meanwhile() {
     local started
     rm -f "$work/pipe"
     mkfifo "$work/pipe"
-    "$DBCK" stat --all "$1" > "$work/pipe" 2> "$work/err" < /dev/null 3>&- &
+    "$DBCK" stat --all "${flags[@]}" "$1" > "$work/pipe" 2> "$work/err" < /dev/null 3>&- &
     started=$!
     { head -c 1 > "$work/out" && "${@:2}" && cat >> "$work/out"; } < "$work/pipe"
     status=0

@@ -90,3 +90,71 @@ END
     of_pages 16777217
     row 'map of 16777217 pages' takes 16777217 68 map
 }
+
+# There is no room in 40 MB for these logs.
+@test 'a log takes memory for its pages, and not for its length' {
+    needs python3
+    paired
+    dbck check "$work/whole.db"
+    cp "$work/out" "$work/wanted"
+    sparse "$work/pair.db-wal" 1200000000
+    in_memory 40000 check --recovered "$work/pair.db"
+    row 'what is reported beside a log of 1.2 GB' cmp "$work/out" "$work/wanted"
+    row 'the run beside a log of 1.2 GB' ended 0 '*' "dbck: note: $work/pair.db-wal: 1 page of 1 transaction is read from it"$'\n*'
+    # A journal that gives page 1, as many records as it has room for, and nothing more.
+    cp "$data/empty.db" "$work/x.db"
+    python3 - "$work/x.db" << 'END'
+import sys
+page = open(sys.argv[1], "rb").read()
+head = bytearray.fromhex("d9d505f920a163d7") + b"".join(word.to_bytes(4, "big") for word in (0xFFFFFFFF, 0, 1, 512, 512))
+record = (1).to_bytes(4, "big") + page + sum(page[312:0:-200]).to_bytes(4, "big")
+open(sys.argv[1] + "-journal", "wb").write(head.ljust(512, b"\0") + record)
+END
+    sparse "$work/x.db-journal" 34359738367
+    in_memory 40000 check --recovered "$work/x.db"
+    row 'the run beside a journal of 32 GiB' ended 0 $'ok\n' "dbck: note: $work/x.db-journal: 1 page is read from it; the database had 1 page"$'\n'
+    sparse "$work/x.db-journal" 34359738368
+    in_memory 40000 check --recovered "$work/x.db"
+    row 'a journal that is too long' ended 4 '' "dbck: note: $work/x.db-journal has 32 GiB or more, and is not read"$'\n'"$unread"
+}
+
+@test 'a log that gives 300000 pages takes little time' {
+    needs python3
+    python3 - "$work" << 'END'
+import shutil, sqlite3, sys
+made = sys.argv[1] + "/made.db"
+db = sqlite3.connect(made, isolation_level=None)
+db.execute("PRAGMA page_size = 512")
+db.execute("PRAGMA journal_mode = WAL")
+db.execute("PRAGMA wal_autocheckpoint = 0")
+db.execute("CREATE TABLE t(a)")
+db.execute("PRAGMA wal_checkpoint(TRUNCATE)")
+db.execute("INSERT INTO t VALUES (zeroblob(300000 * 508))")
+for suffix in ("", "-wal"):
+    shutil.copy(made + suffix, sys.argv[1] + "/x.db" + suffix)
+END
+    most=30
+    dbck check --recovered "$work/x.db"
+    row 'a log of 300000 pages' ended 0 $'ok\n' "dbck: note: $work/x.db-wal: 3000* pages of 1 transaction are read from it"$'\n'
+}
+
+@test 'a journal that gives 300000 pages takes little time' {
+    needs python3
+    cp "$data/empty.db" "$work/x.db"
+    sparse "$work/x.db" $((512 * 300000))
+    dbck explain --limit 1 "$work/x.db"
+    cp "$work/out" "$work/wanted"
+    python3 - "$work/x.db" << 'END'
+import sys
+page = open(sys.argv[1], "rb").read(512)
+head = bytearray.fromhex("d9d505f920a163d7") + b"".join(word.to_bytes(4, "big") for word in (300000, 0, 300000, 512, 512))
+with open(sys.argv[1] + "-journal", "wb") as journal:
+    journal.write(head.ljust(512, b"\0") + (1).to_bytes(4, "big") + page + sum(page[312:0:-200]).to_bytes(4, "big"))
+    for number in range(2, 300001):
+        journal.write(number.to_bytes(4, "big") + bytes(516))
+END
+    most=30
+    dbck explain --limit 1 --recovered "$work/x.db"
+    row 'what is reported beside a journal of 300000 pages' cmp "$work/out" "$work/wanted"
+    row 'a journal of 300000 pages' ended 1 '*' "dbck: note: $work/x.db-journal: 300000 pages are read from it; the database had 300000 pages"$'\n'
+}

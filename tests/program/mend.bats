@@ -136,6 +136,24 @@ refused() {
 dbck: note: $work/pair.db: the changes are of the database that SQLite would recover, not of this file"$'\n'
 }
 
+# A wrong byte in the database, and a journal that undoes nothing, beside it.
+@test 'with --recovered a note says so beside a journal too, and beside both logs once' {
+    local joined
+    paired
+    joined="dbck: note: $work/pair.db: the changes are of the database that SQLite would recover, not of this file"
+    python3 - "$work/pair.db" << 'END'
+import sys
+path = sys.argv[1]
+head = bytearray.fromhex("d9d505f920a163d7") + b"".join(word.to_bytes(4, "big") for word in (0, 0, 2, 512, 512))
+open(path + "-journal", "wb").write(head.ljust(512, b"\0"))
+END
+    dbck mend --recovered "$work/pair.db"
+    row 'the note beside both logs' [ "$(grep -cxF "$joined" "$work/err")" = 1 ]
+    rm "$work/pair.db-wal"
+    dbck mend --recovered "$work/pair.db"
+    row 'the note beside a journal' [ "$(grep -cxF "$joined" "$work/err")" = 1 ]
+}
+
 @test 'a limit is from 1 to 16' {
     for limit in 0 17 x 4294967296; do
         dbck mend --limit "$limit" "$data/whole.db"

@@ -139,6 +139,46 @@ END
     cmp "$work/then.db-journal" "$work/kept.db-journal"
 }
 
+# journal_of FILE PAGE..: makes the journal of FILE, which had as many pages as it has, with a record for each of these, of the bytes of FILE.
+journal_of() {
+    python3 - "$@" << 'END'
+import sys
+path, numbers = sys.argv[1], [int(word) for word in sys.argv[2:]]
+data = open(path, "rb").read()
+size = int.from_bytes(data[16:18], "big")
+words = (len(numbers), 7, len(data) // size, 512, size)
+out = bytearray.fromhex("d9d505f920a163d7") + b"".join(word.to_bytes(4, "big") for word in words)
+out = out.ljust(512, b"\0")
+for number in numbers:
+    page = data[(number - 1) * size : number * size].ljust(size, b"\0")
+    total = 7 + sum(page[size - 200 : 0 : -200])
+    out += number.to_bytes(4, "big") + page + total.to_bytes(4, "big")
+open(path + "-journal", "wb").write(out)
+END
+}
+
+@test 'the note on a journal says how many pages it gives, each once, of those that the database had' {
+    local note
+    needs python3
+    journaled
+    pages=$(($(wc -c < "$work/before.db") / 512))
+    while read -r given numbers; do
+        # shellcheck disable=SC2086
+        journal_of "$work/before.db" $numbers
+        note="dbck: note: $work/before.db-journal: ${given/_/ } read from it; the database had $pages pages"$'\n'
+        exactly 0 $'ok\n' "${note//_/ }" check --recovered "$work/before.db"
+    done << END
+3_pages_are 1 2 5
+2_pages_are 2 $pages $((pages + 1)) $((pages + 9))
+1_page_is 2 2
+0_pages_are $((pages + 1))
+END
+    cp "$data/empty.db" "$work/x.db"
+    journal_of "$work/x.db" 1 2
+    note="dbck: note: $work/x.db-journal: 1 page is read from it; the database had 1 page"$'\n'
+    exactly 0 $'ok\n' "$note" check --recovered "$work/x.db"
+}
+
 # cold WHY: the journal of then.db is not rolled back; WHY is what is said of that.
 cold() {
     dbck check --recovered "$work/then.db"
@@ -206,6 +246,45 @@ END
     exactly 4 '' "dbck: note: $work/x.db-journal: a directory"$'\n'"$unread" check --recovered "$work/x.db"
 }
 
+@test 'a log that the caller may not read is E8, and is not passed over' {
+    local suffix
+    cp "$data/whole.db" "$work/x.db"
+    to_be_nobody
+    for suffix in journal wal; do
+        echo log > "$work/x.db-$suffix"
+        chmod 000 "$work/x.db-$suffix"
+        exactly 4 '' "dbck: note: $work/x.db-$suffix: Permission denied"$'\n'"$unread" check --recovered "$work/x.db"
+        rm -f "$work/x.db-$suffix"
+    done
+}
+
+@test 'a log that is a named pipe is E8, and is not waited for' {
+    local suffix
+    cp "$data/whole.db" "$work/x.db"
+    as=(timeout 10)
+    for suffix in journal wal; do
+        mkfifo "$work/x.db-$suffix"
+        exactly 4 '' "dbck: note: $work/x.db-$suffix: not a regular file: unpack it first"$'\n'"$unread" check --recovered "$work/x.db"
+        rm "$work/x.db-$suffix"
+    done
+}
+
+@test 'a database that a journal makes longer than 4 GiB is read' {
+    needs python3
+    python3 -c 'import sqlite3, sys; sqlite3.connect(sys.argv[1]).executescript("PRAGMA page_size = 65536; CREATE TABLE t(a)")' "$work/x.db"
+    cp "$work/x.db" "$work/long.db"
+    sparse "$work/long.db" $((65536 * 70000))
+    dbck check --limit 3 "$work/long.db"
+    cp "$work/out" "$work/wanted"
+    # A head that states 70000 pages of 65536 bytes, and no record.
+    head -c 512 /dev/zero > "$work/x.db-journal"
+    put_at "$work/x.db-journal" 0 '\xd9\xd5\x05\xf9\x20\xa1\x63\xd7'
+    put_at "$work/x.db-journal" 16 '\x00\x01\x11\x70\x00\x00\x02\x00\x00\x01\x00\x00'
+    dbck check --limit 3 --recovered "$work/x.db"
+    row 'what is reported of 70000 pages' cmp "$work/out" "$work/wanted"
+    row 'how it ends' ended 0 '*' "dbck: note: $work/x.db-journal: 0 pages are read from it; the database had 70000 pages"$'\n*'
+}
+
 @test 'a log of another version does not fit' {
     needs python3
     paired
@@ -223,6 +302,26 @@ data[24:32] = a.to_bytes(4, "big") + b.to_bytes(4, "big")
 open(path, "wb").write(data)
 END
     expect 3 '' "dbck: note: $work/pair.db-wal has a version that SQLite does not open"$'\ndbck: E11 the log does not fit the database\n' check --recovered "$work/pair.db"
+}
+
+@test 'a log that is written while the database is read has a note' {
+    local suffix
+    large_database
+    flags=(--recovered)
+    for suffix in journal wal; do
+        echo log > "$work/large.db-$suffix"
+        meanwhile "$work/large.db" dd if=/dev/zero of="$work/large.db-$suffix" bs=1 count=9 status=none
+        row "the note on a -$suffix" ended 0 '*' "dbck: note: $work/large.db-$suffix *"$'\n'"dbck: note: $work/large.db-$suffix was changed while it was read; the report may be of no state that it had"$'\n'
+        rm "$work/large.db-$suffix"
+    done
+}
+
+@test 'a log of pages of another size does not fit' {
+    paired
+    # The header states pages of 1024 bytes.
+    put_at "$work/pair.db" 16 '\x04\x00'
+    exactly 3 '' "dbck: note: $work/pair.db-wal: 1 page of 1 transaction is read from it"$'\n'"dbck: note: $work/pair.db and its log have pages of different sizes"$'\ndbck: E11 the log does not fit the database\n' \
+        check --recovered "$work/pair.db"
 }
 
 @test 'a pair that SQLite wrote, whole and damaged, 60 times' {

@@ -26,6 +26,9 @@ use dbsource::{Changes, Out, Refusal, RunError};
 use std::alloc::Global;
 use std::str;
 
+// What is said of a file, or of a log of it, that somebody writes to.
+const CHANGED: &str = " was changed while it was read; the report may be of no state that it had";
+
 /// Puts notes on the file at a path; `watch` has what the run has seen of it, and `writes` of its outputs.
 #[derive(Drop)]
 pub struct FileNotes<'a, R, N> {
@@ -35,9 +38,14 @@ pub struct FileNotes<'a, R, N> {
     writes: &'a FailedWrites,
     notes: NoteOut<'a, N>,
     before: Option<Stamp>,
+    // The same of its logs, where these are read.
+    journal_before: Option<Stamp>,
+    wal_before: Option<Stamp>,
     is_open: bool,
     // Whether its log could be read, if it has one that is read.
     is_read: bool,
+    // Whether the note on the changes of a mend was put.
+    is_joined: bool,
     // The file's name, and why it cannot be opened, if that is known.
     reason: Option<Shown>,
 }
@@ -61,8 +69,11 @@ impl<'a, R: Lookup + AllocGlobal, N: Out> FileNotes<'a, R, N> {
             writes,
             notes: NoteOut::new(rt.alloc(), notes),
             before: Stamp::at(rt, file),
+            journal_before: None,
+            wal_before: None,
             is_open: false,
             is_read: true,
+            is_joined: false,
             reason: None,
         }
     }
@@ -82,7 +93,10 @@ impl<'a, R: Lookup + AllocGlobal, N: Out> FileNotes<'a, R, N> {
         ensures { self.new.rt.now ≡ self.old.rt.now }
     {
         self.is_open = true;
-        if !recovered {
+        if recovered {
+            self.journal_before = self.stamp_of(JOURNAL);
+            self.wal_before = self.stamp_of(WAL);
+        } else {
             put_log_notes(self.rt, self.file, &mut self.notes);
         }
     }
@@ -136,13 +150,22 @@ impl<'a, R: Lookup + AllocGlobal, N: Out> FileNotes<'a, R, N> {
         self.is_read = false;
     }
 
-    /// Says that the file and its log are run as one: the changes of a mend are then not those of the file.
+    /// Says that the file and a log of it are run as one: the changes of a mend are then not those of the file. One note says so, if both
+    /// logs are used.
     pub fn joined(&mut self, task: Task<'_>) {
-        if let Task::Mend { .. } = task {
+        if let Task::Mend { .. } = task
+            && !self.is_joined
+        {
+            self.is_joined = true;
             self.put_of_file(&[Piece::Words(
                 ": the changes are of the database that SQLite would recover, not of this file",
             )]);
         }
+    }
+
+    /// Says that the header of the file and a log of it, as one, could not be read.
+    pub fn header_unread(&mut self) {
+        self.watch.header_failed();
     }
 
     // The name of the file, or of a log of it, by what that has after the name of the database.
@@ -153,6 +176,24 @@ impl<'a, R: Lookup + AllocGlobal, N: Out> FileNotes<'a, R, N> {
         }
         let name = log_name(self.rt, self.file, suffix).ok()?;
         String::from_str(alloc, str::from_utf8(name.as_slice()).ok()?).ok()
+    }
+
+    // What the system knows of a log of the file.
+    fn stamp_of(&self, suffix: &str) -> Option<Stamp> {
+        let name = self.name_of(suffix)?;
+        Stamp::at(self.rt, name.as_str())
+    }
+
+    // The note on a log that was changed since it had this stamp.
+    fn put_changed(&mut self, suffix: &str, before: Option<Stamp>) {
+        if let Some(before) = before
+            && let Some(after) = self.stamp_of(suffix)
+            && before.is_changed(after)
+            && let Some(name) = self.name_of(suffix)
+            && let Ok(name) = Shown::of(self.rt.alloc(), name.as_str())
+        {
+            self.notes.put(&name, &[Piece::Words(CHANGED)]);
+        }
     }
 
     // Puts a note of the file's name, and of what is said of it.
@@ -300,10 +341,10 @@ impl<R: Lookup + AllocGlobal, N: Out> Notes for FileNotes<'_, R, N> {
             Err(RunError::OutOfMemory { .. }) => {}
         }
         if self.is_open && self.has_changed() {
-            self.put_of_file(&[Piece::Words(
-                " was changed while it was read; the report may be of no state that it had",
-            )]);
+            self.put_of_file(&[Piece::Words(CHANGED)]);
         }
+        self.put_changed(JOURNAL, self.journal_before);
+        self.put_changed(WAL, self.wal_before);
     }
 }
 

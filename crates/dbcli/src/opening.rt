@@ -1,12 +1,15 @@
 // Who opens a file, and gets it back.
 use crate::lookup::{Lookup, is_something};
 use crate::unwritten::system_text;
-use dbsource::{FileSource, NoMemory, ReadFailed, RunError, Source, memory};
+use dbsource::{FileSource, ReadFailed, RunError, Source, memory};
 use std::alloc::AllocError;
 use std::fs::{self, File};
 use std::os::unix::fs::FileTypeExt;
 use std::rt::{Clock, Files};
 use std::{io, str};
+
+// As many bytes as the longest path has.
+const LONGEST_PATH: usize = 4096;
 
 /// Opens files by their paths, and gets each back when it was read.
 pub trait Opener {
@@ -118,13 +121,29 @@ impl<'a, R: Files<File = File> + Clock + AllocGlobal> Opener for SystemFiles<'a,
     }
 }
 
+// What the link at this path leads to, if it is one. Where there was no memory to look it up, and there is some, it is looked up once more.
+fn target_of<R: Lookup + AllocGlobal>(rt: &R, path: &str) -> Result<Option<String>, RunError> {
+    let looked_up = match rt.link_target(path) {
+        Err(error) if error.kind() == io::ErrorKind::OutOfMemory => {
+            memory::filled(rt.alloc(), 0u8, LONGEST_PATH)?;
+            rt.link_target(path)
+        }
+        looked_up => looked_up,
+    };
+    looked_up.map_err(|_| RunError::ReadFailed)
+}
+
 /// The name of a log of the database at this path, or at the end of the link that it is.
+///
+/// # Errors
+///
+/// [`RunError::ReadFailed`] where it is not known what a link leads to, and [`RunError::OutOfMemory`] where memory was refused.
 pub(crate) fn log_name<R: Lookup + AllocGlobal>(
     rt: &R,
     path: &str,
     suffix: &str,
-) -> Result<Vec<u8>, NoMemory> {
-    let target = rt.link_target(path).unwrap_or(None);
+) -> Result<Vec<u8>, RunError> {
+    let target = target_of(rt, path)?;
     let database = target.as_deref().unwrap_or(path);
     let mut name = Vec::new(rt.alloc());
     memory::extend(&mut name, database.as_bytes())?;

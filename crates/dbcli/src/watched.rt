@@ -6,6 +6,9 @@ use crate::progress::Progress;
 use dbsource::{ByteRange, Geometry, ReadFailed, Source, shape_of};
 use std::cell::Cell;
 
+// The bytes of a header.
+const HEADER_LEN: u64 = 100;
+
 /// What was seen of a source.
 #[derive(Drop)]
 pub struct Watch {
@@ -56,6 +59,15 @@ impl Watch {
     /// How the file was copied as text, by its first page or, where that was not read, by its header.
     pub fn copied(&self) -> Option<Copied> {
         self.copied.get()
+    }
+
+    /// The header could not be read, before a run.
+    pub fn header_failed(&self) {
+        let range = ByteRange {
+            offset: 0,
+            len: HEADER_LEN,
+        };
+        self.failed.set(Some(range));
     }
 
     // A run asks for the length first, and then reads the header.

@@ -7,7 +7,7 @@ const UNREAD: &str = "dbck: E8 the file cannot be read\n";
 
 // A file is looked at, and opened once, for reading alone; then the logs beside it are looked at, and it is again at the end. Of a file that is
 // not opened the system is asked once more, for the reason. No name but the one that is given is tried.
-const CASES: [Case; 8] = [
+const CASES: [Case; 10] = [
     Case {
         words: "check|x",
         calls: "look x, look x, open x, link x, look x-wal, look x-journal, look x, ",
@@ -24,6 +24,26 @@ const CASES: [Case; 8] = [
         out: "ok\n",
         err: "",
         notes: "",
+        printed: "",
+    },
+    // With its logs: each is looked for after the file was opened, and opened if it is there; at the end it is looked at once more.
+    Case {
+        words: "check|--recovered|x",
+        calls: "look x, look x, open x, link x, look x-journal, link x, look x-wal, link x, look x-journal, link x, look x-wal, look x, ",
+        status: 0,
+        out: "ok\n",
+        err: "",
+        notes: "",
+        printed: "",
+    },
+    Case {
+        words: "check|--recovered|y",
+        calls: "look y, look y, open y, link y, look y-journal, link y, look y-wal, look y-wal, open y-wal, link y, look y-journal, \
+link y, look y-wal, link y, look y, link y, look y-wal, ",
+        status: 0,
+        out: "ok\n",
+        err: "",
+        notes: "dbck: note: y-wal holds nothing that SQLite would read\n",
         printed: "",
     },
     // There are `missing.sqlite` and `MISSING`.
@@ -87,7 +107,15 @@ const CASES: [Case; 8] = [
 #[test]
 fn asks_for_the_path_that_is_named(rt: HostRuntime) -> Result<(), Fail> {
     fs::create_dir(&rt, "folder")?;
-    let databases = ["x", "x.sqlite", "missing.sqlite", "MISSING", "growing"];
+    let databases = [
+        "x",
+        "x.sqlite",
+        "y",
+        "y-wal",
+        "missing.sqlite",
+        "MISSING",
+        "growing",
+    ];
     run_over(&rt, &rt, &databases, &[], &CASES)?;
     fs::remove_dir(&rt, "folder")?;
     Ok(())

@@ -62,6 +62,10 @@ beside p past_end base log = record {
   failures = both_failures base.failures log.failures past_end;
 }
 
+-- the two as a source, by what each of them is as one
+abbrev pub both_held : {B L : Type 0} → (B → SourceState) → (L → SourceState) → Beside B L → SourceState
+both_held base log s = beside s.placed s.past_end (base s.base) (log s.log)
+
 -- ---- what a read makes of it
 
 -- it is for a range that could not be read

@@ -3,7 +3,7 @@ ghost use Rattle.dblog.specs.Laws.{BothAreRead, BothLogsRecover, IndexRecovers, 
 
 use dbsource::{Claim, Source};
 
-/// By its index a log gives the database that SQLite recovers of it.
+/// By its index a write-ahead log gives the database that SQLite recovers of it.
 pub fn index_recovers()
     ensures { IndexRecovers }
 {}
@@ -13,7 +13,7 @@ pub fn journal_rolls_back()
     ensures { JournalRollsBack }
 {}
 
-/// A log over a file over a journal gives the database that SQLite makes of all three.
+/// A write-ahead log over what a rollback journal makes of a file gives the database that SQLite makes of all three.
 pub fn both_logs_recover()
     ensures { BothLogsRecover }
 {}

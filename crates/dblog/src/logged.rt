@@ -1,8 +1,9 @@
 // A file and a log beside it, as one source.
-ghost use Rattle.std.specs.Prelude.{◌≡◌, ℕ, ◌+◌, ◌*◌, ◌%◌, ◌^◌, ◌<◌, ◌≤◌, IfSome, length, slice_index};
+ghost use Rattle.std.specs.Prelude.{◌≡◌, ℕ, ◌+◌, ◌*◌, ◌%◌, ◌^◌, ◌<◌, ◌≤◌, IfOk, IfSome, IsOk, length, slice_index};
 ghost use Rattle.dbformat.specs.Log.{range};
+ghost use Rattle.dbsource.specs.Failures.{failures_after, is_any};
 ghost use Rattle.dbsource.specs.Sources.{AreBytes};
-ghost use Rattle.dblog.specs.Beside.{Both, ReadsBoth, ReadsPadded};
+ghost use Rattle.dblog.specs.Beside.{BesideLength, Both, ReadsBoth, ReadsPadded, both_held};
 ghost use Rattle.dblog.specs.Placed.{IsInOnePage, placed, placed_len};
 
 use crate::log_pages::LogPages;
@@ -172,7 +173,16 @@ impl<B: Source, L: Source, A: Allocator> Source for Logged<B, L, A> {
 
     ghost lengths = { BesideLength };
 
-    fn len(&mut self) -> Result<u64, ReadFailed> {
+    fn len(&mut self) -> Result<u64, ReadFailed>
+        ensures told { (both_held B.held L.held self.new).bytes ≡ (both_held B.held L.held self.old).bytes }
+        ensures trail { (both_held B.held L.held self.new).trail ≡ (both_held B.held L.held self.old).trail }
+        ensures count { (both_held B.held L.held self.new).failures ≡ failures_after is_any result (both_held B.held L.held self.old).failures }
+        ensures length { IfOk result (BesideLength (both_held B.held L.held self.old).trail) }
+        ensures number { IfOk result (λ n. IfSome (both_held B.held L.held self.old).bytes (λ bytes. n ≡ length bytes)) }
+        ensures bytes { IfSome (both_held B.held L.held self.old).bytes AreBytes }
+        // It never fails.
+        ensures always { IsOk result }
+    {
         Ok(self.pages.byte_count())
     }
 
