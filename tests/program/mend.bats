@@ -114,7 +114,7 @@ refused() {
     tests/small/make.py "$work/two.txt" "$work/two" > "$work/list"
     note="dbck: note: $work/two/0.db with 4 other bytes"$'\n'
     exactly 1 $'2 faults\nat byte 2056 put 00000007 for 00000000\n    page 5 at byte 2048\nok\n' "$note" mend --with 1019=00000003 "$work/two/0.db"
-    exactly 0 $'ok\n' "${note/4/8}" mend --with 1019=00000003 --with 2056=00000007 "$work/two/0.db"
+    exactly 0 $'ok\n' "${note/ 4 / 8 }" mend --with 1019=00000003 --with 2056=00000007 "$work/two/0.db"
     # What is put for which bytes is said of these, too.
     exactly 1 $'2 faults\nat byte 1526 put 00000007 for 00000001\n    page 3 at byte 1024\nok\n' \
         "dbck: note: $data/two-tables.db with 4 other bytes"$'\n' mend --with 1526=00000001 "$data/two-tables.db"
@@ -185,7 +185,7 @@ END
     row 'mend in 40 MB' ended 5 '' $'dbck: E9 out of memory\n'
 }
 
-# is_bounded FILE WORDS..: mend ends with 1 within a minute. For each change that it writes, and for the search of one more, there are at
+# is_bounded FILE WORDS..: mend ends with 1, or $ends, within a minute. For each change that it writes, and for the search of one more, there are at
 # most 64 runs, which read each page once, and a look at each page; and 256 runs in all.
 is_bounded() {
     local size count bytes
@@ -195,7 +195,7 @@ is_bounded() {
     count=$(($(grep -c '^at byte' "$work/out") + 1))
     echo "$count steps, $((bytes / size)) times the file"
     # The program itself is less than 16 MiB, and what is read ahead one.
-    [ "$status" = 1 ] && [ "$bytes" -le $(((65 * count < 272 ? 65 * count : 272) * (size + 100) + 17825792)) ]
+    [ "$status" = "${ends:-1}" ] && [ "$bytes" -le $(((65 * count < 272 ? 65 * count : 272) * (size + 100) + 17825792)) ]
 }
 
 # hostile WHAT FILE: makes a file that is hard to mend.
@@ -251,6 +251,15 @@ END
             row "mend --limit $limit of $what" is_bounded "$work/$what.db" mend --limit "$limit"
         done
     done
+}
+
+@test 'a file with a wrong page size ends within its runs, and a minute' {
+    needs python3
+    [ -r /proc/self/io ] || skip 'there is no /proc/self/io'
+    changed page-size 16 '\03'
+    sparse "$work/page-size.db" 10000000
+    ends=3
+    row 'mend of a wrong page size' is_bounded "$work/page-size.db" mend
 }
 
 @test '800000 lost pages end within their runs, and a minute' {

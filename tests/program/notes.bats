@@ -85,8 +85,10 @@ noted() {
     log_notes "$work/x.db"
     note=$(changed_note "$work/x.db")
     for command in "${five[@]}"; do
+        out=
+        [ "$command" != mend ] || out=$'at byte 16 put 0200 for 0300\n    page 1 at byte 0\nok\n'
         at_first_note "touch '$work/x.db'" "$command" "$work/x.db"
-        ended_exactly 3 '' "${wal}dbck: note: $work/x.db is not checked"$'\n'"${note%.}"$'dbck: E3 page size is not valid\n'
+        ended_exactly 3 "$out" "${wal}dbck: note: $work/x.db is not checked"$'\n'"${note%.}"$'dbck: E3 page size is not valid\n'
     done
 }
 
@@ -169,9 +171,11 @@ END
         changed refused 16 '\03'
         put_at "$work/refused.db" 80 '\0303\0251\0303\0251\0303\0251\0303\0251aaaaaaaaaaaa'
         [ -z "$cut" ] || put_at "$work/refused.db" $((100 - ${#cut} / 5)) "$cut"
-        for command in "${five[@]}"; do
+        for command in check explain map stat; do
             exactly 3 '' "dbck: note: $work/refused.db is not checked"$'\n'"$letters"$'dbck: E3 page size is not valid\n' "$command" "$work/refused.db"
         done
+        # With another page size `mend` reads the page, and all of that is looked at.
+        expect 3 $'at byte 16 put 0200 for 0300\n*' "dbck: note: $work/refused.db is not checked"$'\n*dbck: E3 page size is not valid\n' mend "$work/refused.db"
     done
     # Eight bytes above 127, and no fewer.
     put_at "$work/refused.db" 80 'aa\0303\0251\0303\0251\0303\0251'

@@ -95,20 +95,24 @@ row_of() {
     done
 }
 
-@test 'of a refused file the header alone is read, once' {
-    for command in "${five[@]}"; do
+@test 'of a refused file the header alone is read, once; by mend also with each of ten changes' {
+    for command in check explain map stat; do
         reads 100 1 "$command" tests/slow.py
         [ "$status" = 3 ]
     done
+    reads 1100 11 mend tests/slow.py
+    [ "$status" = 3 ]
     changed page-size 16 '\03'
     sparse "$work/page-size.db" 10000000
     changed few 0 S
     truncate -s 99 "$work/few.db"
     cp "$data/empty.db" "$work/many.db"
     sparse "$work/many.db" 34359738880
-    for command in "${five[@]}"; do
+    for command in check explain map stat; do
         reads 100 1 "$command" "$work/page-size.db"
         reads 100 1 "$command" "$work/many.db"
+    done
+    for command in "${five[@]}"; do
         reads 0 0 "$command" "$work/few.db"
         [ "$status" = 3 ]
     done

@@ -27,17 +27,20 @@ load common
     changed few-bytes 0 S
     truncate -s 99 "$work/few-bytes.db"
     for command in "${five[@]}"; do
-        while IFS='|' read -r name begins error; do
+        while IFS='|' read -r name begins error change; do
             begins=${begins:+dbck: note: $work/$name.db begins with $begins$'\n'}
-            expect 3 '' "dbck: note: $work/$name.db is not checked"$'\n'"${begins}dbck: $error"$'\n' "$command" "$work/$name.db"
+            # What `mend` writes; the others write nothing.
+            out=
+            [ "$command" != mend ] || out=${change:+at byte $change$'\n    page 1 at byte 0\nok\n'}
+            expect 3 "$out" "dbck: note: $work/$name.db is not checked"$'\n'"${begins}dbck: $error"$'\n' "$command" "$work/$name.db"
         done << 'END'
-few-bytes||E1 file is shorter than 100 bytes
-magic|00 51 4c 69 74 65 20 66 6f 72 6d 61 74 20 33 00  .QLite format 3.|E2 file is not a SQLite 3 database
-zeros|zeros|E2 file is not a SQLite 3 database
-page-size||E3 page size is not valid
-usable||E4 usable size is below 480
-no-page||E5 file has no whole page
-header-alone||E5 file has no whole page
+few-bytes||E1 file is shorter than 100 bytes|
+magic|00 51 4c 69 74 65 20 66 6f 72 6d 61 74 20 33 00  .QLite format 3.|E2 file is not a SQLite 3 database|0 put 53514c69746520666f726d6174203300 for 00514c69746520666f726d6174203300
+zeros|zeros|E2 file is not a SQLite 3 database|0 put 53514c69746520666f726d6174203300 for 00000000000000000000000000000000
+page-size||E3 page size is not valid|16 put 0200 for 0300
+usable||E4 usable size is below 480|20 put 00 for 21
+no-page||E5 file has no whole page|
+header-alone||E5 file has no whole page|
 END
     done
 }
