@@ -52,3 +52,13 @@ noted() {
     echo log > "$work/text.db-wal"
     expect 3 '' "dbck: note: $work/text.db-wal is not read, and may hold changes; *dbck: note: $work/text.db is not checked"$'\n'"dbck: note: $work/text.db begins with *"$'\ndbck: E2 *' check "$work/text.db"
 }
+
+@test 'a log that is older than its database has its note where it is not read' {
+    cp "$data/empty.db" "$work/x.db"
+    log_notes "$work/x.db"
+    for suffix in wal journal; do
+        echo log > "$work/x.db-$suffix"
+        touch -d '2001-01-01' "$work/x.db-$suffix"
+    done
+    exactly 0 $'ok\n' "$wal$journal" check "$work/x.db"
+}

@@ -138,6 +138,30 @@ END
     row 'a log of 300000 pages' ended 0 $'ok\n' "dbck: note: $work/x.db-wal: 3000* pages of 1 transaction are read from it"$'\n'
 }
 
+# Each changes another page, in no order.
+@test 'a log of 200000 transactions takes little time' {
+    needs python3
+    python3 - "$work" << 'END'
+import shutil, sqlite3, sys
+made = sys.argv[1] + "/made.db"
+db = sqlite3.connect(made, isolation_level=None)
+db.execute("PRAGMA page_size = 512")
+db.execute("PRAGMA journal_mode = WAL")
+db.execute("PRAGMA synchronous = OFF")
+db.execute("CREATE TABLE t(id INTEGER PRIMARY KEY, a)")
+db.execute("WITH RECURSIVE k(n) AS (SELECT 1 UNION ALL SELECT n + 1 FROM k WHERE n < 200000) INSERT INTO t SELECT n, zeroblob(400) FROM k")
+db.execute("PRAGMA wal_checkpoint(TRUNCATE)")
+db.execute("PRAGMA wal_autocheckpoint = 0")
+for n in range(200000):
+    db.execute("UPDATE t SET a = zeroblob(401) WHERE id = ?", (7919 * n % 200000 + 1,))
+for suffix in ("", "-wal"):
+    shutil.copy(made + suffix, sys.argv[1] + "/x.db" + suffix)
+END
+    most=30
+    dbck check --recovered "$work/x.db"
+    row 'a log of 200000 transactions' ended 0 $'ok\n' "dbck: note: $work/x.db-wal: 200000 pages of 200000 transactions are read from it"$'\n'
+}
+
 @test 'a journal that gives 300000 pages takes little time' {
     needs python3
     cp "$data/empty.db" "$work/x.db"

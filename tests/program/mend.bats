@@ -294,3 +294,44 @@ END
     row 'progress of two runs' ended 1 "$wiped"*"dbck: run 2, 65536 of $pages pages, 97%"$'\r'* ''
     row 'a report beside progress' grep -qx ok "$work/report"
 }
+
+# A page size that was overwritten, of each size that there is.
+@test 'of a database whose page size is overwritten mend finds each size' {
+    local size bytes
+    needs sqlite3
+    for size in 512 1024 2048 4096 8192 16384 32768 65536; do
+        rm -f "$work/x.db"
+        sqlite3 "$work/x.db" "PRAGMA page_size = $size; CREATE TABLE t (a); WITH RECURSIVE k(n) AS (SELECT 1 UNION ALL SELECT n + 1 FROM k WHERE n < 500)
+            INSERT INTO t SELECT zeroblob(300) FROM k;"
+        bytes=$(printf %04x $((size == 65536 ? 1 : size)))
+        put_at "$work/x.db" 16 '\0\0'
+        dbck mend "$work/x.db"
+        row "mend of a page size of $size" ended 3 "at byte 16 put $bytes for 0000"$'\n    page 1 at byte 0\nok\n' '*dbck: E3 *'
+    done
+}
+
+# least_mend FILE: the address space in KiB, within 16, in which mend of a file ends with 1.
+least_mend() {
+    local low=0 high=262144 middle
+    while [ $((high - low)) -gt 16 ]; do
+        middle=$(((low + high) / 2))
+        status=0
+        (ulimit -v "$middle" && exec "$DBCK" mend "$1" > "$work/out" 2>&1 < /dev/null 3>&-) || status=$?
+        if [ "$status" = 1 ]; then high=$middle; else low=$middle; fi
+    done
+    echo "$high"
+}
+
+# Two desks of four bytes a page, and three bits for each.
+@test 'for each page mend takes less than 12 bytes' {
+    local few many
+    cp "$data/two-tables.db" "$work/few.db"
+    sparse "$work/few.db" $((512 * 65537))
+    put_at "$work/few.db" 28 '\0\0\0\0'
+    cp "$work/few.db" "$work/many.db"
+    sparse "$work/many.db" $((512 * 1048577))
+    few=$(least_mend "$work/few.db")
+    many=$(least_mend "$work/many.db")
+    echo "$few KiB and $many KiB"
+    [ $((many - few)) -lt $((12 * 983040 / 1024)) ]
+}

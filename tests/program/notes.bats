@@ -272,3 +272,27 @@ END
     changed zeros 0 '\0\0\0\0\0\0\0\0\0\0\0\0\0\0\0\0'
     noted 3 "dbck: note: $work/zeros.db is not checked"$'\n'"dbck: note: $work/zeros.db begins with zeros"$'\ndbck: E2 file is not a SQLite 3 database\n' stat "$work/zeros.db"
 }
+
+@test 'a database that is written while it is read through a link has a note' {
+    local note
+    grown "$work/x.db"
+    ln -s x.db "$work/link.db"
+    meanwhile "$work/link.db" touch -d '2001-01-01 00:00:00.1' "$work/x.db"
+    note=$(changed_note "$work/link.db")
+    row 'the note on a link' ended 0 '*' "${note%.}"
+}
+
+@test 'a file that is written while mend reads it has a note' {
+    local name note wanted
+    for name in whole two-tables; do
+        cp "$data/$name.db" "$work/x.db"
+        log_notes "$work/x.db"
+        dbck mend "$work/x.db"
+        cp "$work/out" "$work/wanted"
+        wanted=$status
+        at_first_note "touch -d '2001-01-01 00:00:00.1' '$work/x.db'" mend "$work/x.db"
+        row "what mend writes of $name" cmp "$work/out" "$work/wanted"
+        note=$(changed_note "$work/x.db")
+        row "the note of mend on $name" ended "$wanted" '*' "$wal${note%.}"
+    done
+}

@@ -176,3 +176,30 @@ row_of() {
         [ "$bytes" -lt 3000000 ]
     done
 }
+
+# A disk whose reads take a millisecond: a library that is loaded before the C library waits so long.
+@test 'of a file on a disk each MiB is read as a whole, and then its pages' {
+    needs python3 cc
+    row_of 300 65536 "$work/x.db"
+    cat > "$work/slow.c" << 'END'
+#define _GNU_SOURCE
+#include <dlfcn.h>
+#include <unistd.h>
+
+ssize_t pread(int file, void *bytes, size_t count, off_t from) {
+    static ssize_t (*real)(int, void *, size_t, off_t);
+    if (!real) real = (ssize_t (*)(int, void *, size_t, off_t))dlsym(RTLD_NEXT, "pread");
+    usleep(1000);
+    return real(file, bytes, count, from);
+}
+END
+    cc -shared -fPIC -O1 -o "$work/slow.so" "$work/slow.c" -ldl
+    options=(env "LD_PRELOAD=$work/slow.so")
+    for words in check explain mend; do
+        counted "$words" "$work/x.db"
+        [ "$status" = 0 ]
+        # All but the first MiB, by which it is known that the reads are slow, or nearly so.
+        [ "$bytes" -gt $((2 * size - 2097152)) ] || fail "$words: $bytes bytes of $size"
+        [ "$bytes" -lt $((2 * size + 2097152)) ] || fail "$words: $bytes bytes of $size"
+    done
+}

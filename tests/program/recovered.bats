@@ -324,6 +324,80 @@ END
         check --recovered "$work/pair.db"
 }
 
+# A writer that stops leaves a journal that is older than the pages that it wrote after it, and a checkpoint a log that is older than those.
+@test 'a log that is older than its database is read' {
+    needs python3
+    journaled
+    rm "$work"/made.db*
+    dbck stat --all "$work/before.db"
+    cp "$work/out" "$work/wanted"
+    touch -d '2001-01-01' "$work/then.db-journal"
+    dbck stat --all --recovered "$work/then.db"
+    row 'what is reported beside an old journal' cmp "$work/out" "$work/wanted"
+    paired
+    dbck stat --all "$work/whole.db"
+    cp "$work/out" "$work/wanted"
+    touch -d '2001-01-01' "$work/pair.db-wal"
+    dbck stat --all --recovered "$work/pair.db"
+    row 'what is reported beside an old log' cmp "$work/out" "$work/wanted"
+}
+
+@test 'the logs of a link to a link are those beside the file itself' {
+    local real
+    paired
+    real=$(realpath "$work")
+    mkdir "$work/a" "$work/b"
+    ln -s ../pair.db "$work/a/first.db"
+    ln -s ../a/first.db "$work/b/second.db"
+    dbck stat --all "$work/whole.db"
+    cp "$work/out" "$work/wanted"
+    dbck stat --all --recovered "$work/b/second.db"
+    row 'what is reported of a link to a link' cmp "$work/out" "$work/wanted"
+    row 'the note on the log of a link to a link' ended 0 '*' "dbck: note: $real/pair.db-wal: 1 page of 1 transaction is read from it"$'\n'
+    log_notes "$real/pair.db"
+    expect 0 '*' "$wal" check "$work/b/second.db"
+}
+
+@test 'a database that is written while it and a log are read has a note' {
+    local note suffix
+    large_database
+    flags=(--recovered)
+    for suffix in journal wal; do
+        echo log > "$work/large.db-$suffix"
+        touch "$work/large.db"
+        meanwhile "$work/large.db" touch -d '2001-01-01 00:00:00.1' "$work/large.db"
+        note=$(changed_note "$work/large.db")
+        row "the note on a database beside a -$suffix" ended 0 '*' "dbck: note: $work/large.db-$suffix *"$'\n'"${note%.}"
+        rm "$work/large.db-$suffix"
+    done
+}
+
+@test 'a run over a pair leaves the folder as it is' {
+    needs python3
+    journaled
+    rm "$work"/made.db*
+    paired
+    mkdir "$work/here"
+    cp -p "$work/then.db" "$work/then.db-journal" "$work/pair.db" "$work/pair.db-wal" "$work/here"
+    cp -p "$work/then.db" "$work/here/cold.db"
+    head -c 4096 /dev/zero > "$work/here/cold.db-journal"
+    cp "$data/empty.db" "$work/here/empty.db"
+    : > "$work/here/empty.db-wal"
+    : > "$work/here/empty.db-journal"
+    state() {
+        (cd "$work/here" && find . -printf '%p %i %s %m %u %g %n %y %T@ %C@ %l\n' | sort && sha256sum ./*)
+    }
+    state > "$work/before"
+    for name in "then" cold pair empty; do
+        for command in "${five[@]}"; do
+            dbck "$command" --recovered "$work/here/$name.db"
+            [ "$status" -lt 2 ]
+        done
+    done
+    state > "$work/after"
+    diff "$work/before" "$work/after"
+}
+
 @test 'a pair that SQLite wrote, whole and damaged, 60 times' {
     needs python3
     python3 tests/logs.py "$DBCK" "$work/pairs" 60 7
