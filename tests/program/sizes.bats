@@ -219,7 +219,7 @@ in_room() {
     [ "${DBCK_LARGE:-}" ] || skip 'takes minutes: DBCK_LARGE=1 runs it'
     cp "$data/empty.db" "$work/x.db"
     sparse "$work/x.db" $((1 << 35))
-    in_room 66 explain "$work/x.db"
+    in_room 67 explain "$work/x.db"
     ended_exactly 1 'N01 page 2 item 0 value 0: page is not in use
     page 2 at byte 512: in no tree, overflow chain or freelist
     all zeros
@@ -231,7 +231,7 @@ in_room() {
     pages 2097154 to 67108864 are zeros: bytes 1073742336 to 34359738367
     0 of 0 tables and 0 of 0 indexes without a fault
 ' ''
-    in_room 67 map "$work/x.db"
+    in_room 68 map "$work/x.db"
     ended 1 "$picture x.db</title>*>67108864 pages of 512 bytes (32768.0 MiB), 67108862 faults; a square is 4096 pages, *</svg>"$'\n' ''
 }
 
