@@ -109,11 +109,11 @@ def stored_size(db):
     return 65536 if size == 1 else size
 
 
-def is_record(journal, at, nonce, size):
+def is_record(journal, at, nonce, size, pages):
     page = journal[at + 4 : at + 4 + size]
     total = nonce + sum(page[k] for k in range(size - 200, 0, -200))
     lock = 0x40000000 // size + 1
-    return u32(journal, at) not in (0, lock) and total & 0xFFFFFFFF == u32(journal, at + 4 + size)
+    return u32(journal, at) not in (0, lock) and (u32(journal, at) > pages or total & 0xFFFFFFFF == u32(journal, at + 4 + size))
 
 
 def names_super(journal):
@@ -141,7 +141,7 @@ def journal_shape(db, journal):
 
 def used_records(db, journal):
     """The pages that a journal that is rolled back gives, each with its bytes, in their order."""
-    sector, size, _ = journal_shape(db, journal)
+    sector, size, pages = journal_shape(db, journal)
     records, at = [], 0
     while at + sector <= len(journal) and journal[at : at + 8] == JOURNAL_MAGIC:
         count, nonce = (u32(journal, at + k) for k in (8, 12))
@@ -149,7 +149,7 @@ def used_records(db, journal):
             count = (len(journal) - sector) // (size + 8)
         at += sector
         for _ in range(count):
-            if at + size + 8 > len(journal) or not is_record(journal, at, nonce, size):
+            if at + size + 8 > len(journal) or not is_record(journal, at, nonce, size, pages):
                 return records
             records.append((u32(journal, at), journal[at + 4 : at + 4 + size]))
             at += size + 8

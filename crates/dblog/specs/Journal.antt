@@ -1,6 +1,6 @@
 -- The rollback journal (Database File Format, 3): segments, each of a head, which fills a sector, and of records. A record is the number of
 -- a page, the page, and a sum.
-use Rattle.std.specs.Prelude.{◌≡◌, ◌≤◌, ℕ, ◌+◌, ◌*◌, ◌-◌, ◌/◌, ◌%◌, ◌^◌, ◌==◌, Bool, ◌&&◌, not}
+use Rattle.std.specs.Prelude.{◌≡◌, ◌≤◌, ℕ, ◌+◌, ◌*◌, ◌-◌, ◌/◌, ◌%◌, ◌^◌, ◌==◌, Bool, ◌&&◌, ◌||◌, not}
 use Rattle.std.specs.Prelude.{List, [], ◌∷◌, ◌++◌, zero, suc, drop, take, length, nat_le, nat_lt}
 use Rattle.std.specs.Prelude.{Option, Some, None, slice_index, if◌then◌else◌}
 use Rattle.std.specs.List.{fold, list_any, range_with_len}
@@ -108,10 +108,10 @@ record_sum start page = fold (with_byte page) start (range_with_len 0 ((length p
 abbrev pub record_at : Shape → List ℕ → ℕ → List ℕ
 record_at s journal at = take (s.page_size + 8) (drop at journal)
 
--- whether these are a record: of a page that may be written, with its sum
+-- whether these are a record: of a page that may be written, with its sum, unless it is a page that the database did not have
 abbrev pub is_record : Shape → ℕ → List ℕ → Bool
 is_record s start r = nat_lt 0 (u32_at 0 r) && (not (u32_at 0 r == lock_page s.page_size)
-    && (record_sum start (take s.page_size (drop 4 r)) == u32_at (s.page_size + 4) r))
+    && (nat_lt s.pages (u32_at 0 r) || (record_sum start (take s.page_size (drop 4 r)) == u32_at (s.page_size + 4) r)))
 
 -- the place after these bytes, if they are a record
 abbrev pub behind_record : Shape → List ℕ → Place → Option Place

@@ -227,7 +227,8 @@ impl Shape {
         let end = self.page_size as usize + 4;
         page > 0
             && page != LOCK_BYTE / self.page_size + 1
-            && record_sum(nonce, &bytes[4..end]) == u32_at(bytes, self.page_size + 4)
+            && (page > self.pages
+                || record_sum(nonce, &bytes[4..end]) == u32_at(bytes, self.page_size + 4))
     }
 }
 
