@@ -179,6 +179,32 @@ END
     exactly 0 $'ok\n' "$note" check --recovered "$work/x.db"
 }
 
+# The first record is of a page that the database did not have, and its sum is wrong.
+@test 'a record of a page that the database did not have is passed over, as SQLite does' {
+    needs python3
+    journaled
+    python3 - "$work" << 'END'
+import shutil, sqlite3, sys
+work = sys.argv[1]
+data = open(work + "/before.db", "rb").read()
+size, pages = 512, len(data) // 512
+out = bytearray.fromhex("d9d505f920a163d7") + b"".join(word.to_bytes(4, "big") for word in (pages + 1, 7, pages, 512, size))
+out = out.ljust(512, b"\0") + (pages + 7).to_bytes(4, "big") + b"\xee" * size + bytes(4)
+for number in range(1, pages + 1):
+    page = data[(number - 1) * size : number * size]
+    out += number.to_bytes(4, "big") + page + (7 + sum(page[size - 200 : 0 : -200])).to_bytes(4, "big")
+open(work + "/then.db-journal", "wb").write(out)
+for suffix in ("", "-journal"):
+    shutil.copy(work + "/then.db" + suffix, work + "/whole.db" + suffix)
+sqlite3.connect(work + "/whole.db").execute("SELECT count(*) FROM t").fetchall()
+END
+    row 'what SQLite makes of both' cmp "$work/whole.db" "$work/before.db"
+    dbck stat --all "$work/whole.db"
+    cp "$work/out" "$work/wanted"
+    dbck stat --all --recovered "$work/then.db"
+    row 'what is reported of both' cmp "$work/out" "$work/wanted"
+}
+
 # cold WHY: the journal of then.db is not rolled back; WHY is what is said of that.
 cold() {
     dbck check --recovered "$work/then.db"
