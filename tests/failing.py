@@ -4,9 +4,9 @@
     tests/failing.py DBCK FOLDER
 
 A library that is loaded before the C library lets the call of one number fail; `cc` makes it in FOLDER. A read that fails has to end the run
-with status 4 and E8 and one note on what cannot be read, a growth that is refused with 5 and E9; or all is as it is without: a longer read is made again, of the page alone, and
-a growth may be one of a note. What was written by then is a beginning of the report, of whole lines; of `explain` the first lines of what it
-found. The pair is as it was. One run has a link to the pair.
+with status 4 and E8 and one note on what cannot be read, a growth that is refused with 5 and E9; or all is as it is without: a longer read is
+made again, of the page alone, and a growth may be one of a note. What was written by then is a beginning of the report, of whole lines; of
+`explain` the first lines of what it found. The pair is as it was. One run has a link to the pair.
 """
 
 import os

@@ -243,6 +243,24 @@ for suffix in ("", "-wal"):
 ' "$work" "$1"
 }
 
+# journal_of FILE: makes the journal of FILE, which had as many pages as it has. It has a record for each page of standard input, of the bytes
+# of FILE.
+journal_of() {
+    python3 -c '
+import sys
+path, numbers = sys.argv[1], [int(word) for word in sys.stdin.read().split()]
+data = open(path, "rb").read()
+size = int.from_bytes(data[16:18], "big")
+words = (len(numbers), 7, len(data) // size, 512, size)
+out = bytearray.fromhex("d9d505f920a163d7") + b"".join(word.to_bytes(4, "big") for word in words)
+out = out.ljust(512, b"\0")
+for number in numbers:
+    page = data[(number - 1) * size : number * size].ljust(size, b"\0")
+    out += number.to_bytes(4, "big") + page + (7 + sum(page[size - 200 : 0 : -200])).to_bytes(4, "big")
+open(path + "-journal", "wb").write(out)
+' "$1"
+}
+
 # paired: makes pair.db, whose last transaction is in pair.db-wal alone, and whole.db, which SQLite recovered of a copy of both.
 paired() {
     {

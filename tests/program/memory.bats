@@ -91,6 +91,20 @@ END
     row 'map of 16777217 pages' takes 16777217 68 map
 }
 
+# Two desks of four bytes a page, and three bits for each.
+@test 'for each page mend takes less than 12 bytes' {
+    local few many
+    cp "$data/two-tables.db" "$work/few.db"
+    sparse "$work/few.db" $((512 * 65537))
+    put_at "$work/few.db" 28 '\0\0\0\0'
+    cp "$work/few.db" "$work/many.db"
+    sparse "$work/many.db" $((512 * 1048577))
+    few=$(least_memory mend "$work/few.db")
+    many=$(least_memory mend "$work/many.db")
+    echo "$few KiB and $many KiB"
+    [ $((many - few)) -lt $((12 * 983040 / 1024)) ]
+}
+
 # There is no room in 40 MB for these logs.
 @test 'a log takes memory for its pages, and not for its length' {
     needs python3
@@ -103,13 +117,8 @@ END
     row 'the run beside a log of 1.2 GB' ended 0 '*' "dbck: note: $work/pair.db-wal: 1 page of 1 transaction is read from it"$'\n*'
     # A journal that gives page 1, as many records as it has room for, and nothing more.
     cp "$data/empty.db" "$work/x.db"
-    python3 - "$work/x.db" << 'END'
-import sys
-page = open(sys.argv[1], "rb").read()
-head = bytearray.fromhex("d9d505f920a163d7") + b"".join(word.to_bytes(4, "big") for word in (0xFFFFFFFF, 0, 1, 512, 512))
-record = (1).to_bytes(4, "big") + page + sum(page[312:0:-200]).to_bytes(4, "big")
-open(sys.argv[1] + "-journal", "wb").write(head.ljust(512, b"\0") + record)
-END
+    journal_of "$work/x.db" <<< 1
+    put_at "$work/x.db-journal" 8 '\xff\xff\xff\xff'
     sparse "$work/x.db-journal" 34359738367
     in_memory 40000 check --recovered "$work/x.db"
     row 'the run beside a journal of 32 GiB' ended 0 $'ok\n' "dbck: note: $work/x.db-journal: 1 page is read from it; the database had 1 page"$'\n'
@@ -119,20 +128,7 @@ END
 }
 
 @test 'a log that gives 300000 pages takes little time' {
-    needs python3
-    python3 - "$work" << 'END'
-import shutil, sqlite3, sys
-made = sys.argv[1] + "/made.db"
-db = sqlite3.connect(made, isolation_level=None)
-db.execute("PRAGMA page_size = 512")
-db.execute("PRAGMA journal_mode = WAL")
-db.execute("PRAGMA wal_autocheckpoint = 0")
-db.execute("CREATE TABLE t(a)")
-db.execute("PRAGMA wal_checkpoint(TRUNCATE)")
-db.execute("INSERT INTO t VALUES (zeroblob(300000 * 508))")
-for suffix in ("", "-wal"):
-    shutil.copy(made + suffix, sys.argv[1] + "/x.db" + suffix)
-END
+    logged x <<< 'INSERT INTO t VALUES (zeroblob(300000 * 508))'
     most=30
     dbck check --recovered "$work/x.db"
     row 'a log of 300000 pages' ended 0 $'ok\n' "dbck: note: $work/x.db-wal: 3000* pages of 1 transaction are read from it"$'\n'
@@ -140,23 +136,12 @@ END
 
 # Each changes another page, in no order.
 @test 'a log of 200000 transactions takes little time' {
-    needs python3
-    python3 - "$work" << 'END'
-import shutil, sqlite3, sys
-made = sys.argv[1] + "/made.db"
-db = sqlite3.connect(made, isolation_level=None)
-db.execute("PRAGMA page_size = 512")
-db.execute("PRAGMA journal_mode = WAL")
-db.execute("PRAGMA synchronous = OFF")
-db.execute("CREATE TABLE t(id INTEGER PRIMARY KEY, a)")
-db.execute("WITH RECURSIVE k(n) AS (SELECT 1 UNION ALL SELECT n + 1 FROM k WHERE n < 200000) INSERT INTO t SELECT n, zeroblob(400) FROM k")
-db.execute("PRAGMA wal_checkpoint(TRUNCATE)")
-db.execute("PRAGMA wal_autocheckpoint = 0")
-for n in range(200000):
-    db.execute("UPDATE t SET a = zeroblob(401) WHERE id = ?", (7919 * n % 200000 + 1,))
-for suffix in ("", "-wal"):
-    shutil.copy(made + suffix, sys.argv[1] + "/x.db" + suffix)
-END
+    {
+        echo 'PRAGMA synchronous = OFF'
+        echo 'WITH RECURSIVE k(n) AS (SELECT 1 UNION ALL SELECT n + 1 FROM k WHERE n < 200000) INSERT INTO t SELECT zeroblob(400) FROM k'
+        echo 'PRAGMA wal_checkpoint(TRUNCATE)'
+        awk 'BEGIN { for (n = 0; n < 200000; n++) print "UPDATE t SET a = zeroblob(401) WHERE rowid = " 7919 * n % 200000 + 1 }'
+    } | logged x
     most=30
     dbck check --recovered "$work/x.db"
     row 'a log of 200000 transactions' ended 0 $'ok\n' "dbck: note: $work/x.db-wal: 200000 pages of 200000 transactions are read from it"$'\n'
@@ -168,15 +153,7 @@ END
     sparse "$work/x.db" $((512 * 300000))
     dbck explain --limit 1 "$work/x.db"
     cp "$work/out" "$work/wanted"
-    python3 - "$work/x.db" << 'END'
-import sys
-page = open(sys.argv[1], "rb").read(512)
-head = bytearray.fromhex("d9d505f920a163d7") + b"".join(word.to_bytes(4, "big") for word in (300000, 0, 300000, 512, 512))
-with open(sys.argv[1] + "-journal", "wb") as journal:
-    journal.write(head.ljust(512, b"\0") + (1).to_bytes(4, "big") + page + sum(page[312:0:-200]).to_bytes(4, "big"))
-    for number in range(2, 300001):
-        journal.write(number.to_bytes(4, "big") + bytes(516))
-END
+    seq 300000 | journal_of "$work/x.db"
     most=30
     dbck explain --limit 1 --recovered "$work/x.db"
     row 'what is reported beside a journal of 300000 pages' cmp "$work/out" "$work/wanted"

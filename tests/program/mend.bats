@@ -136,17 +136,12 @@ refused() {
 dbck: note: $work/pair.db: the changes are of the database that SQLite would recover, not of this file"$'\n'
 }
 
-# A wrong byte in the database, and a journal that undoes nothing, beside it.
+# The journal undoes nothing.
 @test 'with --recovered a note says so beside a journal too, and beside both logs once' {
     local joined
     paired
     joined="dbck: note: $work/pair.db: the changes are of the database that SQLite would recover, not of this file"
-    python3 - "$work/pair.db" << 'END'
-import sys
-path = sys.argv[1]
-head = bytearray.fromhex("d9d505f920a163d7") + b"".join(word.to_bytes(4, "big") for word in (0, 0, 2, 512, 512))
-open(path + "-journal", "wb").write(head.ljust(512, b"\0"))
-END
+    journal_of "$work/pair.db" <<< ''
     dbck mend --recovered "$work/pair.db"
     row 'the note beside both logs' [ "$(grep -cxF "$joined" "$work/err")" = 1 ]
     rm "$work/pair.db-wal"
@@ -185,8 +180,8 @@ END
     row 'mend in 40 MB' ended 5 '' $'dbck: E9 out of memory\n'
 }
 
-# is_bounded FILE WORDS..: mend ends with 1, or $ends, within a minute. For each change that it writes, and for the search of one more, there are at
-# most 64 runs, which read each page once, and a look at each page; and 256 runs in all.
+# is_bounded FILE WORDS..: mend ends with 1, or $ends, within a minute. For each change that it writes, and for the search of one more, there
+# are at most 64 runs, which read each page once, and a look at each page; and 256 runs in all.
 is_bounded() {
     local size count bytes
     size=$(wc -c < "$1")
@@ -308,30 +303,4 @@ END
         dbck mend "$work/x.db"
         row "mend of a page size of $size" ended 3 "at byte 16 put $bytes for 0000"$'\n    page 1 at byte 0\nok\n' '*dbck: E3 *'
     done
-}
-
-# least_mend FILE: the address space in KiB, within 16, in which mend of a file ends with 1.
-least_mend() {
-    local low=0 high=262144 middle
-    while [ $((high - low)) -gt 16 ]; do
-        middle=$(((low + high) / 2))
-        status=0
-        (ulimit -v "$middle" && exec "$DBCK" mend "$1" > "$work/out" 2>&1 < /dev/null 3>&-) || status=$?
-        if [ "$status" = 1 ]; then high=$middle; else low=$middle; fi
-    done
-    echo "$high"
-}
-
-# Two desks of four bytes a page, and three bits for each.
-@test 'for each page mend takes less than 12 bytes' {
-    local few many
-    cp "$data/two-tables.db" "$work/few.db"
-    sparse "$work/few.db" $((512 * 65537))
-    put_at "$work/few.db" 28 '\0\0\0\0'
-    cp "$work/few.db" "$work/many.db"
-    sparse "$work/many.db" $((512 * 1048577))
-    few=$(least_mend "$work/few.db")
-    many=$(least_mend "$work/many.db")
-    echo "$few KiB and $many KiB"
-    [ $((many - few)) -lt $((12 * 983040 / 1024)) ]
 }

@@ -139,32 +139,13 @@ END
     cmp "$work/then.db-journal" "$work/kept.db-journal"
 }
 
-# journal_of FILE PAGE..: makes the journal of FILE, which had as many pages as it has, with a record for each of these, of the bytes of FILE.
-journal_of() {
-    python3 - "$@" << 'END'
-import sys
-path, numbers = sys.argv[1], [int(word) for word in sys.argv[2:]]
-data = open(path, "rb").read()
-size = int.from_bytes(data[16:18], "big")
-words = (len(numbers), 7, len(data) // size, 512, size)
-out = bytearray.fromhex("d9d505f920a163d7") + b"".join(word.to_bytes(4, "big") for word in words)
-out = out.ljust(512, b"\0")
-for number in numbers:
-    page = data[(number - 1) * size : number * size].ljust(size, b"\0")
-    total = 7 + sum(page[size - 200 : 0 : -200])
-    out += number.to_bytes(4, "big") + page + total.to_bytes(4, "big")
-open(path + "-journal", "wb").write(out)
-END
-}
-
 @test 'the note on a journal says how many pages it gives, each once, of those that the database had' {
     local note
     needs python3
     journaled
     pages=$(($(wc -c < "$work/before.db") / 512))
     while read -r given numbers; do
-        # shellcheck disable=SC2086
-        journal_of "$work/before.db" $numbers
+        journal_of "$work/before.db" <<< "$numbers"
         note="dbck: note: $work/before.db-journal: ${given/_/ } read from it; the database had $pages pages"$'\n'
         exactly 0 $'ok\n' "${note//_/ }" check --recovered "$work/before.db"
     done << END
@@ -174,7 +155,7 @@ END
 0_pages_are $((pages + 1))
 END
     cp "$data/empty.db" "$work/x.db"
-    journal_of "$work/x.db" 1 2
+    journal_of "$work/x.db" <<< '1 2'
     note="dbck: note: $work/x.db-journal: 1 page is read from it; the database had 1 page"$'\n'
     exactly 0 $'ok\n' "$note" check --recovered "$work/x.db"
 }
@@ -183,21 +164,12 @@ END
 @test 'a record of a page that the database did not have is passed over, as SQLite does' {
     needs python3
     journaled
-    python3 - "$work" << 'END'
-import shutil, sqlite3, sys
-work = sys.argv[1]
-data = open(work + "/before.db", "rb").read()
-size, pages = 512, len(data) // 512
-out = bytearray.fromhex("d9d505f920a163d7") + b"".join(word.to_bytes(4, "big") for word in (pages + 1, 7, pages, 512, size))
-out = out.ljust(512, b"\0") + (pages + 7).to_bytes(4, "big") + b"\xee" * size + bytes(4)
-for number in range(1, pages + 1):
-    page = data[(number - 1) * size : number * size]
-    out += number.to_bytes(4, "big") + page + (7 + sum(page[size - 200 : 0 : -200])).to_bytes(4, "big")
-open(work + "/then.db-journal", "wb").write(out)
-for suffix in ("", "-journal"):
-    shutil.copy(work + "/then.db" + suffix, work + "/whole.db" + suffix)
-sqlite3.connect(work + "/whole.db").execute("SELECT count(*) FROM t").fetchall()
-END
+    pages=$(($(wc -c < "$work/before.db") / 512))
+    { echo $((pages + 7)) && seq "$pages"; } | journal_of "$work/before.db"
+    put_at "$work/before.db-journal" 1028 '\xee\xee\xee\xee'
+    mv "$work/before.db-journal" "$work/then.db-journal"
+    for suffix in '' -journal; do cp "$work/then.db$suffix" "$work/whole.db$suffix"; done
+    python3 -c 'import sqlite3, sys; sqlite3.connect(sys.argv[1]).execute("SELECT count(*) FROM t").fetchall()' "$work/whole.db"
     row 'what SQLite makes of both' cmp "$work/whole.db" "$work/before.db"
     dbck stat --all "$work/whole.db"
     cp "$work/out" "$work/wanted"
