@@ -168,7 +168,7 @@ fn run_beside<
     }
 }
 
-/// Runs a line over a file and its write-ahead log, if it has one, and answers the exit status, and both.
+/// Runs a line over a file and its write-ahead log, if it has one. Answers the exit status, and gives back the file and the log.
 pub(crate) fn run_base<
     R: Lookup + AllocGlobal,
     B: Source + Drop,

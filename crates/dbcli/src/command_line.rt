@@ -69,7 +69,7 @@ pub enum LineError {
     /// The words spell no changes that are taken.
     #[error(transparent)]
     With(WithError),
-    /// The word of this number, from that of the program's name, which is 0, is not UTF-8.
+    /// The word of this number is not UTF-8; number 0 is the program's name.
     #[error("dbck: word {0} of the command line is not UTF-8")]
     NotText(usize),
 }

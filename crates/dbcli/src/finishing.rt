@@ -18,9 +18,9 @@ use dbreport::Verdict;
 use dbsource::{Changes, Out, RunError, Source};
 use std::alloc::Global;
 
-/// What is reported of a run beside its two Outs, which it does not touch.
+/// Hears of a run, and reports what does not go to its two Outs, which it does not touch.
 pub trait Notes {
-    /// The run begins, of the file with changes.
+    /// The run begins, over the file with these changes.
     fn begin(&mut self, changes: &Changes);
 
     /// The run has this outcome. The line of an error is not yet put.
@@ -65,8 +65,8 @@ pub fn end<E: Out, N: Notes>(err: &mut E, outcome: Result<Verdict, RunError>, no
     status_of(&outcome)
 }
 
-/// Hands on what is pending: after a verdict, of both Outs; after an error that is no refusal it tries so of `out` alone. At a
-/// refusal nothing was written.
+/// Hands on what is pending: after a verdict that of both Outs; after an error that is no refusal that of `out` alone, and the error stays
+/// even if that fails. At a refusal nothing was written.
 ///
 /// # Errors
 ///
@@ -169,8 +169,8 @@ fn do_task<S: Source, O: Out, E: Out, N: Notes>(
     }
 }
 
-/// Does what a line asks for with the source, which gives the file with the changes of the line. Where it has some, the length is
-/// asked for first, and there is a run only if all are inside it.
+/// Does what a line asks for, with a source that gives the file with the changes of the line. Where the line has changes, the length of
+/// the file is asked for first, and there is a run only if all changes are inside it.
 pub(crate) fn finish_line<S: Source, O: Out, E: Out, N: Notes>(
     alloc: Global,
     line: &Line<'_>,

@@ -16,7 +16,7 @@ pub(crate) const CHECK_EXAMPLES: &str = "Examples:
 'dbck --help' lists the exit statuses.";
 
 pub(crate) const EXPLAIN_ABOUT: &str =
-    "Print each injury once: where it is, what it goes back to, how far it reaches; and a summary";
+    "Print each injury, a group of faults with probably one cause: its place, cause and size; and a summary";
 
 pub(crate) const EXPLAIN_EXAMPLES: &str =
     "Below each fault: where its pages are, what it goes back to, and how many faults belong to it.
@@ -40,13 +40,14 @@ Example:
 'dbck --help' lists the exit statuses.";
 
 pub(crate) const MEND_ABOUT: &str =
-    "Print the changes of single numbers with which the file has no fault, or fewer; it is not changed";
+    "Print changes of single numbers with which the file would have fewer faults, or none; it stays as it is";
 
 pub(crate) const MEND_EXAMPLES: &str =
-    "For each change: at which byte of FILE which bytes are to be put for which; what its page is; and
-how many faults are left after it, or 'ok'. A file with 'ok' may still hold wrong rows: look at
-those of that page. With --recovered the bytes are those of the recovered database: let SQLite
-write the log into a copy of FILE before you put them there.
+    "For each change: its offset, from 0, the bytes to put there, and those that FILE has there now;
+below it its page, and how many faults would be left then. The last line is 'ok' if none is. Even
+then rows may be wrong: look at those of the pages with changes. With --recovered the bytes are
+those of the recovered database: let SQLite write the log into a copy of FILE before you put them
+there.
 
 Examples:
   dbck mend notes.db            At most 8 changes, each found by runs over notes.db with other bytes

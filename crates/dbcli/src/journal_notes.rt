@@ -91,7 +91,7 @@ pub(crate) fn put_journal<N: Out>(
     }
 }
 
-/// Puts the note on a journal of this name that was not read, or before which its database was not.
+/// Puts the note on a journal of this name that was not read, or whose database could not be read before it.
 pub(crate) fn put_unread<N: Out>(notes: &mut NoteOut<'_, N>, name: &Shown, error: JournalError) {
     match error {
         JournalError::ReadFailed => {

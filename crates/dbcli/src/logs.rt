@@ -42,8 +42,8 @@ fn put_note<R: Lookup + AllocGlobal, N: Out>(
     Ok(())
 }
 
-/// Puts a note for each log of SQLite beside the database at `file` that is not empty: beside the database itself, where `file` is a link
-/// to it. An error in looking for one is ignored, and so is a line that cannot be put.
+/// Puts a note for each log of the database at `file` that is not empty. Where `file` is a link, the logs are those beside what it leads
+/// to. An error in looking for one is ignored, and so is a line that cannot be put.
 pub(crate) fn put_log_notes<R: Lookup + AllocGlobal, N: Out>(
     rt: &R,
     file: &str,

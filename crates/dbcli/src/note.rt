@@ -9,7 +9,7 @@ use dblines::{append, append_first_bytes, append_number};
 use dbsource::{MemOut, Out, WriteFailed};
 use std::alloc::Global;
 
-/// A piece of a note. None is a text of the command line, of a file or of the system.
+/// A piece of a note. None is a text of the command line or of the system; of a file one may have the first bytes, shown harmless.
 #[derive(Clone, Copy)]
 pub(crate) enum Piece {
     /// Words of the program.

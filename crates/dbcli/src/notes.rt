@@ -112,7 +112,7 @@ impl<'a, R: Lookup + AllocGlobal, N: Out> FileNotes<'a, R, N> {
         }
     }
 
-    /// Says what was found in the write-ahead log, and in the file after that: a note is put on it.
+    /// Takes what was found in the write-ahead log, with the length of the file, and puts a note on it.
     pub fn log_read(&mut self, found: &Result<(Index, u64), LogError>) {
         if let Some(name) = self.name_of(WAL)
             && let Ok(name) = Shown::of(self.rt.alloc(), name.as_str())
@@ -150,8 +150,8 @@ impl<'a, R: Lookup + AllocGlobal, N: Out> FileNotes<'a, R, N> {
         self.is_read = false;
     }
 
-    /// Says that the file and a log of it are run as one: the changes of a mend are then not those of the file. One note says so, if both
-    /// logs are used.
+    /// Says that the file and a log of it are run as one: the changes of a mend are then not those of the file. The note on
+    /// that is put once, even if both logs are used.
     pub fn joined(&mut self, task: Task<'_>) {
         if let Task::Mend { .. } = task
             && !self.is_joined

@@ -36,8 +36,8 @@ pub trait Opener {
     fn open(&mut self, path: &str) -> Result<Self::File, ReadFailed>
         ensures { opens self.old path.now result self.new };
 
-    /// Opens the log of the database at `path`, for reading: its name has `suffix` after that of the database, and if `path` is a link,
-    /// that is what it leads to. `None` where there is no log of this name, or it has no bytes.
+    /// Opens a log of the database at `path`, for reading. Its name is that of the database with `suffix` after it; if `path` is a link, the
+    /// database is what it leads to. `None` where there is no log of this name, or it has no bytes.
     ///
     /// # Errors
     ///
@@ -49,7 +49,7 @@ pub trait Opener {
     fn close(&mut self, file: Self::File)
         ensures { closes self.old file self.new };
 
-    /// Why the last file could not be opened, if that is known; and before that, what its name has after that of the database.
+    /// What the name of the last file that could not be opened has after that of the database, and then why; if that is known.
     fn reason(&self) -> Option<(&str, &str)>;
 }
 

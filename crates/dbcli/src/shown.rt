@@ -11,9 +11,9 @@ use std::convert::AsStr;
 use std::marker::Model;
 use std::{fmt, str};
 
-/// A text of the command line, of a file or of the system, as it is shown on a line that it must not turn around: control
-/// characters, line feeds among them, backslashes and characters that turn text around are shown by their codes. Only
-/// [`Shown::of`] makes one that is not empty, and nothing else of such a text is put on a note or into an error.
+/// A text of the command line, of a file or of the system, made harmless for the line on which it is shown: control characters, line
+/// feeds among them, backslashes, and characters that turn the direction of text are shown by their codes. Only [`Shown::of`] makes one
+/// that is not empty, and notes and errors have such a text in no other form.
 #[derive(Debug, Drop)]
 pub(crate) struct Shown {
     text: String,

@@ -6,6 +6,6 @@ use crate::request::Request;
 pub enum Task<'a> {
     /// One run over it, for this request.
     Run(Request<'a>),
-    /// Runs over it with other bytes, up to this many changes, from 1 to 16, for those with which it has fewer faults.
+    /// Runs over it with other bytes, to find changes with which it has fewer faults: at most `limit`, which is from 1 to 16.
     Mend { limit: u32 },
 }

@@ -20,7 +20,7 @@ fn is_index_type(page: PageType) -> bool
     }
 }
 
-/// A value for each start: none has such a page.
+/// For each start, whether its page is one of an index: no start has such a page yet.
 ///
 /// # Errors
 ///

@@ -1,5 +1,5 @@
-//! What `dbck explain` writes of a database: of the faults that a check finds those that lead, each with where it is, what it goes
-//! back to, and how many faults belong to it; and how many faults there are of each kind and in each tree.
+//! What `dbck explain` writes of a database: the injuries, each by its first fault, with where that is, what it goes back to, and how
+//! many faults belong to it; and then how many faults there are of each code and in each tree.
 //!
 //! ```
 //! let mut source = MemSource::new(bytes);

@@ -172,8 +172,8 @@ impl<A: Allocator> Owners<'_, A> {
         }
     }
 
-    /// Writes the lines below a fault: the number of the header that is wrong, or where its page is, and with it the page that
-    /// it names, that this is after the stated end, or the entry that was wanted.
+    /// Writes the lines below a fault: the number in the header that is wrong; or where its page is, and then, by its code, where the page
+    /// is that it names, that this page is after the stated end, or which entry was wanted.
     pub(crate) fn put_below<O: Out>(&self, writer: &mut Writer<'_, O>, fault: &Fault)
         ensures { WroteOf O.held writer.old (AreOwnersOf self.now) (λ file V. lines_below file V fault.now fault.now.code) writer.new }
     {

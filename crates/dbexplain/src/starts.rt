@@ -19,7 +19,7 @@ use dbscan::{RootList, StartTable, TreeNames};
 use dbsource::Out;
 use std::alloc::{Allocator, Global};
 
-/// What is known of the rows of trees: those that the faults are of, and which trees have none.
+/// What is known of the rows of trees: which rows the faults are of, and which trees have pages of an index, so no rowids.
 #[derive(Drop)]
 pub(crate) struct RowNotes<'a, A: Allocator = Global> {
     pub ranges: &'a RowRanges<A>,

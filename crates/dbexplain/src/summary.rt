@@ -17,9 +17,9 @@ use dblines::Writer;
 use dbsource::Out;
 use std::alloc::Allocator;
 
-/// Writes the summary of all faults of a file: how many there are, with each code, at each start and of the whole file, on how many
-/// of the pages that were reached from a start and of which rows, which pages are zeros, and how many of the tables and indexes have none. Each page
-/// is counted here, in one pass over the marks.
+/// Writes the summary of all faults of a file: how many there are in all, of each code, from each start and of the whole file; of a start
+/// also on how many of its pages they are, and of which rows; then which pages are zeros, and how many tables and indexes have no fault.
+/// The pages of each start are counted here, in one pass over the marks.
 pub(crate) fn put_summary<A: Allocator, O: Out>(
     writer: &mut Writer<'_, O>,
     owners: &Owners<'_, A>,

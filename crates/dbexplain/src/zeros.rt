@@ -13,7 +13,7 @@ use dbinjuries::{PageRun, PageRuns, append_count};
 use dblines::{Writer, append, append_number};
 use dbsource::Out;
 
-/// Adds the pages from one number to another, before what they are.
+/// Adds `page 3 is`, or `pages 3 to 5 are`, of the pages from `first` to `last`; what they are comes after it.
 pub(crate) fn append_pages<const CAP: usize>(line: &mut ArrayVec<u8, CAP>, first: u64, last: u64)
     requires { array_vec_len line.old + 54 ≤ CAP }
     ensures text { line.new.items ≡ line.old.items ++ pages_text first last }

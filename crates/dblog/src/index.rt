@@ -42,8 +42,8 @@ impl Counts {
     }
 }
 
-/// From which frames of a log which pages are read: an entry for each page that the log gives. And the pages that the
-/// database then has, or 0 where nothing of the log is used.
+/// An entry for each page that a log gives, with the frame that the page is read from. And how many pages the database then has, or 0
+/// where nothing of the log is used.
 #[derive(Drop)]
 pub struct Index<A: Allocator = Global> {
     page_size: u32,

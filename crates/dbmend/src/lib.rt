@@ -8,7 +8,7 @@
 //!
 //! [`candidates`] gives, by what a run found, the edits that are worth a trial: for a reference that may be wrong the pages that it may have
 //! named, and for another number the few values that fit. What it finds is tested, not proved: it is plain code, of which is proved that it
-//! ends, and that it reads pages and nothing else.
+//! ends, and that it reads pieces of at most 65536 bytes, and nothing else.
 #![tactic(auto)]
 
 mod choosing;

@@ -177,10 +177,10 @@ fn search<A: Allocator + Copy, S: Source, O: Out>(
 /// Looks for the changes that leave the fewest faults in the database that `source` gives, and writes them to `out`.
 ///
 /// First comes a run without changes, and the line that says how many faults there are. Then up to `limit` changes, 16 at most, one
-/// after another: of the [`candidates`](crate::candidates) the one that leaves the fewest faults, if it leaves fewer than there were. It
-/// ends where none is left, or none helps. Of each change the offset, its bytes and those of the file are written, the page, and how
-/// many faults are left after it; at the end `ok`, or how many faults are left. Of a file without a fault `ok` is all that is written. It
-/// answers the verdict of the run without changes.
+/// after another: of the [`candidates`](crate::candidates) the one that leaves the fewest faults, if it leaves fewer than there were.
+/// The search ends where no fault is left, or no change leaves fewer. Of each change the offset, its bytes and those of the file are
+/// written, the page, and how many faults are left after it; at the end `ok`, or how many faults are left. Of a file without a fault
+/// `ok` is all that is written. It answers the verdict of the run without changes.
 ///
 /// If that run refuses the file, the first change is one with which the file is read: what a database begins with, a page size, or
 /// that no bytes are reserved. The others follow as above. If there is no such change, nothing is written.

@@ -20,7 +20,7 @@ use dbpage::{Cell, PageView, content_start, look_of, type_byte, uncounted_covera
 use std::alloc::{AllocError, Global};
 use std::fmt::Write;
 
-/// A page, with its number and how many of its bytes are usable, and a table of uses.
+/// A page, with its number and how many of its bytes are usable, and a table of marks.
 #[derive(Drop)]
 pub(crate) struct Page {
     bytes: Vec<u8>,
