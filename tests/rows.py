@@ -48,6 +48,7 @@ class Database:
             self.codes.setdefault(page, set()).add(code)
         self.start = {}
         self.page_range = {}
+        self.first_leaf = {}
         self.child_range = {}
         self.late = {}
         self.chain_row = {}
@@ -94,6 +95,8 @@ class Database:
         page = self.page(number)
         head = 100 if number == 1 else 0
         is_leaf = page[head] == 13
+        if is_leaf:
+            self.first_leaf.setdefault(start, (greatest, up_to))
         before = None
         for i in range(self.number(page, head + 3, 2)):
             unreadable = self.of_place.get((number, i), set()) & {"P05", "P06"}
@@ -138,9 +141,17 @@ class Database:
             return self.start[page], NOT_REACHED, self.page_range[page]
         if code == "T06":
             return self.start[page], ON_FAULTY, self.late[page, item]
-        if code[0] == "P" or code == "T05":
+        if code == "T05":
+            return self.start[page], ON_FAULTY, self.leaf_range(page)
+        if code[0] == "P":
             return self.start[page], ON_FAULTY, self.page_range[page]
         return None
+
+    def leaf_range(self, page):
+        """The bounds of a leaf at another depth: where they go on from those of the first leaf of its tree, of both."""
+        above, up_to = self.page_range[page]
+        first_above, end = self.first_leaf[self.start[page]]
+        return (first_above if end is not None and end == above else above), up_to
 
     def ranges(self, start):
         """All ranges of a start, joined where they touch."""

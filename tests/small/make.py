@@ -450,6 +450,17 @@ def two_depths(_):
     return db
 
 
+def three_levels(_):
+    """A leaf for each of the rowids 10, 20, 30 and 40, and above them two interior pages and the root."""
+    db = table(8)
+    db.interior(2, 4, (3, 20))
+    db.interior(3, 6, (5, 10))
+    db.interior(4, 8, (7, 30))
+    for page, rowid in (5, 10), (6, 20), (7, 30), (8, 40):
+        db.leaf(page, rowid)
+    return db
+
+
 def two_chains(_):
     """A row that goes on on page 5, and one that goes on on pages 3 and 4."""
     db = table(5)

@@ -25,6 +25,7 @@ use Rattle.dbformat.specs.declared.FaultCode.TheVariants.{T05}
 use Rattle.dbformat.specs.declared.TreeKind.{TreeKind}
 use Rattle.dbtrace.specs.Causes.{leaf_at, key_up_to, refusal_of, rowids_of, cause_of}
 use Rattle.dbtrace.specs.Finding.{told_row, told_by, told_at}
+use Rattle.dbtrace.specs.declared.RowidBounds.{RowidBounds}
 use Rattle.dbtrace.specs.declared.TreeLeaf.{TreeLeaf}
 use Rattle.dbtrace.specs.Item.{found, given, rows_at_event, faults_at, items_at}
 use Rattle.dbtrace.specs.Progress.{Progress, cause_by, rowids_by, leaf_after, depth_of, depth_faults, step}
@@ -49,8 +50,11 @@ module _ (file : List ℕ) where
   step_off : (U : List Reference) (p : Progress) (e : Event) → IsOff e → step file U p e ≡ p
   step_off U p (at_page r) h = ap (λ leaf. record { greatest = p.greatest; leaf = leaf }) (kept p.leaf)
     where
-      kept : (leaf : Option TreeLeaf) → leaf_after file leaf r ≡ leaf
-      kept None = ap (λ b. cond b (Some (leaf_at r)) None) (not_leaf file (start_of r.address) r (no_view r h))
+      rowids : RowidBounds
+      rowids = rowids_by p (key_up_to file U r)
+
+      kept : (leaf : Option TreeLeaf) → leaf_after file leaf rowids r ≡ leaf
+      kept None = ap (λ b. cond b (Some (leaf_at rowids r)) None) (not_leaf file (start_of r.address) r (no_view r h))
       kept (Some d) = refl
   step_off U p (at_key r v x) h = absurd h
   step_off U p (at_refused r) h = refl

@@ -16,12 +16,11 @@ use Rattle.dbformat.specs.PageFaults.{is_leaf_of, leaf_depth, depth_fault, page_
 use Rattle.dbformat.specs.declared.Fault.{Fault}
 use Rattle.dbformat.specs.declared.FaultCode.{FaultCode}
 use Rattle.dbformat.specs.declared.FaultCode.TheVariants.{T05}
-use Rattle.dbtrace.specs.Causes.{leaf_at, first_leaf}
+use Rattle.dbtrace.specs.Causes.{leaf_at, leaf_cause, first_leaf, rowids_of}
 use Rattle.dbtrace.specs.Finding.{told_fault, told_by}
 use Rattle.dbtrace.specs.Progress.{leaf_after, depth_of, depth_faults}
 use Rattle.dbtrace.specs.declared.Cause.{Cause}
 use Rattle.dbtrace.specs.declared.RowidBounds.{RowidBounds}
-use Rattle.dbtrace.specs.declared.Cause.TheVariants as cause
 use Rattle.dbtrace.specs.declared.TreeLeaf.{TreeLeaf}
 use Rattle.dbtrace.specs.Starts.{IsOfEarlierStart, AreOfEarlierStarts}
 
@@ -30,10 +29,10 @@ pub told_same : (why other : FaultCode → Cause) (b : Bool) (f : Fault) → why
 told_same why other true f e = ap (λ c. told_fault f c ∷ []) e
 told_same why other false f e = refl
 
--- the first leaf after some visits
-abbrev pub leaf_from : List ℕ → Option TreeLeaf → List Reference → Option TreeLeaf
-leaf_from file leaf [] = leaf
-leaf_from file leaf (r ∷ X) = leaf_from file (leaf_after file leaf r) X
+-- the first leaf after some visits, by the rowids of each
+abbrev pub leaf_from : List ℕ → (Reference → RowidBounds) → Option TreeLeaf → List Reference → Option TreeLeaf
+leaf_from file rowids leaf [] = leaf
+leaf_from file rowids leaf (r ∷ X) = leaf_from file rowids (leaf_after file leaf (rowids r) r) X
 
 pub other_start : (k : ℕ) (a : Address) → IsOfEarlierStart k a → (start_of a == k) ≡ false
 other_start k [] h = absurd h
@@ -50,41 +49,47 @@ module _ (file : List ℕ) (k : ℕ) where
       (find (is_leaf_of file k) (W ++ X))) (other_start k u.address (early u (inl refl)))
       ∙ past_earlier W X (λ w i. early w (inr i))
 
-  leaf_kept : (d : TreeLeaf) (X : List Reference) → leaf_from file (Some d) X ≡ Some d
-  leaf_kept d [] = refl
-  leaf_kept d (r ∷ X) = leaf_kept d X
+  module _ (rowids : Reference → RowidBounds) where
+    abbrev as_leaf : Reference → TreeLeaf
+    as_leaf u = leaf_at (rowids u) u
 
-  after : (x : Reference) → start_of x.address ≡ k → leaf_after file None x ≡ cond (is_leaf_of file k x) (Some (leaf_at x)) None
-  after x e = ap (λ s. cond (is_leaf_of file s x) (Some (leaf_at x)) None) e
+    leaf_kept : (d : TreeLeaf) (X : List Reference) → leaf_from file rowids (Some d) X ≡ Some d
+    leaf_kept d [] = refl
+    leaf_kept d (r ∷ X) = leaf_kept d X
 
-  -- the first leaf that is found is that of the fold
-  found_is : (X : List Reference) → AreOfStart X → option_map leaf_at (find (is_leaf_of file k) X) ≡ leaf_from file None X
-  found_is [] same = refl
-  found_is (x ∷ X) same = by_leaf (is_leaf_of file k x) refl (found_is X (λ u i. same u (inr i)))
-    where
-      by_leaf : (b : Bool) → is_leaf_of file k x ≡ b → option_map leaf_at (find (is_leaf_of file k) X) ≡ leaf_from file None X
-          → option_map leaf_at (find (is_leaf_of file k) (x ∷ X)) ≡ leaf_from file None (x ∷ X)
-      by_leaf true f h = ap (λ b. option_map leaf_at (cond b (Some x) (find (is_leaf_of file k) X))) f
-          ∙ sym (ap (λ o. leaf_from file o X) (after x (same x (inl refl)) ∙ ap (λ b. cond b (Some (leaf_at x)) None) f) ∙ leaf_kept (leaf_at x) X)
-      by_leaf false f h = ap (λ b. option_map leaf_at (cond b (Some x) (find (is_leaf_of file k) X))) f
-          ∙ h ∙ sym (ap (λ o. leaf_from file o X) (after x (same x (inl refl)) ∙ ap (λ b. cond b (Some (leaf_at x)) None) f))
+    after : (x : Reference) → start_of x.address ≡ k → leaf_after file None (rowids x) x ≡ cond (is_leaf_of file k x) (Some (as_leaf x)) None
+    after x e = ap (λ s. cond (is_leaf_of file s x) (Some (as_leaf x)) None) e
+
+    -- the first leaf that is found is that of the fold
+    found_is : (X : List Reference) → AreOfStart X → option_map as_leaf (find (is_leaf_of file k) X) ≡ leaf_from file rowids None X
+    found_is [] same = refl
+    found_is (x ∷ X) same = by_leaf (is_leaf_of file k x) refl (found_is X (λ u i. same u (inr i)))
+      where
+        by_leaf : (b : Bool) → is_leaf_of file k x ≡ b → option_map as_leaf (find (is_leaf_of file k) X) ≡ leaf_from file rowids None X
+            → option_map as_leaf (find (is_leaf_of file k) (x ∷ X)) ≡ leaf_from file rowids None (x ∷ X)
+        by_leaf true f h = ap (λ b. option_map as_leaf (cond b (Some x) (find (is_leaf_of file k) X))) f
+            ∙ sym (ap (λ o. leaf_from file rowids o X) (after x (same x (inl refl)) ∙ ap (λ b. cond b (Some (as_leaf x)) None) f) ∙ leaf_kept (as_leaf x) X)
+        by_leaf false f h = ap (λ b. option_map as_leaf (cond b (Some x) (find (is_leaf_of file k) X))) f
+            ∙ h ∙ sym (ap (λ o. leaf_from file rowids o X) (after x (same x (inl refl)) ∙ ap (λ b. cond b (Some (as_leaf x)) None) f))
 
   -- at a visit, as the definitions have it
   module _ (W X : List Reference) (r : Reference) (early : AreOfEarlierStarts k W) (same : AreOfStart X) (at : start_of r.address ≡ k) where
     abbrev U : List Reference
     U = W ++ (X ++ r ∷ [])
 
+    abbrev rowids : Reference → RowidBounds
+    rowids = rowids_of file U
+
     -- the first leaf so far is found first, and else the visit itself
     first_found : find (is_leaf_of file (start_of r.address)) U ≡ option_or (find (is_leaf_of file k) X) (find (is_leaf_of file k) (r ∷ []))
     first_found = ap (λ s. find (is_leaf_of file s) U) at ∙ past_earlier W (X ++ r ∷ []) early ∙ find-append (is_leaf_of file k) X (r ∷ [])
 
     -- the depth and the cause, by the first leaf so far
-    pub depth_told : (rowids : RowidBounds) (why : FaultCode → Cause)
-        → why T05 ≡ option_map_or (λ l. cause.Leaf l.page rowids) (first_leaf file U r) cause.Itself
-        → (why' : FaultCode → Cause) → why' T05 ≡ option_map_or (λ l. cause.Leaf l.page rowids) (leaf_from file None X) cause.Itself
-        → told_by why' (depth_faults file (leaf_from file None X) r) ≡ told_by why (depth_fault file U r)
+    pub depth_told : (own : RowidBounds) (why : FaultCode → Cause) → why T05 ≡ leaf_cause own (first_leaf file U r)
+        → (why' : FaultCode → Cause) → why' T05 ≡ leaf_cause own (leaf_from file rowids None X)
+        → told_by why' (depth_faults file (leaf_from file rowids None X) r) ≡ told_by why (depth_fault file U r)
     unfolding depth_fault
-    depth_told rowids why e why' e' = by_leaf (is_leaf_of file (start_of r.address) r) refl (find (is_leaf_of file k) X) refl
+    depth_told own why e why' e' = by_leaf (is_leaf_of file (start_of r.address) r) refl (find (is_leaf_of file k) X) refl
       where
         d : ℕ
         d = depth r.address
@@ -94,21 +99,21 @@ module _ (file : List ℕ) (k : ℕ) where
             ≡ told_by why (told_if (b && not (d == option_map_or (λ r. depth r.address) o d)) (fault T05 r.page 0 (pos d)))
 
         by_leaf : (b : Bool) → is_leaf_of file (start_of r.address) r ≡ b → (o : Option Reference) → find (is_leaf_of file k) X ≡ o
-            → Same (is_leaf_of file (start_of r.address) r) (leaf_from file None X) (find (is_leaf_of file (start_of r.address)) U)
-        by_leaf false f o g = subst (λ b. Same b (leaf_from file None X) (find (is_leaf_of file (start_of r.address)) U)) (sym f) refl
+            → Same (is_leaf_of file (start_of r.address) r) (leaf_from file rowids None X) (find (is_leaf_of file (start_of r.address)) U)
+        by_leaf false f o g = subst (λ b. Same b (leaf_from file rowids None X) (find (is_leaf_of file (start_of r.address)) U)) (sym f) refl
         by_leaf true f (Some u) g =
             let first : find (is_leaf_of file (start_of r.address)) U ≡ Some u = first_found ∙ ap (λ o. option_or o (find (is_leaf_of file k) (r ∷ []))) g in
-            let kept : leaf_from file None X ≡ Some (leaf_at u) = sym (found_is X same) ∙ ap (option_map leaf_at) g in
-            let causes : why' T05 ≡ why T05 = e' ∙ ap (λ l. option_map_or (λ l. cause.Leaf l.page rowids) l cause.Itself) kept
-            ∙ sym (e ∙ ap (λ o. option_map_or (λ l. cause.Leaf l.page rowids) (option_map_or (λ u. Some (leaf_at u)) o None) cause.Itself) first) in
+            let kept : leaf_from file rowids None X ≡ Some (leaf_at (rowids u) u) = sym (found_is rowids X same) ∙ ap (option_map (as_leaf rowids)) g in
+            let causes : why' T05 ≡ why T05 = e' ∙ ap (leaf_cause own) kept
+            ∙ sym (e ∙ ap (λ o. leaf_cause own (option_map_or (λ u. Some (leaf_at (rowids u) u)) o None)) first) in
             subst (λ l. Same (is_leaf_of file (start_of r.address) r) l (find (is_leaf_of file (start_of r.address)) U)) (sym kept)
-            (subst (λ o. Same (is_leaf_of file (start_of r.address) r) (Some (leaf_at u)) o) (sym first)
+            (subst (λ o. Same (is_leaf_of file (start_of r.address) r) (Some (leaf_at (rowids u) u)) o) (sym first)
             (told_same why' why (is_leaf_of file (start_of r.address) r && not (d == depth u.address)) (fault T05 r.page 0 (pos d)) causes))
         by_leaf true f None g =
             let itself : find (is_leaf_of file k) (r ∷ []) ≡ Some r = ap (λ b. cond b (Some r) None) (subst (λ s. is_leaf_of file s r ≡ true) at f) in
             let first : find (is_leaf_of file (start_of r.address)) U ≡ Some r = first_found ∙ ap (λ o. option_or o (find (is_leaf_of file k) (r ∷ []))) g
             ∙ itself in
-            let kept : leaf_from file None X ≡ None = sym (found_is X same) ∙ ap (option_map leaf_at) g in
+            let kept : leaf_from file rowids None X ≡ None = sym (found_is rowids X same) ∙ ap (option_map (as_leaf rowids)) g in
             subst (λ l. Same (is_leaf_of file (start_of r.address) r) l (find (is_leaf_of file (start_of r.address)) U)) (sym kept)
             (subst (λ o. Same (is_leaf_of file (start_of r.address) r) None o) (sym first)
             (none why' ∙ sym (none why)))

@@ -7,14 +7,14 @@ use Rattle.std.specs.Option.{option_map_or}
 use Rattle.std.proofs.lemmas.Bool.{and_parts, eqb-true}
 use Rattle.std.proofs.lemmas.List.{append-nil, length-append}
 use Rattle.std.proofs.lemmas.List.Elements.{filter_map-append}
-use Rattle.dbsurvey.specs.Address.{IsIn, Address}
+use Rattle.dbsurvey.specs.Address.{IsIn, Address, IsBefore}
 use Rattle.dbsurvey.specs.Run.{run, up_to}
 use Rattle.dbsurvey.specs.Story.{Told, Go}
 use Rattle.dbsurvey.specs.InOrder.{visits_in, read_back}
 use Rattle.dbsurvey.proofs.Composing.{named_at-step}
 use Rattle.dbsurvey.proofs.Advancing.{run_visits, run_below_visits}
 use Rattle.dbsurvey.proofs.Lists.{flat_map-same, flat_map-none}
-use Rattle.dbsurvey.proofs.Order.{IsIn-right}
+use Rattle.dbsurvey.proofs.Order.{IsIn-left, IsIn-right}
 use Rattle.dbsurvey.proofs.ReadBack.{read_as}
 use Rattle.dbformat.specs.File.{geometry}
 use Rattle.dbformat.specs.Address.{start_of, then_step, key_step, schema_start, last_root_start}
@@ -29,26 +29,28 @@ use Rattle.dbformat.specs.Story.{Event, at_page, at_key, at_refused, own_visit, 
 use Rattle.dbformat.specs.ReferenceFaults.{reference_faults}
 use Rattle.dbformat.specs.Report.{event_faults}
 use Rattle.dbformat.specs.Laws.{event_row}
+use Rattle.dbformat.proofs.LookBack.{visits-append}
 use Rattle.dbformat.proofs.Places.{key_place}
 use Rattle.dbformat.proofs.Theory.{are_rules, is_story, shows_visits}
 use Rattle.dbformat.specs.declared.Fault.{Fault}
 use Rattle.dbformat.specs.declared.FaultCode.{FaultCode}
 use Rattle.dbformat.specs.declared.FaultCode.TheVariants.{T06}
-use Rattle.dbtrace.specs.Causes.{cell_key, first_leaf, key_above, key_up_to, left_rows, refusal_of, rowids_of, top_before, visit_cause, cause_of}
+use Rattle.dbtrace.specs.Causes.{cell_key, first_leaf, leaf_cause, key_above, key_up_to, left_rows, refusal_of, rowids_of, top_before, visit_cause, cause_of}
 use Rattle.dbtrace.specs.Finding.{Finding, told_row, told_alone, told_by, told_at, visited_below}
 use Rattle.dbtrace.specs.declared.Cause.{Cause}
 use Rattle.dbtrace.specs.declared.Cause.TheVariants as cause
 use Rattle.dbtrace.specs.declared.RowidBounds.{RowidBounds}
 use Rattle.dbtrace.specs.Fold.{IsFold}
 use Rattle.dbtrace.specs.Item.{Item, found, given, given_cell, given_cells, roots_in, counted_findings, faults_at, rows_at_event, items_at}
-use Rattle.dbtrace.specs.Progress.{Progress, cause_by, key_value, rows_of, late_faults, depth_faults}
+use Rattle.dbtrace.specs.Progress.{Progress, cause_by, key_value, leaf_after, rowids_by, rows_of, late_faults, depth_faults}
 use Rattle.dbtrace.specs.Starts.{IsOfEarlierStart, AreOfEarlierStarts}
 use Rattle.dbtrace.specs.Walk.{Walk, machine, begin, advance, run_below}
 use Rattle.dbtrace.proofs.Causing.{AgreeOn, alone, page_codes, row_codes, told_by-append, page_same, rows_alone}
 use Rattle.dbtrace.proofs.Depths.{leaf_from, told_same, depth_told, page_parts}
+use Rattle.dbtrace.proofs.LookBack.{rowids_front}
 use Rattle.dbtrace.proofs.Keys.{greatest_is, started, top_is, above_itself, above_told, late_is}
 use Rattle.dbtrace.proofs.RowsTold.{rows_told, schema_told, rows_before}
-use Rattle.dbtrace.proofs.Told.{visited, trace, tells, IsOf, IsToldBelow, refused_as, told_as, below_start, visited_before}
+use Rattle.dbtrace.proofs.Told.{visited, trace, tells, IsOf, IsToldBelow, refused_as, told_as, below_start, visited_before, visited_after}
 
 -- which codes have a cause at an event
 
@@ -150,16 +152,24 @@ module _ (file : List ℕ) where
       ∙ ap (λ l. counted_findings 0 now.items ++ l) (h [] L t refl))
       ∙ append_assoc (counted_findings 0 now.items) (told_at file U t.event) (read_back own_visit (told_at file) U L)
 
-  -- the depth of the first leaf
-  leaf_is : (now : Walk) (A : List (Told Event)) → (run (machine file) now A).state.leaf ≡ leaf_from file now.state.leaf (visits_in own_visit A)
-  leaf_is now [] = refl
-  leaf_is now (t ∷ A) = by_event t.event (λ m. leaf_is m A)
+  -- The rowids of each page of A are these.
+  abbrev HasRowids : (Reference → RowidBounds) → Walk → List (Told Event) → Type 0
+  HasRowids rowids now A = (M N : List (Told Event)) (t : Told Event) (r : Reference) → A ≡ M ++ (t ∷ N) → t.event ≡ at_page r
+      → rowids_by (run (machine file) now M).state (key_up_to file (up_to (machine file) (run (machine file) now M) (at_page r)) r) ≡ rowids r
+
+  -- the first leaf
+  leaf_is : (rowids : Reference → RowidBounds) (now : Walk) (A : List (Told Event)) → HasRowids rowids now A
+      → (run (machine file) now A).state.leaf ≡ leaf_from file rowids now.state.leaf (visits_in own_visit A)
+  leaf_is rowids now [] h = refl
+  leaf_is rowids now (t ∷ A) h = by_event t.event refl (leaf_is rowids (advance file now t.event) A (λ M N u r e. h (t ∷ M) N u r (ap (λ l. t ∷ l) e)))
     where
-      by_event : (e : Event) → ((m : Walk) → (run (machine file) m A).state.leaf ≡ leaf_from file m.state.leaf (visits_in own_visit A))
-          → (run (machine file) (advance file now e) A).state.leaf ≡ leaf_from file now.state.leaf (visits_in own_visit (record { key = t.key; event = e } ∷ A))
-      by_event (at_page r) h = h (advance file now (at_page r))
-      by_event (at_key r v x) h = h (advance file now (at_key r v x))
-      by_event (at_refused r) h = h (advance file now (at_refused r))
+      by_event : (e : Event) → t.event ≡ e → (run (machine file) (advance file now e) A).state.leaf
+          ≡ leaf_from file rowids (advance file now e).state.leaf (visits_in own_visit A)
+          → (run (machine file) (advance file now e) A).state.leaf
+          ≡ leaf_from file rowids now.state.leaf (visits_in own_visit (record { key = t.key; event = e } ∷ A))
+      by_event (at_page r) f i = i ∙ ap (λ w. leaf_from file rowids (leaf_after file now.state.leaf w r) (visits_in own_visit A)) (h [] A t r refl f)
+      by_event (at_key r v x) f i = i
+      by_event (at_refused r) f i = i
 
 -- a cell has one key at most
 one_key : (r : Reference) (v : View) (x : ℕ × Cell) (key other : Key) (ks : List Key) → key_of r v x ≡ key ∷ other ∷ ks → ⊥
@@ -182,21 +192,78 @@ module _ (file : List ℕ) (k : ℕ) (W : List Reference) (c : Reference) (at : 
   abbrev after : List (Told Event) → Walk
   after A = run (machine file) (begin W) A
 
+  abbrev visits_at : List (Told Event) → Event → List Reference
+  visits_at A e = up_to (machine file) (after A) e
+
+  visits_after : (A : List (Told Event)) → (after A).visits ≡ W ++ visits_in own_visit A
+  visits_after A = run_visits (machine file) (begin W) A
+
+  at_start : (r : Reference) → IsIn r (visited file W c) → start_of r.address ≡ k
+  at_start r i = ap start_of (below_start file W c k at r i).1
+
+  is_of : (A B : List (Told Event)) (t : Told Event) → trace file W c ≡ A ++ (t ∷ B) → IsOf file (visited file W c) t.key t.event
+  is_of A B t split = told_as file W c t (((tells file W c).exact t).0 (subst (IsIn t) (sym split) (IsIn-right t A (t ∷ B) (inl refl))))
+
+  -- the greatest key before a page
+  above_is : (A B : List (Told Event)) (t : Told Event) → trace file W c ≡ A ++ (t ∷ B) → (r : Reference) → IsIn r (visited file W c) → t.key ≡ r.address
+      → key_value (after A).state.greatest ≡ key_above file (visits_at A (at_page r)) r.address
+  above_is A B t split r i place =
+      ap key_value (greatest_is file (begin W) A)
+      ∙ sym (above_told file k W c at early A B t split r place (at_start r i))
+      ∙ sym (above_itself file (W ++ visits_in own_visit A) r)
+      ∙ ap (λ U. key_above file (U ++ r ∷ []) r.address) (sym (visits_after A))
+
+  -- Of a page that was visited before another, the rowids by the progress then are those by all visits up to the other.
+  module _ (M N B : List (Told Event)) (u t : Told Event) (split : trace file W c ≡ (M ++ (u ∷ N)) ++ (t ∷ B)) (s r : Reference)
+      (first : u.event ≡ at_page s) (other : t.event ≡ at_page r) where
+    abbrev between : List Reference
+    between = visits_in own_visit N ++ r ∷ []
+
+    first_split : trace file W c ≡ M ++ (u ∷ (N ++ (t ∷ B)))
+    first_split = split ∙ append_assoc M (u ∷ N) (t ∷ B)
+
+    first_is : IsOf file (visited file W c) u.key (at_page s)
+    first_is = subst (IsOf file (visited file W c) u.key) first (is_of M (N ++ (t ∷ B)) u first_split)
+
+    all_between : between ++ visits_in own_visit B ≡ visits_in own_visit (N ++ (t ∷ B))
+    all_between = append_assoc (visits_in own_visit N) (r ∷ []) (visits_in own_visit B)
+        ∙ ap (λ e. visits_in own_visit N ++ visits_in own_visit (record { key = t.key; event = e } ∷ B)) (sym other)
+        ∙ sym (visits-append N (t ∷ B))
+
+    is_after : (w : Reference) → IsIn w between → IsBefore s.address w.address
+    is_after w i = subst (λ a. IsBefore a w.address) first_is.1
+        (visited_after file W c M (N ++ (t ∷ B)) u first_split w (subst (IsIn w) all_between (IsIn-left w between (visits_in own_visit B) i)))
+
+    all_up_to : visits_at M (at_page s) ++ between ≡ W ++ (visits_in own_visit (M ++ (u ∷ N)) ++ r ∷ [])
+    all_up_to =
+        let m = visits_in own_visit M in
+        let n = visits_in own_visit N in
+        ap (λ V. (V ++ s ∷ []) ++ between) (visits_after M)
+        ∙ append_assoc (W ++ m) (s ∷ []) between ∙ append_assoc W m (s ∷ between)
+        ∙ ap (λ l. W ++ l) (sym (append_assoc m (s ∷ n) (r ∷ [])))
+        ∙ ap (λ l. W ++ (l ++ r ∷ [])) (ap (λ e. m ++ visits_in own_visit (record { key = u.key; event = e } ∷ N)) (sym first) ∙ sym (visits-append M (u ∷ N)))
+
+    rowids_kept : rowids_by (after M).state (key_up_to file (visits_at M (at_page s)) s)
+        ≡ rowids_of file (W ++ (visits_in own_visit (M ++ (u ∷ N)) ++ r ∷ [])) s
+    rowids_kept = ap bounds (above_is M (N ++ (t ∷ B)) u first_split s first_is.0 first_is.1)
+        ∙ sym (rowids_front file (visits_at M (at_page s)) between s is_after)
+        ∙ ap (λ V. rowids_of file V s) all_up_to
+      where
+        bounds : Option ℤ → RowidBounds
+        bounds above = record { above = above; up_to = key_up_to file (visits_at M (at_page s)) s }
+
   module _ (A B : List (Told Event)) (t : Told Event) (split : trace file W c ≡ A ++ (t ∷ B)) where
     abbrev X : List Reference
     X = visits_in own_visit A
 
     visits_so_far : (after A).visits ≡ W ++ X
-    visits_so_far = run_visits (machine file) (begin W) A
+    visits_so_far = visits_after A
 
     here : IsOf file (visited file W c) t.key t.event
-    here = told_as file W c t (((tells file W c).exact t).0 (subst (IsIn t) (sym split) (IsIn-right t A (t ∷ B) (inl refl))))
-
-    at_start : (r : Reference) → IsIn r (visited file W c) → start_of r.address ≡ k
-    at_start r i = ap start_of (below_start file W c k at r i).1
+    here = is_of A B t split
 
     abbrev at_event : Event → List Reference
-    at_event e = up_to (machine file) (after A) e
+    at_event e = visits_at A e
 
     -- what is reported at an event, by the progress and by the definitions
     abbrev by_progress : Event → List Fault → List Finding
@@ -205,16 +272,7 @@ module _ (file : List ℕ) (k : ℕ) (W : List Reference) (c : Reference) (at : 
     abbrev by_visits : Event → List Fault → List Finding
     by_visits e fs = told_by (cause_of file (at_event e) e) fs
 
-    -- the greatest key before a page
-    above_is : (r : Reference) → IsIn r (visited file W c) → t.key ≡ r.address
-        → key_value (after A).state.greatest ≡ key_above file (at_event (at_page r)) r.address
-    above_is r i place =
-        ap key_value (greatest_is file (begin W) A)
-        ∙ sym (above_told file k W c at early A B t split r place (at_start r i))
-        ∙ sym (above_itself file (W ++ X) r)
-        ∙ ap (λ U. key_above file (U ++ r ∷ []) r.address) (sym visits_so_far)
-
-    -- and before a reference that is refused
+    -- the start of a reference that is refused, and the greatest key before it
     refused_start : (r : Reference) → t.event ≡ at_refused r → start_of r.address ≡ k
     refused_start r f = elim (refused_as file W c t told_here r f) [
       | inl i ↦ (elim i [ inl e ↦ ap (λ r. start_of r.address) e ∙ ap start_of at | inr n ↦ absurd n ])
@@ -244,14 +302,14 @@ module _ (file : List ℕ) (k : ℕ) (W : List Reference) (c : Reference) (at : 
         bounds above = record { above = above; up_to = key_up_to file (at_event (at_refused r)) r }
 
     -- a page: by the first leaf
-    page : (r : Reference) → IsIn r (visited file W c) → t.key ≡ r.address → by_progress (at_page r) (faults_at file (at_event (at_page r)) (after A).state
-        (at_page r))
+    page : (r : Reference) → t.event ≡ at_page r → IsIn r (visited file W c) → t.key ≡ r.address
+        → by_progress (at_page r) (faults_at file (at_event (at_page r)) (after A).state (at_page r))
         ≡ by_visits (at_page r) (page_faults file (at_event (at_page r)) r)
-    page r i place =
+    page r f i place =
         told_by-append (cause_by file (at_event (at_page r)) (after A).state (at_page r)) (page_faults file [] r) (depth_faults file (after A).state.leaf r)
         ∙ ap (λ l. l ++ by_progress (at_page r) (depth_faults file (after A).state.leaf r))
         (page_same (cause_by file (at_event (at_page r)) (after A).state (at_page r)) (cause_of file (at_event (at_page r)) (at_page r)) file refl refl r
-        (λ kind in_tree. ap (λ above. map (visit_cause (bounds above) file r) page_codes) (above_is r i place)))
+        (λ kind in_tree. ap (λ above. map (visit_cause (bounds above) file r) page_codes) (above_is A B t split r i place)))
         ∙ ap (λ l. by_visits (at_page r) (page_faults file [] r) ++ l) depths
         ∙ sym (told_by-append (cause_of file (at_event (at_page r)) (at_page r)) (page_faults file [] r) (depth_fault file (at_event (at_page r)) r))
         ∙ ap (by_visits (at_page r)) (sym (page_parts file (at_event (at_page r)) r))
@@ -262,17 +320,24 @@ module _ (file : List ℕ) (k : ℕ) (W : List Reference) (c : Reference) (at : 
         all : at_event (at_page r) ≡ W ++ (X ++ r ∷ [])
         all = ap (λ U. U ++ r ∷ []) visits_so_far ∙ append_assoc W X (r ∷ [])
 
-        leaf : (after A).state.leaf ≡ leaf_from file None X
-        leaf = leaf_is file (begin W) A
+        own : RowidBounds
+        own = rowids_of file (at_event (at_page r)) r
+
+        rowids : Reference → RowidBounds
+        rowids = rowids_of file (W ++ (X ++ r ∷ []))
+
+        leaf : (after A).state.leaf ≡ leaf_from file rowids None X
+        leaf = leaf_is file rowids (begin W) A
+            (λ M N u s e g. rowids_kept M N B u t (split ∙ ap (λ A. A ++ (t ∷ B)) e) s r g f
+            ∙ ap (λ A. rowids_of file (W ++ (visits_in own_visit A ++ r ∷ [])) s) (sym e))
 
         depths : by_progress (at_page r) (depth_faults file (after A).state.leaf r) ≡ by_visits (at_page r) (depth_fault file (at_event (at_page r)) r)
         depths = ap (λ l. by_progress (at_page r) (depth_faults file l r)) leaf
-            ∙ depth_told file k W X r early (λ u j. at_start u ((visited_before file W c A B t split u).0 j).0) (at_start r i)
-            (rowids_of file (at_event (at_page r)) r)
+            ∙ depth_told file k W X r early (λ u j. at_start u ((visited_before file W c A B t split u).0 j).0) (at_start r i) own
             (cause_of file (at_event (at_page r)) (at_page r))
-            (ap (λ U. option_map_or (λ l. cause.Leaf l.page (rowids_of file (at_event (at_page r)) r)) (first_leaf file U r) cause.Itself) all)
+            (ap (λ U. leaf_cause own (first_leaf file U r)) all)
             (cause_by file (at_event (at_page r)) (after A).state (at_page r))
-            (ap₂ (λ l above. option_map_or (λ l. cause.Leaf l.page (bounds above)) l cause.Itself) leaf (above_is r i place))
+            (ap₂ (λ l above. leaf_cause (bounds above) l) leaf (above_is A B t split r i place))
             ∙ ap (λ U. by_visits (at_page r) (depth_fault file U r)) (sym all)
 
     -- a key: by the greatest
@@ -369,7 +434,7 @@ module _ (file : List ℕ) (k : ℕ) (W : List Reference) (c : Reference) (at : 
 
     faults : (e : Event) → t.event ≡ e → IsOf file (visited file W c) t.key e
         → by_progress e (counted_faults file (roots_in (after A).items) (at_event e) (after A).state e) ≡ by_visits e (event_faults file (at_event e) e)
-    faults (at_page r) f h = page r h.0 h.1
+    faults (at_page r) f h = page r f h.0 h.1
     faults (at_refused r) f h = refused r f h
     faults (at_key r v x) f h = subst (λ U. told_by (cause_by file U (after A).state (at_key r v x))
         (flat_map (row_faults_if (nat_le last_root_start (roots_in (after A).items))) (rows_of file U r v x)

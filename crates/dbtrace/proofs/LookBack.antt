@@ -3,10 +3,11 @@ use Rattle.std.proofs.Common.{◌≡◌, ℕ, zero, suc, ◌+◌, ◌-◌, inl, 
 use Rattle.std.proofs.Common.{Some, None, refl, sym, ap, ap₂, subst, ◌∙◌, append_assoc}
 use Rattle.std.specs.Prelude.{find, flat_map, option_and_then, option_map, option_to_list, pos, ◌==◌}
 use Rattle.std.specs.Option.{option_map_or}
-use Rattle.dbsurvey.specs.Address.{IsIn, Address, IsBefore}
+use Rattle.dbsurvey.specs.Address.{IsIn, Address, IsBefore, IsAscending}
 use Rattle.dbsurvey.specs.InOrder.{is_before, visits_in, read_back}
 use Rattle.dbsurvey.specs.Story.{Told}
-use Rattle.dbsurvey.proofs.Order.{IsIn-right}
+use Rattle.dbsurvey.proofs.Lists.{find-some}
+use Rattle.dbsurvey.proofs.Order.{IsIn-right, EachPair-across}
 use Rattle.dbsurvey.proofs.Ordering.{is_before-from}
 use Rattle.dbformat.specs.File.{page_bytes}
 use Rattle.dbformat.specs.Header.{usable_size}
@@ -28,8 +29,8 @@ use Rattle.dbformat.proofs.LookBack.{find_front, keys_front, tells, all_of, late
 use Rattle.dbformat.proofs.Places.{key_place}
 use Rattle.dbformat.proofs.Theory.{no_tell, told_in_order}
 use Rattle.dbformat.specs.Schema.{starts}
-use Rattle.dbtrace.specs.Causes.{cell_key, leaf_at, top_key, top_before, first_leaf, chain_number, head_address, is_same, chain_head, chain_of, chain_cause}
-use Rattle.dbtrace.specs.Causes.{seen_from, seen_bytes, key_from, left_rows, refusal_of, refusal_cause, rowids_of, visit_cause, cause_of}
+use Rattle.dbtrace.specs.Causes.{cell_key, leaf_at, top_key, top_before, first_leaf, leaf_cause, chain_number, head_address, is_same, chain_head, chain_of}
+use Rattle.dbtrace.specs.Causes.{chain_cause, seen_from, seen_bytes, key_from, left_rows, refusal_of, refusal_cause, rowids_of, visit_cause, cause_of}
 use Rattle.dbtrace.specs.Finding.{Finding, told_row, told_fault, told_by, told_at}
 use Rattle.dbtrace.specs.LookBack.{visits_up_to, CausesLookBack, FindingsLookBack}
 use Rattle.dbtrace.specs.declared.SeenBytes.{SeenBytes}
@@ -84,14 +85,26 @@ not_same a b h = by_other (not (is_before a b)) (not (is_before b a)) (ap not (i
     by_other true y e = e
     by_other false y e = refl
 
+-- the keys before a page, and the cells above it, where all pages of T are after it
+pub rowids_front : (file : List ℕ) (U T : List Reference) (r : Reference) → ((t : Reference) → IsIn t T → IsBefore r.address t.address)
+    → rowids_of file (U ++ T) r ≡ rowids_of file U r
+rowids_front file U T r after = ap₂ (λ above up_to. bounds above up_to)
+    (ap (λ ks. option_map (λ k. k.value) (top_key ks)) (keys_front file U T r.address after (at_place r.address) refl))
+    (ap (λ root. option_and_then (λ u. key_from file u r) root)
+    (none_after (λ u. is_same u.address (take 1 r.address)) U T
+    (λ t i. not_same t.address (take 1 r.address) (begins_before 1 r.address t.address (after t i)))))
+  where
+    at_place : Address → Key
+    at_place a = record { place = a; page = 0; item = 0; value = pos 0; is_rowid = false }
+
+    bounds : Option ℤ → Option ℤ → RowidBounds
+    bounds above up_to = record { above = above; up_to = up_to }
+
 -- Beyond a place nothing counts: T has pages at greater addresses.
 module _ (file : List ℕ) (U T : List Reference) (place : Address) (after : (t : Reference) → IsIn t T → IsBefore place t.address) where
   top_front : (ks : List Key) → ((k : Key) → IsIn k ks → k.place ≡ place) → top_before file (U ++ T) ks ≡ top_before file U ks
   top_front [] h = refl
   top_front (k ∷ ks) h = ap top_key (keys_front file U T place after k (h k (inl refl)))
-
-  leaf_front : (r : Reference) → IsIn r U → is_leaf_of file (start_of r.address) r ≡ true → first_leaf file (U ++ T) r ≡ first_leaf file U r
-  leaf_front r i e = ap (λ o. option_map_or (λ u. Some (leaf_at u)) o None) (find_front (is_leaf_of file (start_of r.address)) U T r i e)
 
   -- the first page of a chain is at a beginning of the address
   head_front : (r : Reference) → r.address ≡ place → chain_head (U ++ T) r ≡ chain_head U r
@@ -99,19 +112,8 @@ module _ (file : List ℕ) (U T : List Reference) (place : Address) (after : (t 
       (λ t i. not_same t.address (head_address r.address)
       (begins_before (length r.address - chain_number r.address) r.address t.address (subst (λ a. IsBefore a t.address) (sym e) (after t i)))))
 
-  -- the keys before a page, and the cells above it
-  rowids_front : (r : Reference) → r.address ≡ place → rowids_of file (U ++ T) r ≡ rowids_of file U r
-  rowids_front r e = ap₂ (λ above up_to. bounds above up_to)
-      (ap (λ ks. option_map (λ k. k.value) (top_key ks)) (keys_front file U T place after (at_place r.address) e))
-      (ap (λ root. option_and_then (λ u. key_from file u r) root)
-      (none_after (λ u. is_same u.address (take 1 r.address)) U T
-      (λ t i. not_same t.address (take 1 r.address) (begins_before 1 r.address t.address (subst (λ a. IsBefore a t.address) (sym e) (after t i))))))
-    where
-      at_place : Address → Key
-      at_place a = record { place = a; page = 0; item = 0; value = pos 0; is_rowid = false }
-
-      bounds : Option ℤ → Option ℤ → RowidBounds
-      bounds above up_to = record { above = above; up_to = up_to }
+  rowids_at : (r : Reference) → r.address ≡ place → rowids_of file (U ++ T) r ≡ rowids_of file U r
+  rowids_at r e = rowids_front file U T r (λ t i. subst (λ a. IsBefore a t.address) (sym e) (after t i))
 
   chain_front : (r : Reference) → r.address ≡ place → (left : Option ℕ) (more : ℕ) (seen : SeenBytes) → chain_cause file (U ++ T) r left more seen
       ≡ chain_cause file U r left more seen
@@ -124,8 +126,12 @@ module _ (file : List ℕ) (U T : List Reference) (place : Address) (after : (t 
   refusal_front r e = by_kind (tree_kind (role_of r))
     where
       by_kind : (kind : Option TreeKind) → refusal_of file (U ++ T) r (rowids_of file (U ++ T) r) kind ≡ refusal_of file U r (rowids_of file U r) kind
-      by_kind (Some kind) = ap cause.Rows (rowids_front r e)
+      by_kind (Some kind) = ap cause.Rows (rowids_at r e)
       by_kind None = chain_front r e (bytes_left (role_of r)) 0 (seen_from file r)
+
+  -- all pages of U are before them
+  abbrev AreBefore : Type 0
+  AreBefore = (u t : Reference) → IsIn u U → IsIn t T → IsBefore u.address t.address
 
   abbrev by_all : Event → FaultCode → Cause
   by_all e = cause_of file (U ++ T) e
@@ -133,28 +139,43 @@ module _ (file : List ℕ) (U T : List Reference) (place : Address) (after : (t 
   abbrev by_front : Event → FaultCode → Cause
   by_front e = cause_of file U e
 
+  -- the first leaf, with its rowids
+  leaf_front : (r : Reference) → IsIn r U → AreBefore → is_leaf_of file (start_of r.address) r ≡ true → first_leaf file (U ++ T) r ≡ first_leaf file U r
+  leaf_front r i before e = ap (λ o. option_map_or (λ u. Some (leaf_at (rowids_of file (U ++ T) u) u)) o None)
+      (find_front (is_leaf_of file (start_of r.address)) U T r i e)
+      ∙ by_first (find (is_leaf_of file (start_of r.address)) U) refl
+    where
+      by_first : (o : Option Reference) → find (is_leaf_of file (start_of r.address)) U ≡ o
+          → option_map_or (λ u. Some (leaf_at (rowids_of file (U ++ T) u) u)) (find (is_leaf_of file (start_of r.address)) U) None ≡ first_leaf file U r
+      by_first None f = ap (λ o. option_map_or (λ u. Some (leaf_at (rowids_of file (U ++ T) u) u)) o None) f
+          ∙ ap (λ o. option_map_or (λ u. Some (leaf_at (rowids_of file U u) u)) o None) (sym f)
+      by_first (Some u) f = ap (λ o. option_map_or (λ u. Some (leaf_at (rowids_of file (U ++ T) u) u)) o None) f
+          ∙ ap (λ rowids. Some (leaf_at rowids u))
+          (rowids_front file U T u (λ t. before u t (find-some (is_leaf_of file (start_of r.address)) U u f).0))
+          ∙ ap (λ o. option_map_or (λ u. Some (leaf_at (rowids_of file U u) u)) o None) (sym f)
+
   -- a page has the fault of its depth only where it is a leaf
-  depth_front : (r : Reference) → r.address ≡ place → IsIn r U → told_by (by_all (at_page r)) (depth_fault file U r)
+  depth_front : (r : Reference) → r.address ≡ place → IsIn r U → AreBefore → told_by (by_all (at_page r)) (depth_fault file U r)
       ≡ told_by (by_front (at_page r)) (depth_fault file U r)
   unfolding depth_fault
-  depth_front r at i = by_leaf (is_leaf_of file (start_of r.address) r) refl
+  depth_front r at i before = by_leaf (is_leaf_of file (start_of r.address) r) refl
     where
       by_leaf : (b : Bool) → is_leaf_of file (start_of r.address) r ≡ b → told_by (by_all (at_page r)) (depth_fault file U r)
           ≡ told_by (by_front (at_page r)) (depth_fault file U r)
       by_leaf true e = told_same (by_all (at_page r)) (by_front (at_page r)) _ _
-          (ap₂ (λ l rowids. option_map_or (λ l. cause.Leaf l.page rowids) l cause.Itself) (leaf_front r i e) (rowids_front r at))
+          (ap₂ leaf_cause (rowids_at r at) (leaf_front r i before e))
       by_leaf false e = rw e refl
 
-  page_front : (r : Reference) → r.address ≡ place → IsIn r U → told_by (by_all (at_page r)) (page_faults file U r)
+  page_front : (r : Reference) → r.address ≡ place → IsIn r U → AreBefore → told_by (by_all (at_page r)) (page_faults file U r)
       ≡ told_by (by_front (at_page r)) (page_faults file U r)
-  page_front r e i =
+  page_front r e i before =
       ap (told_by (by_all (at_page r))) (page_parts file U r)
       ∙ told_by-append (by_all (at_page r)) (page_faults file [] r) (depth_fault file U r)
       ∙ ap₂ (λ a b. a ++ b)
       (page_same (by_all (at_page r)) (by_front (at_page r)) file (chain_front r e (bytes_left (role_of r)) 1
       (seen_bytes (usable_size file) (page_bytes file r.page))) refl r
-      (λ kind in_tree. ap (λ rowids. map (visit_cause rowids file r) page_codes) (rowids_front r e)))
-      (depth_front r e i)
+      (λ kind in_tree. ap (λ rowids. map (visit_cause rowids file r) page_codes) (rowids_at r e)))
+      (depth_front r e i before)
       ∙ sym (ap (told_by (by_front (at_page r))) (page_parts file U r) ∙ told_by-append (by_front (at_page r)) (page_faults file [] r) (depth_fault file U r))
 
   key_front : (r : Reference) (v : View) (x : ℕ × Cell) → then_step r.address (key_step x.0) ≡ place → (code : FaultCode) → by_all (at_key r v x) code
@@ -163,12 +184,12 @@ module _ (file : List ℕ) (U T : List Reference) (place : Address) (after : (t 
       (λ k i. key_place r v x k i ∙ e))
   key_front r v x e _ = refl
 
-  event_front : (V : List Reference) (e : Event) → IsOf file V place e → ((r : Reference) → own_visit e ≡ Some r → IsIn r U)
+  event_front : (V : List Reference) (e : Event) → IsOf file V place e → ((r : Reference) → own_visit e ≡ Some r → IsIn r U) → AreBefore
       → told_by (by_all e) (event_faults file U e) ≡ told_by (by_front e) (event_faults file U e)
-  event_front V (at_page r) h own = page_front r (sym h.1) (own r refl)
-  event_front V (at_key r v x) h own = same_by (by_all (at_key r v x)) (by_front (at_key r v x)) (key_front r v x (sym h.3))
+  event_front V (at_page r) h own before = page_front r (sym h.1) (own r refl) before
+  event_front V (at_key r v x) h own before = same_by (by_all (at_key r v x)) (by_front (at_key r v x)) (key_front r v x (sym h.3))
       (event_faults file U (at_key r v x))
-  event_front V (at_refused r) h own = same_by (by_all (at_refused r)) (by_front (at_refused r))
+  event_front V (at_refused r) h own before = same_by (by_all (at_refused r)) (by_front (at_refused r))
       (λ code. refusal_front r (sym h)) (event_faults file U (at_refused r))
 
 -- at an event of all that is reported
@@ -185,6 +206,8 @@ module _ (file : List ℕ) (V : List Reference) (s : Survey file V) where
       (told_of file (start_errands file V) V (no_tell [] (starts file V)) t
       (((tells file V s).exact t).0 (subst (λ l. IsIn t l) e (IsIn-right t A (t ∷ L) (inl refl)))))
       (λ r f. IsIn-right r (visits_in own_visit A) (option_to_list (own_visit t.event)) (listed (own_visit t.event) r f))
+      (λ u w i j. EachPair-across (λ (u : Reference) (w : Reference). IsBefore u.address w.address) (visits_up_to A t) (visits_in own_visit L)
+      (subst (IsAscending (λ (u : Reference). u.address)) (sym (all_of file V s A t L e)) s.ascending) u w i j)
 
   -- its row, and these
   pub findings_here : (A : List (Told Event)) (t : Told Event) (L : List (Told Event)) → A ++ t ∷ L ≡ telling file V → told_at file V t.event

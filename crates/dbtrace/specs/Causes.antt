@@ -5,6 +5,7 @@ use Rattle.std.specs.Prelude.{ℕ, zero, suc, ◌+◌, ◌-◌, ◌/◌, not, op
 use Rattle.std.specs.Prelude.{Option, Some, None, is_some, option_map, count_by, int_lt, unwrap_or, if◌then◌else◌, ◌==◌}
 use Rattle.std.specs.List.{list_any, range_with_len}
 use Rattle.std.specs.Option.{option_map_or, option_or}
+use Rattle.std.specs.Ordering.{int_eq}
 use Rattle.std.specs.Result.{result_ok}
 use Rattle.dbsurvey.specs.Address.{Address}
 use Rattle.dbsurvey.specs.InOrder.{is_before}
@@ -55,16 +56,6 @@ top_key ks = find (λ k. not (list_any (λ j. is_above j k) ks)) ks
 abbrev pub top_before : List ℕ → List Reference → List Key → Option Key
 top_before file V [] = None
 top_before file V (key ∷ keys) = top_key (earlier_keys file V key)
-
--- Leaves.
-
--- the page and the depth of a visit
-abbrev pub leaf_at : Reference → TreeLeaf
-leaf_at r = record { page = r.page; depth = depth r.address }
-
--- the first undamaged leaf of the tree of a visit
-abbrev pub first_leaf : List ℕ → List Reference → Reference → Option TreeLeaf
-first_leaf file V r = option_map_or (λ u. Some (leaf_at u)) (find (is_leaf_of file (start_of r.address)) V) None
 
 -- Overflow chains.
 
@@ -173,6 +164,29 @@ rowids_of file V r = record { above = key_above file V r.address; up_to = key_up
 abbrev pub no_rowids : RowidBounds
 no_rowids = record { above = None; up_to = None }
 
+-- Leaves.
+
+-- the page, the depth and the rowids of a visit
+abbrev pub leaf_at : RowidBounds → Reference → TreeLeaf
+leaf_at rowids r = record { page = r.page; depth = depth r.address; rowids = rowids }
+
+-- the first undamaged leaf of the tree of a visit
+abbrev pub first_leaf : List ℕ → List Reference → Reference → Option TreeLeaf
+first_leaf file V r = option_map_or (λ u. Some (leaf_at (rowids_of file V u) u)) (find (is_leaf_of file (start_of r.address)) V) None
+
+-- whether rows begin at the key with which others end
+abbrev pub go_on_from : RowidBounds → RowidBounds → Bool
+go_on_from own other = option_map_or (λ end. option_map_or (λ above. int_eq end above) own.above false) other.up_to false
+
+-- the rows of a leaf at another depth than the first, by the rowids of both: where they go on from those of the first, also these,
+-- since one of the two is at the wrong depth
+abbrev pub leaf_rows : RowidBounds → RowidBounds → RowidBounds
+leaf_rows first own = if go_on_from own first then record { above = first.above; up_to = own.up_to } else own
+
+-- the cause of a fault of a leaf at another depth
+abbrev pub leaf_cause : RowidBounds → Option TreeLeaf → Cause
+leaf_cause own first = option_map_or (λ l. cause.Leaf l.page (leaf_rows l.rowids own)) first cause.Itself
+
 -- References that are refused.
 
 -- the cause of the fault of one of this kind of tree: to a page of a tree its rows, and else the chain that it breaks
@@ -248,7 +262,7 @@ lost_cause_at is_lost file p = lost_cause is_lost p (geometry file).usable (page
 
 -- The cause of a fault of this code that is reported at an event.
 abbrev pub cause_of : List ℕ → List Reference → Event → FaultCode → Cause
-cause_of file V (at_page r) T05 = option_map_or (λ l. cause.Leaf l.page (rowids_of file V r)) (first_leaf file V r) cause.Itself
+cause_of file V (at_page r) T05 = leaf_cause (rowids_of file V r) (first_leaf file V r)
 cause_of file V (at_page r) O01 = chain_cause file V r (bytes_left (role_of r)) 1 (seen_bytes (usable_size file) (page_bytes file r.page))
 cause_of file V (at_page r) code = visit_cause (rowids_of file V r) file r code
 cause_of file V (at_key r v x) T06 = option_map_or (λ k. cause.Key (cell_key k) (left_rows v x)) (top_before file V (key_of r v x)) cause.Itself

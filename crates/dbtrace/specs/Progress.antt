@@ -15,7 +15,7 @@ use Rattle.dbformat.specs.Story.{Event, at_page, at_key, at_refused}
 use Rattle.dbformat.specs.declared.Fault.{Fault}
 use Rattle.dbformat.specs.declared.FaultCode.{FaultCode}
 use Rattle.dbformat.specs.declared.FaultCode.TheVariants.{T05, T06, O01}
-use Rattle.dbtrace.specs.Causes.{cell_key, leaf_at, key_up_to, left_rows, refusal_of, visit_cause, cause_of}
+use Rattle.dbtrace.specs.Causes.{cell_key, leaf_at, leaf_cause, key_up_to, left_rows, refusal_of, visit_cause, cause_of}
 use Rattle.dbtrace.specs.declared.CellKey.{CellKey}
 use Rattle.dbtrace.specs.declared.RowidBounds.{RowidBounds}
 use Rattle.dbtrace.specs.declared.TreeLeaf.{TreeLeaf}
@@ -53,10 +53,10 @@ key_value top = option_map (λ k. k.value) top
 abbrev pub late_faults : Option CellKey → Key → List Fault
 late_faults top key = told_if (is_out int_lt (key_value top) (key_entry key)) (fault T06 key.page key.item key.value)
 
--- the first leaf after a visit
-abbrev pub leaf_after : List ℕ → Option TreeLeaf → Reference → Option TreeLeaf
-leaf_after file (Some l) r = Some l
-leaf_after file None r = if is_leaf_of file (start_of r.address) r then Some (leaf_at r) else None
+-- the first leaf after a visit with these rowids
+abbrev pub leaf_after : List ℕ → Option TreeLeaf → RowidBounds → Reference → Option TreeLeaf
+leaf_after file (Some l) rowids r = Some l
+leaf_after file None rowids r = if is_leaf_of file (start_of r.address) r then Some (leaf_at rowids r) else None
 
 -- the depth of the first leaf, or else d
 abbrev pub depth_of : Option TreeLeaf → ℕ → ℕ
@@ -73,7 +73,7 @@ rowids_by p up_to = record { above = key_value p.greatest; up_to = up_to }
 
 -- The cause of a fault of this code at an event, by the progress so far, where U has the visits up to it.
 abbrev pub cause_by : List ℕ → List Reference → Progress → Event → FaultCode → Cause
-cause_by file U p (at_page r) T05 = option_map_or (λ l. cause.Leaf l.page (rowids_by p (key_up_to file U r))) p.leaf cause.Itself
+cause_by file U p (at_page r) T05 = leaf_cause (rowids_by p (key_up_to file U r)) p.leaf
 cause_by file U p (at_page r) O01 = cause_of file U (at_page r) O01
 cause_by file U p (at_page r) code = visit_cause (rowids_by p (key_up_to file U r)) file r code
 cause_by file U p (at_key r v x) T06 = option_map_or (λ k. cause.Key k (left_rows v x)) p.greatest cause.Itself
@@ -86,6 +86,6 @@ rows_of file U r v cell = if (start_of r.address == schema_start) && not (is_int
 
 -- one event on, where U has the visits up to it
 abbrev pub step : List ℕ → List Reference → Progress → Event → Progress
-step file U p (at_page r) = record { greatest = p.greatest; leaf = leaf_after file p.leaf r }
+step file U p (at_page r) = record { greatest = p.greatest; leaf = leaf_after file p.leaf (rowids_by p (key_up_to file U r)) r }
 step file U p (at_key r v cell) = record { greatest = greatest_after p.greatest (key_of r v cell); leaf = p.leaf }
 step file U p (at_refused r) = p

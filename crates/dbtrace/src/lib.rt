@@ -21,13 +21,6 @@ pub struct CellKey {
     pub value: i64,
 }
 
-/// A leaf of a tree: its page, and its depth, where the root has depth 1.
-#[derive(Clone, Copy)]
-pub struct TreeLeaf {
-    pub page: u32,
-    pub depth: u32,
-}
-
 /// What is seen in the bytes of the overflow page that a fault is of.
 #[derive(Clone, Copy)]
 pub struct SeenBytes {
@@ -87,6 +80,14 @@ impl RowidBounds {
     };
 }
 
+/// A leaf of a tree: its page, its depth, where the root has depth 1, and its rowids.
+#[derive(Clone, Copy)]
+pub struct TreeLeaf {
+    pub page: u32,
+    pub depth: u32,
+    pub rowids: RowidBounds,
+}
+
 /// What is known of a page with faults. Two causes are compared without it.
 #[derive(Clone, Copy)]
 pub struct PageFacts {
@@ -119,7 +120,8 @@ pub enum Cause {
     /// The key that a key is not above: the greatest before it, at the first cell that has it. Of a key of an interior page, the rows
     /// of its left child, by the cell before it on its page.
     Key(CellKey, Option<RowidBounds>),
-    /// The page of the first leaf, which has another depth, and the rows of the page with the fault.
+    /// The page of the first leaf, which has another depth, and the rows of the page with the fault: where these go on from the rows
+    /// of the first leaf, with those.
     Leaf(u32, RowidBounds),
     /// The chain that it breaks.
     Chain(CellChain),

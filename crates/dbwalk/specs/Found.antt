@@ -19,7 +19,7 @@ use Rattle.dbformat.specs.Story.{at_page}
 use Rattle.dbformat.specs.Rows.{StatRow}
 use Rattle.dbformat.specs.declared.Fault.{Fault}
 use Rattle.dbformat.specs.declared.PageType.TheVariants.{Tree, Damaged}
-use Rattle.dbtrace.specs.Causes.{page_cause, visit_cause}
+use Rattle.dbtrace.specs.Causes.{leaf_cause, page_cause, visit_cause}
 use Rattle.dbtrace.specs.Finding.{Finding, told_row, told_by}
 use Rattle.dbtrace.specs.Progress.{depth_faults}
 use Rattle.dbtrace.specs.declared.RowidBounds.{RowidBounds}
@@ -28,7 +28,6 @@ use Rattle.dbtrace.specs.declared.Cause.{Cause}
 use Rattle.dbtrace.specs.declared.Cause.TheVariants as cause
 use Rattle.dbformat.specs.declared.FaultCode.{FaultCode}
 use Rattle.dbformat.specs.declared.FaultCode.TheVariants.{P01, P02, P03, P10, T05}
-use Rattle.dbwalk.specs.LeafCells.{leaf_cause}
 
 -- a page that was read has this many usable bytes
 pub record IsUsable (usable : ℕ) (page : List ℕ) : Type 0 where
@@ -109,7 +108,7 @@ inner_cause page _ = page
 abbrev pub undamaged_findings : ℕ → List ℕ → RowidBounds → View → Bool → List Finding
 undamaged_findings start path rowids v is_child = told_row (view_row start path v) ∷ told_by (view_cause rowids v) (inner_faults v is_child)
 
--- the causes of a page, and that of a leaf at another depth, by its rows and the first leaf before it
+-- the causes of a page, and that of a leaf at another depth, by its rowids and the first leaf before it
 abbrev pub with_leaf : (FaultCode → Cause) → RowidBounds → Option TreeLeaf → FaultCode → Cause
 with_leaf why rowids leaf T05 = leaf_cause rowids leaf
 with_leaf why rowids leaf code = why code

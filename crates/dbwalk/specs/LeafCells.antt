@@ -18,6 +18,7 @@ use Rattle.dbformat.specs.Errands.{go}
 use Rattle.dbformat.specs.Faults.{fault}
 use Rattle.dbformat.specs.Story.{Event}
 use Rattle.dbformat.specs.Tests.{told_if}
+use Rattle.dbtrace.specs.Causes.{leaf_cause}
 use Rattle.dbtrace.specs.Finding.{Finding, told_fault}
 use Rattle.dbtrace.specs.Progress.{key_value, greater_key, depth_of}
 use Rattle.dbtrace.specs.declared.CellKey.{CellKey}
@@ -90,13 +91,9 @@ abbrev pub overflow_errands : Reference → ℕ → Option (ℕ × ℕ) → List
 overflow_errands c i None = []
 overflow_errands c i (Some o) = go c (link c.page (overflow_step i) i (first_overflow o.1) o.0) ∷ []
 
--- the cause of a key out of order, the greatest key so far, with the rows of its left child; and that of a leaf at another depth,
--- the first leaf, with its rows
+-- the cause of a key out of order: the greatest key so far, with the rows of its left child
 abbrev pub key_cause : Option RowidBounds → Option CellKey → Cause
 key_cause left top = option_map_or (λ k. cause.Key k left) top cause.Itself
-
-abbrev pub leaf_cause : RowidBounds → Option TreeLeaf → Cause
-leaf_cause rowids leaf = option_map_or (λ l. cause.Leaf l.page rowids) leaf cause.Itself
 
 -- the fault of a key, or of a rowid, after keys of which this is the greatest, with its cause
 abbrev pub order_told : Bool → Option RowidBounds → Option CellKey → ℕ → ℕ → ℤ → List Finding
@@ -107,9 +104,9 @@ abbrev pub late_told : Option CellKey → ℕ → ℕ → Option ℤ → List Fi
 late_told top page item None = []
 late_told top page item (Some key) = order_told true None top page item key
 
--- the first leaf of a tree, after a leaf with this page and depth
-abbrev pub first_of : Option TreeLeaf → ℕ → ℕ → TreeLeaf
-first_of leaf page depth = option_map_or (λ l. l) leaf (record { page = page; depth = depth })
+-- the first leaf of a tree, after a leaf with these rowids, this page and this depth
+abbrev pub first_of : RowidBounds → Option TreeLeaf → ℕ → ℕ → TreeLeaf
+first_of rowids leaf page depth = option_map_or (λ l. l) leaf (record { page = page; depth = depth; rowids = rowids })
 
 -- the fault of a leaf whose depth differs from that of the first leaf, with its cause
 abbrev pub depth_told : RowidBounds → Option TreeLeaf → ℕ → ℕ → List Finding

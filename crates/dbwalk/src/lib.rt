@@ -6,8 +6,9 @@
 //! [`Sink`] for what is reported and a [`Taker`] for the rows of the schema. Both traits show an `impl` of which nothing is
 //! claimed, to copy.
 //!
-//! **Marks** (`dbmarks`) record all visits so far: one mark shows whether a reference may be followed. A page is marked before
-//! it is read, and is not read where the mark is refused. Hence no page is read twice, whatever the source answers (`Reads`).
+//! **Marks** (`dbmarks`) record all visits so far: the mark of a page shows whether a reference to it may be followed. A page is
+//! marked before it is read, and only a page that had no mark is read. So no page is read twice, whatever the source answers
+//! (`Reads`).
 //!
 //! **What a call has done** (specs/Underway, Watching and Done). A walk follows the events of a trace. `dbtrace` defines what
 //! it keeps of them, its progress, and which items it hands out: findings to the sink, rows of the schema to the taker. For
@@ -18,12 +19,14 @@
 //!
 //! **What a call keeps** (specs/Walked). A walk over a tree is one struct, `TreeWalk`, of all that it borrows but the page
 //! buffers. One clause of each of its methods, `Walked`, says that it still borrows the same, that each failure of a source or a
-//! taker is counted and answered, and that no tree but the schema's calls the taker. `SaysOfFiles` has the reads.
+//! taker is counted and answered, and that only the schema's tree calls the taker. Another, `SaysOfFiles`, says which pages were
+//! read, and what holds for each file that agrees with these reads.
 //!
-//! **A failed write** (specs/Telling). A sink that fails is shut, and takes nothing after that; calls that report answer nothing.
-//! `ask` is called before a page is marked and read (`enter`), before a row of the schema goes to the taker (`take_row`), and at
-//! the end of a walk: it answers `WriteFailed` where the sink is shut. So after an error the sink is shut exactly if this is
-//! `WriteFailed` (`SinkWalks`), and no page is read after the one at which a write failed.
+//! **A failed write** (specs/Telling). A sink at which a write fails is shut, and stays shut: it takes no more rows and faults. The
+//! calls that report have no result, so a walk learns of it by `ask`, which answers `WriteFailed` where the sink is shut. It asks
+//! before a page is marked and read (`enter`), before a row of the schema goes to the taker (`take_row`), and at its end. So
+//! after an error the sink is shut exactly if this is `WriteFailed` (`SinkWalks`). That no page is read once the sink is shut is
+//! not said by a clause; tests count the reads.
 //!
 //! **How far a walk is** (specs/Walking and Underway; Points has it for clauses). The loop over interior pages keeps one
 //! equation: the walk so far, continued by what its frames still have to do, is the whole walk (`IsUnderway`). Pages on the

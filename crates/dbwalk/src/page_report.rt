@@ -41,7 +41,7 @@ pub(crate) fn tell_page<A: Allocator, K: Sink>(
     ensures told { AtRead bench.old.geometry tree.old bench.old.levels page (λ file c.
         IsReportedTo K.takes K.held sink.old
         (page_findings file (record { above = key_value tree.old.greatest; up_to = up_to }) tree.old.leaf c) sink.new
-        × (tree.new.leaf ≡ leaf_after file tree.old.leaf c)) }
+        × (tree.new.leaf ≡ leaf_after file tree.old.leaf (record { above = key_value tree.old.greatest; up_to = up_to }) c)) }
 {
     let level = tree.path.len();
     let usable = bench.geometry().usable;

@@ -3,7 +3,8 @@ ghost use Rattle.dbformat.specs.Faults.{fault};
 ghost use Rattle.dbformat.specs.declared.FaultCode.TheVariants as fault_code;
 ghost use Rattle.dbtrace.specs.Finding.{told_fault};
 ghost use Rattle.dbtrace.specs.declared.Cause.TheVariants as cause;
-ghost use Rattle.std.specs.Prelude.{◌≡◌, [], ◌∷◌, Some, None, false, IsTrue, IsSomeAnd};
+ghost use Rattle.std.specs.Prelude.{◌≡◌, [], ◌∷◌, Some, None, false, pos, IsTrue, IsSomeAnd};
+ghost use Rattle.dbtrace.specs.Causes.{go_on_from, leaf_rows};
 ghost use Rattle.dbwalk.specs.LeafCells.{ArePassed, depth_told, first_of, is_late, order_told};
 ghost use Rattle.dbtrace.specs.Progress.{greater_key, key_value};
 ghost use Rattle.dbwalk.specs.Points.{IsSameButGreatest, IsSameButLeaf};
@@ -57,6 +58,53 @@ fn tell_late<K: Sink>(top: CellKey, at: CellKey, left: Option<RowidBounds>, sink
         value: at.value,
     };
     sink.fault(&fault, &Cause::Key(top, left));
+}
+
+// Whether rows begin at the key with which others end.
+fn go_on_from(own: RowidBounds, other: RowidBounds) -> bool
+    ensures { result ≡ go_on_from own other }
+{
+    match (other.up_to, own.above) {
+        (Some(end), Some(above)) => end == above,
+        _ => false,
+    }
+}
+
+// The rows of a leaf at another depth than the first, by the rowids of both: where they go on from those of the first, also these,
+// since one of the two is at the wrong depth.
+fn leaf_rows(first: RowidBounds, own: RowidBounds) -> RowidBounds
+    ensures { result ≡ leaf_rows first own }
+{
+    if go_on_from(own, first) {
+        RowidBounds {
+            above: first.above,
+            up_to: own.up_to,
+        }
+    } else {
+        own
+    }
+}
+
+// Reports that a leaf has another depth than the first leaf. Few leaves have, and reach this call.
+#[inline(never)]
+fn tell_other_depth<K: Sink>(
+    first: &TreeLeaf,
+    page: u32,
+    depth: u32,
+    rowids: RowidBounds,
+    sink: &mut K,
+)
+    ensures { IsReportedTo K.takes K.held sink.old
+        (told_fault (fault fault_code.T05 page 0 (pos depth)) (cause.Leaf first.now.page (leaf_rows first.now.rowids rowids)) ∷ []) sink.new }
+{
+    let fault = Fault {
+        code: FaultCode::T05,
+        page,
+        item: 0,
+        value: i64::from(depth),
+    };
+    let rows = leaf_rows(first.rowids, rowids);
+    sink.fault(&fault, &Cause::Leaf(first.page, rows));
 }
 
 impl Tree {
@@ -140,7 +188,8 @@ impl Tree {
         true
     }
 
-    /// Reports a leaf whose depth differs from that of the first leaf of the tree, with its rows.
+    /// Reports a leaf whose depth differs from that of the first leaf of the tree, with the rows of both as far as they go on from
+    /// one another. If there was no leaf before, this is the first.
     pub(crate) fn tell_depth<K: Sink>(
         &mut self,
         page: u32,
@@ -149,22 +198,19 @@ impl Tree {
         sink: &mut K,
     )
         ensures told { IsReportedTo K.takes K.held sink.old (depth_told rowids self.old.leaf page depth) sink.new }
-        ensures leaf { self.new.leaf ≡ Some (first_of self.old.leaf page depth) }
+        ensures leaf { self.new.leaf ≡ Some (first_of rowids self.old.leaf page depth) }
         ensures others { IsSameButLeaf self.old self.new }
     {
-        let Some(first) = self.leaf else {
-            self.leaf = Some(TreeLeaf { page, depth });
+        let Some(first) = &self.leaf else {
+            self.leaf = Some(TreeLeaf {
+                page,
+                depth,
+                rowids,
+            });
             return;
         };
-        if depth == first.depth {
-            return;
+        if depth != first.depth {
+            tell_other_depth(first, page, depth, rowids, sink);
         }
-        let fault = Fault {
-            code: FaultCode::T05,
-            page,
-            item: 0,
-            value: i64::from(depth),
-        };
-        sink.fault(&fault, &Cause::Leaf(first.page, rowids));
     }
 }

@@ -36,16 +36,16 @@ use Rattle.dbtrace.specs.Walk.{Walk}
 use Rattle.dbwalk.specs.Underway.{IsInterior}
 
 -- a page that is no leaf has no fault of its depth, and leaves the depth of the first leaf
-no_leaf : (file : List ℕ) (leaf : Option TreeLeaf) (c : Reference) → is_leaf_of file (start_of c.address) c ≡ false → (depth_faults file leaf c ≡ [])
-    × (leaf_after file leaf c ≡ leaf)
-no_leaf file leaf c e = (
+no_leaf : (file : List ℕ) (rowids : RowidBounds) (leaf : Option TreeLeaf) (c : Reference) → is_leaf_of file (start_of c.address) c ≡ false
+    → (depth_faults file leaf c ≡ []) × (leaf_after file leaf rowids c ≡ leaf)
+no_leaf file rowids leaf c e = (
   ap (λ b. told_if (b && not (depth c.address == depth_of leaf (depth c.address))) (fault T05 c.page 0 (pos (depth c.address)))) e,
   by_first leaf,
 )
   where
-    by_first : (leaf : Option TreeLeaf) → leaf_after file leaf c ≡ leaf
+    by_first : (leaf : Option TreeLeaf) → leaf_after file leaf rowids c ≡ leaf
     by_first (Some d) = refl
-    by_first None = ap (λ b. cond b (Some (leaf_at c)) None) e
+    by_first None = ap (λ b. cond b (Some (leaf_at rowids c)) None) e
 
 -- a fault that is reported, where a test holds
 pub told_once : (why : FaultCode → Cause) (b : Bool) (f : Fault) → told_by why (told_if b f) ≡ told_if b (told_fault f (why f.code))
@@ -56,12 +56,12 @@ told_once why false f = refl
 at_leaf : (file : List ℕ) (why : FaultCode → Cause) (rowids : RowidBounds) (leaf : Option TreeLeaf) (c : Reference) (n : ℕ)
     → is_leaf_of file (start_of c.address) c ≡ true
     → depth c.address ≡ n
-    → (told_by (with_leaf why rowids leaf) (depth_faults file leaf c) ≡ depth_told rowids leaf c.page n) × (leaf_after file leaf c
-    ≡ Some (first_of leaf c.page n))
+    → (told_by (with_leaf why rowids leaf) (depth_faults file leaf c) ≡ depth_told rowids leaf c.page n)
+    × (leaf_after file leaf rowids c ≡ Some (first_of rowids leaf c.page n))
 at_leaf file why rowids leaf c n e d = by_first leaf
   where
     by_first : (leaf : Option TreeLeaf) → (told_by (with_leaf why rowids leaf) (depth_faults file leaf c) ≡ depth_told rowids leaf c.page n)
-        × (leaf_after file leaf c ≡ Some (first_of leaf c.page n))
+        × (leaf_after file leaf rowids c ≡ Some (first_of rowids leaf c.page n))
     by_first (Some m) = (told_once (with_leaf why rowids (Some m)) _ _ ∙ rw (e, d) refl, refl)
     by_first None = (told_once (with_leaf why rowids None) _ _ ∙ rw (e, d) refl, rw (e, d) refl)
 
@@ -122,14 +122,14 @@ module _ (file : List ℕ) (kind : TreeKind) (k : ℕ) (path : List ℕ) (p from
         (depth_faults file leaf c))
         (faults_as (f ∷ []) g)
         ∙ ap (λ fs. (told_row (tree_page_row c None) ∷ told_by why (f ∷ [])) ++ told_by (with_leaf (visit_cause rowids file c) rowids leaf) fs)
-        (no_leaf file leaf c (leaf_is None e)).0
+        (no_leaf file rowids leaf c (leaf_is None e)).0
         ∙ append-nil (told_row (tree_page_row c None) ∷ told_by why (f ∷ []))
         ∙ ap (λ r. told_row r ∷ told_by why (f ∷ [])) (sym (row_of_damage c p k path candidate.start candidate.path candidate.chain candidate.page))
         ∙ ap (λ q. told_row (damaged_row k path p) ∷ told_by (page_cause rowids q (usable_size file) (page_bytes file q) None) (f ∷ [])) candidate.page
 
     -- it is no leaf
-    pub leaf_after_damaged : undamaged kind p (usable_size file) bytes ≡ None → leaf_after file leaf c ≡ leaf
-    leaf_after_damaged e = (no_leaf file leaf c (leaf_is None e)).1
+    pub leaf_after_damaged : undamaged kind p (usable_size file) bytes ≡ None → leaf_after file leaf rowids c ≡ leaf
+    leaf_after_damaged e = (no_leaf file rowids leaf c (leaf_is None e)).1
 
     module _ (v : View) (viewed : undamaged kind p (usable_size file) bytes ≡ Some v) (number : v.number ≡ p)
         (within : tree_page_faults kind (nat_lt 1 (length path + 1)) p (usable_size file) bytes ≡ inner_faults v (nat_lt 1 (length path + 1))) where
@@ -153,11 +153,11 @@ module _ (file : List ℕ) (kind : TreeKind) (k : ℕ) (path : List ℕ) (p from
       pub told_interior : is_interior v.kind ≡ true → page_findings file rowids leaf c ≡ undamaged_findings k path rowids v (nat_lt 1 (length path + 1))
       told_interior e = row_and_faults
           ∙ ap (λ fs. undamaged_findings k path rowids v (nat_lt 1 (length path + 1)) ++ told_by (with_leaf (visit_cause rowids file c) rowids leaf) fs)
-          (no_leaf file leaf c (leaf_is (Some v) viewed ∙ ap not e)).0
+          (no_leaf file rowids leaf c (leaf_is (Some v) viewed ∙ ap not e)).0
           ∙ append-nil (undamaged_findings k path rowids v (nat_lt 1 (length path + 1)))
 
-      pub leaf_after_interior : is_interior v.kind ≡ true → leaf_after file leaf c ≡ leaf
-      leaf_after_interior e = (no_leaf file leaf c (leaf_is (Some v) viewed ∙ ap not e)).1
+      pub leaf_after_interior : is_interior v.kind ≡ true → leaf_after file leaf rowids c ≡ leaf
+      leaf_after_interior e = (no_leaf file rowids leaf c (leaf_is (Some v) viewed ∙ ap not e)).1
 
       -- a leaf: then that its depth is not that of the first
       pub told_leaf : is_interior v.kind ≡ false → page_findings file rowids leaf c ≡ undamaged_findings k path rowids v (nat_lt 1 (length path + 1))
@@ -167,9 +167,9 @@ module _ (file : List ℕ) (kind : TreeKind) (k : ℕ) (path : List ℕ) (p from
           ((at_leaf file (visit_cause rowids file c) rowids leaf c (length path + 1) (leaf_is (Some v) viewed ∙ ap not e) candidate.depth).0
           ∙ ap (λ q. depth_told rowids leaf q (length path + 1)) candidate.page)
 
-      pub leaf_after_leaf : is_interior v.kind ≡ false → leaf_after file leaf c ≡ Some (first_of leaf p (length path + 1))
+      pub leaf_after_leaf : is_interior v.kind ≡ false → leaf_after file leaf rowids c ≡ Some (first_of rowids leaf p (length path + 1))
       leaf_after_leaf e = (at_leaf file (visit_cause rowids file c) rowids leaf c (length path + 1) (leaf_is (Some v) viewed ∙ ap not e) candidate.depth).1
-          ∙ ap (λ q. Some (first_of leaf q (length path + 1))) candidate.page
+          ∙ ap (λ q. Some (first_of rowids leaf q (length path + 1))) candidate.page
 
 -- How the report of a page ends.
 
@@ -179,7 +179,7 @@ module _ {S : Type 0} (takes : S → Finding → S → Type 0) (held : S → Sin
     (rowids : RowidBounds) (leaf : Option TreeLeaf) (path' : List ℕ) (path_is : path' ≡ path) (rowids' : RowidBounds) (rowids_are : rowids' ≡ rowids)
     (depth : ℕ) (depth_is : depth ≡ length path + 1) (s : S) where
   abbrev Exit : S → Option TreeLeaf → Type 0
-  Exit t new = IsReportedTo takes held s (page_findings file rowids leaf c) t × (new ≡ leaf_after file leaf c)
+  Exit t new = IsReportedTo takes held s (page_findings file rowids leaf c) t × (new ≡ leaf_after file leaf rowids c)
 
   seen_as : (o : Option View) → undamaged kind p usable bytes ≡ o → undamaged kind p (usable_size file) (page_bytes file p) ≡ o
   seen_as o e = ap (λ u. undamaged kind p u (page_bytes file p)) (sym usable_is) ∙ ap (λ b. undamaged kind p usable b) (sym bytes_are) ∙ e
@@ -236,13 +236,13 @@ module _ {S : Type 0} (takes : S → Finding → S → Type 0) (held : S → Sin
       told_last = subst (λ w. IsReportedTo takes held t (depth_told w leaf p (length path + 1)) t1) rowids_are
           (subst (λ n. IsReportedTo takes held t (depth_told rowids' leaf p n) t1) depth_is last)
 
-      pub exit_leaf : (new : Option TreeLeaf) → new ≡ Some (first_of leaf p depth) → Exit t1 new
+      pub exit_leaf : (new : Option TreeLeaf) → new ≡ Some (first_of rowids' leaf p depth) → Exit t1 new
       exit_leaf new n = (
         subst (λ L. IsReportedTo takes held s L t1)
             (sym (told_leaf file kind k path p from item c candidate rowids leaf v there number inner is_leaf))
             (told_then first_told last_told told_first told_last),
-        n ∙ ap (λ n. Some (first_of leaf p n)) depth_is ∙ sym (leaf_after_leaf file kind k path p from item c candidate rowids leaf v there number inner
-            is_leaf),
+        n ∙ ap₂ (λ w n. Some (first_of w leaf p n)) rowids_are depth_is
+            ∙ sym (leaf_after_leaf file kind k path p from item c candidate rowids leaf v there number inner is_leaf),
       )
 
 -- A page of a tree that was read, by what it is.

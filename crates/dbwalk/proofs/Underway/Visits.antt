@@ -185,7 +185,12 @@ module _ (file : List ℕ) (from : Walk) (c : Reference) {leaf : Option TreeLeaf
     page_moves role takes keeps refuses s s' t h =
         subst (λ items. Moves (watches takes keeps) (s, t) items (s', t)) (sym (page_items role)) (found_moves takes keeps refuses told s s' t h)
 
-  -- and this is the point of the walk after it
-  pub visited_at : {marks : List Mark} (tree : Tree) → AreMarksOf file (from.visits ++ (c ∷ [])) marks → tree.greatest ≡ from.state.greatest → tree.leaf
-      ≡ leaf_after file leaf c → IsAt file (visited file from c) marks tree
-  visited_at tree m top first = (m, top, first ∙ ap (λ l. leaf_after file l c) leaf_is)
+    -- and this is the point of the walk after it
+    pub visited_at : {marks : List Mark} (tree : Tree) → AreMarksOf file (from.visits ++ (c ∷ [])) marks → tree.greatest ≡ from.state.greatest
+        → tree.leaf ≡ leaf_after file leaf (record { above = key_value top; up_to = up_to }) c → IsAt file (visited file from c) marks tree
+    visited_at tree m same first = (
+      m,
+      same,
+      first ∙ ap (λ l. leaf_after file l (record { above = key_value top; up_to = up_to }) c) leaf_is
+          ∙ ap₂ (λ t u. leaf_after file from.state.leaf (record { above = key_value t; up_to = u }) c) top_is (sym bound),
+    )

@@ -26,7 +26,7 @@ returns-in-Interior-clause-log g c = log_none c.args.bench.now.geometry.page_siz
     let found = subst (λ f. IsFound c.tell_page.new.bench.geometry.usable c.tell_page.new.tree.kind c.tell_page.new.bench.levels
     (length c.args.self.now.tree.path.items) c.args.page f) c.in-Interior.is c.tell_page.ensures.«open» in (
       record {
-        at = visited_at file from d first c.tell_page.new.tree m (c.tell_page.ensures.tree.2 ∙ top) told.1;
+        at = visited_at file from d first top bound c.tell_page.new.tree m (c.tell_page.ensures.tree.2 ∙ top) told.1;
         handed =
             page_moves file from d first top bound (kind_is file c.args.self.now.tree.kind c.args.self.now.tree.start c.args.self.now.tree.path.items
             c.args.page above
@@ -48,7 +48,7 @@ returns-in-Damaged-clause-log g c = log_none c.args.bench.now.geometry.page_size
     (kind_is file c.args.self.now.tree.kind c.args.self.now.tree.start c.args.self.now.tree.path.items c.args.page above item d candidate)
     (found_damage file candidate there c.tell_page.ensures.bench.1 c.tell_page.ensures.tree.1 (ap (λ s. s.usable) (c.tell_page.ensures.bench.0 ∙ e)) found)
     in
-    let at = visited_at file from d first c.tell_page.new.tree m (c.tell_page.ensures.tree.2 ∙ top) told.1 in
+    let at = visited_at file from d first top bound c.tell_page.new.tree m (c.tell_page.ensures.tree.2 ∙ top) told.1 in
     entered_past _ _ file from d _ false _ _ _ (visit_alone _ _ file from d followed false _ _ _ none at
     (page_moves file from d first top bound (kind_is file c.args.self.now.tree.kind c.args.self.now.tree.start c.args.self.now.tree.path.items c.args.page
     above item
@@ -65,7 +65,7 @@ returns-in_err-walk_leaf-in-Leaf-clause-log g c = has_weaker _ _ c.in_err-walk_l
     (length c.args.self.now.tree.path.items) c.args.page f) c.in-Leaf.is c.tell_page.ensures.«open» in
     let at = found_leaf file candidate there c.tell_page.ensures.bench.1 c.tell_page.ensures.tree.1 (ap (λ s. s.usable) (c.tell_page.ensures.bench.0 ∙ e))
     (same.1 ∙ tree.1) (same.0 ∙ tree.0) (ap (λ p. p.items) (same.3 ∙ tree.3)) found.leaf in
-    let here = visited_at file from d first c.pass_over.new.self m (c.pass_over.ensures.kept c.if-pass_over.false ∙ tree.2 ∙ top) (same.2 ∙ told.1) in
+    let here = visited_at file from d first top bound c.pass_over.new.self m (c.pass_over.ensures.kept c.if-pass_over.false ∙ tree.2 ∙ top) (same.2 ∙ told.1) in
     let done = h (c.tell_page.ensures.bench.0 ∙ e) coded (visited file from d) d found.leaf.view at
     (found_view file candidate there c.tell_page.ensures.bench.1 c.tell_page.ensures.tree.1 (ap (λ s. s.usable) (c.tell_page.ensures.bench.0 ∙ e))
     found.leaf) found.leaf.leaf (visited_before file from d next) here in
@@ -87,7 +87,7 @@ returns-in_ok-walk_leaf-in-Leaf-clause-log g c = has_weaker _ _ c.in_ok-walk_lea
     (length c.args.self.now.tree.path.items) c.args.page f) c.in-Leaf.is c.tell_page.ensures.«open» in
     let at = found_leaf file candidate there c.tell_page.ensures.bench.1 c.tell_page.ensures.tree.1 (ap (λ s. s.usable) (c.tell_page.ensures.bench.0 ∙ e))
     (same.1 ∙ tree.1) (same.0 ∙ tree.0) (ap (λ p. p.items) (same.3 ∙ tree.3)) found.leaf in
-    let here = visited_at file from d first c.pass_over.new.self m (c.pass_over.ensures.kept c.if-pass_over.false ∙ tree.2 ∙ top) (same.2 ∙ told.1) in
+    let here = visited_at file from d first top bound c.pass_over.new.self m (c.pass_over.ensures.kept c.if-pass_over.false ∙ tree.2 ∙ top) (same.2 ∙ told.1) in
     let done = h (c.tell_page.ensures.bench.0 ∙ e) coded (visited file from d) d found.leaf.view at
     (found_view file candidate there c.tell_page.ensures.bench.1 c.tell_page.ensures.tree.1 (ap (λ s. s.usable) (c.tell_page.ensures.bench.0 ∙ e))
     found.leaf) found.leaf.leaf (visited_before file from d next) here in
@@ -110,7 +110,7 @@ returns-then-pass_over-clause-log g c = log_none c.args.bench.now.geometry.page_
     (c.pass_over.ensures.passed c.if-pass_over.true) found.span in
     let rising = subst (λ a. AreRisingFrom c.args.page found.leaf.view 0 (count found.leaf.view) n.greatest a) (sym keys.1.after_is)
     (rising_all c.args.page found.leaf.view keys.0 keys.2 n.greatest keys.1.above) in
-    let here = visited_at file from d first c.tell_page.new.tree m (c.tell_page.ensures.tree.2 ∙ top) told.1 in
+    let here = visited_at file from d first top bound c.tell_page.new.tree m (c.tell_page.ensures.tree.2 ∙ top) told.1 in
     let other = other_start d.address n.start (candidate.start ∙ sym c.tell_page.ensures.tree.0) keys.1.other in
     let done = leaf_passed _ _ file (visited file from d) d c.args.self.now.tree.kind found.leaf.view other
     (kind_is file c.args.self.now.tree.kind c.args.self.now.tree.start c.args.self.now.tree.path.items c.args.page above item d candidate)
