@@ -87,7 +87,7 @@ module _ (v : View) (i : ℕ) (table : List ℕ) (held : ℕ) (was : AreMarked (
       ∙ ap (λ (n : ℕ). Some n) (length-cells_upto v i)
 
 abbrev IsInContent : View → Span → Type 0
-IsInContent v f = (start_of v ≤ f.offset) × (f.offset + f.len ≤ v.usable)
+IsInContent v f = (start_of v ≤ f.offset) × (f.offset + f.len ≤ v.usable) × (4 ≤ f.len)
 
 same_head : (f g : Span) (fs gs : List Span) → f ∷ fs ≡ g ∷ gs → (g ≡ f) × (fs ≡ gs)
 same_head f g fs gs h = (cc, cc)
@@ -108,7 +108,7 @@ inside_from (suc n) v end offset done rest f h =
     by_case [] h true good more =
         let parts = good_parts v end offset good in
         let same = same_head f (freeblock_at v offset) rest _ (h ∙ from_good n v end offset good) in
-        subst (IsInContent v) same.0 (parts.from_start, parts.inside)
+        subst (IsInContent v) same.0 (parts.from_start, parts.inside, parts.least)
     by_case (d ∷ ds) h true good more = more ds (same_head d (freeblock_at v offset) (ds ++ f ∷ rest) _ (h ∙ from_good n v end offset good)).1
 
 pub freeblock_inside : (v : View) (done rest : List Span) (f : Span) → done ++ f ∷ rest ≡ freeblocks v → IsInContent v f

@@ -4,6 +4,9 @@ pub mod FreeblockLemmas
 pub mod Items
 pub mod Lanes
 pub mod LongRuns
+pub mod NoteTable
+pub mod Noted
+pub mod NotedLeaf
 pub mod Overlaps
 pub mod PackedLemmas
 pub mod Ranges

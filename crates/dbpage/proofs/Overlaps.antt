@@ -18,10 +18,10 @@ abbrev pub no_span : Span
 no_span = record { offset = 0; len = 0 }
 
 -- an item before others stays apart or overlapping
-is_overlapping-append : (spans rest : List Span) (k : ℕ) → k < length spans → is_overlapping (spans ++ rest) k ≡ is_overlapping spans k
+pub is_overlapping-append : (spans rest : List Span) (k : ℕ) → k < length spans → is_overlapping (spans ++ rest) k ≡ is_overlapping spans k
 is_overlapping-append spans rest k h = rw (get_or_append_left spans rest no_span k h, take-append-le k spans rest (omega arith)) refl
 
-is_overlapping_at : (spans : List Span) (s : Span) (rest : List Span)
+pub is_overlapping_at : (spans : List Span) (s : Span) (rest : List Span)
     → is_overlapping (spans ++ s ∷ rest) (length spans) ≡ list_any (is_held spans) (range_with_len s.offset s.len)
 is_overlapping_at spans s rest = rw (get_or_at spans s rest no_span (length spans) refl, take_at spans (s ∷ rest) (length spans) refl) refl
 
@@ -39,16 +39,16 @@ or_true false = refl
 pub is_held_push : (spans : List Span) (s : Span) (byte : ℕ) → is_held (spans ++ s ∷ []) byte ≡ (is_held spans byte || holds s byte)
 is_held_push spans s byte = list_any-append (λ t. holds t byte) spans (s ∷ []) ∙ ap (λ b. is_held spans byte || b) (or_false (holds s byte))
 
-is_held_inside : (spans : List Span) (s : Span) (byte : ℕ) → holds s byte ≡ true → is_held (spans ++ s ∷ []) byte ≡ true
+pub is_held_inside : (spans : List Span) (s : Span) (byte : ℕ) → holds s byte ≡ true → is_held (spans ++ s ∷ []) byte ≡ true
 is_held_inside spans s byte h = is_held_push spans s byte ∙ ap (λ b. is_held spans byte || b) h ∙ or_true (is_held spans byte)
 
 is_held_outside : (spans : List Span) (s : Span) (byte : ℕ) → holds s byte ≡ false → is_held (spans ++ s ∷ []) byte ≡ is_held spans byte
 is_held_outside spans s byte h = is_held_push spans s byte ∙ ap (λ b. is_held spans byte || b) h ∙ or_false (is_held spans byte)
 
-within : (from to byte : ℕ) → from ≤ byte → byte < to → is_within from to byte ≡ true
+pub within : (from to byte : ℕ) → from ≤ byte → byte < to → is_within from to byte ≡ true
 within from to byte low high = grind (arith, nat_tests)
 
-from_within : (from to byte : ℕ) → is_within from to byte ≡ true → (from ≤ byte) × (byte < to)
+pub from_within : (from to byte : ℕ) → is_within from to byte ≡ true → (from ≤ byte) × (byte < to)
 from_within from to byte h = (grind (arith, nat_tests), grind (arith, nat_tests))
 
 -- an item apart from those before it

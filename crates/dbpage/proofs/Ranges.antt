@@ -1,8 +1,8 @@
 -- Tests of the numbers of a range.
-use Rattle.std.proofs.Common.{◌≡◌, ℕ, zero, suc, ◌+◌, ◌<◌, ◌≤◌, inl, inr, Bool, true, false, ◌||◌, List, ◌∷◌, Some, None, refl, subst, ap, ◌∙◌, arith}
+use Rattle.std.proofs.Common.{◌≡◌, ℕ, zero, suc, ◌+◌, ◌<◌, ◌≤◌, inl, inr, Bool, true, false, ◌||◌, List, ◌∷◌, Some, None, refl, sym, subst, ap, ◌∙◌, arith}
 use Rattle.std.specs.Prelude.{find}
 use Rattle.std.specs.List.{range_with_len, list_any}
-use Rattle.std.proofs.lemmas.Bool.{cases_eq}
+use Rattle.std.proofs.lemmas.Bool.{cases_eq, cases_lt}
 
 find_hit : (p : ℕ → Bool) (x : ℕ) (xs : List ℕ) → p x ≡ true → find p (x ∷ xs) ≡ Some x
 find_hit p x xs h = rw h refl
@@ -26,6 +26,23 @@ find_none p a zero fails = refl
 find_none p a (suc n) fails =
     find_miss p a (range_with_len (a + 1) n) (fails a (omega arith) (omega arith))
     ∙ find_none p (a + 1) n (λ j l h. fails j (omega arith) (omega arith))
+
+pub find_any : (p : ℕ → Bool) (a n k : ℕ) → a ≤ k → k < a + n → p k ≡ true → find p (range_with_len a n) ≡ None → ⊥
+find_any p a zero k low high at none = absurd (omega (arith, low, high))
+find_any p a (suc n) k low high at none = by_case (p a) refl (λ later rest. find_any p (a + 1) n k later (omega (arith, high)) at rest)
+  where
+    some_not_none : (i : ℕ) → Some i ≡ None → ⊥
+    some_not_none i h = cc
+
+    both : p k ≡ true → p k ≡ false → ⊥
+    both h e = cc
+
+    by_case : (b : Bool) → p a ≡ b → (a + 1 ≤ k → find p (range_with_len (a + 1) n) ≡ None → ⊥) → ⊥
+    by_case true e more = some_not_none a (sym (find_hit p a (range_with_len (a + 1) n) e) ∙ none)
+    by_case false e more = elim (cases_lt a k) [
+      | inl less ↦ more (omega (arith, less)) (sym (find_miss p a (range_with_len (a + 1) n) e) ∙ none)
+      | inr over ↦ let same : k ≡ a = omega (arith, low, over) in both at (ap p same ∙ e)
+    ]
 
 any_step : (p : ℕ → Bool) (a : ℕ) (xs : List ℕ) → p a ≡ false → list_any p (a ∷ xs) ≡ list_any p xs
 any_step p a xs h = rw h refl

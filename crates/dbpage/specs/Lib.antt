@@ -3,4 +3,5 @@ pub mod ByteRuns
 pub mod Freeblocks
 pub mod Head
 pub mod Marking
+pub mod Notes
 pub mod Packed

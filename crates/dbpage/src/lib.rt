@@ -25,6 +25,8 @@ mod held_bytes;
 mod looks;
 mod mark_count;
 mod mark_table;
+mod noted_leaf;
+mod notes;
 mod packed;
 mod run;
 mod view;

@@ -93,13 +93,19 @@ impl<'a> PageView<'a> {
         }
     }
 
-    // `packed` of a page whose first cells were read, by marks of all items.
+    // `packed` of a page whose first cells were read, by marks of all items, or by notes of them.
     #[inline(never)]
     fn packed_by_marks(&self, begun: &Beginning, table: &mut [u8]) -> Option<Packed>
         requires room { self.now.usable ≤ length table.old }
         requires begun { IsBegun self.now begun.now }
         ensures { MatchOption result (IsUnpacked self.now) (IsPacked self.now) }
     {
+        if let PageKind::LeafTable = self.kind {
+            // All cells are read once more, so only where few were. A note has room for the length of an item of such a page.
+            if begun.cells <= self.cells / 4 && self.usable < 16384 {
+                return self.packed_by_notes(begun.sums.first, table);
+            }
+        }
         clear(table, self.usable);
         self.copied()
             .packed_by_clear_marks::<Brand>(begun, table, Blank::new(1))
@@ -206,7 +212,7 @@ impl<'a> PageView<'a> {
     // Adds cell `i` to the sums of those before it, and answers which bytes it holds. `None` where it is not readable,
     // or where its key does not rise.
     #[inline(always)]
-    fn add_cell(&self, kind: PageKind, i: u32, sums: &mut CellSums) -> Option<(u32, u32)>
+    pub(crate) fn add_cell(&self, kind: PageKind, i: u32, sums: &mut CellSums) -> Option<(u32, u32)>
         requires kind { kind ≡ self.now.kind }
         requires within { i < count self.now }
         requires before { AddUpTo self.now i sums.old }
@@ -265,7 +271,7 @@ impl<'a> PageView<'a> {
 
     // The result for a page: the sums of its cells, and from `held`, the bytes that its items hold, those that none holds.
     #[inline(always)]
-    fn packed_from(&self, sums: CellSums, held: u32) -> Packed
+    pub(crate) fn packed_from(&self, sums: CellSums, held: u32) -> Packed
         requires read { AddUpTo self.now (count self.now) sums }
         requires apart { ShareNoByte (items self.now) (content_start self.now.number self.now.bytes) self.now.usable held }
         ensures { IsPacked self.now result }
@@ -305,7 +311,7 @@ impl Beginning {
 impl CellSums {
     // The sums of no cell.
     #[inline(always)]
-    fn new(first: Option<i64>) -> CellSums
+    pub(crate) fn new(first: Option<i64>) -> CellSums
         ensures { result ≡ record { payload = 0; greatest = 0; first = first; last = None; has_overflow = false } }
     {
         CellSums {

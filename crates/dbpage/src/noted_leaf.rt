@@ -1,0 +1,92 @@
+// Leaves of tables whose cells come in no order, as rows that were not inserted by rising rowids: each item is noted, and a walk from
+// each to the next says whether two share a byte.
+ghost use Rattle.std.specs.Prelude.{◌≡◌, ℕ, None, ◌<◌, ◌≤◌, ◌^◌, length, MatchOption};
+ghost use Rattle.dbformat.specs.Head.{content_start};
+ghost use Rattle.dbformat.specs.Cell.{count};
+ghost use Rattle.dbformat.specs.Coverage.{items};
+ghost use Rattle.dbformat.specs.declared.PageKind.TheVariants.{LeafTable};
+ghost use Rattle.dbpage.specs.Marking.{cell_spans};
+ghost use Rattle.dbpage.specs.Notes.{AreNotedIn, end_at};
+ghost use Rattle.dbpage.specs.Packed.{AddUpTo, IsPacked, IsUnpacked, key_at};
+
+use crate::notes::{clear_notes, held_in_order, note};
+use crate::packed::{CellSums, Packed};
+use crate::view::PageView;
+use dbformat::PageKind;
+
+impl<'a> PageView<'a> {
+    // `packed` of a leaf of a table whose first key is this, by notes of all items.
+    #[inline(never)]
+    pub(crate) fn packed_by_notes(&self, first: Option<i64>, table: &mut [u8]) -> Option<Packed>
+        requires kind { self.now.kind ≡ LeafTable }
+        requires room { self.now.usable ≤ length table.old }
+        requires short { self.now.usable < 16384 }
+        requires some { 0 < count self.now → key_at self.now 0 ≡ first }
+        requires none { count self.now ≡ 0 → first ≡ None }
+        ensures { MatchOption result (IsUnpacked self.now) (IsPacked self.now) }
+    {
+        self.copied().packed_by_notes_in_place(first, table)
+    }
+
+    // `packed_by_notes` of a view that no write can change.
+    #[inline(always)]
+    fn packed_by_notes_in_place(&self, first: Option<i64>, table: &mut [u8]) -> Option<Packed>
+        requires kind { self.now.kind ≡ LeafTable }
+        requires room { self.now.usable ≤ length table.old }
+        requires short { self.now.usable < 16384 }
+        requires some { 0 < count self.now → key_at self.now 0 ≡ first }
+        requires none { count self.now ≡ 0 → first ≡ None }
+        ensures { MatchOption result (IsUnpacked self.now) (IsPacked self.now) }
+    {
+        clear_notes(table, self.start, self.usable);
+        let (sums, in_cells) = self.note_cells(first, table)?;
+        let held = self.note_freeblocks(in_cells, table)?;
+        if held_in_order(table, self.start, self.usable) != held {
+            return None;
+        }
+        Some(self.packed_from(sums, held))
+    }
+
+    // Notes what the cells hold, where nothing is noted yet. `None` where one is not readable, a key does not rise, or two share a byte.
+    #[inline(always)]
+    fn note_cells(&self, first: Option<i64>, table: &mut [u8]) -> Option<(CellSums, u32)>
+        requires kind { self.now.kind ≡ LeafTable }
+        requires room { self.now.usable ≤ length table.old }
+        requires short { self.now.usable < 16384 }
+        requires some { 0 < count self.now → key_at self.now 0 ≡ first }
+        requires none { count self.now ≡ 0 → first ≡ None }
+        requires free { (at : ℕ) → end_at table.old (content_start self.now.number self.now.bytes) self.now.usable at ≡ 0 }
+        ensures { MatchOption result (IsUnpacked self.now)
+            (λ r. AddUpTo self.now (count self.now) r.0 × AreNotedIn self.now (cell_spans self.now) table.new r.1 × (r.1 < 2 ^ 28)) }
+    {
+        let mut sums = CellSums::new(first);
+        let mut held = 0;
+        for i in 0..self.cells {
+            let (offset, len) = self.add_cell(PageKind::LeafTable, i, &mut sums)?;
+            if !note(table, self.start, offset, len) {
+                return None;
+            }
+            held += len;
+        }
+        Some((sums, held))
+    }
+
+    // Notes what the good freeblocks hold, after the `held` bytes of the cells.
+    #[inline(always)]
+    fn note_freeblocks(&self, held: u32, table: &mut [u8]) -> Option<u32>
+        requires room { self.now.usable ≤ length table.old }
+        requires short { self.now.usable < 16384 }
+        requires few { held < 2 ^ 28 }
+        requires cells { AreNotedIn self.now (cell_spans self.now) table.old held }
+        ensures { MatchOption result (IsUnpacked self.now) (AreNotedIn self.now (items self.now) table.new) }
+    {
+        let mut all = held;
+        for freeblock in self.freeblocks() {
+            if !note(table, self.start, freeblock.offset, freeblock.size) {
+                return None;
+            }
+            all += freeblock.size;
+        }
+        Some(all)
+    }
+}
