@@ -52,17 +52,25 @@ END
     row 'a title for each of 10000 squares, and one for the picture' [ "$(grep -o '</title>' "$work/out" | wc -l)" = 10001 ]
 }
 
-# Three squares of two pages each after one another, by half in the freelist and in no tree: each has three bands of either.
+# Three squares of two pages each after one another, by half in the freelist and in no tree: each has three bands of either. In the last of
+# them, and in the square after it, the pages of no tree are zeros.
 @test 'a square whose pages are of two kinds is in bands' {
     local free lost
     cp "$data/empty.db" "$work/mixed.db"
     put_at "$work/mixed.db" 32 '\0\0\0\03\0\0\0\03'
     put_at "$work/mixed.db" 1024 '\0\0\0\0\0\0\0\02\0\0\0\05\0\0\0\07'
     truncate -s $((512 * 16386)) "$work/mixed.db"
+    put_at "$work/mixed.db" 1636 X
+    put_at "$work/mixed.db" 2660 X
     dbck map "$work/mixed.db"
-    for x in 7 14 21; do
+    while read -r x class; do
         free="<rect class=\"t13\" x=\"$x\" y=\"0\" width=\"6\" height=\"3\"/>"
-        lost="<rect class=\"t15\" x=\"$x\" y=\"3\" width=\"6\" height=\"3\"/>"
+        lost="<rect class=\"$class\" x=\"$x\" y=\"3\" width=\"6\" height=\"3\"/>"
         row "the bands of the square at $x" grep -qF "$free$lost" "$work/out"
-    done
+    done << 'END'
+7 t15
+14 t15
+21 t16
+END
+    row 'a square of zeros' grep -q '<rect class="t16" x="28" .*<title>pages 9 to 10: 2 of one byte throughout, with N01</title>' "$work/out"
 }

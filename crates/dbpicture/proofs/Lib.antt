@@ -1,3 +1,4 @@
+pub mod Blank
 pub mod Escaping
 pub mod FaultBits
 pub mod FirstMost

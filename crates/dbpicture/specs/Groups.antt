@@ -26,7 +26,7 @@ claims shares all heights owner = claim (share_of shares owner).pages (get_or he
 
 -- the owner that gets the next band: the one that claims most, of several the first
 abbrev pub next_owner : OwnerShares → ℕ → List ℕ → ℕ
-next_owner shares all heights = first_most (claims shares all heights) 16
+next_owner shares all heights = first_most (claims shares all heights) 17
 
 -- one band more of an owner
 abbrev pub one_band : ℕ → List ℕ → List ℕ
@@ -34,7 +34,7 @@ one_band owner heights = slice_set heights owner (capped_pages (get_or heights o
 
 -- how many bands each owner has after the first n were given
 unfoldable pub given : OwnerShares → ℕ → ℕ → List ℕ
-given shares all zero = replicate 16 0
+given shares all zero = replicate 17 0
 given shares all (suc n) = one_band (next_owner shares all (given shares all n)) (given shares all n)
 
 -- the bands of a square
@@ -45,7 +45,7 @@ bands_of shares all = record { heights = given shares all 6 }
 abbrev pub words : ℕ → List ℕ
 words owner =
     if nat_lt owner 12 then codes " in " else (if owner == 12 then codes " in other trees" else (if owner == 13 then codes " in the freelist" else
-    (if owner == 14 then codes " of fixed use" else codes " in no tree")))
+    (if owner == 14 then codes " of fixed use" else (if owner == 15 then codes " in no tree" else codes " of one byte throughout"))))
 
 -- the name of the tree of a rank, as it is shown in at most `width` columns, if there is such a tree
 abbrev pub name_text : List (List ℕ) → ℕ → ℕ → List ℕ
@@ -69,7 +69,7 @@ is_first c number = not (list_any (has_pages c) (range_with_len 0 number))
 
 -- the same of all owners
 abbrev pub owners_text : OwnerShares → List (List ℕ) → List ℕ
-owners_text c names = flat_map (λ number. owner_text c names (is_first c number) number) (range_with_len 0 16)
+owners_text c names = flat_map (λ number. owner_text c names (is_first c number) number) (range_with_len 0 17)
 
 -- the title after its first word
 unfoldable pub title_text : GroupSquare → List (List ℕ) → (Sign → Bool) → List ℕ
@@ -96,7 +96,7 @@ abbrev pub band_top : Bands → ℕ → ℕ
 band_top bands number = capped_pages (sum_by (λ owner. get_or bands.heights owner 0) (range_with_len 0 number))
 
 abbrev pub bands_text : GroupSquare → Bands → List ℕ
-bands_text r bands = flat_map (λ number. band_text r number (band_top bands number) (get_or bands.heights number 0)) (range_with_len 0 16)
+bands_text r bands = flat_map (λ number. band_text r number (band_top bands number) (get_or bands.heights number 0)) (range_with_len 0 17)
 
 -- the frame of a square in bands that begins there, if it has one
 abbrev pub band_frame : Bool → ℕ → List ℕ
@@ -117,7 +117,7 @@ group_pages r = capped_pages (r.last - r.first + 1)
 
 -- the owner of the first band: the one with the most pages
 abbrev pub first_owner : GroupSquare → ℕ
-first_owner r = next_owner r.shares (group_pages r) (replicate 16 0)
+first_owner r = next_owner r.shares (group_pages r) (replicate 17 0)
 
 -- the square of a group of pages: in one fill where all of them have one owner, and else in bands
 unfoldable pub group_text : GroupSquare → Width → List (List ℕ) → (Sign → Bool) → List ℕ

@@ -1,7 +1,9 @@
 -- What is kept of a file: what each square shows of the faults that were reported, a bit for each page that has one, and for each that has the
 -- strong frame; the faults that lead; and the starts of its pages. And what squares are drawn by, and when all is known of a file.
-use Rattle.std.specs.Prelude.{◌≡◌, ℕ, ◌+◌, ◌≤◌, ◌<◌, Bool, List, ◌++◌, length, slice_index_or, ◌==◌, [], flat_map, if◌then◌else◌, Option}
+use Rattle.std.specs.Prelude.{◌≡◌, ℕ, ◌+◌, ◌-◌, ◌≤◌, ◌<◌, Bool, List, ◌++◌, length, slice_index_or, ◌==◌, [], count_by, filter, flat_map, Option}
+use Rattle.std.specs.Prelude.{if◌then◌else◌}
 use Rattle.std.specs.Int.{div_ceil}
+use Rattle.std.specs.List.{range_with_len}
 use Rattle.std.specs.Option.{option_map_or}
 use Rattle.dbformat.specs.File.{geometry}
 use Rattle.dbformat.specs.Reference.{Reference}
@@ -26,15 +28,17 @@ use Rattle.dbscan.specs.Texts.{tree_of_row}
 use Rattle.dbscan.specs.declared.place.Place.{Place}
 use Rattle.dbscan.specs.declared.tree_names.TreeNames.{TreeNames}
 use Rattle.dbpicture.specs.Names.{short_text}
-use Rattle.dbpicture.specs.Faults.{fault_signs, shown, shows}
+use Rattle.dbpicture.specs.Faults.{fault_signs, is_weak, shown, shows}
 use Rattle.dbpicture.specs.Grids.{is_of_square, group_for}
 use Rattle.dbpicture.specs.declared.fault_notes.FaultNotes.{FaultNotes}
 use Rattle.dbpicture.specs.declared.faults.Sign.{Sign}
 use Rattle.dbpicture.specs.declared.faults.Sign.TheVariants.{Faulty, Framed}
 use Rattle.dbpicture.specs.declared.faults.SquareFaults.{SquareFaults}
 use Rattle.dbpicture.specs.declared.kept.KeptFaults.{KeptFaults}
-use Rattle.dbpicture.specs.Owners.{IsOf}
+use Rattle.dbpicture.specs.Owners.{IsOf, is_one_of}
 use Rattle.dbpicture.specs.Squares.{Drawn}
+use Rattle.dbpicture.specs.declared.grid.Grid.{Grid}
+use Rattle.dbpicture.specs.declared.legend.NotedPages.{NotedPages}
 use Rattle.dbpicture.specs.declared.tree_text.NamedTree.{NamedTree}
 use Rattle.dbpicture.specs.declared.squares.Squares.{Squares}
 
@@ -109,6 +113,10 @@ HoldsTreeName names tree = tree ≡ tree_named names tree.start
 abbrev pub marked_place : List Mark → ℕ → Place
 marked_place marks p = place_by (page_mark marks p)
 
+-- whether a page is one byte throughout, by the bits of those that are
+abbrev pub blank_by : {A : Type 0} → Squares A → ℕ → Bool
+blank_by s = is_one_of (filter (has_bit s.blank.now) (range_with_len 1 s.grid.pages))
+
 -- the squares are of this file: their marks are those of its visits, and what is known of the trees of its pages is right
 abbrev pub AreOf : {A : Type 0} → Squares A → List ℕ → List Reference → Type 0
 AreOf s = IsOf s.marks.now s.trees.now.known
@@ -120,10 +128,21 @@ drawn_by s V = record {
   shape = geometry_of s.header.now.bytes s.header.now.file_len;
   place = marked_place s.marks.now;
   start = start_at V;
+  blank = blank_by s;
   largest = s.largest.items;
   names = s.labels.names.items;
   tree = shown_tree s.names.encoding s.names.roots.now.rows;
   faults = noted_at s.notes.now;
+}
+
+-- what the legend counts of notes: of how many pages are one byte throughout, have each frame, and are outlined
+abbrev pub noted_by : {A : Type 0} → FaultNotes A → ℕ → Grid → NotedPages
+noted_by n blank grid = record {
+  blank = blank;
+  strong = count_by (has_bit n.framed) (range_with_len 1 n.pages);
+  weak = count_by (is_weak (has_bit n.faulty) (has_bit n.framed)) (range_with_len 1 n.pages);
+  outside = grid.outside.last - grid.pages;
+  are_after = grid.outside.are_after;
 }
 
 -- All is known of a file: a desk is of it, and its faults were kept and counted.

@@ -82,9 +82,9 @@ label_owner (Others count) = Some 12
 label_owner Freelist = Some 13
 label_owner Fixed = Some 14
 label_owner Nobody = Some 15
-label_owner Missing = Some 16
-label_owner After = Some 16
-label_owner Blank = Some 17
+label_owner Blank = Some 16
+label_owner Missing = Some 17
+label_owner After = Some 17
 label_owner _ = None
 
 -- the shade of an owner's overflow pages, if there are any

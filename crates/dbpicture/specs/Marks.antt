@@ -22,7 +22,7 @@ later_overflow_colours = codes ".o7{fill:#957C76}.o8{fill:#A594FF}.o9{fill:#FFFF
 
 -- those of the freelist, of pages of fixed use, of those that are nobody's, of those that are not in the file, and of those that are one byte throughout
 abbrev pub other_colours : List ℕ
-other_colours = codes ".t13{fill:#DBDBDB}.t14{fill:#000000}.t15{fill:url(#unowned)}.t16{fill:#FFFFFF}.t17{fill:url(#zeros)}"
+other_colours = codes ".t13{fill:#DBDBDB}.t14{fill:#000000}.t15{fill:url(#unowned)}.t16{fill:url(#zeros)}.t17{fill:#FFFFFF}"
 
 -- what the class of an owner begins with, in the shade of overflow pages or not; its number follows
 abbrev pub shade_letter : Bool → List ℕ

@@ -1,11 +1,12 @@
 -- Whose the pages of a file are, as a picture tells them apart: of one of the largest trees, of another tree, of the freelist, of fixed
--- use, or nobody's; and how many of some pages each owner has, and how many of these are overflow pages.
+-- use, or nobody's; and how many of some pages each owner has, and how many of these are overflow pages. Pages that are one byte throughout
+-- count as those of an owner of their own.
 use Rattle.std.specs.Prelude.{ℕ, ◌/◌, min, Bool, not, nat_lt, get_or, ◌==◌, true, false, List, Option, Some, None, position, zero, suc, ◌+◌, replicate}
-use Rattle.std.specs.Prelude.{slice_set, if◌then◌else◌}
+use Rattle.std.specs.Prelude.{slice_set, ◌&&◌, if◌then◌else◌}
 use Rattle.dbpicture.specs.declared.owner_shares.OwnerShares.{OwnerShares}
 use Rattle.dbpicture.specs.declared.owner_shares.Share.{Share}
 use Rattle.std.specs.Option.{option_map_or}
-use Rattle.std.specs.List.{fold, range_with_len}
+use Rattle.std.specs.List.{fold, list_any, range_with_len}
 use Rattle.dbformat.specs.Reference.{Reference}
 use Rattle.dbformat.specs.Survey.{Survey}
 use Rattle.dbmarks.specs.Marking.{AreMarksOf}
@@ -50,6 +51,18 @@ owner_by largest place.Fixed start = 14
 owner_by largest place.Nowhere start = 15
 owner_by largest _ start = rank_of largest start
 
+-- the number of the owner that a page is shown for: pages that are one byte throughout have one of their own
+abbrev pub shown_owner : Bool → ℕ → ℕ
+shown_owner blank owner = if blank then 16 else owner
+
+-- whether a page is shown in the shade of overflow pages
+abbrev pub is_lighter : Bool → Place → Bool
+is_lighter blank place = is_overflow place && not blank
+
+-- whether a page is one of some
+abbrev pub is_one_of : List ℕ → ℕ → Bool
+is_one_of pages p = list_any (λ q. q == p) pages
+
 -- ---- what is remembered of a file
 
 -- What is remembered is of a file with survey V: the marks are those of its visits, and what is known of the trees of its pages is right.
@@ -72,16 +85,20 @@ share_sum s t = record { pages = capped_pages (s.pages + t.pages); overflow = ca
 
 -- no owner has a page
 abbrev pub no_shares : OwnerShares
-no_shares = record { shares = replicate 16 no_share }
+no_shares = record { shares = replicate 17 no_share }
 
 -- one page more of an owner
 abbrev pub owner_counted : ℕ → Bool → OwnerShares → OwnerShares
 owner_counted owner over c = record { shares = slice_set c.shares owner (one_page over (share_of c owner)) }
 
--- what each owner has of `count` pages from one on, by the largest trees, and by what each page is and the start that it belongs to
-abbrev pub shares_by : List ℕ → (ℕ → Place) → (ℕ → Option ℕ) → ℕ → ℕ → OwnerShares
-shares_by largest place start first count =
-    fold (λ c p. owner_counted (owner_by largest (place p) (start p)) (is_overflow (place p)) c) no_shares (range_with_len first count)
+-- one more page, by the largest trees, by what it is, the start that it belongs to, and whether it is one byte throughout
+abbrev pub page_shared : List ℕ → (ℕ → Place) → (ℕ → Option ℕ) → (ℕ → Bool) → OwnerShares → ℕ → OwnerShares
+page_shared largest place start blank c p =
+    owner_counted (shown_owner (blank p) (owner_by largest (place p) (start p))) (is_lighter (blank p) (place p)) c
+
+-- what each owner has of `count` pages from one on
+abbrev pub shares_by : List ℕ → (ℕ → Place) → (ℕ → Option ℕ) → (ℕ → Bool) → ℕ → ℕ → OwnerShares
+shares_by largest place start blank first count = fold (page_shared largest place start blank) no_shares (range_with_len first count)
 
 -- the first of the numbers below n that has the most
 unfoldable pub first_most : (ℕ → ℕ) → ℕ → ℕ

@@ -23,6 +23,7 @@ use Rattle.dbscan.specs.Owners.{place_of}
 use Rattle.dbscan.specs.Texts.{tree_text}
 use Rattle.dbscan.specs.Roots.{listed_rows}
 use Rattle.dbpicture.specs.Names.{short_text, shown_file}
+use Rattle.dbpicture.specs.Owners.{is_one_of}
 use Rattle.dbpicture.specs.Faults.{is_weak, page_shows, shows, signs_of}
 use Rattle.dbpicture.specs.declared.faults.Sign.TheVariants.{Faulty, Framed}
 use Rattle.dbpicture.specs.Tallies.{largest_of, tally_of}
@@ -108,6 +109,7 @@ drawn_of file V = record {
   shape = geometry file;
   place = place_of file V;
   start = start_at V;
+  blank = is_one_of (blank_pages file V);
   largest = largest_of file V;
   names = map (λ start. short_text (tree_text file V start)) (largest_of file V);
   tree = λ start. short_text (tree_text file V start);

@@ -1,5 +1,5 @@
 -- The squares of a picture, row by row, and the outlines of pages that only the header states, or only the file has.
-use Rattle.std.specs.Prelude.{ℕ, ◌+◌, Bool, not, ◌&&◌, List, [], ◌∷◌, ◌++◌, codes, decimal, ◌-◌, max, nat_lt, ◌==◌, if◌then◌else◌, Option}
+use Rattle.std.specs.Prelude.{ℕ, ◌+◌, Bool, List, [], ◌∷◌, ◌++◌, codes, decimal, ◌-◌, max, nat_lt, ◌==◌, if◌then◌else◌, Option}
 use Rattle.std.specs.Option.{option_map_or}
 use Rattle.std.specs.List.{concat, flat_map, range_with_len}
 use Rattle.dbscan.specs.Texts.{place_from, place_front, place_tree, place_words}
@@ -7,7 +7,7 @@ use Rattle.dbscan.specs.declared.place.Place.{Place}
 use Rattle.dbpicture.specs.Pieces.{shown_text}
 use Rattle.dbpicture.specs.Marks.{extent, inset, outline_tail, group_pages_text, shade_letter, stroke}
 use Rattle.dbpicture.specs.Faults.{faults_text, frame_of}
-use Rattle.dbpicture.specs.Owners.{capped_pages, is_overflow, owner_by, shares_by}
+use Rattle.dbpicture.specs.Owners.{capped_pages, is_lighter, owner_by, shares_by, shown_owner}
 use Rattle.dbpicture.specs.declared.faults.Sign.{Sign}
 use Rattle.dbpicture.specs.declared.faults.Sign.TheVariants.{Blank, Zeros}
 use Rattle.dbpicture.specs.declared.grid.Width.{Width}
@@ -24,13 +24,6 @@ use Rattle.dbpicture.specs.declared.group.GroupSquare.{GroupSquare}
 abbrev pub from_text : Place → List ℕ
 from_text place = option_map_or decimal (place_from place) []
 
--- the number of its class, and the shade: those of its owner, but pages that are one byte throughout have a class of their own
-abbrev pub page_class : Bool → ℕ → ℕ
-page_class blank owner = if blank then 17 else owner
-
-abbrev pub page_shade : Bool → Place → List ℕ
-page_shade blank place = shade_letter (is_overflow place && not blank)
-
 -- what its title says of its bytes
 abbrev pub bytes_words : (Sign → Bool) → List ℕ
 bytes_words f = if f Zeros then codes ", all zeros" else (if f Blank then codes ", one byte throughout" else codes "")
@@ -38,7 +31,7 @@ bytes_words f = if f Zeros then codes ", all zeros" else (if f Blank then codes 
 -- its title: the number of the page, what comes before its tree, the tree, what it is there, its faults, and what is known of its bytes
 unfoldable pub page_text : PageSquare → Width → List ℕ → (Sign → Bool) → List ℕ
 page_text s width tree f =
-    concat (codes "<rect class=\"" ∷ page_shade (f Blank) s.place ∷ decimal (page_class (f Blank) s.owner) ∷ codes "\" x=\""
+    concat (codes "<rect class=\"" ∷ shade_letter (is_lighter (f Blank) s.place) ∷ decimal (shown_owner (f Blank) s.owner) ∷ codes "\" x=\""
     ∷ decimal (s.x + inset width (frame_of f))
     ∷ extent width (frame_of f) ∷ stroke width (frame_of f) ∷ codes "><title>page " ∷ decimal s.page ∷ codes ": "
     ∷ place_front s.fixed s.place ∷ [])
@@ -70,13 +63,15 @@ outlines_between g first end =
 abbrev pub outlines_text : Grid → ℕ → List ℕ
 outlines_text g row = outlines_between g (max (places_of g row (places g)).0 g.squares) (places_of g row (places g)).1
 
--- What squares are drawn by: where they are, the sizes of the file, what each page is, the start that it belongs to, the starts of the largest
--- trees and their names by rank, the names of all trees by start, and what is shown of the faults of each square.
+-- What squares are drawn by: where they are, the sizes of the file, what each page is, the start that it belongs to, and whether it is one
+-- byte throughout, the starts of the largest trees and their names by rank, the names of all trees by start, and what is shown of the faults of
+-- each square.
 pub record Drawn : Type 0 where
   pub grid : Grid
   pub shape : Geometry
   pub place : ℕ → Place
   pub start : ℕ → Option ℕ
+  pub blank : ℕ → Bool
   pub largest : List ℕ
   pub names : List (List ℕ)
   pub tree : ℕ → List ℕ
@@ -108,7 +103,7 @@ group_square g index = record {
   x = x_of g.grid index;
   first = (group_of g.grid index g.grid.pages).0;
   last = (group_of g.grid index g.grid.pages).1;
-  shares = shares_by g.largest g.place g.start (group_of g.grid index g.grid.pages).0
+  shares = shares_by g.largest g.place g.start g.blank (group_of g.grid index g.grid.pages).0
       (capped_pages ((group_of g.grid index g.grid.pages).1 + 1) - (group_of g.grid index g.grid.pages).0);
 }
 

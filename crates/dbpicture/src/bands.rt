@@ -32,7 +32,7 @@ fn claim(pages: u32, height: u32, all: u32) -> u64
 impl Bands {
     /// No owner has a band.
     pub(crate) fn none() -> Bands
-        ensures { result.heights ≡ replicate 16 0 }
+        ensures { result.heights ≡ replicate 17 0 }
     {
         Bands {
             heights: [0; OWNERS],
@@ -41,7 +41,7 @@ impl Bands {
 
     /// The bands of the owner with a number.
     pub(crate) fn height(&self, number: usize) -> u32
-        requires { number < 16 }
+        requires { number < 17 }
         ensures { result ≡ get_or self.now.heights number 0 }
     {
         self.heights[number]
@@ -49,7 +49,7 @@ impl Bands {
 
     // What the owner with a number claims.
     fn claim(&self, shares: &OwnerShares, all: u32, number: usize) -> u64
-        requires { number < 16 }
+        requires { number < 17 }
         ensures { result ≡ claims shares.now all self.now.heights number }
     {
         claim(shares.share(number).pages, self.height(number), all)
@@ -57,8 +57,8 @@ impl Bands {
 
     /// The owner that claims most; of several the first.
     pub(crate) fn next(&self, shares: &OwnerShares, all: u32) -> usize
-        ensures next { result ≡ first_most (claims shares.now all self.now.heights) 16 }
-        ensures most { result ≤ 15 }
+        ensures next { result ≡ first_most (claims shares.now all self.now.heights) 17 }
+        ensures most { result ≤ 16 }
     {
         let mut next = 0;
         let mut most = self.claim(shares, all, 0);

@@ -17,15 +17,13 @@ pub(crate) const OVERFLOW: &str =
 pub(crate) const LATER_OVERFLOW: &str =
     ".o7{fill:#957C76}.o8{fill:#A594FF}.o9{fill:#FFFFE3}.o10{fill:#6C6EB6}.o11{fill:#7A6786}.o12{fill:#A6A6A6}";
 
-/// The colours of the freelist, of pages of fixed use, of those that are nobody's, of those that are not in the file, and of those that are one byte.
+/// The colours of the freelist, of pages of fixed use, of those that are nobody's, of those that are one byte throughout (a thin cross on
+/// white), and of those that are not in the file.
 pub(crate) const OTHERS: &str =
-    ".t13{fill:#DBDBDB}.t14{fill:#000000}.t15{fill:url(#unowned)}.t16{fill:#FFFFFF}.t17{fill:url(#zeros)}";
+    ".t13{fill:#DBDBDB}.t14{fill:#000000}.t15{fill:url(#unowned)}.t16{fill:url(#zeros)}.t17{fill:#FFFFFF}";
 
 /// The number of the class of pages that are not in the file; those of owners are their numbers.
-pub(crate) const MISSING: usize = 16;
-
-/// That of pages that are one byte throughout: white, with a thin cross.
-pub(crate) const BLANK: usize = 17;
+pub(crate) const MISSING: usize = 17;
 
 /// What the class of an owner begins with, in the shade of overflow pages or not. Its number follows.
 pub(crate) fn shade_letter(is_overflow: bool) -> &'static str

@@ -1,15 +1,15 @@
 // The picture of a file, once all is known of it.
 ghost use Rattle.std.specs.Prelude.{◌≡◌};
 ghost use Rattle.dblines.specs.Writing.{PutsOf};
-ghost use Rattle.dbpicture.specs.Keeping.{HasAll};
+ghost use Rattle.dbpicture.specs.Keeping.{HasAll, noted_by};
 ghost use Rattle.dbpicture.specs.Pictures.{map_picture, stated_of};
 
-use crate::faults::Sign;
+use crate::fault_notes::FaultNotes;
 use crate::grid::{Grid, Outside};
 use crate::kept::KeptFaults;
 use crate::labels::Labels;
 use crate::legend::{Legend, NotedPages};
-use crate::listed::{note_bits, note_listed};
+use crate::listed::note_listing;
 use crate::picture::{Heading, draw_picture};
 use crate::shown::shown_file;
 use crate::squares::Squares;
@@ -26,6 +26,20 @@ fn stated_pages(header: &Header) -> u32
         header.stated_pages()
     } else {
         0
+    }
+}
+
+// How many pages are one byte throughout, have each frame, and are outlined.
+fn noted_pages<A: Allocator>(notes: &FaultNotes<A>, blank: u32, grid: &Grid) -> NotedPages
+    ensures { result ≡ noted_by notes.now blank grid.now }
+{
+    let (strong, weak) = notes.framed();
+    NotedPages {
+        blank,
+        strong,
+        weak,
+        outside: grid.missing(),
+        are_after: grid.outside.are_after,
     }
 }
 
@@ -46,19 +60,7 @@ pub fn put_map<A: Allocator, O: Out>(
     let header = desk.header();
     let marks = desk.marks();
     let roots = desk.roots();
-    note_listed(&mut kept.notes, kept.listing.listed());
-    note_bits(
-        &mut kept.notes,
-        kept.listing.zeros(),
-        geometry.pages,
-        Sign::Zeros,
-    );
-    let blank = note_bits(
-        &mut kept.notes,
-        kept.listing.blank(),
-        geometry.pages,
-        Sign::Blank,
-    );
+    let blank = note_listing(&mut kept.notes, &kept.listing, geometry.pages);
     kept.tally.count(marks, &kept.trees);
     let largest = kept.tally.largest(roots.len() + 1);
     let names = TreeNames {
@@ -68,14 +70,7 @@ pub fn put_map<A: Allocator, O: Out>(
     let outside = Outside::of(geometry, stated_pages(header), header.file_len());
     let grid = Grid::new(geometry.pages, outside);
     let labels = Labels::new(&names, largest.as_slice());
-    let (strong, weak) = kept.notes.framed();
-    let noted = NotedPages {
-        blank,
-        strong,
-        weak,
-        outside: grid.missing(),
-        are_after: outside.are_after,
-    };
+    let noted = noted_pages(&kept.notes, blank, &grid);
     let legend = Legend::new(&kept.tally, largest.as_slice(), roots, noted);
     let heading = Heading {
         file: shown_file(name),
@@ -86,6 +81,7 @@ pub fn put_map<A: Allocator, O: Out>(
         header,
         marks,
         trees: &kept.trees,
+        blank: kept.listing.blank(),
         names,
         notes: &kept.notes,
         largest,

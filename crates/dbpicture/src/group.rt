@@ -64,7 +64,7 @@ impl GroupSquare {
         faults: SquareFaults,
         owner: usize,
     )
-        requires { owner < 16 }
+        requires { owner < 17 }
         ensures { Wrote O.held writer.old (plain_text self.now width labels.now.names.items (shown faults.bits) owner) writer.new }
     {
         let frame = faults.frame();
@@ -131,7 +131,7 @@ impl GroupSquare {
 
     // Draws the band of an owner, if it has one.
     fn draw_band<O: Out>(&self, writer: &mut Writer<'_, O>, number: usize, top: u32, height: u32)
-        requires { number < 16 }
+        requires { number < 17 }
         ensures { Wrote O.held writer.old (band_text self.now number top height) writer.new }
     {
         if height == 0 {
@@ -180,7 +180,7 @@ impl GroupSquare {
         is_first: bool,
         number: usize,
     )
-        requires { number < 16 }
+        requires { number < 17 }
         ensures { Wrote O.held writer.old (owner_text self.now.shares labels.now.names.items is_first number) writer.new }
     {
         if !self.shares.has(number) {
@@ -230,6 +230,7 @@ fn words(number: usize) -> &'static str
         12 => " in other trees",
         13 => " in the freelist",
         14 => " of fixed use",
-        _ => " in no tree",
+        15 => " in no tree",
+        _ => " of one byte throughout",
     }
 }

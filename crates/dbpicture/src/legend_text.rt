@@ -4,10 +4,10 @@ ghost use Rattle.dbpicture.specs.Pieces.{piece_text};
 ghost use Rattle.dblines.specs.Writing.{Wrote};
 ghost use Rattle.dbpicture.specs.Legends as legends;
 
-use crate::colours::{BLANK, MISSING, shade_letter};
+use crate::colours::{MISSING, shade_letter};
 use crate::labels::Labels;
 use crate::legend::{LINE, Label, LegendLine, NAME_WIDTH};
-use crate::owner_shares::{FIXED, FREELIST, NOBODY, OTHER_TREES, Share};
+use crate::owner_shares::{BLANK, FIXED, FREELIST, NOBODY, OTHER_TREES, Share};
 use crate::pieces::{Piece, WritePieces};
 use crate::size::size;
 use dblines::Writer;
@@ -151,8 +151,8 @@ fn owner_of(label: Label) -> Option<usize>
         Label::Freelist => Some(FREELIST),
         Label::Fixed => Some(FIXED),
         Label::Nobody => Some(NOBODY),
-        Label::Missing | Label::After => Some(MISSING),
         Label::Blank => Some(BLANK),
+        Label::Missing | Label::After => Some(MISSING),
         Label::Strong | Label::Weak => None,
     }
 }

@@ -1,15 +1,16 @@
-// The pages of the injuries that are listed, and of their causes, and the pages that are one byte throughout.
+// The pages of the injuries that are listed, and of their causes, and the pages that are zeros, or one byte throughout.
 ghost use Rattle.std.specs.Prelude.{◌≡◌, ℕ, ◌++◌, List, filter, flat_map, length};
 ghost use Rattle.std.specs.List.{range_with_len};
 ghost use Rattle.dbinjuries.specs.Bits.{has_bit};
 ghost use Rattle.dbpicture.specs.declared.faults.Sign.{Sign};
+ghost use Rattle.dbpicture.specs.declared.faults.Sign.TheVariants.{Blank, Zeros};
 ghost use Rattle.dbpicture.specs.Faults.{cause_page, injury_signs, frame_signs, framed, page_of_value, run_pages, value_page, with_sign};
 ghost use Rattle.dbpicture.specs.Keeping.{AreNoted};
 
 use crate::fault_notes::FaultNotes;
 use crate::faults::Sign;
 use dbformat::{Fault, FaultCode};
-use dbinjuries::{Cause, Injury, PageBits, PageRun, TracedFault};
+use dbinjuries::{Cause, Injury, Listing, PageBits, PageRun, TracedFault};
 use std::alloc::Allocator;
 
 // The page that a value is the number of, or 0.
@@ -85,8 +86,8 @@ fn note_injury<A: Allocator>(notes: &mut FaultNotes<A>, injury: &Injury)
     note_runs(notes, &runs.kept[..runs.count.min(10) as usize]);
 }
 
-/// Notes a sign of those of the first `pages` that have a bit, and counts them.
-pub(crate) fn note_bits<A: Allocator>(
+// Notes a sign of those of the first `pages` that have a bit, and counts them.
+fn note_bits<A: Allocator>(
     notes: &mut FaultNotes<A>,
     bits: &PageBits<A>,
     pages: u32,
@@ -106,12 +107,29 @@ pub(crate) fn note_bits<A: Allocator>(
     count
 }
 
-/// Notes the pages of some injuries.
-pub(crate) fn note_listed<A: Allocator>(notes: &mut FaultNotes<A>, listed: &[Injury])
+// Notes the pages of some injuries.
+fn note_listed<A: Allocator>(notes: &mut FaultNotes<A>, listed: &[Injury])
     ensures { (count : ℕ) (signs : List (ℕ × Sign)) → AreNoted count signs notes.old
         → AreNoted count (signs ++ flat_map injury_signs listed.now) notes.new }
 {
     for injury in listed {
         note_injury(notes, injury);
     }
+}
+
+/// Notes the pages of the injuries that are listed, and those of the first `pages` that are zeros, or one byte throughout; and counts the last.
+pub(crate) fn note_listing<A: Allocator>(
+    notes: &mut FaultNotes<A>,
+    listing: &Listing<A>,
+    pages: u32,
+) -> u32
+    ensures count { result ≡ length (filter (has_bit listing.now.blank) (range_with_len 1 pages)) }
+    ensures noted { (count : ℕ) (signs : List (ℕ × Sign)) → AreNoted count signs notes.old
+        → AreNoted count (signs ++ flat_map injury_signs listing.now.injuries.listed
+        ++ with_sign Zeros (filter (has_bit listing.now.zeros) (range_with_len 1 pages))
+        ++ with_sign Blank (filter (has_bit listing.now.blank) (range_with_len 1 pages))) notes.new }
+{
+    note_listed(notes, listing.listed());
+    note_bits(notes, listing.zeros(), pages, Sign::Zeros);
+    note_bits(notes, listing.blank(), pages, Sign::Blank)
 }

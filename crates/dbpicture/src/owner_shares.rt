@@ -1,11 +1,12 @@
 // Whose the pages of a square are.
 ghost use Rattle.std.specs.Prelude.{◌≡◌, ◌<◌};
-ghost use Rattle.dbpicture.specs.Owners.{has_pages, is_overflow, is_shaded, no_shares, one_page, owner_counted, share_of, share_sum};
+ghost use Rattle.dbpicture.specs.Owners.{has_pages, is_lighter, is_overflow, is_shaded, no_shares, one_page, owner_counted, share_of, share_sum};
+ghost use Rattle.dbpicture.specs.Owners.{shown_owner};
 
 use dbscan::Place;
 
 /// How many owners a square tells apart, in the order in which they are drawn and named: first the twelve largest trees, by their ranks.
-pub(crate) const OWNERS: usize = 16;
+pub(crate) const OWNERS: usize = 17;
 
 /// The number of all other trees.
 pub(crate) const OTHER_TREES: usize = 12;
@@ -16,6 +17,9 @@ pub(crate) const FREELIST: usize = 13;
 pub(crate) const FIXED: usize = 14;
 
 pub(crate) const NOBODY: usize = 15;
+
+/// The number that stands for the owner of pages that are one byte throughout, whosever they are.
+pub(crate) const BLANK: usize = 16;
 
 /// A number of pages, and how many of them are overflow pages.
 #[derive(Clone, Copy, Default)]
@@ -56,6 +60,22 @@ pub(crate) fn is_overflow(place: Place) -> bool
     matches!(&place, Place::OverflowOf(_) | Place::OverflowAfter(_))
 }
 
+/// The number of the owner that a page is shown for, by whether it is one byte throughout.
+pub(crate) fn shown_owner(blank: bool, owner: usize) -> usize
+    requires { owner < 16 }
+    ensures owner { result ≡ shown_owner blank owner }
+    ensures within { result < 17 }
+{
+    if blank { BLANK } else { owner }
+}
+
+/// Whether a page is shown in the shade of overflow pages.
+pub(crate) fn is_lighter(blank: bool, place: Place) -> bool
+    ensures { result ≡ is_lighter blank place }
+{
+    is_overflow(place) & !blank
+}
+
 /// The pages of a square, by their owners.
 #[derive(Clone, Copy)]
 pub(crate) struct OwnerShares {
@@ -74,7 +94,7 @@ impl OwnerShares {
 
     /// Counts a page of the owner with a number.
     pub(crate) fn add(&mut self, owner: usize, is_overflow: bool)
-        requires { owner < 16 }
+        requires { owner < 17 }
         ensures { self.new ≡ owner_counted owner is_overflow self.old }
     {
         let share = &mut self.shares[owner];
@@ -83,7 +103,7 @@ impl OwnerShares {
 
     /// The pages of the owner with a number.
     pub(crate) fn share(&self, number: usize) -> Share
-        requires { number < 16 }
+        requires { number < 17 }
         ensures { result ≡ share_of self.now number }
     {
         self.shares[number]
@@ -91,7 +111,7 @@ impl OwnerShares {
 
     /// Whether the owner with a number has one of the pages.
     pub(crate) fn has(&self, number: usize) -> bool
-        requires { number < 16 }
+        requires { number < 17 }
         ensures { result ≡ has_pages self.now number }
     {
         self.share(number).pages != 0

@@ -1,15 +1,15 @@
 // The square of a page.
-ghost use Rattle.std.specs.Prelude.{◌≡◌, ◌≤◌};
+ghost use Rattle.std.specs.Prelude.{◌≡◌, ◌≤◌, ◌<◌};
 ghost use Rattle.dblines.specs.Writing.{Wrote};
 ghost use Rattle.dbpicture.specs.Pieces.{piece_text};
 ghost use Rattle.dbpicture.specs.Faults.{shown};
-ghost use Rattle.dbpicture.specs.Squares.{bytes_words, from_text, page_class, page_shade, page_text};
+ghost use Rattle.dbpicture.specs.Squares.{bytes_words, from_text, page_text};
 
-use crate::colours::{BLANK, shade_letter};
+use crate::colours::shade_letter;
 use crate::faults::{Sign, SquareFaults};
 use crate::frame::{extent, inset, stroke};
 use crate::grid::Width;
-use crate::owner_shares::is_overflow;
+use crate::owner_shares::{is_lighter, shown_owner};
 use crate::pieces::{Piece, WritePieces};
 use crate::shown::Shown;
 use crate::squares::NAME_WIDTH;
@@ -41,20 +41,6 @@ fn from_piece(place: Place) -> Piece
     }
 }
 
-// The number of the class of a page: that of its owner, or that of pages that are one byte throughout.
-fn page_class(blank: bool, owner: usize) -> usize
-    ensures { result ≡ page_class blank owner }
-{
-    if blank { BLANK } else { owner }
-}
-
-// What its class begins with.
-fn page_shade(blank: bool, place: Place) -> &'static str
-    ensures { result.now ≡ page_shade blank place }
-{
-    shade_letter(is_overflow(place) & !blank)
-}
-
 // What its title says of its bytes.
 fn bytes_words(faults: SquareFaults) -> &'static str
     ensures { result.now ≡ bytes_words (shown faults.bits) }
@@ -70,8 +56,7 @@ fn bytes_words(faults: SquareFaults) -> &'static str
 
 impl PageSquare {
     /// Draws it, by the name of the tree that the page is in: its title says what the page is by its number, what comes before its
-    /// tree, the tree, the page that it is reached from, the codes of its faults, and
-    /// whether it is zeros, or one byte throughout.
+    /// tree, the tree, the page that it is reached from, the codes of its faults, and whether it is zeros, or one byte throughout.
     pub(crate) fn draw<O: Out>(
         &self,
         writer: &mut Writer<'_, O>,
@@ -79,15 +64,16 @@ impl PageSquare {
         tree: &Shown,
         faults: SquareFaults,
     )
-        requires { self.now.x ≤ 3556 }
+        requires x { self.now.x ≤ 3556 }
+        requires owner { self.now.owner < 16 }
         ensures { Wrote O.held writer.old (page_text self.now width tree.now (shown faults.bits)) writer.new }
     {
         let frame = faults.frame();
         let blank = faults.shows(Sign::Blank);
         writer.write_all(&[
             Piece::Markup("<rect class=\""),
-            Piece::Markup(page_shade(blank, self.place)),
-            Piece::Number(page_class(blank, self.owner) as u64),
+            Piece::Markup(shade_letter(is_lighter(blank, self.place))),
+            Piece::Number(shown_owner(blank, self.owner) as u64),
             Piece::Markup("\" x=\""),
             Piece::Number((self.x + inset(width, frame)) as u64),
             Piece::Markup(extent(width, frame)),

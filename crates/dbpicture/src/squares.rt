@@ -3,7 +3,7 @@ ghost use Rattle.std.specs.Prelude.{◌≡◌, ◌+◌, ◌-◌, ◌<◌, ℕ, L
 ghost use Rattle.dbformat.specs.Reference.{Reference};
 ghost use Rattle.dbformat.specs.Starts.{start_at};
 ghost use Rattle.dblines.specs.Writing.{WroteOf};
-ghost use Rattle.dbpicture.specs.Keeping.{AreOf, drawn_by, HoldsTreeName, marked_place};
+ghost use Rattle.dbpicture.specs.Keeping.{AreOf, blank_by, drawn_by, HoldsTreeName, marked_place};
 ghost use Rattle.dbpicture.specs.Owners.{capped_pages, owner_by, shares_by};
 ghost use Rattle.dbpicture.specs.Squares.{row_text, rows_text, group_square_text, square_text, squares_text};
 
@@ -12,13 +12,14 @@ use crate::grid::Grid;
 use crate::group::GroupSquare;
 use crate::labels::Labels;
 use crate::outlines::draw_outlines;
-use crate::owner_shares::{FIXED, FREELIST, NOBODY, OwnerShares, is_overflow};
+use crate::owner_shares::{FIXED, FREELIST, NOBODY, OwnerShares, is_lighter, shown_owner};
 use crate::page::PageSquare;
 use crate::picture::LEFT;
 use crate::pieces::{Piece, WritePieces};
 use crate::tally::{COLOURED, rank_of};
 use crate::tree_text::NamedTree;
 use arrayvec::ArrayVec;
+use dbinjuries::PageBits;
 use dblines::Writer;
 use dbscan::{PageTrees, Place, TreeNames, place_of, place_tree};
 use dbsource::{Header, Out};
@@ -28,12 +29,13 @@ use std::alloc::Allocator;
 /// How many columns of a name are shown.
 pub(crate) const NAME_WIDTH: u32 = 72;
 
-/// What the squares are made of: what each page is, and what is noted of faults.
+/// What the squares are made of: what each page is, which are one byte throughout, and what is noted of faults.
 #[derive(Drop)]
 pub(crate) struct Squares<'a, A: Allocator> {
     pub(crate) header: &'a Header,
     pub(crate) marks: &'a Marks<A>,
     pub(crate) trees: &'a PageTrees<A>,
+    pub(crate) blank: &'a PageBits<A>,
     pub(crate) names: TreeNames<'a, A>,
     pub(crate) notes: &'a FaultNotes<A>,
     pub(crate) largest: ArrayVec<u32, COLOURED>,
@@ -57,16 +59,29 @@ impl<'a, A: Allocator> Squares<'a, A> {
         }
     }
 
+    // Whether a page is one byte throughout.
+    fn is_blank(&self, page: u32) -> bool
+        ensures { result ≡ blank_by self.now page }
+    {
+        if page == 0 || page > self.grid.pages {
+            return false;
+        }
+        self.blank.has(page)
+    }
+
     // What each owner has of some pages.
     fn shares(&self, first: u32, last: u32) -> OwnerShares
         ensures { (file : List ℕ) (V : List Reference) → AreOf self.now file V
-            → result ≡ shares_by self.now.largest.items (marked_place self.now.marks.now) (start_at V) first (capped_pages (last + 1) - first) }
+            → result ≡ shares_by self.now.largest.items (marked_place self.now.marks.now) (start_at V) (blank_by self.now) first
+            (capped_pages (last + 1) - first) }
     {
         let mut shares = OwnerShares::new();
         for page in first..last.saturating_add(1) {
             let place = place_of(self.marks, page);
             let start = self.trees.start_of(self.marks, page);
-            shares.add(self.owner(place, start), is_overflow(place));
+            let blank = self.is_blank(page);
+            let owner = shown_owner(blank, self.owner(place, start));
+            shares.add(owner, is_lighter(blank, place));
         }
         shares
     }

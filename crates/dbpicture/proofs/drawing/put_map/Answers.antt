@@ -1,4 +1,4 @@
-use Rattle.std.proofs.Common.{rules, ◌≡◌, ℕ, ◌+◌, ◌-◌, ◌&&◌, not, List, ◌++◌, length, count_by, map, take, ap, ap₂, subst, ◌∙◌}
+use Rattle.std.proofs.Common.{rules, ◌≡◌, ℕ, ◌+◌, ◌-◌, ◌&&◌, not, List, ◌++◌, length, count_by, map, ap, ap₂, subst, ◌∙◌}
 use Rattle.std.specs.Prelude.{filter, flat_map}
 use Rattle.std.specs.List.{range_with_len}
 use Rattle.dbformat.specs.File.{geometry}
@@ -9,9 +9,6 @@ use Rattle.dbformat.specs.SchemaRow.{SchemaRow}
 use Rattle.dbformat.specs.Starts.{start_at}
 use Rattle.dbformat.specs.declared.Geometry.{Geometry}
 use Rattle.dbinjuries.specs.Bits.{has_bit}
-use Rattle.dbinjuries.specs.Kept.{kept_of}
-use Rattle.dbinjuries.specs.Listed.{listed_injuries}
-use Rattle.dbinjuries.specs.declared.injury.Injury.{Injury}
 use Rattle.dbscan.proofs.PageMarks.{place_is}
 use Rattle.dbscan.specs.Roots.{Listed, listed_rows}
 use Rattle.dbsource.specs.HeaderBytes.{HeaderBytes}
@@ -23,10 +20,9 @@ use Rattle.dbpicture.specs.declared.faults.Sign.{Sign}
 use Rattle.dbpicture.specs.declared.faults.Sign.TheVariants.{Blank, Faulty, Framed, Zeros}
 use Rattle.dbpicture.specs.Grids.{grid_of, outside_by}
 use Rattle.dbpicture.specs.Legends.{legend_lines}
-use Rattle.dbpicture.specs.Pictures.{map_picture, noted_of, outside_of, picture_text, stated_of}
+use Rattle.dbpicture.specs.Owners.{is_one_of}
+use Rattle.dbpicture.specs.Pictures.{map_picture, outside_of, picture_text, stated_of}
 use Rattle.dbpicture.specs.Tallies.{largest_of, largest_trees, pages_at, PagesTallied, tally_of}
-use Rattle.dbpicture.specs.declared.grid.Grid.{Grid}
-use Rattle.dbpicture.specs.declared.legend.NotedPages.{NotedPages}
 use Rattle.dblines.proofs.Writing.{put_written}
 use Rattle.dbpicture.proofs.Pictured.{known_trees, same_count}
 use Rattle.dbpicture.proofs.drawing.put_map.Goals as goal
@@ -42,19 +38,16 @@ returns g c =
       is = λ file V known.
           let desk = known.desk in
           let has = known.kept in
-          let notes = c.note_bits-blank.new.notes in
-          let strong_noted = subst (λ (es : List Injury). AreNoted (geometry file).pages (flat_map fault_signs (faults file V) ++ flat_map injury_signs es)
-          c.note_listed.new.notes) (c.listed.ensures ∙ has.listing.listed) (c.note_listed.ensures (geometry file).pages _ has.notes) in
+          let notes = c.note_listing-blank.new.notes in
           let shape = c.geometry-geometry.ensures.shape ∙ desk.header.shape in
           let here : c.geometry-geometry.result.pages ≡ (geometry file).pages = ap (λ (s : Geometry). s.pages) shape in
-          let zeros = (λ i. filter (has_bit (c.zeros.ensures i)) (range_with_len 1 (here i))) ∙ has.zeros in
-          let blanks = (λ i. filter (has_bit (c.blank.ensures i)) (range_with_len 1 (here i))) ∙ has.blank in
+          let zeros = ap (λ n. filter (has_bit c.args.kept.now.listing.zeros) (range_with_len 1 n)) here ∙ has.zeros in
+          let blanks = ap (λ n. filter (has_bit c.args.kept.now.listing.blank) (range_with_len 1 n)) here ∙ has.blank in
           let noted : AreNoted (geometry file).pages (signs_of file V) notes =
           subst (λ (l : List (ℕ × Sign)). AreNoted (geometry file).pages l notes)
-          (ap₂ (λ zs bs. flat_map fault_signs (faults file V) ++ flat_map injury_signs (map kept_of (take 100 (listed_injuries file V)))
-          ++ with_sign Zeros zs ++ with_sign Blank bs) zeros blanks)
-          (c.note_bits-blank.ensures.noted (geometry file).pages _ (c.note_bits.ensures.noted (geometry file).pages _ strong_noted)) in
-          let blank = c.note_bits-blank.ensures.count ∙ ap (λ (ps : List ℕ). length ps) blanks in
+          (λ i. flat_map fault_signs (faults file V) ++ flat_map injury_signs (has.listing.listed i) ++ with_sign Zeros (zeros i) ++ with_sign Blank (blanks i))
+          (c.note_listing-blank.ensures.noted (geometry file).pages _ has.notes) in
+          let blank = c.note_listing-blank.ensures.count ∙ ap (λ (ps : List ℕ). length ps) blanks in
           let marks = c.marks-marks.ensures ∙ desk.marks in
           let tally = c.count.ensures file V (record { survey = desk.survey; marks = marks; trees = has.trees }) in
           let kept : List SchemaRow = c.roots-roots.result.now.rows in
@@ -71,30 +64,22 @@ returns g c =
           let tree = ap shorten (ap₂ tree_of_row (c.encoding.ensures ∙ ap (λ (h : HeaderBytes). encoding h.bytes) c.header-header.ensures.value)
           (ap (λ (l : Listed). l.rows) c.roots-roots.ensures) ∙ known_trees file V c.args.desk.now.header c.args.desk.now.roots.rows desk.header desk.rows) in
           let names = c.new-labels.ensures ∙ ap (map (shown_tree c.encoding.result kept)) c.as_slice.ensures.value ∙ ap₂ map tree largest in
+          let shown_blank = (λ i. filter (has_bit (c.blank.ensures i)) (range_with_len 1 (grid i).pages)) ∙ has.blank in
           let fixed = ap (λ (h : HeaderBytes). geometry_of h.bytes h.file_len) c.header-header.ensures.value ∙ desk.header.shape in
-          let strong = c.framed-strong.ensures.strong ∙ ap (λ n. count_by (has_bit notes.framed) (range_with_len 1 n)) noted.pages
+          let strong = ap (λ n. count_by (has_bit notes.framed) (range_with_len 1 n)) noted.pages
           ∙ same_count (has_bit notes.framed) (page_shows file V Framed) (geometry file).pages noted.framed.are in
-          let weak = c.framed-strong.ensures.weak
-          ∙ ap (λ n. count_by (is_weak (has_bit notes.faulty) (has_bit notes.framed)) (range_with_len 1 n)) noted.pages
+          let weak = ap (λ n. count_by (is_weak (has_bit notes.faulty) (has_bit notes.framed)) (range_with_len 1 n)) noted.pages
           ∙ same_count (is_weak (has_bit notes.faulty) (has_bit notes.framed)) (is_weak (page_shows file V Faulty) (page_shows file V Framed))
           (geometry file).pages (λ p l m. ap₂ (λ a b. a && not b) (noted.faulty.are p l m) (noted.framed.are p l m)) in
-          let missing = c.missing.ensures ∙ ap (λ (g : Grid). g.outside.last - g.pages) grid in
-          let noted_pages : NotedPages = record {
-            blank = c.note_bits-blank.result;
-            strong = c.framed-strong.result.0;
-            weak = c.framed-strong.result.1;
-            outside = c.missing.result;
-            are_after = c.of-outside.result.are_after;
-          } in
-          let pages : noted_pages ≡ noted_of file V = λ i. record {
+          let pages = c.noted_pages-noted.ensures ∙ (λ i. record {
             blank = blank i;
             strong = strong i;
             weak = weak i;
-            outside = missing i;
-            are_after = (outside i).are_after;
-          } in
+            outside = (grid i).outside.last - (grid i).pages;
+            are_after = (grid i).outside.are_after;
+          }) in
           let lines = c.new-legend.ensures
-          ∙ ap₂ (λ (t : PagesTallied) ks. legend_lines kept t ks noted_pages) tally (c.as_slice-2.ensures.value ∙ largest)
+          ∙ ap₂ (λ (t : PagesTallied) ks. legend_lines kept t ks c.noted_pages-noted.result) tally (c.as_slice-2.ensures.value ∙ largest)
           ∙ ap₂ (λ rows n. legend_lines rows (tally_of file V) (largest_of file V) n) rows pages in
           c.draw_picture.ensures.is file V (record { survey = desk.survey; marks = marks; trees = has.trees })
           ∙ (λ i. picture_text (record { file = c.shown_file.ensures i; geometry = shape i; faults = known.count i })
@@ -103,6 +88,7 @@ returns g c =
             shape = fixed i;
             place = λ p. (ap (λ m. marked_place m p) marks ∙ place_is file V desk.survey p) i;
             start = start_at V;
+            blank = is_one_of (shown_blank i);
             largest = largest i;
             names = names i;
             tree = tree i;

@@ -31,5 +31,5 @@ loop-number-preserved g c =
 
 pub returns : goal.returns
 returns g c =
-    let end : c.loop-number.number ≡ 16 = omega arith in
+    let end : c.loop-number.number ≡ 17 = omega arith in
     wrote_as (ap (λ n. flat_map (band_at c.args.self.now c.args.bands.now) (range_with_len 0 n)) end) c.loop-number.invariant.drawn

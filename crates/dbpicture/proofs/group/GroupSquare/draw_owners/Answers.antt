@@ -40,5 +40,5 @@ loop-number-preserved g c =
 
 pub returns : goal.returns
 returns g c =
-    let end : c.loop-number.number ≡ 16 = omega arith in
+    let end : c.loop-number.number ≡ 17 = omega arith in
     wrote_as (ap (λ n. flat_map (owner_at c.args.self.now.shares c.args.labels.now.names.items) (range_with_len 0 n)) end) c.loop-number.invariant.drawn

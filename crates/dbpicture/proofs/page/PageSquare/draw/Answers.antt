@@ -6,8 +6,9 @@ pub returns : goal.returns
 unfolding page_text
 returns g c =
     let front = rw (
-      c.page_shade.ensures,
-      c.page_class.ensures,
+      c.shade_letter.ensures,
+      c.is_lighter.ensures,
+      c.shown_owner.ensures.owner,
       c.shows-blank.ensures,
       c.inset.ensures.inset,
       c.extent.ensures,
