@@ -190,9 +190,9 @@ impl<'a, R: Lookup + AllocGlobal, N: Out> FileNotes<'a, R, N> {
     // The note on a log that was changed since it had this stamp.
     fn put_changed(&mut self, suffix: &str, before: Option<Stamp>) {
         if let Some(before) = before
-            && let Some(after) = self.stamp_of(suffix)
-            && before.is_changed(after)
             && let Some(name) = self.name_of(suffix)
+            && let Some(after) = Stamp::at(self.rt, name.as_str())
+            && before.is_changed(after)
             && let Ok(name) = Shown::of(self.rt.alloc(), name.as_str())
         {
             self.notes.put(&name, &[Piece::Words(CHANGED)]);
