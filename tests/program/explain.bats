@@ -67,13 +67,47 @@ R01 page 5 item 1 value 0: page number out of range
         rows not reached: rowids above 200
     1 of 2 tables and 0 of 0 indexes without a fault
 END
+    local lead
     tests/small/make.py "$work/ends.txt" "$work/small" > "$work/list"
     while IFS='|' read -r number limit name; do
         dbck explain --limit "$limit" "$work/small/$number.db"
         row "explain $name" diff "$work/small/$number.text" "$work/out"
-        row "the note on $name" ended 1 '*' $'dbck: note: 512 bytes after page 6 are not read, 1 whole page among them\n'
+        lead=
+        [ "$number" != 0 ] || lead=', to which 1 reference leads'
+        row "the note on $name" ended 1 '*' "dbck: note: 512 bytes after page 6 are not read, 1 whole page among them$lead"$'\n'
     done < "$work/list"
     [ "$rows" = 6 ]
+}
+
+@test 'the note of explain says how many references lead to whole pages after the stated end' {
+    needs python3
+    local stated child length note lead command
+    printf '== whole\nok\n' > "$work/whole.txt"
+    tests/small/make.py "$work/whole.txt" "$work/small" > "$work/list"
+    # Page 5 names page 6, and the page of the second column. The header states as many pages as the first column says, and the file has
+    # the bytes of the third, where 7 pages have 3584.
+    while IFS='|' read -r stated child length note lead; do
+        cp "$work/small/0.db" "$work/x.db"
+        put_at "$work/x.db" 28 "\\0\\0\\0\\x$stated"
+        put_at "$work/x.db" 2056 "\\0\\0\\0\\x$child"
+        truncate -s "$length" "$work/x.db"
+        for command in explain 'explain --limit 1'; do
+            # shellcheck disable=SC2086
+            expect 1 '*' "dbck: note: $note$lead"$'\n' $command "$work/x.db"
+        done
+        for command in check map mend; do
+            expect 1 '*' "dbck: note: $note"$'\n' "$command" "$work/x.db"
+        done
+    done << 'END'
+5|7|3584|1024 bytes after page 5 are not read, 2 whole pages among them|, to which 2 references lead
+5|6|3584|1024 bytes after page 5 are not read, 2 whole pages among them|, to which 2 references lead
+5|8|3584|1024 bytes after page 5 are not read, 2 whole pages among them|, to which 1 reference leads
+5|7|3583|1023 bytes after page 5 are not read, 1 whole page among them|, to which 1 reference leads
+6|7|3584|512 bytes after page 6 are not read, 1 whole page among them|, to which 1 reference leads
+6|8|3584|512 bytes after page 6 are not read, 1 whole page among them|
+6|7|3583|511 bytes after page 6 are not read|
+END
+    [ "$rows" = 35 ]
 }
 
 # sums FILE: the summary that a text ends with.

@@ -23,6 +23,9 @@ pub trait Notes {
     /// The run begins, over the file with these changes.
     fn begin(&mut self, changes: &Changes);
 
+    /// This many references of the file lead to pages after the end that its header states. The outcome is told after that.
+    fn tell_references(&mut self, count: u64);
+
     /// The run has this outcome. The line of an error is not yet put.
     fn tell(&mut self, outcome: &Result<Verdict, RunError>);
 
@@ -110,7 +113,7 @@ pub fn finish<S: Source, O: Out, E: Out, N: Notes>(
     ensures first { LeavesFirst S.Source O.Out E.Out request.entry result out.old out.new }
     ensures second { LeavesSecond S.Source O.Out E.Out request.entry result err.old err.new }
 {
-    let outcome = run_request(alloc, request, source, out, err);
+    let outcome = run_request(alloc, request, source, out, err, notes);
     let outcome = hand_on(out, err, outcome);
     end(err, outcome, notes)
 }

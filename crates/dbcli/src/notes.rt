@@ -44,6 +44,8 @@ pub struct FileNotes<'a, R, N> {
     is_open: bool,
     // Whether its log could be read, if it has one that is read.
     is_read: bool,
+    // How many references lead to pages after the stated end, where they were counted.
+    references: u64,
     // Whether the note on the changes of a mend was put.
     is_joined: bool,
     // The file's name, and why it cannot be opened, if that is known.
@@ -73,6 +75,7 @@ impl<'a, R: Lookup + AllocGlobal, N: Out> FileNotes<'a, R, N> {
             wal_before: None,
             is_open: false,
             is_read: true,
+            references: 0,
             is_joined: false,
             reason: None,
         }
@@ -187,9 +190,9 @@ impl<'a, R: Lookup + AllocGlobal, N: Out> FileNotes<'a, R, N> {
     // The note on a log that was changed since it had this stamp.
     fn put_changed(&mut self, suffix: &str, before: Option<Stamp>) {
         if let Some(before) = before
-            && let Some(after) = self.stamp_of(suffix)
-            && before.is_changed(after)
             && let Some(name) = self.name_of(suffix)
+            && let Some(after) = Stamp::at(self.rt, name.as_str())
+            && before.is_changed(after)
             && let Ok(name) = Shown::of(self.rt.alloc(), name.as_str())
         {
             self.notes.put(&name, &[Piece::Words(CHANGED)]);
@@ -213,11 +216,17 @@ impl<'a, R: Lookup + AllocGlobal, N: Out> FileNotes<'a, R, N> {
         }
     }
 
-    // The note on the bytes after the last page, if there are some.
+    // The note on the bytes after the last page, if there are some, and on the references that lead there.
     fn put_rest(&mut self) {
         if let Some(geometry) = self.watch.geometry() {
             let none = Shown::none(self.rt.alloc());
-            put_rest(&mut self.notes, &none, self.watch.len(), geometry);
+            put_rest(
+                &mut self.notes,
+                &none,
+                self.watch.len(),
+                geometry,
+                self.references,
+            );
         }
     }
 
@@ -311,6 +320,10 @@ impl<R: Lookup + AllocGlobal, N: Out> Notes for FileNotes<'_, R, N> {
             Piece::Number(count),
             Piece::Words(noun),
         ]);
+    }
+
+    fn tell_references(&mut self, count: u64) {
+        self.references = count;
     }
 
     fn tell_unrun(&mut self, why: Unrun) {

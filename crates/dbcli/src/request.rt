@@ -6,9 +6,11 @@ ghost use Rattle.dbreport.specs.Runs.{IsLeftAlone};
 ghost use Rattle.dbsource.specs.Errors.{is_read_failed};
 ghost use Rattle.dbsource.specs.Failures.{failures_after};
 ghost use Rattle.dbsource.specs.Snapshots.{HasRead};
+ghost use Rattle.dbexplain.specs.Runs.{verdict_in};
 ghost use Rattle.dbcli.specs.Requests.{IsRunFor, OutsFail, WritesToFirst};
 
-use dbexplain::explain;
+use crate::finishing::Notes;
+use dbexplain::{Explanation, explain};
 use dbmap::map;
 use dbreport::{Command, Verdict, run};
 use dbsource::{Out, RunError, Source};
@@ -26,17 +28,30 @@ pub enum Request<'a> {
     Map { name: &'a str },
 }
 
+// The verdict of an explanation; the notes are told how many references lead to pages after the stated end.
+fn told_verdict<N: Notes>(
+    answer: Result<Explanation, RunError>,
+    notes: &mut N,
+) -> Result<Verdict, RunError>
+    ensures { result ≡ verdict_in answer }
+{
+    let explanation = answer?;
+    notes.tell_references(explanation.after_end);
+    Ok(explanation.verdict)
+}
+
 /// Runs the request on the file that `source` gives, as [`run`], [`explain`] and [`map`] do.
 ///
 /// # Errors
 ///
 /// Those of these functions.
-pub(crate) fn run_request<S: Source, O: Out, E: Out>(
+pub(crate) fn run_request<S: Source, O: Out, E: Out, N: Notes>(
     alloc: Global,
     request: Request<'_>,
     source: &mut S,
     out: &mut O,
     err: &mut E,
+    notes: &mut N,
 ) -> Result<Verdict, RunError>
     ensures read { HasRead S.step S.lengths IsSomeRunLog
         (λ file ranges. IsRunLog (geometry file) ranges × IsRunFor request.entry file result
@@ -48,7 +63,7 @@ pub(crate) fn run_request<S: Source, O: Out, E: Out>(
 {
     match request {
         Request::Report(command) => run(alloc, command, source, out, err),
-        Request::Explain { limit } => explain(alloc, limit, source, out),
+        Request::Explain { limit } => told_verdict(explain(alloc, limit, source, out), notes),
         Request::Map { name } => map(alloc, name, source, out),
     }
 }

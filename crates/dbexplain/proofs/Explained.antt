@@ -1,7 +1,8 @@
 -- What a run of `explain` leaves of a file that is read.
 use Rattle.std.proofs.Common.{◌≡◌, ◌⊎◌, ℕ, zero, suc, false, List, [], Ok, Err, None, Result, inl, inr, refl, sym, ap, subst, ◌∙◌}
 use Rattle.std.specs.Prelude.{IfErr, IfOk, OnOk}
-use Rattle.dbformat.specs.File.{geometry, refusal}
+use Rattle.dbformat.specs.File.{refusal}
+use Rattle.dbformat.specs.Lines.{counted}
 use Rattle.dbformat.specs.Reference.{Reference}
 use Rattle.dbformat.specs.Survey.{Survey, survey}
 use Rattle.dbformat.specs.declared.Verdict.{Verdict}
@@ -21,11 +22,14 @@ use Rattle.dbreport.proofs.RunAnswers.{if_ok, read_answer}
 use Rattle.dbinjuries.specs.Listed.{listed_injuries, listed_faults}
 use Rattle.dbinjuries.specs.Listing.{injuries}
 use Rattle.dbinjuries.specs.Lists.{ListsFirst}
+use Rattle.dbexplain.specs.AfterEnd.{references_after_end}
 use Rattle.dbexplain.specs.Explained.{explain_report, explain_text, found_text}
-use Rattle.dbexplain.specs.Keeping.{IsEmpty, lines_of}
-use Rattle.dbexplain.specs.Reporting.{Ends, Hears, IsReportLeft, LeavesExplained, PutsLines}
-use Rattle.dbexplain.specs.Runs.{IsExplained, OutFailures, PutsFound, WritesReport}
+use Rattle.dbexplain.specs.Keeping.{lines_of}
+use Rattle.dbexplain.specs.Reporting.{Ends, Hears, IsFresh, IsReportLeft, LeavesExplained, PutsLines}
+use Rattle.dbexplain.specs.Runs.{IsExplained, OutFailures, PutsFound, WritesReport, answer_with, verdict_in}
+use Rattle.dbexplain.specs.declared.after_end.AfterEnd.{AfterEnd}
 use Rattle.dbexplain.specs.declared.reporter.ExplainReporter.{ExplainReporter}
+use Rattle.dbexplain.specs.declared.runs.Explanation.{Explanation}
 use Rattle.dbexplain.proofs.KeptInjuries.{found_lines}
 use Rattle.dbexplain.proofs.Left.{is_left}
 use Rattle.dbexplain.proofs.ReadReports.{answer_is, explain_says_ok, explain_sound, out_is}
@@ -70,12 +74,40 @@ module _ {A O : Type 0} (held : O → OutState) (limit : ℕ) (file : List ℕ) 
   found (Ok v) k = answer_is limit file V read v k.1
   found (Err e) k = tt
 
-  pub explained : (r : Result Verdict RunError) (old : O) → Survey file V → IsEmpty limit (geometry file) first.kept.now → first.out.now ≡ old
+  pub explained : (r : Result Verdict RunError) (old : O) → Survey file V → IsFresh limit file first → first.out.now ≡ old
       → Leaves Hears (LeavesExplained held) file V r first now → Ends held r now after
       → WritesReport limit file V r (held old) (held after.out.now) × IfOk r (λ v. (explain_report limit file V).answer ≡ Ok v)
-  explained r old survey empty begun left ends =
-      let k = is_left held file V survey first now limit empty r left in
+  explained r old survey fresh begun left ends =
+      let k = is_left held file V survey first now limit fresh r left in
       (subst (λ o. WritesReport limit file V r (held o) (held after.out.now)) begun (written r k ends), found r k)
+
+  -- and the references to pages after the stated end were counted
+  counted_in : (r : Result Verdict RunError) → IsReportLeft held limit file V r first now
+      → IfOk r (λ v. now.after_end.references ≡ counted (references_after_end file V))
+  counted_in (Ok v) k = k.2
+  counted_in (Err e) k = tt
+
+  pub references_counted : (r : Result Verdict RunError) → Survey file V → IsFresh limit file first
+      → Leaves Hears (LeavesExplained held) file V r first now → after.after_end ≡ now.after_end
+      → IfOk r (λ v. after.after_end.references ≡ counted (references_after_end file V))
+  references_counted r survey fresh left same =
+      subst (λ (c : AfterEnd). IfOk r (λ v. c.references ≡ counted (references_after_end file V))) (sym same)
+      (counted_in r (is_left held file V survey first now limit fresh r left))
+
+-- ---- the answer, with the number of these
+
+pub verdict_with : (r : Result Verdict RunError) (n : ℕ) → verdict_in (answer_with r n) ≡ r
+verdict_with (Ok v) n = refl
+verdict_with (Err e) n = refl
+
+pub counts_with : (r : Result Verdict RunError) (n m : ℕ) → IfOk r (λ v. n ≡ m) → IfOk (answer_with r n) (λ e. e.after_end ≡ m)
+counts_with (Ok v) n m h = h
+counts_with (Err e) n m h = tt
+
+-- what is so at a verdict
+pub at_verdict : (T : Type 0) (r : Result Explanation RunError) → OnOk (verdict_in r) T → OnOk r T
+at_verdict T (Ok e) h = h
+at_verdict T (Err e) h = tt
 
 -- ---- how often the Out failed
 

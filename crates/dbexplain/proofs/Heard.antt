@@ -14,6 +14,7 @@ use Rattle.dbinjuries.specs.Lists.{HasListed, ListsFirst, heard}
 use Rattle.dbinjuries.proofs.Heard.{file_begun, file_heard}
 use Rattle.dbinjuries.proofs.ListedFaults.{heard_first}
 use Rattle.dbscan.specs.Trees.{row_noted}
+use Rattle.dbexplain.specs.AfterEnd.{after_end_told}
 use Rattle.dbexplain.specs.Indexes.{index_noted}
 use Rattle.dbexplain.specs.Keeping.{IsEmpty}
 use Rattle.dbexplain.specs.KeptRanges.{range_told}
@@ -29,6 +30,7 @@ module _ {A O : Type 0} (first : ExplainReporter A O) where
     pub trees : now.kept.now.trees.known ≡ fold row_noted first.kept.now.trees.known rs
     pub ranges : now.kept.now.ranges ≡ fold range_told first.kept.now.ranges ts
     pub indexes : now.kept.now.indexes ≡ fold index_noted first.kept.now.indexes rs
+    pub after_end : now.after_end ≡ fold after_end_told first.after_end ts
     pub out : now.out.now ≡ first.out.now
 
   one_heard : (x : TracedFault) (ts : List TracedFault) (rs : List StatRow) (s t : ExplainReporter A O) → HasHeardFaults ts rs s → Adds x s t
@@ -39,6 +41,7 @@ module _ {A O : Type 0} (first : ExplainReporter A O) where
     trees = a.trees ∙ h.trees;
     ranges = a.ranges ∙ ap (λ k. range_told k x) h.ranges ∙ sym (fold-append range_told first.kept.now.ranges ts (x ∷ []));
     indexes = a.indexes ∙ h.indexes;
+    after_end = a.after_end ∙ ap (λ k. after_end_told k x) h.after_end ∙ sym (fold-append after_end_told first.after_end ts (x ∷ []));
     out = a.out ∙ h.out;
   }
 
@@ -50,12 +53,13 @@ module _ {A O : Type 0} (first : ExplainReporter A O) where
     trees = a.trees ∙ ap (λ k. row_noted k r) h.trees ∙ sym (fold-append row_noted first.kept.now.trees.known rs (r ∷ []));
     ranges = a.ranges ∙ h.ranges;
     indexes = a.indexes ∙ ap (λ k. index_noted k r) h.indexes ∙ sym (fold-append index_noted first.kept.now.indexes rs (r ∷ []));
+    after_end = a.after_end ∙ h.after_end;
     out = a.out ∙ h.out;
   }
 
   module _ (file : List ℕ) (V : List Reference) (survey : Survey file V) (now : ExplainReporter A O) where
     nothing_heard : HasHeardFaults [] [] first
-    nothing_heard = record { tally = refl; listing = refl; trees = refl; ranges = refl; indexes = refl; out = refl }
+    nothing_heard = record { tally = refl; listing = refl; trees = refl; ranges = refl; indexes = refl; after_end = refl; out = refl }
 
     -- all of it
     pub all_heard : Moves Hears first (run_notices file V) now → HasHeardFaults (told_faults file V) (stat_rows file V) now

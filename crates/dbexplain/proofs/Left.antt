@@ -24,13 +24,15 @@ use Rattle.dbscan.proofs.AllTold.{all_told}
 use Rattle.dbinjuries.specs.Listed.{listed_injuries}
 use Rattle.dbinjuries.specs.Lists.{Held, ListsAll, ListsFirst}
 use Rattle.dbinjuries.specs.Lost.{HasNoted}
+use Rattle.dbexplain.specs.AfterEnd.{references_after_end}
 use Rattle.dbexplain.specs.Explained.{explain_text}
 use Rattle.dbexplain.specs.Indexes.{AreIndexes}
 use Rattle.dbexplain.specs.Keeping.{HasAll, IsEmpty}
 use Rattle.dbexplain.specs.KeptRanges.{AreRangesOf}
-use Rattle.dbexplain.specs.Reporting.{Hears, IsReportLeft, LeavesExplained}
+use Rattle.dbexplain.specs.Reporting.{Hears, IsFresh, IsReportLeft, LeavesExplained}
 use Rattle.dbexplain.specs.declared.reporter.ExplainReporter.{ExplainReporter}
 use Rattle.dbexplain.specs.Tallies.{IsTallyOf}
+use Rattle.dbexplain.proofs.AfterEnd.{all_counted as all_references}
 use Rattle.dbexplain.proofs.IndexesNoted.{all_indexes}
 use Rattle.dbexplain.proofs.RangesKept.{all_ranges_told}
 use Rattle.dbexplain.proofs.Heard.{HasHeardFaults, all_heard, found_first}
@@ -49,16 +51,18 @@ pub record HasHeardFile {A O : Type 0} (limit : ℕ) (file : List ℕ) (V : List
   pub empty : IsEmpty limit (geometry file) first.kept.now
   pub all : HasHeardFaults first (told_faults file V) (stat_rows file V) now
   pub tally : IsTallyOf (geometry file).pages (told_faults file V) now.kept.now.tally
+  pub after_end : now.after_end.references ≡ counted (references_after_end file V)
 
 pub file_heard : {A O : Type 0} {limit : ℕ} {file : List ℕ} {V : List Reference} {d : DeskView} {first now : ExplainReporter A O}
-    → HasHeard Hears d file V first now → IsEmpty limit (geometry file) first.kept.now → HasHeardFile limit file V first now
-file_heard {limit = limit} {file = file} {V = V} {first = first} {now = now} h empty =
+    → HasHeard Hears d file V first now → IsFresh limit file first → HasHeardFile limit file V first now
+file_heard {limit = limit} {file = file} {V = V} {first = first} {now = now} h fresh =
     let all = all_heard first file V h.desk.survey now h.heard in record {
       survey = h.desk.survey;
-      empty = empty;
+      empty = fresh.kept;
       all = all;
       tally = subst (IsTallyOf (geometry file).pages (told_faults file V)) (sym all.tally)
-          (tallies.all_told (geometry file).pages (told_faults file V) [] first.kept.now.tally empty.tally);
+          (tallies.all_told (geometry file).pages (told_faults file V) [] first.kept.now.tally fresh.kept.tally);
+      after_end = all_references file V first.after_end now.after_end fresh.after_end all.after_end;
     }
 
 module _ {A O : Type 0} (held : O → OutState) {limit : ℕ} {file : List ℕ} {V : List Reference} {first now : ExplainReporter A O}
@@ -100,12 +104,12 @@ module _ {A O : Type 0} (held : O → OutState) {limit : ℕ} {file : List ℕ} 
 -- ---- a run that was cut off before its end
 
 module _ {A O : Type 0} (held : O → OutState) (file : List ℕ) (V : List Reference) (survey : Survey file V) (first now : ExplainReporter A O)
-    (limit : ℕ) (empty : IsEmpty limit (geometry file) first.kept.now) where
+    (limit : ℕ) (fresh : IsFresh limit file first) where
   abbrev CutOff : Type 0
   CutOff = MovesBySome Hears first (run_notices file V) now
 
   found : CutOff → (now.out.now ≡ first.out.now) × ListsFirst limit file V now.kept.now.listing
-  found m = found_first first file V survey now limit (geometry file) empty m
+  found m = found_first first file V survey now limit (geometry file) fresh.kept m
 
   nothing_put : CutOff → Begins (held first.out.now).bytes (held now.out.now).bytes (explain_text limit file V (listed_injuries file V))
   nothing_put m = subst (λ o. Begins (held first.out.now).bytes (held o).bytes (explain_text limit file V (listed_injuries file V))) (sym (found m).0)
@@ -118,5 +122,5 @@ module _ {A O : Type 0} (held : O → OutState) (file : List ℕ) (V : List Refe
   stopped (Refused r) m = nothing_put m
 
   pub is_left : (r : Result Verdict RunError) → Leaves Hears (LeavesExplained held) file V r first now → IsReportLeft held limit file V r first now
-  is_left r (inl h) = h limit empty
+  is_left r (inl h) = h limit fresh
   is_left r (inr (e, is, m)) = subst (λ (r : Result Verdict RunError). IsReportLeft held limit file V r first now) (sym is) (stopped e m)

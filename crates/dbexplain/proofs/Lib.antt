@@ -1,3 +1,4 @@
+pub mod AfterEnd
 pub mod Below
 pub mod Desks
 pub mod Explained

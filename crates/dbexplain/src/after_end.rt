@@ -1,11 +1,25 @@
-// The line of a page that is in the file, after the end that its header states.
+// Pages that are in the file, after the end that its header states: the line of one, and how many references lead to them.
 ghost use Rattle.std.specs.Prelude.{◌≡◌, ◌/◌};
-ghost use Rattle.dbformat.specs.FixedPages.{IsInRange};
+ghost use Rattle.dbformat.specs.FixedPages.{IsInRange, geometry_of};
+ghost use Rattle.dbexplain.specs.AfterEnd.{after_end_told, is_between, is_outside, none_after_end};
 ghost use Rattle.dbexplain.specs.Below.{after_end_said, after_end_text, is_after_end, value_page};
 
 use arrayvec::ArrayVec;
-use dbformat::{Fault, Geometry};
+use dbformat::{Fault, FaultCode, Geometry};
 use dblines::{append, append_number};
+use dbsource::Header;
+use dbtrace::TracedFault;
+
+/// How many references were reported to lead to pages that are whole in a file, after the end that its header states. The number stops
+/// at the greatest one of 64 bits.
+#[derive(Clone, Copy)]
+pub(crate) struct AfterEnd {
+    /// The last page, by the header.
+    pub(crate) last: u64,
+    /// The last page that is whole in the file.
+    pub(crate) whole: u64,
+    pub(crate) references: u64,
+}
 
 /// The page that the value of a fault is the number of, or 0.
 pub(crate) fn named_page(fault: &Fault) -> u64
@@ -43,5 +57,49 @@ pub(crate) fn after_end_line(shape: Geometry, len: u64, page: u64) -> ArrayVec<u
         said_line(page)
     } else {
         ArrayVec::new()
+    }
+}
+
+// Whether a fault with this code is of a reference to a page that the file does not have.
+fn is_outside(code: FaultCode) -> bool
+    ensures { result ≡ is_outside code }
+{
+    match code {
+        FaultCode::R01 => true,
+        _ => false,
+    }
+}
+
+impl AfterEnd {
+    /// None yet, of a file with this header.
+    pub(crate) fn new(header: &Header) -> AfterEnd
+        ensures { result ≡ none_after_end (geometry_of header.now.bytes header.now.file_len) header.now.file_len }
+    {
+        let shape = header.geometry();
+        AfterEnd {
+            last: u64::from(shape.pages),
+            whole: header.file_len() / u64::from(shape.page_size),
+            references: 0,
+        }
+    }
+
+    // Whether a fault is of such a reference.
+    fn is_between(&self, fault: &Fault) -> bool
+        ensures { result ≡ is_between self.now fault.now }
+    {
+        if !is_outside(fault.code) {
+            return false;
+        }
+        let page = named_page(fault);
+        page > self.last && page <= self.whole
+    }
+
+    /// Counts a fault, if it is of such a reference.
+    pub(crate) fn hear(&mut self, told: &TracedFault)
+        ensures { self.new ≡ after_end_told self.old told.now }
+    {
+        if self.is_between(&told.fault) {
+            self.references = self.references.saturating_add(1);
+        }
     }
 }

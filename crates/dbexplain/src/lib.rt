@@ -4,7 +4,7 @@
 //! ```
 //! let mut source = MemSource::new(bytes);
 //! let mut out = MemOut::new(alloc);
-//! let verdict = explain(alloc, 100, &mut source, &mut out)?;
+//! let explanation = explain(alloc, 100, &mut source, &mut out)?;
 //! ```
 //!
 //! specs/Explained defines the report, over the bytes of a file and its survey, and specs/Runs says what a run leaves of it.
@@ -37,4 +37,4 @@ mod zeros;
 pub use dbformat::Verdict;
 pub use dbsource::{Out, RunError, Source};
 pub use laws::{summary_counts_all_faults, told_files_are_explained};
-pub use runs::explain;
+pub use runs::{Explanation, explain};

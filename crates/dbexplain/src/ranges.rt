@@ -1,6 +1,7 @@
 // Which rows the faults of a tree are of: ranges of rowids, as the keys around them say.
 ghost use Rattle.std.specs.Prelude.{◌≡◌, [], IfOk};
-ghost use Rattle.dbexplain.specs.Ranges.{if_some_rows, is_no_range, is_of, joins, kind_of, one_row, range_by, range_of, rows_at, same_bounds, same_key, same_kind, touches};
+ghost use Rattle.dbexplain.specs.Ranges.{if_some_rows, is_no_range, is_of, joins, kind_of, one_row, range_by, range_of, rows_at};
+ghost use Rattle.dbexplain.specs.Ranges.{same_bounds, same_key, same_kind, touches};
 ghost use Rattle.dbexplain.specs.KeptRanges.{AreRangesOf, closed, count_of, range_added, range_if, range_kept, range_told, unkept};
 
 use crate::range_counts::RangeCounts;

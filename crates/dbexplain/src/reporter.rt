@@ -3,6 +3,7 @@ ghost use Rattle.std.specs.Prelude.{◌≡◌};
 ghost use Rattle.dbwalk.specs.Rows.{row_of};
 ghost use Rattle.dbexplain.specs.Reporting.{Adds, Ends, Notes, explain_held};
 
+use crate::after_end::AfterEnd;
 use crate::indexes::note_index;
 use crate::kept::Kept;
 use crate::report::{put_found, put_report};
@@ -19,19 +20,30 @@ use std::alloc::Allocator;
 pub(crate) struct ExplainReporter<'a, A: Allocator, O> {
     pub(crate) kept: &'a mut Kept<A>,
     pub(crate) out: &'a mut O,
+    /// The references to pages after the stated end.
+    pub(crate) after_end: AfterEnd,
 }
 
 impl<'a, A: Allocator, O: Out> ExplainReporter<'a, A, O> {
     // One that has heard nothing.
-    pub(crate) fn new(kept: &'a mut Kept<A>, out: &'a mut O) -> ExplainReporter<'a, A, O>
+    pub(crate) fn new(
+        kept: &'a mut Kept<A>,
+        out: &'a mut O,
+        after_end: AfterEnd,
+    ) -> ExplainReporter<'a, A, O>
         ensures same_out { result.out.ghost_name ≡ out.entry.ghost_name }
         ensures out { result.out.now ≡ out.old }
         ensures kept { result.kept.now ≡ kept.old }
+        ensures after_end { result.after_end ≡ after_end }
     {
-        ExplainReporter { kept, out }
+        ExplainReporter {
+            kept,
+            out,
+            after_end,
+        }
     }
 
-    // Counts a fault, lists it, and notes its rows.
+    // Counts a fault, lists it, and notes its rows, and whether it leads to a page after the stated end.
     fn add(&mut self, told: &TracedFault)
         ensures added { Adds told.now self.old self.new }
         ensures held { explain_held O.held self.new ≡ explain_held O.held self.old }
@@ -39,6 +51,7 @@ impl<'a, A: Allocator, O: Out> ExplainReporter<'a, A, O> {
         self.kept.tally.add(told);
         self.kept.listing.hear(told);
         self.kept.ranges.hear(told);
+        self.after_end.hear(told);
     }
 
     // Notes the start of the page of a row, and whether it is one of an index.
@@ -54,6 +67,7 @@ impl<'a, A: Allocator, O: Out> ExplainReporter<'a, A, O> {
     pub(crate) fn end(&mut self, answer: &Result<Verdict, RunError>)
         ensures lines { Ends O.held answer.now self.old self.new }
         ensures same_out { self.new.out.ghost_name ≡ self.old.out.ghost_name }
+        ensures after_end { self.new.after_end ≡ self.old.after_end }
     {
         if let Err(RunError::ReadFailed) = answer {
             let _ = put_found(self.kept, self.out);

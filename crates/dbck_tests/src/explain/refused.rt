@@ -4,7 +4,7 @@ use crate::support::fakes::SmallOut;
 use crate::support::samples::file_of;
 use crate::support::stated::StatedSource;
 use crate::support::stops::holds;
-use dbexplain::explain;
+use dbexplain::{Explanation, explain};
 use dbreport::Verdict;
 use dbsource::{MemOut, MemSource, RunError};
 use linked_list_allocator::LocalHeap;
@@ -48,6 +48,14 @@ const LOST_BETWEEN: &str =
     6 0 0a 0000 0000 0200, \
     8 0 0d 0000 0001 01fc 00 01fc, 8 508 00 0b";
 
+// The verdict of an answer.
+fn verdict_in(answer: Result<Explanation, RunError>) -> Result<Verdict, RunError> {
+    match answer {
+        Ok(explanation) => Ok(explanation.verdict),
+        Err(error) => Err(error),
+    }
+}
+
 // Lists at most `limit` entries, while the source fails at one call, if that comes. True if this is the answer, and the first `count` lines
 // of the text are written.
 fn writes(
@@ -59,7 +67,7 @@ fn writes(
 ) -> bool {
     let mut source = StatedSource::new(file, file.len() as u64, fails_at);
     let mut out = SmallOut::new(2048);
-    let answer = explain(alloc, limit, &mut source, &mut out);
+    let answer = verdict_in(explain(alloc, limit, &mut source, &mut out));
     answer == wanted && are_lines(text, count, out.bytes())
 }
 
@@ -137,7 +145,7 @@ fn is_answered_in(
     let heap = LocalHeap::new(alloc, room)?;
     let mut source = MemSource::new(file);
     let mut out = MemOut::new(alloc);
-    let answer = explain(&heap, 100, &mut source, &mut out);
+    let answer = verdict_in(explain(&heap, 100, &mut source, &mut out));
     let is_written = !out.bytes().is_empty();
     Ok(answer == wanted && heap.used() == 0 && answer.is_ok() == is_written)
 }

@@ -1,6 +1,7 @@
 use Rattle.std.proofs.Common.{rules, refl}
 use Rattle.dbreport.proofs.RunAnswers.{first_failures, refused_unwritten}
 use Rattle.dbsource.proofs.Runs.{read_weaker}
+use Rattle.dbexplain.specs.Runs.{verdict_in}
 use Rattle.dbcli.proofs.Explaining.{explain_fails, fail_as_answered}
 use Rattle.dbcli.proofs.request.run_request.Goals as goal
 
@@ -13,19 +14,20 @@ returns-in-Report-clause-writes g c =
     (g.E.Out.held c.run.new.err) c.run.ensures.failed.writes
 
 pub returns-in-Explain-clause-read : goal.returns-in-Explain-clause-read
-returns-in-Explain-clause-read g c = rw c.in-Explain.is (read_weaker _ _ c.explain.ensures.read (λ ranges p. p) (λ file ranges p t. t))
+returns-in-Explain-clause-read g c =
+    rw c.in-Explain.is (rw c.told_verdict.ensures (read_weaker _ _ c.explain.ensures.read (λ ranges p. p) (λ file ranges p t. (t.0, t.1.0))))
 
 pub returns-in-Explain-clause-writes : goal.returns-in-Explain-clause-writes
 returns-in-Explain-clause-writes g c =
-    rw c.in-Explain.is (explain_fails c.explain.result c.in-Explain.limit (g.O.Out.held c.args.out.now) (g.O.Out.held c.explain.new.out)
-    (g.E.Out.held c.args.err.now) c.explain.ensures.failed.writes)
+    rw c.in-Explain.is (rw c.told_verdict.ensures (explain_fails (verdict_in c.explain.result) c.in-Explain.limit (g.O.Out.held c.args.out.now)
+    (g.O.Out.held c.explain.new.out) (g.E.Out.held c.args.err.now) c.explain.ensures.failed.writes))
 
 pub returns-in-Explain-clause-refused : goal.returns-in-Explain-clause-refused
-returns-in-Explain-clause-refused g c = record {
+returns-in-Explain-clause-refused g c = rw c.told_verdict.ensures (record {
   asked = c.explain.ensures.refused.asked;
   first = c.explain.ensures.refused.unwritten;
-  second = refused_unwritten c.explain.result c.args.err.now;
-}
+  second = refused_unwritten (verdict_in c.explain.result) c.args.err.now;
+})
 
 pub returns-in-Map-clause-read : goal.returns-in-Map-clause-read
 returns-in-Map-clause-read g c = rw c.in-Map.is (read_weaker _ _ c.map.ensures.read (λ ranges p. p) (λ file ranges p t. t))
@@ -51,7 +53,7 @@ pub returns-in-Report-clause-refused : goal.returns-in-Report-clause-refused
 returns-in-Report-clause-refused g c = c.run.ensures.refused
 
 pub returns-in-Explain-clause-reads : goal.returns-in-Explain-clause-reads
-returns-in-Explain-clause-reads g c = c.explain.ensures.failed.reads
+returns-in-Explain-clause-reads g c = rw c.told_verdict.ensures c.explain.ensures.failed.reads
 
 pub returns-in-Explain-clause-second : goal.returns-in-Explain-clause-second
 returns-in-Explain-clause-second g c = λ is. refl

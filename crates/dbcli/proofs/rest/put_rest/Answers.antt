@@ -17,9 +17,9 @@ returns g c =
     c.unwrap_or-pages.ensures ∙ divided c.checked_div.result c.bytes_after-rest.result c.from.result c.checked_div.ensures
     ∙ (λ i. c.bytes_after-rest.ensures i / c.from.ensures i) in
     let P : ℕ → Type 0 = λ pages. PutsIfRoom (g.N.Out.held c.args.notes.now.out.now) (g.N.Out.held c.put_counts.new.notes.out.now)
-    (said_line c.args.none.now (rest_said (bytes_after c.args.len c.args.geometry) c.args.geometry.pages pages)) in
+    (said_line c.args.none.now (rest_said (bytes_after c.args.len c.args.geometry) c.args.geometry.pages pages c.args.references)) in
     let Q : ℕ → ℕ → Type 0 = λ rest page. PutsIfRoom (g.N.Out.held c.args.notes.now.out.now) (g.N.Out.held c.put_counts.new.notes.out.now)
-    (said_line c.args.none.now (rest_said rest page c.unwrap_or-pages.result)) in
+    (said_line c.args.none.now (rest_said rest page c.unwrap_or-pages.result c.args.references)) in
     let put : Q (bytes_after c.args.len c.args.geometry) c.args.geometry.pages =
     rw (← c.bytes_after-rest.ensures, ← c.from-2.ensures) c.put_counts.ensures in
     (λ none. absurd (c.if-rest-eq0.false (c.bytes_after-rest.ensures ∙ none)), λ some. subst P many put)

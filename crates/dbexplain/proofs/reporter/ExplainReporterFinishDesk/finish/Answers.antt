@@ -29,7 +29,7 @@ returns-in_err-put_ok g c =
     rw q.1 (rw q.2 (finished g.S.Source Hears (explain_held held) (LeavesExplained held) (Err error.WriteFailed) c.args.desk.now c.args.source.now
     c.args.self.now _ refl
     (record { lent = refl; failures = inl (c.in_err-put_ok.ensures.count, refl) })
-    (λ file V first heard limit empty. clean_put held (file_heard heard empty) none (cut c.in_err-put_ok.field-0.0) c.put_ok.new.out
+    (λ file V first heard limit fresh. clean_put held (file_heard heard fresh) none (cut c.in_err-put_ok.field-0.0) c.put_ok.new.out
     c.in_err-put_ok.ensures.held)))
 
 pub returns-then-faults-eq0 : goal.returns-then-faults-eq0
@@ -38,10 +38,11 @@ returns-then-faults-eq0 g c =
     let none = sym c.all-faults.ensures ∙ c.if-faults-eq0.true in
     finished g.S.Source Hears (explain_held held) (LeavesExplained held) (Ok _) c.args.desk.now c.args.source.now c.args.self.now _ tt
     (ap (λ n. one_out c.args.self.now.out.ghost_name n false) c.in_ok-put_ok.ensures.count)
-    (λ file V first heard limit empty.
-    let k = file_heard heard empty in (
+    (λ file V first heard limit fresh.
+    let k = file_heard heard fresh in (
       clean_put held k none done c.put_ok.new.out c.in_ok-put_ok.ensures.held,
       c.of-verdict.ensures.faults (faults file V) (c.all-faults.ensures ∙ all_counted held k),
+      k.after_end,
     ))
 
 pub returns-in_err-look_at_lost : goal.returns-in_err-look_at_lost
@@ -50,9 +51,9 @@ returns-in_err-look_at_lost g c =
     let held = g.O.Out.held in
     let look = c.in_err-look_at_lost.ensures in
     rw q.1 (rw q.2 (record {
-      asks = asks_weaker _ _ (Err ReadFailed) (λ n. refl) look.asks (λ log l. l) (λ file way V first heard limit empty.
-          let k = file_heard heard empty in
-          (k.all.out, way V heard.desk limit first.kept.now.listing empty.listing k.all.listing));
+      asks = asks_weaker _ _ (Err ReadFailed) (λ n. refl) look.asks (λ log l. l) (λ file way V first heard limit fresh.
+          let k = file_heard heard fresh in
+          (k.all.out, way V heard.desk limit first.kept.now.listing fresh.kept.listing k.all.listing));
       keeps = looked_keeps look.desk refl (inl refl);
     }))
 
@@ -64,9 +65,9 @@ returns-in_err-put_report g c =
     let look = c.in_ok-look_at_lost.ensures in
     let put = c.in_err-put_report.ensures in
     rw q.1 (rw q.2 (record {
-      asks = asks_weaker _ _ (Err error.WriteFailed) (λ n. refl) look.asks (λ log l. l) (λ file way V first heard limit empty.
-          let k = file_heard heard empty in
-          let listed = way V heard.desk limit first.kept.now.listing empty.listing k.all.listing in
+      asks = asks_weaker _ _ (Err error.WriteFailed) (λ n. refl) look.asks (λ log l. l) (λ file way V first heard limit fresh.
+          let k = file_heard heard fresh in
+          let listed = way V heard.desk limit first.kept.now.listing fresh.kept.listing k.all.listing in
           let here = desk_kept c.args.desk.now c.look_at_lost.new.desk file V look.desk heard.desk in
           written held k (cut c.in_err-put_report.field-0.0) c.put_report.new.out put.all
           (put.is file V (all_kept held k _ c.look_at_lost.new.self here listed some)
@@ -80,14 +81,15 @@ returns g c =
     let some : c.args.self.now.kept.now.tally.all ≢ 0 = λ e. c.if-faults-eq0.false (c.all-faults.ensures ∙ e) in
     let look = c.in_ok-look_at_lost.ensures in
     let put = c.in_ok-put_report.ensures in record {
-      asks = asks_weaker _ _ (Ok _) (λ n. refl) look.asks (λ log l. l) (λ file way V first heard limit empty.
-          let k = file_heard heard empty in
-          let listed = way V heard.desk limit first.kept.now.listing empty.listing k.all.listing in
+      asks = asks_weaker _ _ (Ok _) (λ n. refl) look.asks (λ log l. l) (λ file way V first heard limit fresh.
+          let k = file_heard heard fresh in
+          let listed = way V heard.desk limit first.kept.now.listing fresh.kept.listing k.all.listing in
           let here = desk_kept c.args.desk.now c.look_at_lost.new.desk file V look.desk heard.desk in (
             written held k done c.put_report.new.out put.all
                 (put.is file V (all_kept held k _ c.look_at_lost.new.self here listed some)
                 ∙ ap (λ n. explain_text n file V (listed_injuries file V)) listed.0.room) put.puts.held,
             c.of-verdict.ensures.faults (faults file V) (c.all-faults.ensures ∙ all_counted held k),
+            k.after_end,
           ));
       keeps = looked_keeps look.desk (ap (λ n. one_out c.args.self.now.out.ghost_name n false) put.puts.count) tt;
     }
