@@ -210,6 +210,21 @@ to_be_nobody() {
     "${as[@]}" "$DBCK" --version > /dev/null 3>&- || skip 'nobody cannot run the program here'
 }
 
+# on_disk SETTING..: lets `as` run the program with the files on a disk that is slow, or has a bad block: see disk.c.
+on_disk() {
+    needs cc
+    cc -shared -fPIC -O1 -o "$work/disk.so" "$root/tests/program/disk.c" -ldl
+    as=(env "LD_PRELOAD=$work/disk.so" "$@")
+}
+
+# row_of PAGES PAGE_SIZE FILE: a sound database of a table's one row, whose overflow pages follow one another to the end of the file, which has
+# $size bytes.
+row_of() {
+    needs sqlite3
+    sqlite3 "$3" "PRAGMA page_size = $2; CREATE TABLE t (b); INSERT INTO t VALUES (zeroblob(($1 - 2) * ($2 - 4)));"
+    size=$(wc -c < "$3")
+}
+
 # small NAME: makes the databases of tests/small/NAME.txt, and lists them in `list`: number, limit and name of each.
 small() {
     needs python3

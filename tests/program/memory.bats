@@ -105,6 +105,15 @@ END
     [ $((many - few)) -lt $((12 * 983040 / 1024)) ]
 }
 
+# There is no room in 40 MB for this file.
+@test 'a file on a disk takes no memory for its length' {
+    row_of 1200 65536 "$work/x.db"
+    on_disk SLOW=300
+    status=0
+    (ulimit -v 40000 && exec "${as[@]}" "$DBCK" check "$work/x.db" > "$work/out" 2> "$work/err" < /dev/null 3>&-) || status=$?
+    row "check of $size bytes on a disk" ended 0 $'ok\n' ''
+}
+
 # There is no room in 40 MB for these logs.
 @test 'a log takes memory for its pages, and not for its length' {
     needs python3

@@ -149,6 +149,16 @@ dbck: note: $work/pair.db: the changes are of the database that SQLite would rec
     row 'the note beside a journal' [ "$(grep -cxF "$joined" "$work/err")" = 1 ]
 }
 
+@test 'the note on bytes after the last page comes beside changes, and beside a log of which nothing is read' {
+    local rest
+    rest=$'dbck: note: 7 bytes after page 8 are not read\n'
+    cp "$data/two-tables.db" "$work/x.db"
+    sparse "$work/x.db" 4103
+    exactly 1 "$fixed" "$rest" mend "$work/x.db"
+    echo log > "$work/x.db-wal"
+    exactly 1 "$fixed" "dbck: note: $work/x.db-wal holds nothing that SQLite would read"$'\n'"$rest" mend --recovered "$work/x.db"
+}
+
 @test 'a limit is from 1 to 16' {
     for limit in 0 17 x 4294967296; do
         dbck mend --limit "$limit" "$data/whole.db"

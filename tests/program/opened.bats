@@ -41,6 +41,17 @@ state() {
     (cd "$1" && find . -printf '%p %i %s %m %u %g %n %y %T@ %C@ %l\n' | sort && find . -type f -exec sha256sum {} +)
 }
 
+@test 'a name that leaves a folder again is followed as the system follows it' {
+    mkdir -p "$work/a" "$work/b/c"
+    cp "$data/whole.db" "$work/a/x.db"
+    cp "$data/two-owners.db" "$work/b/x.db"
+    ln -s ../b/c "$work/a/to"
+    exactly 1 "$twice$unused" '' check "$work/a/to/../x.db"
+    exactly 1 "$twice$unused" '' check --recovered "$work/a/to/../x.db"
+    cd "$work/a"
+    exactly 1 "$twice$unused" '' check to/../x.db
+}
+
 @test 'the file and its folder are left as they are' {
     mkdir "$work/here"
     cp -p "$data/whole.db" "$work/here/sound.db"
@@ -53,6 +64,8 @@ state() {
     mkfifo "$work/here/pipe.db"
     chmod 640 "$work/here/sound.db"
     state "$work/here" > "$work/before"
+    cd "$work/here"
+    export HOME=$work/here TMPDIR=$work/here
     for name in sound.db faults.db refused.db none.db link.db pipe.db missing.db .; do
         for words in check 'check --limit 1' explain map mend stat 'stat --all --aggregate'; do
             # shellcheck disable=SC2086

@@ -39,13 +39,6 @@ pages_of() {
     echo "$count"
 }
 
-# row_of PAGES PAGE_SIZE FILE: a sound database of a table's one row, whose overflow pages follow one another to the end of the file.
-row_of() {
-    needs sqlite3
-    sqlite3 "$3" "PRAGMA page_size = $2; CREATE TABLE t (b); INSERT INTO t VALUES (zeroblob(($1 - 2) * ($2 - 4)));"
-    size=$(wc -c < "$3")
-}
-
 @test 'a file in memory is read once, and its header' {
     row_of 300 65536 "$work/x.db"
     for words in check stat 'stat --all --aggregate' explain map mend; do
@@ -177,24 +170,11 @@ row_of() {
     done
 }
 
-# A disk whose reads take a millisecond: a library that is loaded before the C library waits so long.
 @test 'of a file on a disk each MiB is read as a whole, and then its pages' {
-    needs python3 cc
+    needs python3
     row_of 300 65536 "$work/x.db"
-    cat > "$work/slow.c" << 'END'
-#define _GNU_SOURCE
-#include <dlfcn.h>
-#include <unistd.h>
-
-ssize_t pread(int file, void *bytes, size_t count, off_t from) {
-    static ssize_t (*real)(int, void *, size_t, off_t);
-    if (!real) real = (ssize_t (*)(int, void *, size_t, off_t))dlsym(RTLD_NEXT, "pread");
-    usleep(1000);
-    return real(file, bytes, count, from);
-}
-END
-    cc -shared -fPIC -O1 -o "$work/slow.so" "$work/slow.c" -ldl
-    options=(env "LD_PRELOAD=$work/slow.so")
+    on_disk SLOW=1000
+    options=("${as[@]}")
     for words in check explain mend; do
         counted "$words" "$work/x.db"
         [ "$status" = 0 ]
@@ -202,4 +182,16 @@ END
         [ "$bytes" -gt $((2 * size - 2097152)) ] || fail "$words: $bytes bytes of $size"
         [ "$bytes" -lt $((2 * size + 2097152)) ] || fail "$words: $bytes bytes of $size"
     done
+}
+
+@test 'of a file that is mostly free a disk reads what is used' {
+    needs python3
+    row_of 300 65536 "$work/x.db"
+    sqlite3 "$work/x.db" 'DELETE FROM t'
+    on_disk SLOW=1000
+    options=("${as[@]}")
+    counted check "$work/x.db"
+    [ "$status" = 0 ]
+    # Pages 1 and 2 and the trunk, each perhaps with what comes after it.
+    [ "$bytes" -lt $((100 + 8 * 65536)) ] || fail "$bytes bytes of $size"
 }

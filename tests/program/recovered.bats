@@ -223,6 +223,12 @@ with open(sys.argv[1], "ab") as journal:
     journal.write(name + len(name).to_bytes(4, "big") + sum(name).to_bytes(4, "big") + bytes.fromhex("d9d505f920a163d7"))
 END
     cold "names the super-journal $name, which is not here, and is not rolled back (see the manual)"
+    # One of the same name in another folder, which is the one that the program runs in, is not it.
+    mkdir "$work/here"
+    echo then.db-journal > "$work/here/main.db-mj1"
+    cd "$work/here"
+    cold "names the super-journal $name, which is not here, and is not rolled back (see the manual)"
+    cd "$root"
     # To SQLite a file without bytes is none.
     : > "$name"
     cold "names the super-journal $name, which is not here, and is not rolled back (see the manual)"
@@ -236,6 +242,21 @@ import sqlite3, sys
 sqlite3.connect(sys.argv[1]).execute("SELECT count(*) FROM t").fetchone()
 END
     cmp "$work/then.db" "$work/before.db"
+}
+
+@test 'no log is taken but those of the file by their names' {
+    local name
+    paired
+    rm "$work/made.db"*
+    journaled
+    mkdir "$work/here"
+    cp "$work/pair.db" "$work/here/x.db"
+    for name in x.wal x-wal X.db-wal x.db.wal x.db-wal2 x.db-WAL .x.db-wal; do cp "$work/pair.db-wal" "$work/here/$name"; done
+    for name in x.journal x-journal X.db-journal x.db.journal x.db-journal~ .x.db-journal; do cp "$work/then.db-journal" "$work/here/$name"; done
+    dbck stat --all "$work/here/x.db"
+    cp "$work/out" "$work/wanted"
+    dbck stat --all --recovered "$work/here/x.db"
+    ended_exactly 0 "$(cat "$work/wanted")"$'\n' ''
 }
 
 @test 'a journal that cannot be opened is E8, with its name' {

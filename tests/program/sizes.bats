@@ -215,6 +215,17 @@ in_room() {
     (ulimit -v $((7 * 1024 + $1 * 8192)) && exec timeout 300 "$DBCK" "${@:2}" > "$work/out" 2> "$work/err" < /dev/null 3>&-) || status=$?
 }
 
+@test 'a million lost pages take explain and map little time' {
+    cp "$data/empty.db" "$work/lost.db"
+    sparse "$work/lost.db" $((512 * 1000002))
+    most=20
+    for words in 'explain --limit 1' map; do
+        # shellcheck disable=SC2086
+        dbck $words "$work/lost.db"
+        row "$words of a million lost pages" [ "$status" = 1 ]
+    done
+}
+
 @test 'explain and map of the greatest number of pages, nearly all of them zeros' {
     [ "${DBCK_LARGE:-}" ] || skip 'takes minutes: DBCK_LARGE=1 runs it'
     cp "$data/empty.db" "$work/x.db"

@@ -60,3 +60,29 @@ load common
     row 'a page that cannot be read' ended 4 $'sqlite_schema\t/\t1\t*' "*$version"$'\n'\
 "dbck: note: $work/large.db: the 512 bytes at $at cannot be read"$'\n'"dbck: note: $work/large.db was changed while it was read; *"$'\n'"$unread"
 }
+
+@test 'a bad block within a page is E8, with the bytes of the page' {
+    needs sqlite3
+    sqlite3 "$work/x.db" 'PRAGMA page_size = 65536; CREATE TABLE t (a INTEGER PRIMARY KEY, b);
+        WITH RECURSIVE k(n) AS (SELECT 1 UNION ALL SELECT n + 1 FROM k WHERE n < 60000) INSERT INTO t SELECT n, zeroblob(100) FROM k;'
+    exactly 0 $'ok\n' '' check "$work/x.db"
+    # Page 33 is the first of a MiB, and page 35 is not.
+    while read -r bad page; do
+        on_disk "BAD=$bad" NAME=/x.db
+        exactly 4 '' "dbck: note: $work/x.db: the 65536 bytes at $page cannot be read"$'\n'"$unread" check "$work/x.db"
+    done << 'END'
+2129920 2097152
+2097152 2097152
+2260992 2228224
+END
+}
+
+# Page 33, the first of the third MiB, is in the freelist, and pages after it are used.
+@test 'a bad block of a page that is not read is passed over' {
+    needs sqlite3
+    sqlite3 "$work/x.db" 'PRAGMA page_size = 65536; CREATE TABLE t (b); CREATE TABLE u (b);
+        INSERT INTO t VALUES (zeroblob(20 * 65532)); INSERT INTO u VALUES (zeroblob(16 * 65532)); INSERT INTO t VALUES (zeroblob(200 * 65532));
+        DELETE FROM u;'
+    on_disk BAD=2097152 NAME=/x.db SLOW=1000
+    exactly 0 $'ok\n' '' check "$work/x.db"
+}

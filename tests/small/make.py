@@ -686,6 +686,32 @@ def many_entries(_):
     return db
 
 
+def ordered_leaves(_):
+    """An index of words on three leaves, of which the first is page 4, and the second page 3."""
+    keys = [record(text(word.encode()), byte(n)) for n, word in enumerate("abmnprxz", 1)]
+    db = Database(5)
+    db.schema(("index", "t", 2))
+    db.tree_page(2, INTERIOR_INDEX, [be(child) + varint(len(key)) + key for child, key in ((4, keys[2]), (3, keys[5]))], 5)
+    db.leaf_index(4, *keys[:2])
+    db.leaf_index(3, *keys[3:5])
+    db.leaf_index(5, *keys[6:])
+    return db
+
+
+def root_beside_leaf(_):
+    """Of four tables, `t` has leaves on the pages 3, 7 and 5, and `u` is page 6 alone."""
+    db = Database(8)
+    db.schema(("table", "a", 2), ("table", "t", 4), ("table", "u", 6), ("table", "v", 8))
+    db.leaf(2, 1)
+    db.interior(4, 5, (3, 10), (7, 20))
+    db.leaf(3, 1, 2)
+    db.leaf(7, 15, 16)
+    db.leaf(5, 25)
+    db.leaf(6, 1, 2, 3)
+    db.leaf(8, 1)
+    return db
+
+
 def content(title):
     """The bytes of the database of a name, its pages, and what is written over it."""
     front, _, changes = title.partition(":")
