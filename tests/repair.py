@@ -288,14 +288,6 @@ def with_header(shop, explained):
     shop.run("\n".join(lines).replace(r"\0\1", rf"\0\{shop.encoding}"))
 
 
-def with_first_page(shop, page_size):
-    """Puts page 1 of a new database of the same schema into the copy, where that page holds all of the schema."""
-    kept = shop.copy.read_bytes()
-    shop.run("Page 1", size=str(page_size))
-    if shop.copy.read_bytes()[100:101] != b"\x0d":
-        shop.copy.write_bytes(kept)
-
-
 def chosen(shop, damage):
     """Repairs the copy in the shop as docs/REPAIR.md leads to, and gives the steps and the file that is the result."""
     if shop.mend() and result_of(shop.folder, shop.copy, []).sound:
@@ -307,7 +299,7 @@ def chosen(shop, damage):
         recipe = recipe_of(explained, status, steps)
         steps.append(recipe)
         if recipe == "Page 1":
-            with_first_page(shop, damage.page_size)
+            shop.run(recipe, size=str(damage.page_size))
         elif recipe == "The header":
             with_header(shop, explained)
         elif recipe == "The root page":

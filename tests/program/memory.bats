@@ -2,10 +2,10 @@
 # Memory: what a command takes of large files, and how it ends where it gets none.
 load common
 
-# in_memory KIB WORDS..: runs the program in this address space.
+# in_memory KIB WORDS..: runs the program in this address space, by `as`.
 in_memory() {
     status=0
-    (ulimit -v "$1" && exec "$DBCK" "${@:2}" > "$work/out" 2> "$work/err" < /dev/null 3>&-) || status=$?
+    (ulimit -v "$1" && exec "${as[@]}" "$DBCK" "${@:2}" > "$work/out" 2> "$work/err" < /dev/null 3>&-) || status=$?
 }
 
 @test 'without the memory for the marks of 67108864 pages each command ends with 5' {
@@ -109,8 +109,7 @@ END
 @test 'a file on a disk takes no memory for its length' {
     row_of 1200 65536 "$work/x.db"
     on_disk SLOW=300
-    status=0
-    (ulimit -v 40000 && exec "${as[@]}" "$DBCK" check "$work/x.db" > "$work/out" 2> "$work/err" < /dev/null 3>&-) || status=$?
+    in_memory 40000 check "$work/x.db"
     row "check of $size bytes on a disk" ended 0 $'ok\n' ''
 }
 
