@@ -61,12 +61,6 @@ AtPage file levels page up_to walk leaves = (from : Walk) (c : Reference) (above
     → AreMarksOf file (from.visits ++ (c ∷ [])) walk.marks.now → walk.tree.greatest ≡ from.state.greatest → walk.tree.leaf ≡ from.state.leaf
     → key_up_to file (from.visits ++ (c ∷ [])) c ≡ up_to → leaves from c
 
--- at a reference to a page of a tree
-abbrev pub AtReference : {A S K T : Type 0} → List ℕ → ℕ → ℕ → ℕ → Option ℤ → TreeWalk A S K T → (Walk → Reference → Type 0) → Type 0
-AtReference file page above item up_to walk leaves = (from : Walk) (c : Reference)
-    → IsCandidate walk.tree.kind walk.tree.start walk.tree.path.items page above item c
-    → IsNext from.visits c → IsAt file from walk.marks.now walk.tree → key_up_to file (from.visits ++ (c ∷ [])) c ≡ up_to → leaves from c
-
 -- at the next step of the last of some frames, where the sink and the taker were `before` at first
 abbrev pub AtStep : {A S K T : Type 0} → ((K × T) → Item → (K × T) → Type 0) → List ℕ → List (List ℕ) → List StackFrame → TreeWalk A S K T
     → (List Reference → Reference → (K × T) → Type 0) → Type 0

@@ -33,6 +33,12 @@ pub record IsCandidate (kind : TreeKind) (k : ℕ) (children : List ℕ) (p from
 abbrev pub path_of : List StackFrame → List ℕ
 path_of frames = map (λ f. cell_of_step (f.next - 1)) frames
 
+-- the frame one step on
+pub record IsStepped (f g : StackFrame) : Type 0 where
+  pub page : g.page ≡ f.page
+  pub next : g.next ≡ suc f.next
+  pub up_to : g.up_to ≡ f.up_to
+
 -- the pages of the frames are at their levels
 abbrev pub AreRead : List ℕ → List (List ℕ) → ℕ → List StackFrame → Type 0
 AreRead file levels level [] = Unit {0}

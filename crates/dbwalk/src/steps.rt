@@ -1,11 +1,12 @@
 // The steps of an interior page: at each cell its overflow chain, its left child and its key, and after the cells the right
 // child.
-ghost use Rattle.std.specs.Prelude.{◌≡◌, ℕ, ◌<◌, ◌≤◌, ◌/◌, suc, false, true};
+ghost use Rattle.std.specs.Prelude.{◌≡◌, ℕ, ◌<◌, ◌≤◌, ◌/◌, false, true};
 ghost use Rattle.dbformat.specs.Address.{overflow_step, child_step, key_step};
 ghost use Rattle.dbformat.specs.Cell.{count};
 ghost use Rattle.dbtrace.specs.Progress.{key_value};
 ghost use Rattle.dbwalk.specs.LeafCells.{is_late};
 ghost use Rattle.dbwalk.specs.Steps.{AreEmpty, HasKeyBefore, HasLeft, HasNext, IsEmptyAt, IsNextStep, child_of};
+ghost use Rattle.dbwalk.specs.Walking.{IsStepped};
 
 use crate::RowidBounds;
 use crate::cells::leaf_cell;
@@ -28,9 +29,7 @@ impl StackFrame {
     /// The frame one step on.
     pub(crate) fn stepped(self) -> StackFrame
         requires { self.next < 4294967295 }
-        ensures page { result.page ≡ self.page }
-        ensures next { result.next ≡ suc self.next }
-        ensures up_to { result.up_to ≡ self.up_to }
+        ensures { IsStepped self result }
     {
         StackFrame {
             next: self.next + 1,

@@ -1,6 +1,7 @@
 // One walk over a tree, and a turn of it: a step of the last frame.
 ghost use Rattle.arrayvec.specs.ArrayVec.{array_vec_len};
 ghost use Rattle.std.specs.Prelude.{◌≡◌, ◌≤◌, ◌<◌, ◌++◌, [], ◌∷◌, List, OnOk};
+ghost use Rattle.dbtrace.specs.declared.Cause.TheVariants as cause;
 ghost use Rattle.dbwalk.specs.Walked.{SaysOfFiles, Walked};
 ghost use Rattle.dbwalk.specs.Watching.{fails, watches};
 ghost use Rattle.dbwalk.specs.Walking.{AreOpen, path_of, cost};
@@ -9,9 +10,11 @@ ghost use Rattle.dbwalk.specs.declared.steps.Next.TheVariants.{Child};
 ghost use Rattle.dbwalk.specs.Points.{IsAtTurn, TakesTurn};
 
 use crate::chain::{Chain, walk_unfed};
-use crate::state::Tree;
+use crate::entering::enter;
+use crate::page_entry::tree_step;
+use crate::state::{Tree, key_value};
 use crate::steps::{Next, StackFrame, left_rows};
-use crate::{CellKey, Marks, Sink, Taker};
+use crate::{Cause, CellKey, Marks, RowidBounds, Sink, Taker};
 use arrayvec::ArrayVec;
 use dbformat::Encoding;
 use dbsource::{Bench, RunError, Source};
@@ -30,8 +33,9 @@ pub(crate) struct TreeWalk<'s, 'm, 't, 'k, A: Allocator, S: Source, K: Sink, T: 
 }
 
 impl<A: Allocator, S: Source, K: Sink, T: Taker> TreeWalk<'_, '_, '_, '_, A, S, K, T> {
-    // Enters the child at the step of a frame that was taken from the stack; `key` is that of the cell whose left child it is. The
-    // frame goes back with its next step, and an undamaged interior page gets a frame of its own.
+    // Looks at the reference to the child at the step of a frame that was taken from the stack; `key` is that of the cell whose left
+    // child it is. Reports that the reference is refused, or marks, reads and reports the page, and, if it is a leaf, all that it leads
+    // to. The frame goes back with its next step, and an undamaged interior page gets a frame of its own.
     fn enter_child(
         &mut self,
         bench: &mut Bench<A>,
@@ -51,9 +55,19 @@ impl<A: Allocator, S: Source, K: Sink, T: Taker> TreeWalk<'_, '_, '_, '_, A, S, 
     {
         let cell = frame.next / 3;
         let up_to = key.or(frame.up_to);
+        let above = key_value(self.tree.greatest);
+        let cause = || -> Cause
+            ensures { result ≡ cause.Rows (record { above = above; up_to = up_to }) }
+        { Cause::Rows(RowidBounds { above, up_to }) };
         frames.push(frame.stepped());
+        let level = frames.len();
+        let step = tree_step(level, page, frame.page, cell);
+        if !enter(self.marks, step, cause, self.sink)? {
+            return Ok(());
+        }
+        bench.load(level, self.source, page)?;
         self.tree.path.push(cell);
-        if !self.enter_page(bench, page, frame.page, cell, up_to)? {
+        if !self.visit_page(bench, page, up_to)? {
             let _ = self.tree.path.pop();
             return Ok(());
         }

@@ -1,16 +1,23 @@
 -- The bytes at the levels of a bench after a page was read, and the number of pages that are left without a mark.
-use Rattle.std.proofs.Common.{◌≡◌, ℕ, zero, suc, ◌+◌, ◌-◌, ◌<◌, ◌≤◌, Bool, true, false, cond, List, [], ◌∷◌, length, set, Some, None, Result, Ok, Err, refl}
+use Rattle.std.proofs.Common.{◌≡◌, ℕ, zero, suc, ◌+◌, ◌-◌, ◌*◌, ◌<◌, ◌≤◌, Bool, true, false, cond, List, [], ◌∷◌, length, set, Some, None, Result, Ok, Err}
+use Rattle.std.proofs.Common.{refl}
 use Rattle.std.proofs.Common.{sym, ap, subst, arith, ◌∙◌}
-use Rattle.std.specs.Prelude.{slice_get, nat_lt, count_by, ◌==◌, IfOk}
+use Rattle.std.specs.Prelude.{slice_get, nat_lt, count_by, ◌==◌, IfOk, IfSome, OnOk}
 use Rattle.std.specs.Option.{option_map_or}
 use Rattle.std.proofs.lemmas.Bool.Decides.{nat_tests}
 use Rattle.std.proofs.lemmas.List.{length-map}
 use Rattle.std.proofs.lemmas.List.Sums.{sum_by-cons}
 use Rattle.dbformat.specs.FixedPages.{IsInRange}
 use Rattle.dbformat.specs.declared.Geometry.{Geometry}
-use Rattle.dbsource.specs.Bench.{Pages, with_level}
-use Rattle.dbmarks.specs.Marking.{page_mark, is_none, unmarked_pages, cleared, KeepsMarks}
+use Rattle.dbsource.specs.Answers.{IsRangeOf, Step, answer}
+use Rattle.dbsource.specs.Bench.{Changes, Pages}
+use Rattle.dbsource.specs.Sources.{HasLog, SourceState}
+use Rattle.dbsource.specs.declared.source.ReadFailed.{ReadFailed}
+use Rattle.dbmarks.specs.Marking.{IsUse, page_mark, is_none, unmarked_pages, cleared, KeepsMarks}
+use Rattle.dbmarks.specs.Reads.{Reads}
 use Rattle.dbmarks.specs.declared.marks.Mark.{Mark}
+use Rattle.dbmarks.specs.declared.marks.Mark.TheVariants.{Unmarked}
+use Rattle.dbmarks.proofs.Readings.{log_load, log_page}
 use Rattle.dbwalk.specs.Found.{IsUsable, HasPageAt}
 
 -- a page has all usable bytes
@@ -31,10 +38,22 @@ get_below (z ∷ xs) zero j x l = absurd (omega arith)
 get_below (z ∷ xs) (suc i) zero x l = refl
 get_below (z ∷ xs) (suc i) (suc j) x l = get_below xs i j x (omega arith)
 
+-- a page got its mark, and was then read, or the source failed
+pub log_entered : {step : Step} {old new : SourceState} {size : ℕ} {marks marks' : List Mark} {p q : ℕ} {m : Mark} (r : Result (Unit {0}) ReadFailed)
+    (bytes : List ℕ) → q ≡ p → (page_mark marks q ≡ Some Unmarked) × (marks' ≡ set marks (q - 1) m) → IsUse m → new.bytes ≡ old.bytes → length bytes ≡ size
+    → step old.trail (answer r ((p - 1) * size) bytes) new.trail × OnOk r (IfSome old.bytes (λ file. IsRangeOf file ((p - 1) * size) bytes))
+    → HasLog step (Reads size marks marks') (λ file. OnOk r (IsRangeOf file ((p - 1) * size) bytes)) old new
+log_entered {size = size} {marks = marks} {marks' = marks'} {p = p} {m = m} r bytes is put used told whole read =
+    let k = subst (λ q. (page_mark marks q ≡ Some Unmarked) × (marks' ≡ set marks (q - 1) m)) is put in
+    log_page _ size marks marks' p m k.0 k.1 used (log_load size p bytes r told whole read) (λ file h. h)
+
 -- a page was read to a level
-module _ (old new : Pages) (level : ℕ) (low : level < 20) (bytes : List ℕ) (only : new ≡ with_level old level bytes) where
-  changed : new ≡ record old { levels = set old.levels level bytes }
-  changed = only ∙ ap (λ b. cond b (let p : Pages = record old { levels = set old.levels level bytes } in p) (record old { chain = bytes })) (yes level low)
+module _ {old new : Pages} {level : ℕ} {P : List ℕ → Type 0} (read : Changes old level P new) (low : level < 20) where
+  abbrev after : Pages
+  after = record old { levels = set old.levels level read.bytes }
+
+  changed : new ≡ after
+  changed = read.only ∙ ap (λ b. cond b after (record old { chain = read.bytes })) (yes level low)
     where
       yes : (n : ℕ) → n < 20 → nat_lt n 20 ≡ true
       yes n l = grind (arith, nat_tests)
@@ -42,14 +61,14 @@ module _ (old new : Pages) (level : ℕ) (low : level < 20) (bytes : List ℕ) (
   pub geometry_kept : new.geometry ≡ old.geometry
   geometry_kept = ap (λ (b : Pages). b.geometry) changed
 
-  levels_are : new.levels ≡ set old.levels level bytes
+  levels_are : new.levels ≡ set old.levels level read.bytes
   levels_are = ap (λ (b : Pages). b.levels) changed
 
-  pub read_there : (page : List ℕ) → bytes ≡ page → HasPageAt new.levels level page
-  read_there page e y h = get_set old.levels level bytes y (ap (λ ls. slice_get ls level) (sym levels_are) ∙ h) ∙ e
+  pub read_there : (page : List ℕ) → read.bytes ≡ page → HasPageAt new.levels level page
+  read_there page e y h = get_set old.levels level read.bytes y (ap (λ ls. slice_get ls level) (sym levels_are) ∙ h) ∙ e
 
   pub below_kept : (n : ℕ) → n < level → slice_get new.levels n ≡ slice_get old.levels n
-  below_kept n l = ap (λ ls. slice_get ls n) levels_are ∙ get_below old.levels level n bytes l
+  below_kept n l = ap (λ ls. slice_get ls n) levels_are ∙ get_below old.levels level n read.bytes l
 
 -- pages without a mark, where marks stay
 

@@ -4,7 +4,8 @@ use Rattle.std.proofs.Common.{◌≡◌, ℕ, suc, ◌+◌, ◌<◌, List, [], �
 use Rattle.dbformat.specs.Address.{child_step, cell_of_step}
 use Rattle.dbformat.specs.File.{page_bytes}
 use Rattle.std.specs.Prelude.{slice_get, OnOk}
-use Rattle.dbwalk.specs.Walking.{AreCalls, AreRead, IsOpen, AreOpen, frames_cost, cost, path_of}
+use Rattle.dbwalk.specs.Points.{IsAtTurn}
+use Rattle.dbwalk.specs.Walking.{AreCalls, AreRead, IsOpen, IsStepped, AreOpen, frames_cost, cost, path_of}
 use Rattle.dbwalk.specs.declared.steps.StackFrame.{StackFrame}
 use Rattle.std.proofs.lemmas.Grind.{common_steps}
 use Rattle.std.proofs.lemmas.List.{map-append, length-map, length-append}
@@ -153,21 +154,8 @@ cost_push : (fs : List StackFrame) (f : StackFrame) → frames_cost (fs ++ (f �
 cost_push [] f = omega arith
 cost_push (g ∷ fs) f = let r = cost_push fs f in omega arith
 
-pub ends_behind : (marks : List Mark) (fs : List StackFrame) (f : StackFrame) → f.next ≤ 98306 → cost marks fs < cost marks (fs ++ (f ∷ []))
-ends_behind marks fs f l = let p = cost_push fs f in omega arith
-
 pub ends_past : (marks : List Mark) (fs : List StackFrame) (f g : StackFrame) → f.next ≤ g.next → cost marks (fs ++ (g ∷ [])) ≤ cost marks (fs ++ (f ∷ []))
 ends_past marks fs f g l = let p = cost_push fs f in let q = cost_push fs g in omega arith
-
-pub ends_on : (marks marks' : List Mark) (fs : List StackFrame) (f g : StackFrame) {items : List StackFrame} → items ≡ fs ++ (g ∷ []) → unmarked_pages marks'
-    ≤ unmarked_pages marks → g.next ≡ suc f.next → f.next ≤ 98306 → cost marks' items < cost marks (fs ++ (f ∷ []))
-ends_on marks marks' fs f g are fewer next l = let p = cost_push fs f in let q = ap frames_cost are ∙ cost_push fs g in omega arith
-
-pub ends_enter : (marks marks' : List Mark) (fs : List StackFrame) (f g h : StackFrame) {items : List StackFrame} → items ≡ (fs ++ (g ∷ [])) ++ (h ∷ [])
-    → unmarked_pages marks' < unmarked_pages marks → g.next ≡ suc f.next → f.next ≤ 98306 → h.next ≡ 0
-    → cost marks' items < cost marks (fs ++ (f ∷ []))
-ends_enter marks marks' fs f g h are fewer next l start = let p = cost_push fs f in let q = cost_push fs g in let r = ap frames_cost are
-    ∙ cost_push (fs ++ (g ∷ [])) h in omega arith
 
 -- the way
 
@@ -239,28 +227,55 @@ module _ {usable : ℕ} {kind : TreeKind} {levels : List (List ℕ)} (fs : List 
         stands = has.stands m.1.bytes m.1.view there m.1.viewed;
       }
 
-  -- the frame a step on, where the bytes at the levels stay
-  pub step_on : IsAtStep usable kind levels fs f next → (g : StackFrame) → g.page ≡ f.page → g.next ≡ suc f.next → (next ≡ End → ⊥) → {items : List StackFrame}
-      → items ≡ fs ++ (g ∷ []) → (usable' : ℕ) (kind' : TreeKind) (levels' : List (List ℕ)) → usable' ≡ usable → kind' ≡ kind
-      → ((n : ℕ) → n < length (fs ++ (g ∷ [])) → slice_get levels' n ≡ slice_get levels n) → AreOpen usable' kind' levels' 0 items
-  step_on s g page on other are usable' kind' levels' usables kinds same = subst (λ l. AreOpen usable' kind' levels' 0 l) (sym are)
-      (open_kept usable kind levels usable' kind' levels' usables kinds 0 (fs ++ (g ∷ [])) (λ n l. same n (omega arith))
-      (open_push usable kind levels 0 fs g s.front (open_on usable kind levels (0 + length fs) f g page on s.last
-      (step_within s.last.view f.next next other s.stands))))
+module _ {usable : ℕ} {kind : TreeKind} {levels : List (List ℕ)} {fs : List StackFrame} {f : StackFrame} {next : Next} where
+  -- the same where a turn begins
+  pub at_turn : {way : List ℕ} {next' : Next} → IsAtTurn usable kind levels way fs f next' → next' ≡ next → IsAtStep usable kind levels fs f next
+  at_turn turn is = at_step fs f turn.opened (next_at refl is turn.step)
+
+  module _ (s : IsAtStep usable kind levels fs f next) where
+    pub ends_behind : (marks : List Mark) → cost marks fs < cost marks (fs ++ (f ∷ []))
+    ends_behind marks = let p = cost_push fs f in let l = s.most in omega arith
+
+    module _ {g : StackFrame} (on : IsStepped f g) {items : List StackFrame} where
+      -- the frame a step on, where the bytes at the levels stay
+      pub step_on : (next ≡ End → ⊥) → items ≡ fs ++ (g ∷ []) → (usable' : ℕ) (kind' : TreeKind) (levels' : List (List ℕ)) → usable' ≡ usable → kind' ≡ kind
+          → ((n : ℕ) → n < length (fs ++ (g ∷ [])) → slice_get levels' n ≡ slice_get levels n) → AreOpen usable' kind' levels' 0 items
+      step_on other are usable' kind' levels' usables kinds same = subst (λ l. AreOpen usable' kind' levels' 0 l) (sym are)
+          (open_kept usable kind levels usable' kind' levels' usables kinds 0 (fs ++ (g ∷ [])) (λ n l. same n (omega arith))
+          (open_push usable kind levels 0 fs g s.front (open_on usable kind levels (0 + length fs) f g on.page on.next s.last
+          (step_within s.last.view f.next next other s.stands))))
+
+      pub ends_on : (marks marks' : List Mark) → items ≡ fs ++ (g ∷ []) → unmarked_pages marks' ≤ unmarked_pages marks
+          → cost marks' items < cost marks (fs ++ (f ∷ []))
+      ends_on marks marks' are fewer =
+          let p = cost_push fs f in
+          let q = ap frames_cost are ∙ cost_push fs g in
+          let l = s.most in
+          let n = on.next in
+          omega arith
+
+      pub ends_enter : (marks marks' : List Mark) (h : StackFrame) → items ≡ (fs ++ (g ∷ [])) ++ (h ∷ []) → unmarked_pages marks' < unmarked_pages marks
+          → h.next ≡ 0 → cost marks' items < cost marks (fs ++ (f ∷ []))
+      ends_enter marks marks' h are fewer start =
+          let p = cost_push fs f in
+          let q = cost_push fs g in
+          let r = ap frames_cost are ∙ cost_push (fs ++ (g ∷ [])) h in
+          let l = s.most in
+          let n = on.next in
+          omega arith
 
 -- the way to a child of the last frame's page
-module _ (fs : List StackFrame) (f g : StackFrame) (on : g.next ≡ suc f.next) (children : List ℕ)
+module _ (fs : List StackFrame) {f g : StackFrame} (on : IsStepped f g) {children : List ℕ}
     (ways : children ≡ path_of fs ++ (cell_of_step f.next ∷ [])) where
-  pub as_deep : length (fs ++ (g ∷ [])) ≡ length children
-  as_deep =
+  -- its depth is the number of frames
+  pub as_deep : {items : List StackFrame} → items ≡ fs ++ (g ∷ []) → {level : ℕ} → level ≡ length items → length children ≡ level
+  as_deep are is =
       let a = ap length ways in
       let b = length-append (path_of fs) (cell_of_step f.next ∷ []) in
       let d = length-append fs (g ∷ []) in
       let e = path_length fs in
+      let n = ap length are in
       omega arith
 
-  pub as_short : {items : List StackFrame} → items ≡ fs ++ (g ∷ []) → length children < 20 → length items < 20
-  as_short are low = subst (λ n. n < 20) (sym (ap length are ∙ as_deep)) low
-
   pub way_on : children ≡ path_of (fs ++ (g ∷ []))
-  way_on = ways ∙ ap (λ s. path_of fs ++ (cell_of_step s ∷ [])) (let e : f.next ≡ g.next - 1 = omega arith in e) ∙ sym (path_push fs g)
+  way_on = ways ∙ ap (λ s. path_of fs ++ (cell_of_step s ∷ [])) (let n = on.next in let e : f.next ≡ g.next - 1 = omega arith in e) ∙ sym (path_push fs g)

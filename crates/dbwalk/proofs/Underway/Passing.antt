@@ -7,7 +7,7 @@ use Rattle.dbmarks.specs.declared.marks.Mark.{Mark}
 use Rattle.dbtrace.specs.Item.{Item}
 use Rattle.dbwalk.specs.Steps.{AreEmpty, HasNext}
 use Rattle.dbwalk.specs.Underway.{IsWalkingOn}
-use Rattle.dbwalk.specs.Walking.{AreOpen, IsCandidate}
+use Rattle.dbwalk.specs.Walking.{AreOpen, IsCandidate, IsStepped}
 use Rattle.dbwalk.specs.declared.state.Tree.{Tree}
 use Rattle.dbwalk.specs.declared.steps.StackFrame.{StackFrame}
 use Rattle.dbwalk.specs.declared.steps.Next.TheVariants.{Nothing}
@@ -25,6 +25,9 @@ same_frame f g page next up_to = ap₂ (λ (p n : ℕ). let x : StackFrame = rec
 abbrev on : StackFrame → StackFrame
 on f = record f { next = suc f.next }
 
+is_on : (f : StackFrame) → IsStepped f (on f)
+is_on f = record { page = refl; next = refl; up_to = refl }
+
 module _ {usable : ℕ} {kind : TreeKind} {levels : List (List ℕ)} (fs : List StackFrame) where
   open_by : (n : ℕ) (f g : StackFrame) → g.page ≡ f.page → g.next ≡ n + f.next → g.up_to ≡ f.up_to → AreNothing usable kind levels (length fs) f g
       → AreOpen usable kind levels 0 (fs ++ (f ∷ [])) → AreOpen usable kind levels 0 (fs ++ (g ∷ []))
@@ -32,7 +35,7 @@ module _ {usable : ℕ} {kind : TreeKind} {levels : List (List ℕ)} (fs : List 
       up_to) h
   open_by (suc n) f g page next up_to none h =
       open_by n (on f) g page (omega arith) up_to (λ s l k. none s (omega arith) k)
-      (step_on fs f {next = Nothing} (at_step fs f h (none f.next (omega arith) (omega arith))) (on f) refl refl (λ x. cc) refl usable kind levels refl refl
+      (step_on {next = Nothing} (at_step fs f h (none f.next (omega arith) (omega arith))) (is_on f) (λ x. cc) refl usable kind levels refl refl
       (λ n l. refl))
 
   pub open_past : {level : ℕ} (f g : StackFrame) → level ≡ length fs → g.page ≡ f.page → g.up_to ≡ f.up_to
@@ -50,7 +53,7 @@ module _ {P : Type 0} {moves : P → Item → P → Type 0} {file : List ℕ} {W
       (same_frame f g page (omega arith) up_to) h
   walking_by (suc n) f g page next up_to none h =
       walking_by n (on f) g page (omega arith) up_to (λ s l k. none s (omega arith) k)
-      (turned_empty fs f h candidate (on f) refl refl refl (next_here fs f h candidate usables (none f.next (omega arith) (omega arith))))
+      (turned_empty fs f h candidate (is_on f) (next_here fs f h candidate usables (none f.next (omega arith) (omega arith))))
 
   pub walking_past : {level : ℕ} (f g : StackFrame) → level ≡ length fs → g.page ≡ f.page → g.up_to ≡ f.up_to
       → AreEmpty usable tree.kind levels level f.page f.next g.next

@@ -24,7 +24,7 @@ use Rattle.dbtrace.proofs.Stepping.{has_steps}
 use Rattle.dbwalk.specs.Entered.{IsNext}
 use Rattle.dbwalk.specs.LeafCells.{top_after}
 use Rattle.dbmarks.specs.Marking.{AreMarksOf}
-use Rattle.dbwalk.specs.Walking.{errands_from, child_at, top_visit, left_over, IsOpenFrame, AreOpenFrames, AreRead}
+use Rattle.dbwalk.specs.Walking.{errands_from, child_at, top_visit, left_over, IsOpenFrame, IsStepped, AreOpenFrames, AreRead}
 use Rattle.dbwalk.specs.Telling.{IsReadOrWrite}
 use Rattle.dbwalk.specs.Underway.{IsUnderway, HasDone, IsInterior, done_below, entered, IsAt, IsWalkingOn, tree_walk}
 use Rattle.dbwalk.specs.Watching.{StopsAt, watches, fails, Handed}
@@ -66,22 +66,24 @@ quiet_go d e (inl h) = cc
 quiet_go d e (inr h) = absurd h
 
 -- the same by another state of the tree, other buffers, and another name of the frames
-pub by_other : {P : Type 0} {moves : P → Item → P → Type 0} {file : List ℕ} {W : List Reference} {c : Reference} {before : P} {frames items : List StackFrame}
-    {levels levels' : List (List ℕ)} {marks : List Mark} {tree tree' : Tree} {w : P}
-    → IsWalkingOn moves file W c before (frames, levels) (marks, tree) w → items ≡ frames → tree'.kind ≡ tree.kind → tree'.greatest ≡ tree.greatest → tree'.leaf
-    ≡ tree.leaf → ((n : ℕ) → n < length frames → slice_get levels' n ≡ slice_get levels n)
-    → IsWalkingOn moves file W c before (items, levels') (marks, tree') w
-by_other {moves = moves} {file = file} {W = W} {c = c} {before = before} {frames = frames} {levels = levels} {levels' = levels'} {marks = marks} {tree' = tree'}
-    {w = w} on are kinds tops leafs same =
-    let u = on.under in subst (λ l. IsWalkingOn moves file W c before (l, levels') (marks, tree') w) (sym are) (record {
-      now = on.now;
-      under = subst (λ k. IsUnderway moves file (tree_walk file W c) before on.now (left_over file k c frames) (marks, tree') w) (sym kinds)
-          (record { rest = u.rest; at = (u.at.0, tops ∙ u.at.1, leafs ∙ u.at.2); past = u.past; apart = u.apart; handed = u.handed });
-      root = on.root;
-      frames_are = subst (λ k. AreOpenFrames file k c c frames) (sym kinds) on.frames_are;
-      calls = on.calls;
-      read = read_kept file levels levels' 0 frames (λ n l. same n (omega arith)) on.read;
-    })
+module _ {P : Type 0} {moves : P → Item → P → Type 0} {file : List ℕ} {W : List Reference} {c : Reference} {before : P} {frames items : List StackFrame}
+    {levels levels' : List (List ℕ)} {marks : List Mark} {tree tree' : Tree} {w : P} (on : IsWalkingOn moves file W c before (frames, levels) (marks, tree) w)
+    (are : items ≡ frames) (kinds : tree'.kind ≡ tree.kind) (tops : tree'.greatest ≡ tree.greatest) (leafs : tree'.leaf ≡ tree.leaf)
+    (same : (n : ℕ) → n < length frames → slice_get levels' n ≡ slice_get levels n) where
+  pub by_other : IsWalkingOn moves file W c before (items, levels') (marks, tree') w
+  by_other = let u = on.under in subst (λ l. IsWalkingOn moves file W c before (l, levels') (marks, tree') w) (sym are) (record {
+    now = on.now;
+    under = subst (λ k. IsUnderway moves file (tree_walk file W c) before on.now (left_over file k c frames) (marks, tree') w) (sym kinds)
+        (record { rest = u.rest; at = (u.at.0, tops ∙ u.at.1, leafs ∙ u.at.2); past = u.past; apart = u.apart; handed = u.handed });
+    root = on.root;
+    frames_are = subst (λ k. AreOpenFrames file k c c frames) (sym kinds) on.frames_are;
+    calls = on.calls;
+    read = read_kept file levels levels' 0 frames (λ n l. same n (omega arith)) on.read;
+  })
+
+  -- a turn that did all there is at its step
+  pub turned : IsWalkingOn moves file W c before (items, levels') (marks, tree') w × IfErr {T = Unit {0}} {E = RunError} (Ok tt) (λ e. ⊥)
+  turned = (by_other, tt)
 
 module _ {P : Type 0} {moves : P → Item → P → Type 0} {file : List ℕ} {W : List Reference} {c : Reference} {before : P} {levels : List (List ℕ)}
     (fs : List StackFrame) (f : StackFrame) {marks : List Mark} {tree : Tree} {w : P}
@@ -107,8 +109,7 @@ module _ {P : Type 0} {moves : P → Item → P → Type 0} {file : List ℕ} {W
   }
 
   -- one step on
-  module _ (g : StackFrame) (page : g.page ≡ f.page) (next : g.next ≡ suc f.next) (up_to : g.up_to ≡ f.up_to)
-      (within : suc f.next ≤ 3 * count frames.1.view + 2) where
+  module _ {g : StackFrame} (stepped : IsStepped f g) (within : suc f.next ≤ 3 * count frames.1.view + 2) where
     abbrev on_frames : List StackFrame
     on_frames = fs ++ (g ∷ [])
 
@@ -117,12 +118,12 @@ module _ {P : Type 0} {moves : P → Item → P → Type 0} {file : List ℕ} {W
 
     open_on : AreOpenFrames file tree.kind c c on_frames
     open_on = open_push file tree.kind c c fs g frames.0 (record {
-      page = page ∙ frames.1.page;
+      page = stepped.page ∙ frames.1.page;
       view = frames.1.view;
       viewed = frames.1.viewed;
       interior = frames.1.interior;
       within = omega arith;
-      up_to = up_to ∙ frames.1.up_to;
+      up_to = stepped.up_to ∙ frames.1.up_to;
     })
 
     -- what stays, whatever is at the step
@@ -135,13 +136,14 @@ module _ {P : Type 0} {moves : P → Item → P → Type 0} {file : List ℕ} {W
       root = root;
       frames_are = subst (λ k. AreOpenFrames file k c c on_frames) (sym kinds) open_on;
       calls = calls_on fs f g on.calls;
-      read = read_on file levels f g page 0 fs on.read;
+      read = read_on file levels f g stepped.page 0 fs on.read;
     }
 
     first_errands : (es : List (Errand Way Event)) → errands_from file top f.next ≡ es ++ errands_from file top (suc f.next) → Left (es ++ rest)
     first_errands es e = subst Left (left-push file tree.kind c fs f ∙ ap (λ l. l ++ left_over file tree.kind c fs) e
         ∙ append_assoc es (errands_from file top (suc f.next)) (left_over file tree.kind c fs)
-        ∙ ap (λ n. es ++ (errands_from file top n ++ left_over file tree.kind c fs)) (sym next) ∙ ap (λ l. es ++ l) (sym (left-push file tree.kind c fs g)))
+        ∙ ap (λ n. es ++ (errands_from file top n ++ left_over file tree.kind c fs)) (sym stepped.next) ∙ ap (λ l. es ++ l) (sym (left-push file tree.kind c fs
+        g)))
         on.under
 
     -- a step at which nothing is
@@ -234,9 +236,9 @@ module _ {P : Type 0} {moves : P → Item → P → Type 0} {file : List ℕ} {W
               root = root_stays on.now.visits (d ∷ []) c.address c on.root;
               frames_are = subst (λ k. AreOpenFrames file k c c (on_frames ++ (h ∷ []))) (sym kinds)
                   (open_push file k c c on_frames h open_on (subst (λ r. IsOpenFrame file c r h) (sym up) frame));
-              calls = calls_push fs g h n (next ∙ ap suc step) (calls_on fs f g on.calls);
+              calls = calls_push fs g h n (stepped.next ∙ ap suc step) (calls_on fs f g on.calls);
               read = read_push file levels' 0 on_frames h (read_kept file levels levels' 0 on_frames (λ n l. kept n (omega arith))
-                  (read_on file levels f g page 0 fs on.read))
+                  (read_on file levels f g stepped.page 0 fs on.read))
                   (ap (slice_get levels') (let z : 0 + length on_frames ≡ length d.address - 1 = omega arith in z) ∙ inside.bytes
                   ∙ ap (λ p. Some (page_bytes file p)) (sym here));
             }

@@ -23,13 +23,12 @@ use Rattle.dbtrace.specs.Finding.{Finding, told_fault}
 use Rattle.dbtrace.specs.Progress.{key_value}
 use Rattle.dbtrace.specs.declared.RowidBounds.{RowidBounds}
 use Rattle.dbtrace.specs.Item.{Item, found}
-use Rattle.dbtrace.specs.Walk.{Walk}
 use Rattle.dbwalk.specs.Chains.{IsChainOf}
 use Rattle.dbwalk.specs.Entered.{IsNext}
 use Rattle.dbwalk.specs.LeafCells.{is_late, key_cause, order_told, top_after}
-use Rattle.dbwalk.specs.Walking.{errands_from, child_at, top_visit, IsCandidate, IsLeafAt, path_of}
+use Rattle.dbwalk.specs.Walking.{errands_from, child_at, top_visit, IsCandidate, IsLeafAt, IsStepped, path_of}
 use Rattle.dbwalk.specs.Steps.{IsChainAt, IsChildAt, IsKeyAt, IsEmptyAt, no_chain, no_child, unreadable, without_key, HasLeft, IsNextStep, HasNext}
-use Rattle.dbwalk.specs.Underway.{IsAt, HasDone, IsEntered, done_below, entered, IsWalkingOn, HasTurned, tree_walk}
+use Rattle.dbwalk.specs.Underway.{HasDone, IsInterior, done_below, entered, IsWalkingOn, HasTurned, tree_walk}
 use Rattle.dbwalk.specs.Watching.{StopsAt}
 use Rattle.dbwalk.specs.declared.chain.Chain.{Chain}
 use Rattle.dbwalk.specs.declared.steps.StackFrame.{StackFrame}
@@ -47,7 +46,7 @@ use Rattle.dbwalk.proofs.Trees.Stacking.{top_kind, step_no_chain, step_no_child,
 use Rattle.dbwalk.proofs.Trees.TreeWays.{IsOnWay, child_candidate, top_candidate}
 use Rattle.dbwalk.proofs.Underway.CellSteps.{order_told_of}
 use Rattle.dbwalk.proofs.Underway.TreeSteps as steps
-use Rattle.dbwalk.proofs.Underway.TreeSteps.{by_other}
+use Rattle.dbwalk.proofs.Underway.TreeSteps.{turned}
 
 module _ {P : Type 0} {moves : P → Item → P → Type 0} {file : List ℕ} {W : List Reference} {c : Reference} {before : P} {levels : List (List ℕ)}
     (fs : List StackFrame) (f : StackFrame) {marks : List Mark} {tree : Tree} {w : P}
@@ -95,7 +94,7 @@ module _ {P : Type 0} {moves : P → Item → P → Type 0} {file : List ℕ} {W
     bytes = ap (slice_get levels) (path_length fs ∙ (let e : length fs ≡ 0 + length fs = omega arith in e)) ∙ read_last file levels 0 fs f on.read;
   }
 
-  module _ (g : StackFrame) (page : g.page ≡ f.page) (next : g.next ≡ suc f.next) (up_to : g.up_to ≡ f.up_to) where
+  module _ {g : StackFrame} (stepped : IsStepped f g) where
     -- a step at which nothing is
     pub turned_empty : IsEmptyAt v f.next → IsWalkingOn moves file W c before (fs ++ (g ∷ []), levels) (marks, tree) w
     turned_empty h = by_case h
@@ -107,13 +106,13 @@ module _ {P : Type 0} {moves : P → Item → P → Type 0} {file : List ℕ} {W
             other e = cc
 
         by_case : IsEmptyAt v f.next → IsWalkingOn moves file W c before (fs ++ (g ∷ []), levels) (marks, tree) w
-        by_case (no_chain n step l none) = steps.on_skip fs f on g page next up_to within
+        by_case (no_chain n step l none) = steps.on_skip fs f on stepped within
             (subst (λ s. errands_from file top s ≡ errands_from file top (suc s)) (sym step) (step_no_chain file top tree.kind v role viewed n none))
-        by_case (no_child n step l none) = steps.on_skip fs f on g page next up_to within
+        by_case (no_child n step l none) = steps.on_skip fs f on stepped within
             (subst (λ s. errands_from file top s ≡ errands_from file top (suc s)) (sym step) (step_no_child file top tree.kind v role viewed n l none))
-        by_case (unreadable n b step l bad) = steps.on_skip fs f on g page next up_to within
+        by_case (unreadable n b step l bad) = steps.on_skip fs f on stepped within
             (subst (λ s. errands_from file top s ≡ errands_from file top (suc s)) (sym step) (step_no_key file top tree.kind v role viewed n b bad))
-        by_case (without_key n x step l read none) = steps.on_cell fs f on g page next up_to within n x w
+        by_case (without_key n x step l read none) = steps.on_cell fs f on stepped within n x w
             (subst (λ s. errands_from file top s ≡ tell_cell top v n x ∷ errands_from file top (suc s)) (sym step)
             (step_key file top tree.kind v role viewed n x l read))
             tree refl (ap (λ o. top_after tree.greatest top.page n o) (sym none)) refl
@@ -121,7 +120,7 @@ module _ {P : Type 0} {moves : P → Item → P → Type 0} {file : List ℕ} {W
             (sym none) refl)
 
     -- a key
-    module _ (value : ℤ) (h : IsKeyAt v f.next value) (x : P) where
+    module _ {value : ℤ} (h : IsKeyAt v f.next value) (x : P) where
       within_key : suc f.next ≤ 3 * count v + 2
       within_key = step_within v f.next (step.Key value) (λ e. other e) h
         where
@@ -175,13 +174,13 @@ module _ {P : Type 0} {moves : P → Item → P → Type 0} {file : List ℕ} {W
           → (tree' : Tree) → tree'.kind ≡ tree.kind → tree'.greatest ≡ top_after tree.greatest f.page (f.next / 3) (Some value) → tree'.leaf
           ≡ tree.leaf → Moves moves w (map found (order_told false (Some left) tree.greatest f.page (f.next / 3) value)) x
           → IsWalkingOn moves file W c before (fs ++ (g ∷ []), levels) (marks, tree') x
-      turned_key left are tree' kinds tops leafs m = steps.on_cell fs f on g page next up_to within_key h.n h.x x key_errand tree' kinds
+      turned_key left are tree' kinds tops leafs m = steps.on_cell fs f on stepped within_key h.n h.x x key_errand tree' kinds
           (tops ∙ ap (λ p. top_after tree.greatest p (f.next / 3) (Some value)) on_page ∙ ap (λ i. top_after tree.greatest top.page i (Some value)) at_cell
           ∙ ap (top_after tree.greatest top.page h.n) (sym h.key)) leafs
           (subst (λ l. Moves moves w (map found l) x) (told_key left are) m)
 
     -- an overflow chain
-    module _ (first left : ℕ) (rowid : Option ℤ) (h : IsChainAt v f.next first left rowid) where
+    module _ {first left : ℕ} {rowid : Option ℤ} (h : IsChainAt v f.next first left rowid) where
       abbrev pub chained : Reference
       chained = record {
         address = then_step top.address (overflow_step h.n);
@@ -225,31 +224,28 @@ module _ {P : Type 0} {moves : P → Item → P → Type 0} {file : List ℕ} {W
           third n = omega arith
 
       pub chain_next : IsNext on.now.visits chained
-      chain_next = steps.next_is fs f on g page next up_to within_chain chained chain_errand
+      chain_next = steps.next_is fs f on stepped within_chain chained chain_errand
 
       -- a call walks along it: the walk goes on after it, or not all of it could be done
       module _ (stops : P → Item → P → Type 0) (marks' : List Mark) (x : P) {items : List StackFrame} {levels' : List (List ℕ)}
           (are : items ≡ fs ++ (g ∷ [])) (same : levels' ≡ levels) where
         pub turned_chain : (r : Result (Unit {0}) RunError) → HasDone moves stops file (done_below file on.now (Go chained ∷ [])) r (marks', tree) w x
             → HasTurned moves stops file (W, c, before) r (items, levels') (marks', tree) x
-        turned_chain (Ok a) done = (
-          by_other (steps.on_call fs f on g page next up_to within_chain chained chain_errand stops marks' tree x a refl done) are refl refl
-              refl (λ n l. ap (λ ls. slice_get ls n) same),
-          tt,
-        )
-        turned_chain (Err e) done = (tt, steps.call_stopped fs f on g page next up_to within_chain chained chain_errand stops marks' tree x e done)
+        turned_chain (Ok a) done = turned (steps.on_call fs f on stepped within_chain chained chain_errand stops marks' tree x a refl done) are refl refl refl
+            (λ n l. ap (λ ls. slice_get ls n) same)
+        turned_chain (Err e) done = (tt, steps.call_stopped fs f on stepped within_chain chained chain_errand stops marks' tree x e done)
 
     -- a child
-    module _ (number : ℕ) (key : Option ℤ) (h : IsChildAt v f.next number key) where
-      abbrev pub d : Reference
-      d = child_at file tree.kind top f.next
+    module _ {number : ℕ} {key : Option ℤ} (h : IsChildAt v f.next number key) where
+      abbrev pub child : Reference
+      child = child_at file tree.kind top f.next
 
-      child_errand : errands_from file top f.next ≡ Go d ∷ errands_from file top (suc f.next)
+      child_errand : errands_from file top f.next ≡ Go child ∷ errands_from file top (suc f.next)
       child_errand = subst (λ s. errands_from file top s ≡ Go (child_at file tree.kind top s) ∷ errands_from file top (suc s)) (sym h.step)
           (step_child file top tree.kind v role viewed h.n number h.low h.number)
 
       -- the key of the innermost cell whose left child leads to it
-      key_is : key_from file c d ≡ option_or key f.up_to
+      key_is : key_from file c child ≡ option_or key f.up_to
       key_is =
           child_key file tree.kind tree.start c (root_address c.address tree.start candidate.depth candidate.start) fs v f.next
           (kind_is file tree.kind tree.start [] c.page 0 tree.start c candidate) role (steps.frames fs f on).0 viewed
@@ -259,7 +255,7 @@ module _ {P : Type 0} {moves : P → Item → P → Type 0} {file : List ℕ} {W
           third : (n : ℕ) → (3 * n + 1) / 3 ≡ n
           third n = omega arith
 
-      number_is : d.page ≡ number
+      number_is : child.page ≡ number
       number_is = ap (λ o. option_map_or (λ v. unwrap_or (child_number v (cell_of_step f.next)) 0) o 0) viewed
           ∙ ap (λ i. unwrap_or (child_number v i) 0) (ap (λ s. s / 3) h.step ∙ third h.n) ∙ ap (λ o. unwrap_or o 0) h.number
         where
@@ -272,53 +268,47 @@ module _ {P : Type 0} {moves : P → Item → P → Type 0} {file : List ℕ} {W
           other : step.Child number key ≡ End → ⊥
           other e = cc
 
-      child_is : IsCandidate tree.kind tree.start (path_of fs ++ (cell_of_step f.next ∷ [])) d.page top.page (cell_of_step f.next) d
+      child_is : IsCandidate tree.kind tree.start (path_of fs ++ (cell_of_step f.next ∷ [])) child.page top.page (cell_of_step f.next) child
       child_is = child_candidate file tree.kind tree.start (path_of fs) way.p way.from way.item top way.candidate f.next h.n h.step
 
-      -- what is promised of it
+      -- what a call has to know of it
       pub child_asked : {children : List ℕ} → children ≡ path_of fs ++ (cell_of_step f.next ∷ []) → {bound : Option ℤ} → bound ≡ option_or key f.up_to
-          → {X : Walk → Reference → Type 0}
-          → ((at : Walk) (e : Reference) → IsCandidate tree.kind tree.start children number f.page (f.next / 3) e → IsNext at.visits e → IsAt file at marks tree
-          → key_up_to file (at.visits ++ (e ∷ [])) e ≡ bound → X at e) → X on.now d
-      child_asked ways bounds promised = promised on.now d
-          (subst (λ l. IsCandidate tree.kind tree.start l number f.page (f.next / 3) d) (sym ways)
-          (subst (λ p. IsCandidate tree.kind tree.start (path_of fs ++ (cell_of_step f.next ∷ [])) number p (f.next / 3) d) (sym on_page)
-          (subst (λ q. IsCandidate tree.kind tree.start (path_of fs ++ (cell_of_step f.next ∷ [])) q top.page (f.next / 3) d) number_is child_is)))
-          (steps.next_is fs f on g page next up_to within_child d child_errand) on.under.at
-          (child_up_to file tree.kind tree.start c (root_address c.address tree.start candidate.depth candidate.start) fs on.now.visits f.next on.root
-          ∙ key_is ∙ sym bounds)
+          → IsCandidate tree.kind tree.start children number f.page (f.next / 3) child × IsNext on.now.visits child
+          × (key_up_to file (on.now.visits ++ (child ∷ [])) child ≡ bound)
+      child_asked ways bounds = (
+        subst (λ l. IsCandidate tree.kind tree.start l number f.page (f.next / 3) child) (sym ways)
+            (subst (λ p. IsCandidate tree.kind tree.start (path_of fs ++ (cell_of_step f.next ∷ [])) number p (f.next / 3) child) (sym on_page)
+            (subst (λ q. IsCandidate tree.kind tree.start (path_of fs ++ (cell_of_step f.next ∷ [])) q top.page (f.next / 3) child) number_is child_is)),
+        steps.next_is fs f on stepped within_child child child_errand,
+        child_up_to file tree.kind tree.start c (root_address c.address tree.start candidate.depth candidate.start) fs on.now.visits f.next on.root
+            ∙ key_is ∙ sym bounds,
+      )
 
-      -- a call entered it
-      abbrev Entered : (P → Item → P → Type 0) → List (List ℕ) → List Mark × Tree → P → Result Bool RunError → Type 0
-      Entered stops levels' now x r = HasDone moves stops file (entered file on.now d r) r now w x × IsEntered file on.now d r levels'
-
-      module _ (stops : P → Item → P → Type 0) {marks' : List Mark} {tree' : Tree} {x : P} (kinds : tree'.kind ≡ tree.kind) where
-        -- it is refused, damaged, or a leaf
-        pub child_passed : {levels' : List (List ℕ)} {yes : Bool} → yes ≡ false → Entered stops levels' (marks', tree') x (Ok yes)
+      module _ (stops : P → Item → P → Type 0) {marks' : List Mark} {tree' : Tree} {x : P} where
+        -- all below it was done: it is refused, damaged, or a leaf
+        pub child_passed : tree'.kind ≡ tree.kind → HasDone {A = Bool} moves stops file (done_below file on.now (Go child ∷ [])) (Ok false) (marks', tree') w x
             → IsWalkingOn moves file W c before (fs ++ (g ∷ []), levels) (marks', tree') x
-        child_passed {levels' = levels'} is done = steps.on_call fs f on g page next up_to within_child d child_errand stops marks' tree' x false kinds
-            (subst (λ y. Entered stops levels' (marks', tree') x (Ok y)) is done).0
+        child_passed kinds done = steps.on_call fs f on stepped within_child child child_errand stops marks' tree' x false kinds done
 
         -- not all of it could be read and reported
-        pub child_stopped : (e : RunError) → HasDone {A = Bool} moves stops file (entered file on.now d (Err e)) (Err e) (marks', tree') w x
-            → StopsAt moves stops e before (tree_walk file W c).items x
-        child_stopped e done = steps.call_stopped fs f on g page next up_to within_child d child_errand stops marks' tree' x e done
+        pub child_stopped : (Q : Type 0) {e : RunError} {r : Result (Unit {0}) RunError} → r ≡ Err e
+            → HasDone {A = Bool} moves stops file (done_below file on.now (Go child ∷ [])) (Err e) (marks', tree') w x
+            → OnOk r Q × IfErr r (λ e. StopsAt moves stops e before (tree_walk file W c).items x)
+        child_stopped Q {e = e} is done = subst (λ r. OnOk r Q × IfErr r (λ e. StopsAt moves stops e before (tree_walk file W c).items x)) (sym is)
+            (tt, steps.call_stopped fs f on stepped within_child child child_errand stops marks' tree' x e done)
 
         -- it is an undamaged interior page
-        pub child_entered : {levels' : List (List ℕ)} (frame : StackFrame) → frame.page ≡ number → frame.next ≡ 0 → frame.up_to ≡ option_or key f.up_to
-            → ((n : ℕ) → n < length (fs ++ (g ∷ [])) → slice_get levels' n ≡ slice_get levels n)
-            → {yes : Bool} → yes ≡ true → Entered stops levels' (marks', tree') x (Ok yes)
+        pub child_entered : {levels' : List (List ℕ)} (frame : StackFrame) → tree'.kind ≡ tree.kind → frame.page ≡ number → frame.next ≡ 0 → frame.up_to
+            ≡ option_or key f.up_to → ((n : ℕ) → n < length (fs ++ (g ∷ [])) → slice_get levels' n ≡ slice_get levels n)
+            → {yes : Bool} → yes ≡ true → HasDone moves stops file (entered file on.now child (Ok yes)) (Ok yes) (marks', tree') w x
+            → IsInterior file on.now child levels'
             → IsWalkingOn moves file W c before ((fs ++ (g ∷ [])) ++ (frame ∷ []), levels') (marks', tree') x
-        child_entered {levels' = levels'} frame pages start bound kept is done =
+        child_entered {levels' = levels'} frame kinds pages start bound kept is done inside =
             let e = child_is.depth in
             let q = path_length fs in
             let m = length-append (path_of fs) (cell_of_step f.next ∷ []) in
             let n = length-append fs (g ∷ []) in
-            let deep : length d.address - 1 ≡ length (fs ++ (g ∷ [])) = omega arith in
-            let entry = subst (λ y. Entered stops levels' (marks', tree') x (Ok y)) is done in
-            steps.on_enter fs f on g page next up_to within_child d child_errand stops marks' tree' x h.n frame levels' kinds h.step refl
-            (pages ∙ sym number_is) start (bound ∙ sym key_is) deep kept entry.0 (entry.1 refl)
-
--- what a turn leaves where it failed
-pub turn_failed : {A E : Type 0} (Q : Type 0) (R : E → Type 0) (r : Result A E) (e : E) → r ≡ Err e → R e → OnOk r Q × IfErr r R
-turn_failed Q R r e q h = subst (λ r. OnOk r Q × IfErr r R) (sym q) (tt, h)
+            let deep : length child.address - 1 ≡ length (fs ++ (g ∷ [])) = omega arith in
+            steps.on_enter fs f on stepped within_child child child_errand stops marks' tree' x h.n frame levels' kinds h.step refl
+            (pages ∙ sym number_is) start (bound ∙ sym key_is) deep kept
+            (subst (λ y. HasDone {A = Bool} moves stops file (entered file on.now child (Ok y)) (Ok y) (marks', tree') w x) is done) inside

@@ -126,15 +126,23 @@ entered_done {moves = moves} {stops = stops} {file = file} from c {now = now} {w
     let k = subst (λ y. HasDone moves stops file (entered file from c (Ok y)) (Ok y) now w x) is h in
     record { at = k.at; handed = k.handed }
 
+-- what was done, from another name of the state, and to one
+module _ {P A : Type 0} {moves stops : P → Item → P → Type 0} {file : List ℕ} {done : Walk} {r : Result A RunError} {now : List Mark × Tree} where
+  pub done_from : {w x y : P} → w ≡ x → HasDone moves stops file done r now x y → HasDone moves stops file done r now w y
+  done_from {y = y} same h = subst (λ w. HasDone moves stops file done r now w y) (sym same) h
+
+  done_to : {w x y : P} → x ≡ y → HasDone moves stops file done r now w x → HasDone moves stops file done r now w y
+  done_to {w = w} same h = subst (λ x. HasDone moves stops file done r now w x) same h
+
 -- a page that could not be read
 pub unread : {P A : Type 0} (moves : P → Item → P → Type 0) (stops : P → Item → P → Type 0) (file : List ℕ) (done : Walk) (now : List Mark × Tree)
-    (w : P) → HasDone {A = A} moves stops file done (Err ReadFailed) now w w
-unread moves stops file done now w = record { at = tt; handed = some_none moves w done.items }
+    {w x : P} → w ≡ x → HasDone {A = A} moves stops file done (Err ReadFailed) now w x
+unread moves stops file done now {w} same = done_to same (record { at = tt; handed = some_none moves w done.items })
 
 -- a sink that was found shut
 pub unasked : {P A : Type 0} (moves : P → Item → P → Type 0) (stops : P → Item → P → Type 0) (file : List ℕ) (done : Walk) (now : List Mark × Tree)
-    (w : P) → HasDone {A = A} moves stops file done (Err WriteFailed) now w w
-unasked moves stops file done now w = record { at = tt; handed = some_none moves w done.items }
+    {w x : P} → w ≡ x → HasDone {A = A} moves stops file done (Err WriteFailed) now w x
+unasked moves stops file done now {w} same = done_to same (record { at = tt; handed = some_none moves w done.items })
 
 -- the cause of a reference that is refused, by the greatest key so far and that of the innermost cell whose left child leads to it
 abbrev pub rows_below : Option CellKey → Option ℤ → Cause

@@ -1,4 +1,4 @@
-use Rattle.std.proofs.Common.{rules, ◌≡◌, ◌-◌, ◌<◌, ◌≤◌, [], false, set, Some, Ok, Err, inl, inr, refl, sym, ap, subst, arith, ◌∙◌}
+use Rattle.std.proofs.Common.{rules, ◌≡◌, ◌<◌, ◌≤◌, [], false, Ok, Err, inl, inr, refl, sym, ap, subst, arith, ◌∙◌}
 use Rattle.std.specs.Prelude.{List, IfErr, OnOk}
 use Rattle.std.proofs.lemmas.Result.{err_from_is_err_and}
 use Rattle.dbformat.specs.File.{geometry, page_bytes}
@@ -12,17 +12,16 @@ use Rattle.dbsource.specs.Sources.{Asks}
 use Rattle.dbsource.specs.declared.error.RunError.TheVariants.{ReadFailed, WriteFailed}
 use Rattle.dbwalk.specs.Entered.{Enters, refused_told}
 use Rattle.dbwalk.specs.Found.{HasPageAt}
-use Rattle.dbmarks.specs.Marking.{page_mark}
 use Rattle.dbwalk.specs.Telling.{IsReadOrWrite, SinkAfter, Tells}
 use Rattle.dbmarks.specs.Reads.{Reads}
 use Rattle.dbwalk.specs.Roots.{IsRootAfter, kind_of, kind_in}
 use Rattle.dbwalk.specs.Done.{IsTreeDone}
 use Rattle.dbmarks.specs.declared.marks.Mark.{Mark}
-use Rattle.dbmarks.specs.declared.marks.Mark.TheVariants.{Unmarked}
 use Rattle.dbwalk.proofs.Pages.PageVisits.{kind_is}
 use Rattle.dbwalk.proofs.Chaining.Overflows.{page_read}
-use Rattle.dbmarks.proofs.Readings.{log_load, log_none, log_page, log_then}
-use Rattle.dbwalk.proofs.Pages.Levels.{geometry_kept, read_there}
+use Rattle.dbmarks.proofs.Readings.{log_none, log_then}
+use Rattle.dbsource.proofs.Logs.{has_weaker}
+use Rattle.dbwalk.proofs.Pages.Levels.{geometry_kept, log_entered, read_there}
 use Rattle.dbwalk.proofs.Trees.Bounds.{root_address}
 use Rattle.dbwalk.proofs.Underway.WalkedTrees.{candidate_as, root_next, tree_done, tree_refused, tree_unasked, tree_unread}
 use Rattle.dbwalk.proofs.Underway.Walks.{with_memory, without_memory}
@@ -82,14 +81,10 @@ returns-then-not-branch-clause-asks g c = record {
 pub returns-in_err-load-clause-asks : goal.returns-in_err-load-clause-asks
 returns-in_err-load-clause-asks g c =
     let q = err_from_is_err_and c.from_residual-in_err-load.result c.from_residual-in_err-load.ensures.1 in
-    let mark = c.tree_step-step.result.mark in
-    let size = c.args.bench.now.geometry.page_size in
-    let k = subst (λ p. (page_mark c.args.marks.now p ≡ Some Unmarked) × (c.enter.new.marks ≡ set c.args.marks.now (p - 1) mark)) c.tree_step-step.ensures.page
-    (c.in_ok-enter.ensures.marked (search rules)) in
     let read = c.in_err-load.ensures.level in
     record {
-      log = log_page _ size c.args.marks.now c.enter.new.marks c.args.root.page mark k.0 k.1 c.tree_step-step.ensures.used
-          (log_load size c.args.root.page read.bytes (Err c.in_err-load.field-0.0) c.load.ensures.told read.size read.holds) (λ file h e coded W d at.
+      log = has_weaker _ _ (log_entered (Err c.in_err-load.field-0.0) read.bytes c.tree_step-step.ensures.page (c.in_ok-enter.ensures.marked (search rules))
+          c.tree_step-step.ensures.used c.load.ensures.told read.size read.holds) (λ log r. r) (λ file h e coded W d at.
           let root = c.args.root in
           let is = c.tree_step-step.ensures.step (kind_in file root) root.start [] d refl at.candidate in
           let next = root_next file (kind_in file root) root.start root.page 0 root.start W d at.candidate at.early in
@@ -114,13 +109,10 @@ returns-in_err-load-clause-others g c =
 
 pub returns-clause-asks : goal.returns-clause-asks
 returns-clause-asks g c =
-    let mark = c.tree_step-step.result.mark in
     let size = c.args.bench.now.geometry.page_size in
-    let k = subst (λ p. (page_mark c.args.marks.now p ≡ Some Unmarked) × (c.enter.new.marks ≡ set c.args.marks.now (p - 1) mark)) c.tree_step-step.ensures.page
-    (c.in_ok-enter.ensures.marked (search rules)) in
     let low : 0 < 20 = omega arith in
     let read = c.in_ok-load.ensures.level in
-    let shape = geometry_kept c.args.bench.now c.load.new.self 0 low read.bytes read.only in
+    let shape = geometry_kept read low in
     let says : List Mark → g.row.K.Denot → g.row.T.Denot → g.row.S.Denot → Type 0 =
     λ m k t s. Asks g.S.Source.step (Reads size c.args.marks.now m)
     (λ file. c.args.bench.now.geometry ≡ geometry file → c.args.root.encoding ≡ encoding file
@@ -135,9 +127,8 @@ returns-clause-asks g c =
     subst (λ m. says m c.sink-1.given.0 c.taker-1.given.0 c.source-1.given.0) (sym marks)
     (subst (λ k. says n.marks.now k c.taker-1.given.0 c.source-1.given.0) (sym sink) (subst (λ t. says n.marks.now n.sink.now t c.source-1.given.0) (sym taker)
     (subst (λ s. says n.marks.now n.sink.now n.taker.now s) (sym source) (record {
-      log = log_then _ _ (ap (λ s. s.page_size) shape) (log_page _ size c.args.marks.now c.enter.new.marks c.args.root.page mark k.0 k.1
-          c.tree_step-step.ensures.used
-          (log_load size c.args.root.page read.bytes (Ok tt) c.load.ensures.told read.size read.holds) (λ file h. h)) c.walk_pages.ensures.log
+      log = log_then _ _ (ap (λ s. s.page_size) shape) (log_entered (Ok tt) read.bytes c.tree_step-step.ensures.page
+          (c.in_ok-enter.ensures.marked (search rules)) c.tree_step-step.ensures.used c.load.ensures.told read.size read.holds) c.walk_pages.ensures.log
           (λ file h done e coded W d at.
           let root = c.args.root in
           let is = c.tree_step-step.ensures.step (kind_in file root) root.start [] d refl at.candidate in
@@ -146,7 +137,7 @@ returns-clause-asks g c =
           let t = c.new-tree.result in
           let same = page_read file read.bytes size root.page read.size h (sym (ap (λ s. s.page_size) e)) in
           let there : HasPageAt c.load.new.self.levels 0 (page_bytes file root.page) =
-          read_there c.args.bench.now c.load.new.self 0 low read.bytes read.only (page_bytes file root.page) same in
+          read_there read low (page_bytes file root.page) same in
           let kinds = c.new-tree.ensures.names.1 ∙ c.root_kind.ensures.kind
           ∙ ap (kind_of root.kind root.page) (there (bytes_at c.load.new.self 0) c.root_kind.ensures.there) in
           let starts = c.new-tree.ensures.names.0 in
@@ -168,7 +159,7 @@ pub returns-clause-shape : goal.returns-clause-shape
 returns-clause-shape g c =
     let low : 0 < 20 = omega arith in
     let read = c.in_ok-load.ensures.level in
-    c.walk_pages.ensures.walked.shape ∙ geometry_kept c.args.bench.now c.load.new.self 0 low read.bytes read.only
+    c.walk_pages.ensures.walked.shape ∙ geometry_kept read low
 
 pub returns-clause-only : goal.returns-clause-only
 returns-clause-only g c = with_memory c.new-tree.result.start c.walk_pages.result c.walk_pages.ensures.walked.only

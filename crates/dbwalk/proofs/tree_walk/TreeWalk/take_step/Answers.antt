@@ -9,14 +9,14 @@ use Rattle.dbwalk.specs.LeafCells.{is_late, order_told, top_after}
 use Rattle.dbsource.specs.Bench.{Pages}
 use Rattle.dbsource.proofs.Logs.{has_weaker}
 use Rattle.dbmarks.proofs.Readings.{log_none}
-use Rattle.dbwalk.proofs.Trees.Frames.{ends_behind, ends_on, on_ok_all, next_at, at_step, goes_on, path_last, path_popped, path_push, step_on}
+use Rattle.dbwalk.proofs.Trees.Frames.{ends_behind, ends_on, on_ok_all, next_at, at_turn, goes_on, path_last, path_popped, path_push, step_on}
 use Rattle.dbwalk.proofs.Leaves.LeafCells.{cell_size}
 use Rattle.dbwalk.proofs.Pages.Levels.{keeps_fewer}
 use Rattle.dbwalk.specs.Walking.{path_of}
 use Rattle.dbwalk.specs.Steps.{HasLeft}
 use Rattle.dbwalk.specs.declared.steps.Next.TheVariants.{Chain, Key, Nothing}
 use Rattle.dbwalk.specs.Watching.{fails}
-use Rattle.dbwalk.proofs.Underway.TreeSteps.{aside_done, by_other}
+use Rattle.dbwalk.proofs.Underway.TreeSteps.{aside_done, turned}
 use Rattle.dbwalk.proofs.Underway.Handing.{found_moves}
 use Rattle.dbwalk.proofs.Underway.TreeTurns.{next_here, turned_behind, turned_empty, left_here, turned_key, chained, chain_is, chain_next, turned_chain}
 use Rattle.dbwalk.proofs.Underway.Walks.{none_refused, read_or_write, walked_by}
@@ -25,22 +25,22 @@ use Rattle.dbwalk.proofs.tree_walk.TreeWalk.take_step.Goals as goal
 
 pub stepped-requires : goal.stepped-requires
 stepped-requires g c =
-    let most = (at_step c.args.frames.now.items c.args.frame c.requires.opened (next_at refl c.in-Nothing.is c.requires.step)).most in
+    let most = (at_turn c.requires c.in-Nothing.is).most in
     omega arith
 
 pub stepped-requires-in-Key : goal.stepped-requires-in-Key
 stepped-requires-in-Key g c =
-    let most = (at_step c.args.frames.now.items c.args.frame c.requires.opened (next_at refl c.in-Key.is c.requires.step)).most in
+    let most = (at_turn c.requires c.in-Key.is).most in
     omega arith
 
 pub stepped-requires-in-Chain : goal.stepped-requires-in-Chain
 stepped-requires-in-Chain g c =
-    let most = (at_step c.args.frames.now.items c.args.frame c.requires.opened (next_at refl c.in-Chain.is c.requires.step)).most in
+    let most = (at_turn c.requires c.in-Chain.is).most in
     omega arith
 
 pub walk_unfed-requires : goal.walk_unfed-requires
 walk_unfed-requires g c =
-    let s = at_step c.args.frames.now.items c.args.frame c.requires.opened (next_at refl c.in-Chain.is c.requires.step) in
+    let s = at_turn c.requires c.in-Chain.is in
     let low : IsPageNumber c.args.frame.page = s.low in
     let size = cell_size s.last.view s.stands.n s.stands.x s.stands.read in
     let rest = s.stands.rest in
@@ -48,53 +48,42 @@ walk_unfed-requires g c =
     search rules
 
 pub returns-in-End-clause-open : goal.returns-in-End-clause-open
-returns-in-End-clause-open g c = (at_step c.args.frames.now.items c.args.frame c.requires.opened (next_at refl c.in-End.is c.requires.step)).front
+returns-in-End-clause-open g c = (at_turn c.requires c.in-End.is).front
 
 pub returns-in-End-clause-ends : goal.returns-in-End-clause-ends
-returns-in-End-clause-ends g c = ends_behind c.args.self.now.marks.now c.args.frames.now.items c.args.frame
-    (at_step c.args.frames.now.items c.args.frame c.requires.opened (next_at refl c.in-End.is c.requires.step)).most
+returns-in-End-clause-ends g c = ends_behind (at_turn c.requires c.in-End.is) c.args.self.now.marks.now
 
 pub returns-in-End-clause-log : goal.returns-in-End-clause-log
-returns-in-End-clause-log g c = log_none c.args.bench.now.geometry.page_size c.args.self.now.marks.now c.args.self.now.marks.now
-    (g.S.Source.held c.args.self.now.source.now) refl (λ file e coded W d before candidate walk.
+returns-in-End-clause-log g c = log_none _ _ _ _ refl (λ file e coded W d before candidate walk.
     let here = next_here c.args.frames.now.items c.args.frame walk candidate (ap (λ s. s.usable) e) (next_at refl c.in-End.is c.requires.step) in
-    (by_other (turned_behind c.args.frames.now.items c.args.frame walk candidate here) refl refl refl refl (λ n l. refl), tt))
+    turned (turned_behind c.args.frames.now.items c.args.frame walk candidate here) refl refl refl refl (λ n l. refl))
 
 pub returns-in-Nothing-clause-open : goal.returns-in-Nothing-clause-open
-returns-in-Nothing-clause-open g c = step_on c.args.frames.now.items c.args.frame
-    (at_step c.args.frames.now.items c.args.frame c.requires.opened (next_at refl c.in-Nothing.is c.requires.step)) c.stepped.result c.stepped.ensures.page
-    c.stepped.ensures.next (goes_on Nothing tt) c.push.ensures.items c.args.bench.now.geometry.usable c.args.self.now.tree.kind c.args.bench.now.levels refl
+returns-in-Nothing-clause-open g c = step_on (at_turn c.requires c.in-Nothing.is) c.stepped.ensures (goes_on Nothing tt)
+    c.push.ensures.items c.args.bench.now.geometry.usable c.args.self.now.tree.kind c.args.bench.now.levels refl
     refl (λ n l. refl)
 
 pub returns-in-Nothing-clause-ends : goal.returns-in-Nothing-clause-ends
-returns-in-Nothing-clause-ends g c = ends_on c.args.self.now.marks.now c.args.self.now.marks.now c.args.frames.now.items c.args.frame c.stepped.result
-    c.push.ensures.items (omega arith) c.stepped.ensures.next
-    (at_step c.args.frames.now.items c.args.frame c.requires.opened (next_at refl c.in-Nothing.is c.requires.step)).most
+returns-in-Nothing-clause-ends g c = ends_on (at_turn c.requires c.in-Nothing.is) c.stepped.ensures c.args.self.now.marks.now c.args.self.now.marks.now
+    c.push.ensures.items (omega arith)
 
 pub returns-in-Nothing-clause-log : goal.returns-in-Nothing-clause-log
-returns-in-Nothing-clause-log g c = log_none c.args.bench.now.geometry.page_size c.args.self.now.marks.now c.args.self.now.marks.now
-    (g.S.Source.held c.args.self.now.source.now) refl (λ file e coded W d before candidate walk.
-    let here = next_here c.args.frames.now.items c.args.frame walk candidate (ap (λ s. s.usable) e) (next_at refl c.in-Nothing.is c.requires.step) in (
-      by_other (turned_empty c.args.frames.now.items c.args.frame walk candidate c.stepped.result c.stepped.ensures.page c.stepped.ensures.next
-          c.stepped.ensures.up_to here)
-          c.push.ensures.items refl refl refl (λ n l. refl),
-      tt,
-    ))
+returns-in-Nothing-clause-log g c = log_none _ _ _ _ refl (λ file e coded W d before candidate walk.
+    let here = next_here c.args.frames.now.items c.args.frame walk candidate (ap (λ s. s.usable) e) (next_at refl c.in-Nothing.is c.requires.step) in
+    turned (turned_empty c.args.frames.now.items c.args.frame walk candidate c.stepped.ensures here)
+    c.push.ensures.items refl refl refl (λ n l. refl))
 
 pub returns-in-Key-clause-open : goal.returns-in-Key-clause-open
-returns-in-Key-clause-open g c = step_on c.args.frames.now.items c.args.frame
-    (at_step c.args.frames.now.items c.args.frame c.requires.opened (next_at refl c.in-Key.is c.requires.step)) c.stepped-in-Key.result
-    c.stepped-in-Key.ensures.page c.stepped-in-Key.ensures.next (goes_on (Key _) tt) c.push-in-Key.ensures.items c.args.bench.now.geometry.usable
+returns-in-Key-clause-open g c = step_on (at_turn c.requires c.in-Key.is) c.stepped-in-Key.ensures (goes_on (Key _) tt)
+    c.push-in-Key.ensures.items c.args.bench.now.geometry.usable
     c.tell_key.new.self.kind c.args.bench.now.levels refl c.tell_key.ensures.others.1 (λ n l. refl)
 
 pub returns-in-Key-clause-ends : goal.returns-in-Key-clause-ends
-returns-in-Key-clause-ends g c = ends_on c.args.self.now.marks.now c.args.self.now.marks.now c.args.frames.now.items c.args.frame
-    c.stepped-in-Key.result c.push-in-Key.ensures.items (omega arith) c.stepped-in-Key.ensures.next
-    (at_step c.args.frames.now.items c.args.frame c.requires.opened (next_at refl c.in-Key.is c.requires.step)).most
+returns-in-Key-clause-ends g c = ends_on (at_turn c.requires c.in-Key.is) c.stepped-in-Key.ensures c.args.self.now.marks.now c.args.self.now.marks.now
+    c.push-in-Key.ensures.items (omega arith)
 
 pub returns-in-Key-clause-log : goal.returns-in-Key-clause-log
-returns-in-Key-clause-log g c = log_none c.args.bench.now.geometry.page_size c.args.self.now.marks.now c.args.self.now.marks.now
-    (g.S.Source.held c.args.self.now.source.now) refl (λ file e coded W d before candidate walk.
+returns-in-Key-clause-log g c = log_none _ _ _ _ refl (λ file e coded W d before candidate walk.
     let here = next_here c.args.frames.now.items c.args.frame walk candidate (ap (λ s. s.usable) e) (next_at refl c.in-Key.is c.requires.step) in
     let n = c.tell_key.new in
     let same = to_z-of_z w64 c.in-Key.key (search rules) in
@@ -109,55 +98,45 @@ returns-in-Key-clause-log g c = log_none c.args.bench.now.geometry.page_size c.a
     → HasLeft c.args.bench.now.geometry.usable c.args.self.now.tree.kind c.args.bench.now.levels c.len.result c.args.frame.page
     (c.args.frame.next / 3) z c.left_rows-left.result) same c.left_rows-left.ensures in
     let left = λ (late : is_late false (key_value c.args.self.now.tree.greatest) c.in-Key.key
-    ≡ true). left_here c.args.frames.now.items c.args.frame walk candidate c.stepped-in-Key.result c.stepped-in-Key.ensures.page
-    c.stepped-in-Key.ensures.next c.stepped-in-Key.ensures.up_to c.in-Key.key here (n.sink, c.args.self.now.taker.now) (ap (λ s. s.usable) e)
+    ≡ true). left_here c.args.frames.now.items c.args.frame walk candidate c.stepped-in-Key.ensures here (n.sink, c.args.self.now.taker.now) (ap (λ s.
+    s.usable) e)
     c.left_rows-left.result (subst (λ level. HasLeft c.args.bench.now.geometry.usable c.args.self.now.tree.kind c.args.bench.now.levels level c.args.frame.page
-    (c.args.frame.next / 3) c.in-Key.key c.left_rows-left.result) c.len.ensures.value (read_left late)) in (
-      by_other (turned_key c.args.frames.now.items c.args.frame walk candidate c.stepped-in-Key.result c.stepped-in-Key.ensures.page
-          c.stepped-in-Key.ensures.next c.stepped-in-Key.ensures.up_to c.in-Key.key here
-          (n.sink, c.args.self.now.taker.now) c.left_rows-left.result left n.self c.tell_key.ensures.others.1
-          (c.tell_key.ensures.greatest ∙ ap (λ z. top_after c.args.self.now.tree.greatest c.args.frame.page (c.args.frame.next / 3) (Some z)) same)
-          c.tell_key.ensures.others.2 moved)
-          c.push-in-Key.ensures.items refl refl refl (λ n l. refl),
-      tt,
-    ))
+    (c.args.frame.next / 3) c.in-Key.key c.left_rows-left.result) c.len.ensures.value (read_left late)) in
+    turned (turned_key c.args.frames.now.items c.args.frame walk candidate c.stepped-in-Key.ensures here
+    (n.sink, c.args.self.now.taker.now) c.left_rows-left.result left n.self c.tell_key.ensures.others.1
+    (c.tell_key.ensures.greatest ∙ ap (λ z. top_after c.args.self.now.tree.greatest c.args.frame.page (c.args.frame.next / 3) (Some z)) same)
+    c.tell_key.ensures.others.2 moved)
+    c.push-in-Key.ensures.items refl refl refl (λ n l. refl))
 
 pub returns-in-Chain-clause-open : goal.returns-in-Chain-clause-open
 returns-in-Chain-clause-open g c =
     let n = c.walk_unfed.new.bench in
     let same = c.walk_unfed.ensures.beside.bench in
-    on_ok_all c.walk_unfed.result (step_on c.args.frames.now.items c.args.frame
-    (at_step c.args.frames.now.items c.args.frame c.requires.opened (next_at refl c.in-Chain.is c.requires.step)) c.stepped-in-Chain.result
-    c.stepped-in-Chain.ensures.page c.stepped-in-Chain.ensures.next (goes_on (Chain _ _ _) tt) c.push-in-Chain.ensures.items n.geometry.usable
+    on_ok_all c.walk_unfed.result (step_on (at_turn c.requires c.in-Chain.is) c.stepped-in-Chain.ensures (goes_on (Chain _
+    _ _) tt) c.push-in-Chain.ensures.items n.geometry.usable
     c.args.self.now.tree.kind n.levels (ap (λ (p : Pages). p.geometry.usable) same) refl (λ m l. ap (λ (p : Pages). slice_get p.levels m) same))
 
 pub returns-in-Chain-clause-ends : goal.returns-in-Chain-clause-ends
 returns-in-Chain-clause-ends g c =
     let fewer = keeps_fewer c.args.self.now.marks.now c.walk_unfed.new.marks c.walk_unfed.ensures.log.holds.kept in
-    on_ok_all c.walk_unfed.result (ends_on c.args.self.now.marks.now c.walk_unfed.new.marks c.args.frames.now.items c.args.frame c.stepped-in-Chain.result
-    c.push-in-Chain.ensures.items fewer c.stepped-in-Chain.ensures.next
-    (at_step c.args.frames.now.items c.args.frame c.requires.opened (next_at refl c.in-Chain.is c.requires.step)).most)
+    on_ok_all c.walk_unfed.result (ends_on (at_turn c.requires c.in-Chain.is) c.stepped-in-Chain.ensures c.args.self.now.marks.now c.walk_unfed.new.marks
+    c.push-in-Chain.ensures.items fewer)
 
 pub returns-in-Chain-clause-log : goal.returns-in-Chain-clause-log
 returns-in-Chain-clause-log g c = has_weaker _ _ c.walk_unfed.ensures.log (λ log r. r) (λ file h e coded W d before candidate walk.
     let here = next_here c.args.frames.now.items c.args.frame walk candidate (ap (λ s. s.usable) e) (next_at refl c.in-Chain.is c.requires.step) in
     let n = c.walk_unfed.new in
     let r = c.walk_unfed.result in
-    let is = chain_is c.args.frames.now.items c.args.frame walk candidate c.stepped-in-Chain.result c.stepped-in-Chain.ensures.page
-    c.stepped-in-Chain.ensures.next c.stepped-in-Chain.ensures.up_to c.in-Chain.first c.in-Chain.left c.in-Chain.rowid here _ refl (c.as_slice.ensures.value
+    let is = chain_is c.args.frames.now.items c.args.frame walk candidate c.stepped-in-Chain.ensures here _ refl (c.as_slice.ensures.value
     ∙ c.requires.path) refl refl
     refl refl refl in
-    let next = chain_next c.args.frames.now.items c.args.frame walk candidate c.stepped-in-Chain.result c.stepped-in-Chain.ensures.page
-    c.stepped-in-Chain.ensures.next c.stepped-in-Chain.ensures.up_to c.in-Chain.first c.in-Chain.left c.in-Chain.rowid here in
+    let next = chain_next c.args.frames.now.items c.args.frame walk candidate c.stepped-in-Chain.ensures here in
     let done = aside_done g.K.Sink.takes g.T.Taker.takes g.T.Taker.refuses file walk.now
-    (chained c.args.frames.now.items c.args.frame walk candidate c.stepped-in-Chain.result c.stepped-in-Chain.ensures.page c.stepped-in-Chain.ensures.next
-    c.stepped-in-Chain.ensures.up_to
-    c.in-Chain.first c.in-Chain.left c.in-Chain.rowid here) refl r c.args.self.now.marks.now n.marks c.args.self.now.tree c.args.self.now.sink.now n.sink
+    (chained c.args.frames.now.items c.args.frame walk candidate c.stepped-in-Chain.ensures here) refl r c.args.self.now.marks.now n.marks c.args.self.now.tree
+    c.args.self.now.sink.now n.sink
     c.args.self.now.taker.now c.walk_unfed.ensures.beside.only walk.under.at
     (h e walk.now.visits _ is next walk.under.at.0) in
-    turned_chain c.args.frames.now.items c.args.frame walk candidate c.stepped-in-Chain.result c.stepped-in-Chain.ensures.page c.stepped-in-Chain.ensures.next
-    c.stepped-in-Chain.ensures.up_to
-    c.in-Chain.first c.in-Chain.left c.in-Chain.rowid here (fails g.T.Taker.refuses) n.marks
+    turned_chain c.args.frames.now.items c.args.frame walk candidate c.stepped-in-Chain.ensures here (fails g.T.Taker.refuses) n.marks
     (n.sink, c.args.self.now.taker.now) c.push-in-Chain.ensures.items (ap (λ (p : Pages). p.levels) c.walk_unfed.ensures.beside.bench) r done)
 
 pub returns-in-Chain-clause-walked : goal.returns-in-Chain-clause-walked
