@@ -1,5 +1,5 @@
 // What is read of the cells of the leaf at a level of the bench.
-ghost use Rattle.std.specs.Prelude.{◌≡◌, ◌-◌, ◌<◌, ◌≤◌, length};
+ghost use Rattle.std.specs.Prelude.{◌-◌, ◌<◌, ◌≤◌, length};
 ghost use Rattle.dbformat.specs.Cell.{count};
 ghost use Rattle.dbwalk.specs.LeafCells.{ArePassedAt, AreRisingFrom, HasCell, HasCells};
 ghost use Rattle.dbwalk.specs.Points.{IsSameButGreatest};

@@ -12,7 +12,6 @@ ghost use Rattle.dbtrace.specs.declared.Cause.TheVariants as cause;
 ghost use Rattle.dbwalk.specs.Telling.{SinkWalks};
 
 use crate::{Cause, Fault, Mark, Marks, RowidBounds, Sink};
-use dbformat::FaultCode;
 use dbsource::RunError;
 use std::alloc::Allocator;
 

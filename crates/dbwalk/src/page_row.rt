@@ -1,5 +1,5 @@
 // What is reported of one page of a tree: its row, and its faults.
-ghost use Rattle.std.specs.Prelude.{◌≡◌, ◌≤◌, length, IfOk, IfSome};
+ghost use Rattle.std.specs.Prelude.{◌≡◌, ◌≤◌, length, IfSome};
 ghost use Rattle.dbwalk.specs.LeafCells.{HasSpan};
 ghost use Rattle.dbwalk.specs.Found.{IsPlaceOf, IsUsable, damage_fault, undamaged_findings, damaged_findings};
 ghost use Rattle.dbwalk.specs.Telling.{IsReportedTo};

@@ -1,5 +1,5 @@
 // The walk over one tree (Database File Format, 1.6).
-ghost use Rattle.std.specs.Prelude.{◌≡◌, ℕ, ◌≤◌, [], ◌↔◌, List, None, IfErr, OnOk, false};
+ghost use Rattle.std.specs.Prelude.{◌≡◌, ◌≤◌, [], ◌↔◌, List, None, IfErr, OnOk, false};
 ghost use Rattle.dbformat.specs.FixedPages.{IsPageNumber};
 ghost use Rattle.dbformat.specs.Address.{schema_start};
 ghost use Rattle.dbformat.specs.File.{geometry as shape_of};
