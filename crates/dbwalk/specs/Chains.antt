@@ -89,7 +89,7 @@ pub record HasHead (file : List ℕ) (chain : Chain) (V : List Reference) (d : R
   pub item : item_of head ≡ chain.cell
   pub rowid : cell_rowid file chain.page chain.cell ≡ chain.rowid
 
--- What is seen in the page that was read last before page `number` of a chain: that is none of the chain before its first page.
+-- What is seen in the page that was read last before page `number` of a chain. Before its first page that page is not of the chain.
 abbrev pub seen_before : ℕ → ℕ → List ℕ → SeenBytes
 seen_before usable number here = if number == 0 then nothing_seen else seen_bytes usable here
 

@@ -115,13 +115,13 @@ abbrev pub HandsRow : {S T : Type 0} → (S → List Finding → S → Type 0) �
 HandsRow tells keeps (at, Err f) before after = tells before.0 (findings (fault_of at f ∷ [])) after.0 × (before.1 ≡ after.1)
 HandsRow tells keeps (at, Ok row) before after = (a : Taken) × keeps before.1 row a after.1 × tells before.0 (findings (taken_faults at row a)) after.0
 
--- The sink was found shut, and nothing became of the row; or the taker was refused memory for it, and nothing was reported.
+-- The sink was found shut, and nothing was done with the row; or the taker was refused memory for it, and nothing was reported.
 abbrev pub FailsRow : {S T : Type 0} → (T → SchemaRow → T → Type 0) → RunError → RowPlace × Result SchemaRow RowFault → S × T → S × T → Type 0
 FailsRow refuses WriteFailed row before after = before ≡ after
 FailsRow refuses OutOfMemory (at, Ok row) before after = refuses before.1 row after.1 × (before.0 ≡ after.0)
 FailsRow refuses _ row before after = ⊥
 
--- what became of a row
+-- what was done with a row
 abbrev pub TellsRow : {S T A : Type 0} → (S → Finding → S → Type 0) → (T → SchemaRow → Taken → T → Type 0) → (T → SchemaRow → T → Type 0)
     → RowPlace × Result SchemaRow RowFault → Result A RunError → S × T → S × T → Type 0
 TellsRow takes keeps refuses row r before after = MatchResult r (λ _. HandsRow (Moves takes) keeps row before after) (λ e. FailsRow refuses e row before after)

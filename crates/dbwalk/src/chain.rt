@@ -196,11 +196,11 @@ pub(crate) fn walk_chain<S: Source, K: Sink, A: Allocator>(
 }
 
 /// Walks along the overflow chain of a cell as [`walk_chain`] does, for a caller that has no sieve. It is a function of its own
-/// so that only a chain costs the room of a sieve.
+/// so that a sieve takes room on the stack only where there is a chain.
 ///
 /// # Errors
 ///
-/// As of [`walk_chain`].
+/// Those of [`walk_chain`].
 #[inline(never)]
 pub(crate) fn walk_unfed<S: Source, K: Sink, A: Allocator>(
     source: &mut S,

@@ -162,7 +162,8 @@ fn row_sieve<A: Allocator>(
     }
 }
 
-// Puts that sieve into its place. It is a function of its own so that only a row of the schema costs the room of one more.
+// Puts that sieve into its place. It is a function of its own so that the sieve takes room on the stack a second time only for a row
+// of the schema.
 #[inline(never)]
 fn put_sieve<A: Allocator>(
     bench: &Bench<A>,

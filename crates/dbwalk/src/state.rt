@@ -70,8 +70,8 @@ fn go_on_from(own: RowidBounds, other: RowidBounds) -> bool
     }
 }
 
-// The rows of a leaf at another depth than the first, by the rowids of both: where they go on from those of the first, also these,
-// since one of the two is at the wrong depth.
+// The rows of a leaf at another depth than the first, by the rowids of both. If they go on from the rows of the first leaf, those belong
+// to them too, since one of the two leaves is at the wrong depth.
 fn leaf_rows(first: RowidBounds, own: RowidBounds) -> RowidBounds
     ensures { result ≡ leaf_rows first own }
 {

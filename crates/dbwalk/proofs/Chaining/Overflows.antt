@@ -34,7 +34,7 @@ use Rattle.dbtrace.specs.Causes.{cause_of}
 use Rattle.dbtrace.specs.declared.Cause.{Cause}
 use Rattle.dbtrace.specs.Finding.{told_row, told_fault, told_by, told_at}
 
--- nothing is a beginning of anything
+-- nothing that was taken is a beginning of every list
 pub moves_none : {S E : Type 0} (takes : S → E → S → Type 0) (s : S) (es : List E) → MovesBySome takes s es s
 moves_none takes s [] = refl
 moves_none takes s (e ∷ es) = inl refl

@@ -44,7 +44,7 @@ beside_read p count moves only = record {
   bench = only ∙ ap (λ x. record p { chain = x }) (sym (ap (λ (p : Pages). p.chain) only));
 }
 
--- the answer beyond Ok or an error does not matter
+-- the same of an answer of another type
 pub beside_ok : {A B : Type 0} {x : A} {y : B} {s t : SourceState} {a b : SinkState} {p q : Pages} → LeavesBeside (Ok x) s t a b p q
     → LeavesBeside (Ok y) s t a b p q
 beside_ok h = record { reads = h.reads; writes = walks_ok h.writes.moves; only = tt; bench = h.bench }

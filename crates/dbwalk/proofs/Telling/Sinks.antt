@@ -31,7 +31,7 @@ pub walks_err : {A : Type 0} {r : Result A RunError} {e : RunError} {a b : SinkS
     → SinkWalks r a b
 walks_err {a = a} {b = b} q h s = subst (λ r. SinkWalks r a b) (sym q) (record { moves = h; shut = s })
 
--- the answer beyond Ok does not matter
+-- the same error, of an answer of another type
 pub walks_as : {A B : Type 0} {r : Result B RunError} {e : RunError} {a b : SinkState} → r ≡ Err e → SinkWalks {A = A} (Err e) a b → SinkWalks r a b
 walks_as q h = walks_err q h.moves h.shut
 

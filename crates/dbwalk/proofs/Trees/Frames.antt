@@ -148,7 +148,7 @@ module _ (usable : ℕ) (kind : TreeKind) (levels : List (List ℕ)) where
     open_kept level [] same a = tt
     open_kept level (f ∷ fs) same a = (one_kept level f (same level (omega arith)) a.0, open_kept (level + 1) fs (λ n l. same n (omega arith)) a.1)
 
--- what they may take
+-- how many turns they may take
 
 cost_push : (fs : List StackFrame) (f : StackFrame) → frames_cost (fs ++ (f ∷ [])) ≡ frames_cost fs + (98310 - f.next)
 cost_push [] f = omega arith
@@ -207,7 +207,7 @@ pub record IsAtStep (usable : ℕ) (kind : TreeKind) (levels : List (List ℕ)) 
   pub last : IsOpen usable kind levels (0 + length fs) f.page f.next
   pub stands : IsNextStep last.view f.next next
 
--- by another number of the level, and of what was found there
+-- the same by other names of the level and of what was found there
 pub next_at : {usable : ℕ} {kind : TreeKind} {levels : List (List ℕ)} {level level' page s : ℕ} {next next' : Next} → level ≡ level' → next ≡ next'
     → HasNext usable kind levels level page s next → HasNext usable kind levels level' page s next'
 next_at {usable = usable} {kind = kind} {levels = levels} {level' = level'} {page = page} {s = s} {next = next} deep is has =

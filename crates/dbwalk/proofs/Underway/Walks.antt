@@ -90,7 +90,7 @@ module _ {A S K T : Type 0} (told : S → SourceState) (held : K → SinkState) 
   walked_err {e = e} q only same shape reads writes kept others = walked_as {R = Unit {0}} q
       (walked_by same shape reads writes (kept ∙ none_refused {A = Unit {0}} (Err e) _ only) (inl only) others)
 
-  -- and so where there is none
+  -- the same where there is no error
   pub walked_as_ok : {R Q : Type 0} {a : R} {b : Q} {g g' : Geometry} {old new : TreeWalk A S K T} → Walked told held refusals (Ok a) g g' old new
       → Walked told held refusals (Ok b) g g' old new
   walked_as_ok w = walked_by (same_of w) w.shape w.reads (walks_ok w.writes.moves) w.refused tt w.others
