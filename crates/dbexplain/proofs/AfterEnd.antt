@@ -13,11 +13,11 @@ use Rattle.dbexplain.specs.AfterEnd.{after_end_told, leads_after_end, none_after
 use Rattle.dbexplain.specs.declared.after_end.AfterEnd.{AfterEnd}
 
 module _ (g : Geometry) (len : ℕ) where
-  -- this many were counted
+  -- the state when this many are counted
   abbrev counting : ℕ → AfterEnd
   counting m = record { last = g.pages; whole = len / g.page_size; references = m }
 
-  -- and after these faults so many more
+  -- from such a state on, these faults add as many as lead there
   abbrev CountsOn : List TracedFault → Type 0
   CountsOn ts = (m n : ℕ) → m ≡ counted n
       → (fold after_end_told (counting m) ts).references ≡ counted (n + count_by (leads_after_end g len) (faults_of ts))
