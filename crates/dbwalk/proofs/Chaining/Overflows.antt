@@ -33,6 +33,7 @@ use Rattle.dbwalk.specs.Chains.{IsOnChain, next_of}
 use Rattle.dbtrace.specs.Causes.{cause_of}
 use Rattle.dbtrace.specs.declared.Cause.{Cause}
 use Rattle.dbtrace.specs.Finding.{told_row, told_fault, told_by, told_at}
+use Rattle.std.proofs.lemmas.List.{append-nil}
 
 -- nothing is a beginning of anything
 pub moves_none : {S E : Type 0} (takes : S → E → S → Type 0) (s : S) (es : List E) → MovesBySome takes s es s
@@ -135,25 +136,28 @@ last_errands file c left h l =
     by_chain file c left h
     ∙ ap (λ b. map (go c) (cond b (link c.page 0 0 (later_overflow (left - (usable_size file - 4))) (overflow_next (page_bytes file c.page)) ∷ []) [])) e
 
--- the place of the next page in the chain
-abbrev at : ℕ → ℕ → Option (ℕ × ℕ)
-at i n = Some (i, n)
+-- what a step after others adds to the children, and where it leads: to a child, into a chain, or on along one
+abbrev pub child_by : Option (ℕ × ℕ) → ℕ → List ℕ
+child_by None s = cond (is_child_step s) (cell_of_step s ∷ []) []
+child_by (Some place) s = []
 
-chain_more : (steps : List ℕ) (i n : ℕ) → chain_on steps ≡ at i n → (children_on (steps ++ 0 ∷ []) ≡ children_on steps)
-    × (chain_on (steps ++ 0 ∷ []) ≡ at i (n + 1))
-chain_more [] i n h = cc
-chain_more (step ∷ steps) i n h = by_step (is_child_step step) h (chain_more steps i n)
+abbrev pub place_by : Option (ℕ × ℕ) → ℕ → Option (ℕ × ℕ)
+place_by None s = cond (is_child_step s) None (Some (cell_of_step s, 0))
+place_by (Some place) s = Some (place.0, place.1 + 1)
+
+pub steps_then : (steps : List ℕ) (s : ℕ) → (children_on (steps ++ s ∷ []) ≡ children_on steps ++ child_by (chain_on steps) s)
+    × (chain_on (steps ++ s ∷ []) ≡ place_by (chain_on steps) s)
+steps_then [] s = (refl, refl)
+steps_then (t ∷ steps) s = by_step (is_child_step t) (steps_then steps s)
   where
-    last : (j m l : ℕ) → l ≡ m + 1 → at j m ≡ at i n → at j l ≡ at i (n + 1)
-    last j m l e h = let k : ◌≡◌ {A = ℕ × ℕ} (j, m) (i, n) = cc in let a : j ≡ i = ap (λ x. x.0) k in let b : m ≡ n =
-        ap (λ x. x.1) k in ap (λ k. at j k) (e ∙ ap (λ m. m + 1) b) ∙ ap (λ j. at j (n + 1)) a
-
-    by_step : (b : Bool) → cond b (chain_on steps) (at (cell_of_step step) (length steps)) ≡ at i n
-        → (chain_on steps ≡ at i n → (children_on (steps ++ 0 ∷ []) ≡ children_on steps) × (chain_on (steps ++ 0 ∷ []) ≡ at i (n + 1)))
-        → (cond b (cell_of_step step ∷ children_on (steps ++ 0 ∷ [])) [] ≡ cond b (cell_of_step step ∷ children_on steps) [])
-        × (cond b (chain_on (steps ++ 0 ∷ [])) (at (cell_of_step step) (length (steps ++ 0 ∷ []))) ≡ at i (n + 1))
-    by_step true h f = let k = f h in (ap (λ l. cell_of_step step ∷ l) k.0, k.1)
-    by_step false h f = (refl, last (cell_of_step step) (length steps) (length (steps ++ 0 ∷ [])) (length-append steps (0 ∷ [])) h)
+    by_step : (b : Bool) → (children_on (steps ++ s ∷ []) ≡ children_on steps ++ child_by (chain_on steps) s)
+        × (chain_on (steps ++ s ∷ []) ≡ place_by (chain_on steps) s)
+        → (cond b (cell_of_step t ∷ children_on (steps ++ s ∷ [])) []
+        ≡ cond b (cell_of_step t ∷ children_on steps) [] ++ child_by (cond b (chain_on steps) (Some (cell_of_step t, length steps))) s)
+        × (cond b (chain_on (steps ++ s ∷ [])) (Some (cell_of_step t, length (steps ++ s ∷ [])))
+        ≡ place_by (cond b (chain_on steps) (Some (cell_of_step t, length steps))) s)
+    by_step true h = (ap (λ l. cell_of_step t ∷ l) h.0, h.1)
+    by_step false h = (refl, ap (λ n. Some (cell_of_step t, n)) (length-append steps (s ∷ [])))
 
 pub next_on_chain : (chain : Chain) (number : ℕ) (c : Reference) (left page : ℕ) → IsOnChain chain number c → IsOnChain chain (number + 1) (next_of c left page)
 next_on_chain chain number c left page h = by_address c.address h.start h.path h.place
@@ -161,4 +165,8 @@ next_on_chain chain number c left page h = by_address c.address h.start h.path h
     by_address : (a : List ℕ) → start_of a ≡ chain.start → child_path a ≡ chain.path.now → chain_place a ≡ Some (chain.cell, number)
         → IsOnChain chain (number + 1) (record { address = then_step a 0; page = page; role = record { role = later_overflow left; from = c.page; item = 0 } })
     by_address [] s p q = absurd (let k : None ≡ Some (chain.cell, number) = q in cc)
-    by_address (x ∷ a) s p q = let k = chain_more a chain.cell number q in record { start = s; path = k.0 ∙ p; place = k.1 }
+    by_address (x ∷ a) s p q = let k = steps_then a 0 in record {
+      start = s;
+      path = k.0 ∙ ap (λ o. children_on a ++ child_by o 0) q ∙ append-nil (children_on a) ∙ p;
+      place = k.1 ∙ ap (λ o. place_by o 0) q;
+    }
