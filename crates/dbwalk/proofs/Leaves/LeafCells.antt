@@ -42,7 +42,7 @@ cell_at_size LeafTable v offset x e =
     let size = then_some (varint (bytes_from v offset)) _ x e in
     let rowid = then_some (varint (bytes_from v (offset + size.0.1))) _ x size.2 in
     payload_size v TableLeaf offset _ _ None _ x rowid.2
-cell_at_size InteriorTable v offset x e = none (then_some (varint (bytes_from v (offset + 4))) _ x e).2
+cell_at_size InteriorTable v offset x e = none (then_some (varint (bytes_from v (offset + 4))) _ x e).2 (omega arith)
   where
     none : {y : Cell} → Some y ≡ Some x → y.size ≤ most_payload → x.size ≤ most_payload
     none {y} e l = let same : y ≡ x = cc in subst (λ x. x.size ≤ most_payload) same l
@@ -79,6 +79,15 @@ module _ (b : Pages) (kind : TreeKind) (level page : ℕ) (low : level < 20) (us
     key_is = λ y v e f l. (h v (seen y v e f) l).1;
   }
 
+  -- the sieve of a cell, and what is at a step
+  pub has_sieve : (i : ℕ) (e : Encoding) (sieve : Option RowSieve) → ((v : View) → o ≡ Some v → i < count v → HoldsCell sieve e (result_ok (cell v i)))
+      → HasSieve b.geometry.usable kind b.levels level page i e sieve
+  has_sieve i e sieve h = record { read = λ y v a f l. h v (seen y v a f) l }
+
+  pub has_next : (s : ℕ) (next : Next) → ((v : View) → o ≡ Some v → (count v ≤ 32768) × IsNextStep v s next)
+      → HasNext b.geometry.usable kind b.levels level page s next
+  has_next s next h = record { few = λ y v e f. (h v (seen y v e f)).0; stands = λ y v e f. (h v (seen y v e f)).1 }
+
 -- what is read of a readable cell, and of one that is not
 module _ (w v : View) (same : Some w ≡ Some v) (i : ℕ) where
   view_same : w ≡ v
@@ -113,14 +122,6 @@ same_view w v e = cc
 
 -- The sieve of a cell of a leaf.
 
-pub has_sieve : (b : Pages) (kind : TreeKind) (level page : ℕ) (low : level < 20) (usable : ℕ) (usable_is : usable ≡ b.geometry.usable) (bytes : List ℕ)
-    (bytes_are : bytes ≡ bytes_at b level) (o : Option View) (viewed : undamaged kind page usable bytes ≡ o)
-    (i : ℕ) (e : Encoding) (sieve : Option RowSieve) → ((v : View) → o ≡ Some v → i < count v → HoldsCell sieve e (result_ok (cell v i)))
-    → HasSieve b.geometry.usable kind b.levels level page i e sieve
-has_sieve b kind level page low usable usable_is bytes bytes_are o viewed i e sieve h = record {
-  read = λ y v a f l. h v (seen b kind level page low usable usable_is bytes bytes_are o viewed y v a f) l;
-}
-
 module _ (w v : View) (same : Some w ≡ Some v) (i : ℕ) (e : Encoding) where
   pub holds_cell : (sieve : Option RowSieve) (x : Cell) → cell w i ≡ Ok x → HasFed sieve x.size e x.local → HoldsCell sieve e (result_ok (cell v i))
   holds_cell sieve x read h = subst (λ r. HoldsCell sieve e (result_ok r)) (sym read ∙ ap (λ w. cell w i) (same_view w v same)) h
@@ -135,14 +136,6 @@ no_overflow v n x e f y l g = let h : Ok x ≡ Ok y = sym e ∙ g in let i : x �
 
 pub bad_cell : (v : View) (n : ℕ) (f : CellFault) → cell v n ≡ Err f → (y : Cell) → n < count v → cell v n ≡ Ok y → y.overflow ≡ None
 bad_cell v n f e y l g = let h : Err f ≡ Ok y = sym e ∙ g in cc
-
-pub has_next : (b : Pages) (kind : TreeKind) (level page : ℕ) (low : level < 20) (usable : ℕ) (usable_is : usable ≡ b.geometry.usable) (bytes : List ℕ)
-    (bytes_are : bytes ≡ bytes_at b level) (o : Option View) (viewed : undamaged kind page usable bytes ≡ o)
-    (s : ℕ) (next : Next) → ((v : View) → o ≡ Some v → (count v ≤ 32768) × IsNextStep v s next) → HasNext b.geometry.usable kind b.levels level page s next
-has_next b kind level page low usable usable_is bytes bytes_are o viewed s next h = record {
-  few = λ y v e f. (h v (seen b kind level page low usable usable_is bytes bytes_are o viewed y v e f)).0;
-  stands = λ y v e f. (h v (seen b kind level page low usable usable_is bytes bytes_are o viewed y v e f)).1;
-}
 
 -- a view of a page that is read, at one of its steps
 pub at_step : (w v : View) → Some w ≡ Some v → (usable : ℕ) → usable ≤ 65536 → w.usable ≡ usable → (cells : ℕ) → cells ≡ count w → 2 * cells ≤ w.usable

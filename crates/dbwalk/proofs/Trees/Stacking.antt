@@ -1,5 +1,5 @@
 -- What is left of a walk with a stack, step by step.
-use Rattle.std.proofs.Common.{◌≡◌, ℕ, suc, ◌+◌, ◌<◌, ◌≤◌, inl, inr, List, [], ◌∷◌, Option, Some, None, refl, sym, ap, subst, arith, ◌∙◌, ◌-◌, true, false}
+use Rattle.std.proofs.Common.{◌≡◌, ℕ, suc, ◌<◌, ◌≤◌, inl, inr, List, [], ◌∷◌, Option, Some, None, refl, sym, ap, subst, arith, ◌∙◌, ◌-◌, true, false}
 use Rattle.std.proofs.Common.{cond, ◌++◌, map, Result, Ok, Err, append_assoc}
 use Rattle.std.specs.Prelude.{option_map, filter, flat_map, nat_le, option_to_list, option_and_then, unwrap_or, ◌==◌}
 use Rattle.std.specs.List.{range_with_len}
