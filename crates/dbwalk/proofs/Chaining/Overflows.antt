@@ -1,10 +1,9 @@
 -- What is reported of an overflow page, and what it leads to.
 use Rattle.std.proofs.Common.{◌≡◌, ℕ, ◌+◌, ◌-◌, ◌*◌, ◌≤◌, ◌<◌, Bool, true, false, cond, not, ◌&&◌, List, [], ◌∷◌, ◌++◌, length, map, take, drop, Option, Some}
-use Rattle.std.proofs.Common.{None, refl, sym, ap, ◌∙◌, arith, inl}
+use Rattle.std.proofs.Common.{None, refl, sym, ap, ◌∙◌, arith}
 use Rattle.std.specs.Prelude.{option_to_list, nat_le, nat_lt, ◌==◌, pos}
 use Rattle.std.proofs.lemmas.Bool.Decides.{nat_tests}
 use Rattle.std.proofs.lemmas.List.{length-append}
-use Rattle.dbsurvey.specs.Moves.{MovesBySome}
 use Rattle.dbsurvey.specs.Story.{Go, errands_of}
 use Rattle.dbformat.specs.Address.{start_of, then_step, is_child_step, cell_of_step, children_on, chain_on, child_path, chain_place}
 use Rattle.dbformat.specs.Counts.{overflow_counts}
@@ -35,11 +34,6 @@ use Rattle.dbtrace.specs.declared.Cause.{Cause}
 use Rattle.dbtrace.specs.Finding.{told_row, told_fault, told_by, told_at}
 use Rattle.std.proofs.lemmas.List.{append-nil}
 
--- nothing is a beginning of anything
-pub moves_none : {S E : Type 0} (takes : S → E → S → Type 0) (s : S) (es : List E) → MovesBySome takes s es s
-moves_none takes s [] = refl
-moves_none takes s (e ∷ es) = inl refl
-
 -- the bytes that a load leaves are those of the page
 pub page_read : (file bytes : List ℕ) (size p : ℕ) → length bytes ≡ size → IsRangeOf file ((p - 1) * size) bytes → (geometry file).page_size ≡ size → bytes
     ≡ page_bytes file p
@@ -54,12 +48,8 @@ pub told_overflow : (file : List ℕ) (U : List Reference) (c : Reference) (left
 unfolding page_faults
 told_overflow file U c left h = by_role (role_of c) h
   where
-    by_left : (l : ℕ) → Some l ≡ Some left → told_row (overflow_page_row c (usable_size file) l)
-        ∷ told_by (cause_of file U (at_page c)) (overflow_fault (usable_size file) l c.page (page_bytes file c.page))
-        ≡ told_row (overflow_page_row c (usable_size file) left)
-        ∷ told_by (cause_of file U (at_page c)) (overflow_fault (usable_size file) left c.page (page_bytes file c.page))
-    by_left l e = let k : l ≡ left = cc in ap (λ l. told_row (overflow_page_row c (usable_size file) l)
-        ∷ told_by (cause_of file U (at_page c)) (overflow_fault (usable_size file) l c.page (page_bytes file c.page))) k
+    same : (l : ℕ) → Some l ≡ Some left → l ≡ left
+    same l e = cc
 
     by_role : (role : Role) → bytes_left role ≡ Some left → map told_row (option_to_list (row_in role file c))
         ++ told_by (cause_of file U (at_page c)) (role_faults role file U c)
@@ -67,8 +57,8 @@ told_overflow file U c left h = by_role (role_of c) h
         ∷ told_by (cause_of file U (at_page c)) (overflow_fault (usable_size file) left c.page (page_bytes file c.page))
     by_role (root kind) e = cc
     by_role (child kind) e = cc
-    by_role (first_overflow l) e = by_left l e
-    by_role (later_overflow l) e = by_left l e
+    by_role (first_overflow l) e = rw (same l e) refl
+    by_role (later_overflow l) e = rw (same l e) refl
     by_role trunk e = cc
     by_role free_leaf e = cc
 

@@ -46,6 +46,11 @@ use Rattle.dbwalk.proofs.Telling.Belows.{told_none}
 use Rattle.dbwalk.proofs.Underway.CellSteps.{order_told_of, cell_items, greatest_behind, no_row_elsewhere}
 use Rattle.dbwalk.proofs.Underway.Handing.{HasEnded, bare_visits, done_then, done_stops, found_handed, no_memory, handed_after, stop_first, row_handed}
 
+-- there is no sieve
+pub gone : (o : Option RowSieve) → is_some o ≡ false → o ≡ None
+gone None e = refl
+gone (Some s) e = cc
+
 -- the row of a readable cell of the schema's tree, by these visits
 abbrev pub rows_behind : List ℕ → List Reference → Reference → View → ℕ → Option Cell → List SchemaCell
 rows_behind file U c v i None = []
@@ -215,10 +220,6 @@ module _ (file : List ℕ) (from : Walk) (c : Reference) (kind : TreeKind) (v : 
           → TellsRow takes keeps refuses (place, schema_row bytes size e) r (s, t) (s', t')) → Rows rows
       cell_row_handed schema old holds before fed kept told = by_cell (result_ok (cell v i)) key_is holds
         where
-          gone : (o : Option RowSieve) → is_some o ≡ false → o ≡ None
-          gone None e = refl
-          gone (Some s) e = cc
-
           by_cell : (o : Option Cell) → key ≡ option_and_then (λ c. c.key) o → HoldsCell old e o → Rows (rows_behind file m.visits c v i o)
           by_cell None key_is h = none_handed (gone new (kept ∙ ap is_some h))
           by_cell (Some x) key_is h =
@@ -244,10 +245,6 @@ module _ (file : List ℕ) (from : Walk) (c : Reference) (kind : TreeKind) (v : 
         | inr f ↦ no_row_handed f (gone new (kept ∙ ap is_some (other (later start f))))
       ]
         where
-          gone : (o : Option RowSieve) → is_some o ≡ false → o ≡ None
-          gone None e = refl
-          gone (Some s) e = cc
-
           later : start_of c.address ≡ k → (start_of c.address == schema_start) ≡ false → 1 ≤ k
           later e f = grind (arith, nat_tests)
 

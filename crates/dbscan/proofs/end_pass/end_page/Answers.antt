@@ -17,7 +17,8 @@ use Rattle.dbmarks.specs.EndMarks.{entry_value}
 use Rattle.dbscan.specs.MapReads.{HasMapFor, IsMapInUse}
 use Rattle.dbscan.proofs.EndItems.{fixed_items, other_items, used_items}
 use Rattle.dbscan.proofs.MapLogs.{asks_nothing}
-use Rattle.dbwalk.proofs.Chaining.Overflows.{moves_none, page_read}
+use Rattle.dbsurvey.proofs.Moving.{some_none}
+use Rattle.dbwalk.proofs.Chaining.Overflows.{page_read}
 use Rattle.dbmarks.proofs.Readings.{log_load}
 use Rattle.dbscan.proofs.MapPlaces.{next_read, next_kept, not_map, on_ok, not_in_use}
 use Rattle.dbscan.proofs.end_pass.end_page.Goals as goal
@@ -32,7 +33,7 @@ returns-in_err-load-clause-asks g c =
       log = has_weaker _ _ (log_load size c.args.page level.bytes (Err c.in_err-load.field-0.0) c.in_err-load.ensures.told level.size level.holds)
           (λ log l. inr (l, used))
           (λ file bytes mark m e ok same chain. (
-            moves_none g.K.Reporter.hears c.args.reporter.now (page_notices file c.args.least_other c.args.page mark),
+            some_none g.K.Reporter.hears c.args.reporter.now (page_notices file c.args.least_other c.args.page mark),
             tt,
           ));
       count = c.in_err-load.ensures.count;

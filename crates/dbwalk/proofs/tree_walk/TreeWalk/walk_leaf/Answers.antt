@@ -1,5 +1,4 @@
 use Rattle.std.proofs.Common.{rules, ◌≡◌, ◌+◌, ◌-◌, ◌<◌, ◌≤◌, length, inl, None, Ok, Err, refl, sym, ap, subst, ◌∙◌, arith}
-use Rattle.std.proofs.lemmas.Result.{err_from_is_err_and}
 use Rattle.dbformat.specs.Cell.{count}
 use Rattle.dbformat.specs.Errands.{cell_errands}
 use Rattle.dbformat.specs.File.{page_bytes}
@@ -13,7 +12,7 @@ use Rattle.dbwalk.proofs.Underway.Handing.{stopped_as}
 use Rattle.dbwalk.proofs.Underway.LeafLoop.{cells_done, leaf_as, passed_same, on_start, on_more, on_stop, on_pass, on_end}
 use Rattle.dbwalk.proofs.Underway.CellSteps.{other_start}
 use Rattle.dbwalk.proofs.Underway.Walks.{walked_as, walked_behind, walked_by, walked_tree}
-use Rattle.dbwalk.proofs.Telling.Sinks.{walks_ok}
+use Rattle.dbwalk.proofs.Telling.Sinks.{err_is, walks_ok}
 use Rattle.dbwalk.proofs.tree_walk.TreeWalk.walk_leaf.Goals as goal
 
 pub loop-i-init : goal.loop-i-init
@@ -84,7 +83,6 @@ returns-in_err-walk_leaf_cell-clause-log g c =
     let w = c.loop-i.invariant in
     log_then _ _ (ap (λ s. s.page_size) w.walked.shape) w.log c.in_err-walk_leaf_cell.ensures.log (λ file on done e coded from d v at viewed leaf before isat.
     let t = c.args.self.now.tree in
-    let q = err_from_is_err_and c.from_residual.result c.from_residual.ensures.1 in
     let cells = cells_here file at viewed (ap (λ s. s.usable) e) c.len-level.ensures.value c.leaf_cells-cells.ensures in
     let low : c.loop-i.i < count v = omega arith in
     let s = on e coded from d v at viewed leaf before isat in
@@ -92,7 +90,7 @@ returns-in_err-walk_leaf_cell-clause-log g c =
     let cell = done (w.walked.shape ∙ e) (w.walked.coded ∙ coded) (cells_done file from d t.kind v c.loop-i.i) d v
     (leaf_as file t.kind c.loop-i.self.tree.kind t.start c.loop-i.self.tree.start t.path.items c.loop-i.self.tree.path.items c.args.bench.now.levels
     c.loop-i.bench.levels c.args.page d w.tree.1 w.tree.0 (ap (λ p. p.items) w.tree.3) w.levels at) viewed leaf low s.1 s.0.at in
-    stopped_as (q.1 ∙ ap Err q.2)
+    stopped_as (err_is c.from_residual.ensures.1)
     (subst (λ es. HasDone {A = Unit {0}} (watches g.K.Sink.takes g.T.Taker.takes) (fails g.T.Taker.refuses) file
     (done_below file from es) (Err c.in_err-walk_leaf_cell.field-0.0) (new.self.marks.now, new.self.tree)
     (c.args.self.now.sink.now, c.args.self.now.taker.now) (new.self.sink.now, new.self.taker.now))
@@ -129,8 +127,7 @@ walk_leaf_cell-requires g c =
 
 pub returns-in_err-walk_leaf_cell-clause-walked : goal.returns-in_err-walk_leaf_cell-clause-walked
 returns-in_err-walk_leaf_cell-clause-walked g c =
-    let q = err_from_is_err_and c.from_residual.result c.from_residual.ensures.1 in
-    walked_as g.S.Source.held g.K.Sink.held g.T.Taker.refusals {R = Unit {0}} (q.1 ∙ ap Err q.2)
+    walked_as g.S.Source.held g.K.Sink.held g.T.Taker.refusals {R = Unit {0}} (err_is c.from_residual.ensures.1)
     (walked_behind g.S.Source.held g.K.Sink.held g.T.Taker.refusals c.in_err-walk_leaf_cell.ensures.walked c.loop-i.invariant.walked)
 
 pub returns-in_err-walk_leaf_cell-clause-tree : goal.returns-in_err-walk_leaf_cell-clause-tree
