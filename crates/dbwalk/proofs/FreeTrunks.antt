@@ -86,7 +86,8 @@ module _ (file : List ℕ) (d : Reference) (role : role_of d ≡ trunk) where
   told_by_count : (V : List Reference) (b : Bool) → nat_lt (most_leaves (usable_size file)) (leaf_count page) ≡ b
       → told_at file V (at_page d) ≡ told_by (cause_of file V (at_page d)) (cond b (fault L01 d.page 0 (pos (leaf_count page)) ∷ []) [])
   unfolding page_faults
-  told_by_count V b e = ap (λ role. map told_row (option_to_list (row_in role file d)) ++ told_by (cause_of file V (at_page d)) (role_faults role file V d)) role
+  told_by_count V b e =
+      ap (λ role. map told_row (option_to_list (row_in role file d)) ++ told_by (cause_of file V (at_page d)) (role_faults role file V d)) role
       ∙ ap (λ b. told_by (cause_of file V (at_page d)) (cond b (fault L01 d.page 0 (pos (leaf_count page)) ∷ []) [])) e
 
   -- what it leads to, by whether they fit
@@ -151,13 +152,13 @@ module _ {S : Type 0} {takes : S → Finding → S → Type 0} {file : List ℕ}
         (subst (λ y. IsLeft takes file W (Go c ∷ []) before on.at.visited (Go on.at.d ∷ []) (marks, y)) e.2 on.at.rest)
 
 -- the next trunk, or none
-pub next_turned : {S : Type 0} (takes : S → Finding → S → Type 0) (file : List ℕ) (W : List Reference) (c : Reference) (before : S) (d : Reference)
-    (page item : ℕ) (U : List Reference) (marks : List Mark) (s : S) → d.page ≡ page
+pub next_turned : {S : Type 0} {takes : S → Finding → S → Type 0} {file : List ℕ} {W : List Reference} {c : Reference} {before : S} (d : Reference) (item : ℕ)
+    {U : List Reference} {marks : List Mark} {s : S}
     → IsLeft takes file W (Go c ∷ []) before U (map (go d) (next_trunk d.page (page_bytes file d.page) item)) (marks, s)
-    → Turns takes file W c before (λ step. IsOnTrunks takes file W c before step marks s) Unit (Ok (next_step (u32_at 0 (page_bytes file page)) page item)) marks s
-next_turned {S} takes file W c before d page item U marks s e h =
-    subst (λ p. Turns takes file W c before (λ step. IsOnTrunks takes file W c before step marks s) Unit (Ok (next_step (u32_at 0 (page_bytes file p)) p item)) marks s)
-    e (by_next (u32_at 0 (page_bytes file d.page)) (u32_at 0 (page_bytes file d.page) == 0) h)
+    → Turns takes file W c before (λ step. IsOnTrunks takes file W c before step marks s) Unit
+    (Ok (next_step (u32_at 0 (page_bytes file d.page)) d.page item)) marks s
+next_turned {S} {takes} {file} {W} {c} {before} d item {U} {marks} {s} h =
+    by_next (u32_at 0 (page_bytes file d.page)) (u32_at 0 (page_bytes file d.page) == 0) h
   where
     by_next : (n : ℕ) (b : Bool) → IsLeft takes file W (Go c ∷ []) before U (map (go d) (cond b [] (link d.page item item trunk n ∷ []))) (marks, s)
         → Turns takes file W c before (λ step. IsOnTrunks takes file W c before step marks s) Unit (Ok (cond b None (Some (trunk_step n d.page item)))) marks s

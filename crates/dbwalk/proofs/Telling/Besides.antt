@@ -86,8 +86,8 @@ beside_then {r = r} {q = q} h k = record {
 -- The same with the log of the reads, and what holds of each file.
 
 -- nothing was read
-pub walk_unread : {A : Type 0} {r : Result A RunError} {step : answers.Step} {s : SourceState} {a b : SinkState} {p : Pages} {l m : List Mark} {T : List ℕ → Type 0}
-    → LeavesBeside r s s a b p p → KeepsMarks l m → ((file : List ℕ) → T file) → WalksBeside step r s s a b p p l m T
+pub walk_unread : {A : Type 0} {r : Result A RunError} {step : answers.Step} {s : SourceState} {a b : SinkState} {p : Pages} {l m : List Mark}
+    {T : List ℕ → Type 0} → LeavesBeside r s s a b p p → KeepsMarks l m → ((file : List ℕ) → T file) → WalksBeside step r s s a b p p l m T
 walk_unread {s = s} {p = p} {l = l} {m = m} beside keeps says =
     record { log = has_none s s refl refl (reads_none p.geometry.page_size l m keeps) (λ file e. says file); beside = beside }
 
@@ -97,8 +97,8 @@ pub walk_as : {A B : Type 0} {r : Result B RunError} {e : RunError} {step : answ
     → WalksBeside step r s t a b o p l m T
 walk_as q h says = record { log = has_weaker _ _ h.log (λ log k. k) (λ file f e. says file (f e)); beside = beside_as q h.beside }
 
-pub walk_told : {A B : Type 0} {x : A} {y : B} {step : answers.Step} {s t : SourceState} {a b c : SinkState} {o p : Pages} {l m : List Mark} {P T : List ℕ → Type 0}
-    → WalksBeside step (Ok x) s t a b o p l m P → SinkMoves b c → ((file : List ℕ) → o.geometry ≡ geometry file → P file → T file)
+pub walk_told : {A B : Type 0} {x : A} {y : B} {step : answers.Step} {s t : SourceState} {a b c : SinkState} {o p : Pages} {l m : List Mark}
+    {P T : List ℕ → Type 0} → WalksBeside step (Ok x) s t a b o p l m P → SinkMoves b c → ((file : List ℕ) → o.geometry ≡ geometry file → P file → T file)
     → WalksBeside step (Ok y) s t a c o p l m T
 walk_told h moves says = record {
   log = has_weaker _ _ h.log (λ log k. k) (λ file f e. says file e (f e));
@@ -106,8 +106,8 @@ walk_told h moves says = record {
 }
 
 -- one part after another
-pub walk_then : {A B : Type 0} {x : A} {r : Result B RunError} {step : answers.Step} {s t u : SourceState} {a b c : SinkState} {o p q : Pages} {l m n : List Mark}
-    {P Q T : List ℕ → Type 0} → WalksBeside step (Ok x) s t a b o p l m P → WalksBeside step r t u b c p q m n Q
+pub walk_then : {A B : Type 0} {x : A} {r : Result B RunError} {step : answers.Step} {s t u : SourceState} {a b c : SinkState} {o p q : Pages}
+    {l m n : List Mark} {P Q T : List ℕ → Type 0} → WalksBeside step (Ok x) s t a b o p l m P → WalksBeside step r t u b c p q m n Q
     → ((file : List ℕ) → o.geometry ≡ geometry file → P file → Q file → T file) → WalksBeside step r s u a c o q l n T
 walk_then h k says = record {
   log = log_then _ _ (ap (λ (b : Pages). b.geometry.page_size) h.beside.bench) h.log k.log

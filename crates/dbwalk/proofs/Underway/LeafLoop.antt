@@ -112,8 +112,7 @@ module _ (file : List ℕ) (from : Walk) (c : Reference) (kind : TreeKind) (v : 
         → HasEnded (watches takes keeps) stops file (D i) (Ok tt) mid w x
         → HasEnded (watches takes keeps) stops file (done_below file (D i) (cell_errands c kind v i)) r now x y
         → HasEnded (watches takes keeps) stops file (D (i + 1)) r now w y
-    cells_more r i mid now x y h k = subst (λ es. HasEnded (watches takes keeps) stops file (done_below file from es) r now w y)
-        (sym (one_cell_more c kind v i))
+    cells_more r i mid now x y h k = rw (one_cell_more c kind v i)
         (done_then (watches takes keeps) stops file from tt r (errands_before c kind v i) (cell_errands c kind v i) mid now w x y (quiet_before i) h k)
 
     -- an error in the first cells

@@ -1,12 +1,10 @@
-use Rattle.std.proofs.Common.{rules, arith, ◌≡◌, ℕ, ◌+◌, ◌-◌, List, Option, set, Ok, Err, sym, ap, ap₂, subst, ◌∙◌}
+use Rattle.std.proofs.Common.{rules, arith, ◌≡◌, ℕ, ◌+◌, ◌-◌, List, Option, set, Ok, Err, sym, ap, ap₂, ◌∙◌}
 use Rattle.dbformat.specs.File.{page_bytes}
 use Rattle.dbmarks.specs.Marking.{unmarked_pages}
 use Rattle.dbmarks.proofs.Readings.{log_load, log_none, log_page, put_count}
 use Rattle.dbtrace.specs.Causes.{refusal_cause}
 use Rattle.dbtrace.specs.declared.Cause.{Cause}
-use Rattle.dbwalk.specs.Beside.{Opens}
 use Rattle.dbwalk.specs.Chains.{known_cause}
-use Rattle.dbwalk.specs.Entered.{Enters}
 use Rattle.dbwalk.specs.declared.chain.ChainPage.{ChainPage}
 use Rattle.dbwalk.proofs.Chaining.Overflows.{page_read}
 use Rattle.dbwalk.proofs.Telling.Besides.{beside_read, beside_shut, beside_told, beside_unread}
@@ -25,8 +23,7 @@ returns-in_err-enter-clause-walks g c =
       log = log_none c.args.bench.now.geometry.page_size c.args.marks.now c.enter.new.marks (g.S.Source.held c.args.source.now)
           c.in_err-enter.ensures.after_error.1 (λ file s. record {
             opens = λ W d step next m w.
-                subst (λ r. Opens g.K.Sink.takes file W d r c.enter.new.marks c.args.sink.now c.enter.new.sink c.args.bench.now.chain) (sym e)
-                (c.in_err-enter.ensures.entered file W d (refusal_cause file W d) step next m
+                rw e (c.in_err-enter.ensures.entered file W d (refusal_cause file W d) step next m
                 (λ made p. same_cause c.args.at (ap (λ s. s.usable) (c.geometry.ensures.value ∙ s)) c.page-here.ensures.bytes w p)).1;
           });
       beside = beside_shut (e ∙ ap Err c.in_err-enter.ensures.after_error.0) (walks_as e c.in_err-enter.ensures.writes);
@@ -37,8 +34,7 @@ returns-then-not-branch-clause-walks g c = record {
   log = log_none c.args.bench.now.geometry.page_size c.args.marks.now c.enter.new.marks (g.S.Source.held c.args.source.now)
       (c.in_ok-enter.ensures.unmarked c.if-not-branch.true) (λ file s. record {
         opens = λ W d step next m w.
-            subst (λ b. Enters g.K.Sink.takes file W d (refusal_cause file W d) (Ok b) c.enter.new.marks c.args.sink.now c.enter.new.sink) c.if-not-branch.true
-            (c.in_ok-enter.ensures.entered file W d (refusal_cause file W d) step next m
+            rw c.if-not-branch.true at (c.in_ok-enter.ensures.entered file W d (refusal_cause file W d) step next m
             (λ made p. same_cause c.args.at (ap (λ s. s.usable) (c.geometry.ensures.value ∙ s)) c.page-here.ensures.bytes w p));
       });
   beside = beside_told c.in_ok-enter.ensures.writes.moves;
@@ -55,9 +51,7 @@ returns-in_err-load-clause-walks g c =
           (log_load size c.args.step.page read.bytes (Err c.in_err-load.field-0.0) c.load.ensures.told read.size read.holds)
           (λ file h s. record {
             opens = λ W d step next m w.
-                subst (λ r. Opens g.K.Sink.takes file W d r c.enter.new.marks c.args.sink.now c.enter.new.sink c.load.new.self.chain) (sym e)
-                (subst (λ b. Enters g.K.Sink.takes file W d (refusal_cause file W d) (Ok b) c.enter.new.marks c.args.sink.now c.enter.new.sink)
-                c.if-not-branch.false (c.in_ok-enter.ensures.entered file W d (refusal_cause file W d) step next m
+                rw e (rw c.if-not-branch.false at (c.in_ok-enter.ensures.entered file W d (refusal_cause file W d) step next m
                 (λ made p. same_cause c.args.at (ap (λ s. s.usable) (c.geometry.ensures.value ∙ s)) c.page-here.ensures.bytes w p))).2;
           });
       beside = beside_unread c.args.bench.now e c.in_err-load.ensures.count c.in_ok-enter.ensures.writes.moves
@@ -73,8 +67,7 @@ returns-clause-walks g c =
       log = log_page _ size c.args.marks.now c.enter.new.marks c.args.step.page c.args.step.mark k.0 k.1 c.requires.named.1
           (log_load size c.args.step.page read.bytes (Ok tt) c.load.ensures.told read.size read.holds) (λ file h s. record {
             opens = λ W d step next m w. (
-              subst (λ b. Enters g.K.Sink.takes file W d (refusal_cause file W d) (Ok b) c.enter.new.marks c.args.sink.now c.enter.new.sink)
-                  c.if-not-branch.false (c.in_ok-enter.ensures.entered file W d (refusal_cause file W d) step next m
+              rw c.if-not-branch.false at (c.in_ok-enter.ensures.entered file W d (refusal_cause file W d) step next m
                   (λ made p. same_cause c.args.at (ap (λ s. s.usable) (c.geometry.ensures.value ∙ s)) c.page-here.ensures.bytes w p)),
               ap (λ b. b.chain) read.only ∙ page_read file read.bytes size c.args.step.page read.size h (sym (ap (λ g. g.page_size) s))
                   ∙ ap (page_bytes file) (sym step.page),

@@ -1,9 +1,7 @@
-use Rattle.std.proofs.Common.{rules, ◌<◌, [], ◌∷◌, inl, refl, sym, subst, ◌∙◌, arith}
-use Rattle.std.specs.Prelude.{IfSome, OnOk}
-use Rattle.dbsurvey.specs.Story.{Go}
+use Rattle.std.proofs.Common.{rules, ◌<◌, inl, refl, subst, ◌∙◌, arith}
+use Rattle.std.specs.Prelude.{IfSome}
 use Rattle.dbmarks.proofs.Readings.{keeps_same}
-use Rattle.dbwalk.specs.Chains.{FeedsChain, IsPlace}
-use Rattle.dbwalk.specs.Done.{IsDone}
+use Rattle.dbwalk.specs.Chains.{IsPlace}
 use Rattle.dbwalk.proofs.Chaining.ChainTurns.{way_start}
 use Rattle.dbwalk.proofs.Telling.Besides.{beside_as, beside_ok, beside_then, beside_told, turned_on, walk_then, walk_told, walk_unread}
 use Rattle.dbwalk.proofs.Telling.Sinks.{err_is}
@@ -20,9 +18,7 @@ loop-next-init g c = record {
 pub returns-in_err-next-clause-log : goal.returns-in_err-next-clause-log
 returns-in_err-next-clause-log g c =
     (walk_then c.loop-next.invariant.walks c.in_err-next.ensures.walks (λ file e way turned W d h next m.
-    subst (λ r. IsDone g.K.Sink.takes file W (Go d ∷ []) r c.enter_overflow.new.marks c.args.sink.now c.enter_overflow.new.sink
-    × OnOk r (FeedsChain file W d c.args.sieve.now c.enter_overflow.new.sieve)) (sym (err_is c.from_residual.ensures.1))
-    ((turned W d c.args.sink.now c.args.sieve.now (way W d h next m)).stopped, tt))).log
+    rw (err_is c.from_residual.ensures.1) ((turned W d c.args.sink.now c.args.sieve.now (way W d h next m)).stopped, tt))).log
 
 pub loop-next-preserved : goal.loop-next-preserved
 loop-next-preserved g c = record {

@@ -1,10 +1,10 @@
-use Rattle.std.proofs.Common.{rules, arith, ◌≡◌, ℕ, Some, None, Ok, Err, refl, sym, ap, subst, ◌∙◌, inl}
+use Rattle.std.proofs.Common.{rules, arith, ◌≡◌, ℕ, Some, None, Ok, Err, refl, sym, ap, ap₂, ◌∙◌, inl}
 use Rattle.std.specs.Prelude.{IfSome, ◌==◌}
 use Rattle.std.proofs.lemmas.Bool.{cond_both}
+use Rattle.dbformat.specs.File.{page_bytes}
 use Rattle.dbformat.specs.Numbers.{u32_at}
 use Rattle.dbmarks.specs.declared.marks.Mark.TheVariants.{Trunk}
-use Rattle.dbwalk.specs.Beside.{Turns}
-use Rattle.dbwalk.specs.Trunks.{IsOnTrunks, next_step, trunk_step}
+use Rattle.dbwalk.specs.Trunks.{next_step, trunk_step}
 use Rattle.dbwalk.proofs.Chaining.ChainTurns.{if_some_all}
 use Rattle.dbwalk.proofs.FreeTrunks.{trunk_read, trunk_opened, next_turned}
 use Rattle.dbwalk.proofs.Telling.Sinks.{err_is, walks_as}
@@ -49,11 +49,9 @@ returns-clause-walks g c =
     let b = c.page-bytes.ensures.bytes ∙ trunk_read on opens c.if-not-branch.false in
     let o = trunk_opened on opens c.if-not-branch.false (Ok c.in_ok-item.item) c.open_trunk.new.marks c.open_trunk.new.sink
     (λ U e old p k f m h. c.in_ok-item.ensures.opened file W d before U e old p k b u f m h) in
-    subst (λ o. Turns g.K.Sink.takes file W d before (λ next. IsOnTrunks g.K.Sink.takes file W d before next c.open_trunk.new.marks c.open_trunk.new.sink) Unit
-    (Ok o) c.open_trunk.new.marks c.open_trunk.new.sink)
-    (sym (c.next_trunk.ensures ∙ ap (λ b. next_step (u32_at 0 b) c.args.step.page c.in_ok-item.item) b))
-    (next_turned g.K.Sink.takes file W d before on.at.d c.args.step.page c.in_ok-item.item o.0 c.open_trunk.new.marks c.open_trunk.new.sink
-    on.at.is.page o.1))
+    let p = sym on.at.is.page in
+    rw (c.next_trunk.ensures ∙ ap₂ (λ b p. next_step (u32_at 0 b) p c.in_ok-item.item) (b ∙ ap (page_bytes file) p) p)
+    (next_turned on.at.d c.in_ok-item.item o.1))
 
 pub open_trunk-requires : goal.open_trunk-requires
 open_trunk-requires g c =

@@ -1,6 +1,6 @@
 use Rattle.std.proofs.Common.{rules, ◌-◌, ◌/◌, ◌<◌, ◌≤◌, [], ◌∷◌, ◌++◌, map, refl, sym, ap, subst, ◌∙◌}
 use Rattle.dbsurvey.specs.Story.{Go}
-use Rattle.dbformat.specs.Errands.{go, leaf_errands}
+use Rattle.dbformat.specs.Errands.{go}
 use Rattle.dbformat.specs.Faults.{fault}
 use Rattle.dbformat.specs.File.{page_bytes}
 use Rattle.dbformat.specs.Header.{usable_size}
@@ -10,7 +10,6 @@ use Rattle.dbformat.specs.declared.FaultCode.TheVariants.{L01}
 use Rattle.std.specs.Prelude.{pos}
 use Rattle.dbtrace.specs.Finding.{told_alone}
 use Rattle.dbwalk.specs.Done.{IsLeft}
-use Rattle.dbwalk.specs.Trunks.{OpensTrunk}
 use Rattle.dbwalk.proofs.FreeTrunks.{opened_fitting, opened_crowded}
 use Rattle.dbwalk.proofs.Telling.Sinks.{err_is, walks_as, walks_ok}
 use Rattle.dbwalk.proofs.freelist.open_trunk.Goals as goal
@@ -22,12 +21,8 @@ returns-in_err-walk_leaves-clause-opened g c = λ file W d before U e old p r b 
     let l = subst (λ x. x ≤ most_leaves (usable_size file)) n (subst (λ u. c.u32_at-count.result ≤ u / 4 - 2) u c.if-count-usable.true) in
     let tail = map (go e) (next_trunk e.page (page_bytes file e.page) (leaf_count (page_bytes file e.page))) in
     let o = opened_fitting file e r g.K.Sink.takes W d before U old c.args.marks.now c.args.sink.now f m h l in
-    subst (λ r. OpensTrunk g.K.Sink.takes file W d before e r c.walk_leaves.new.marks c.walk_leaves.new.sink) (sym (err_is c.from_residual.ensures.1))
-    (c.in_err-walk_leaves.ensures.done file W (Go d ∷ []) before (U ++ e ∷ []) e tail p
-    (subst (λ b. IsLeft g.K.Sink.takes file W (Go d ∷ []) before (U ++ e ∷ []) (leaf_errands e b c.u32_at-count.result ++ tail)
-    (c.args.marks.now, c.args.sink.now)) (sym k)
-    (subst (λ n. IsLeft g.K.Sink.takes file W (Go d ∷ []) before (U ++ e ∷ []) (leaf_errands e (page_bytes file e.page) n ++ tail)
-    (c.args.marks.now, c.args.sink.now)) (sym n) o)))
+    rw (err_is c.from_residual.ensures.1) (c.in_err-walk_leaves.ensures.done file W (Go d ∷ []) before (U ++ e ∷ []) e tail p
+    (rw (k, n) o))
 
 pub returns-in_ok-walk_leaves-clause-opened : goal.returns-in_ok-walk_leaves-clause-opened
 returns-in_ok-walk_leaves-clause-opened g c = λ file W d before U e old p r b u f m h.
@@ -37,10 +32,7 @@ returns-in_ok-walk_leaves-clause-opened g c = λ file W d before U e old p r b u
     let tail = map (go e) (next_trunk e.page (page_bytes file e.page) (leaf_count (page_bytes file e.page))) in
     let o = opened_fitting file e r g.K.Sink.takes W d before U old c.args.marks.now c.args.sink.now f m h l in
     let t = c.in_ok-walk_leaves.ensures.done file W (Go d ∷ []) before (U ++ e ∷ []) e tail p
-    (subst (λ b. IsLeft g.K.Sink.takes file W (Go d ∷ []) before (U ++ e ∷ []) (leaf_errands e b c.u32_at-count.result ++ tail)
-    (c.args.marks.now, c.args.sink.now)) (sym k)
-    (subst (λ n. IsLeft g.K.Sink.takes file W (Go d ∷ []) before (U ++ e ∷ []) (leaf_errands e (page_bytes file e.page) n ++ tail)
-    (c.args.marks.now, c.args.sink.now)) (sym n) o)) in (
+    (rw (k, n) o) in (
       t.0,
       subst (λ n. IsLeft g.K.Sink.takes file W (Go d ∷ []) before t.0 (map (go e) (next_trunk e.page (page_bytes file e.page) n))
           (c.walk_leaves.new.marks, c.walk_leaves.new.sink)) (sym n) t.1,

@@ -1,5 +1,5 @@
-use Rattle.std.proofs.Common.{◌≡◌, ◌<◌, false, inl, [], ◌∷◌, refl, sym, subst}
-use Rattle.std.specs.Prelude.{IfSome, OnOk}
+use Rattle.std.proofs.Common.{◌≡◌, ◌<◌, inl, [], ◌∷◌, refl, subst}
+use Rattle.std.specs.Prelude.{IfSome}
 use Rattle.dbsurvey.specs.Story.{Go}
 use Rattle.dbsource.specs.Errors.{is_read_failed}
 use Rattle.dbsource.specs.Failures.{failures_after}
@@ -24,8 +24,7 @@ pub returns-in_err-next-clause-asks : goal.returns-in_err-next-clause-asks
 returns-in_err-next-clause-asks g c =
     let q = err_is c.from_residual.ensures.1 in
     let walks = walk_then c.loop-next.invariant.walks c.in_err-next.ensures.walks (λ file e way turned W d h next m.
-    subst (λ r. IsDone g.K.Sink.takes file W (Go d ∷ []) r c.enter_trunk.new.marks c.args.sink.now c.enter_trunk.new.sink) (sym q)
-    (turned W d c.args.sink.now (way W d h next m)).stopped) in
+    rw q (turned W d c.args.sink.now (way W d h next m)).stopped) in
     record { log = walks.log; count = (beside_as q walks.beside).reads }
 
 pub loop-next-preserved : goal.loop-next-preserved
@@ -58,7 +57,7 @@ pub returns-in_err-next-clause-writes : goal.returns-in_err-next-clause-writes
 returns-in_err-next-clause-writes g c =
     let q = err_is c.from_residual.ensures.1 in
     walks_end c.from_residual.result (walks_as q (beside_then c.loop-next.invariant.walks.beside c.in_err-next.ensures.walks.beside).writes)
-    c.requires.«open» (subst (λ r. OnOk r ((g.K.Sink.held c.enter_trunk.new.sink).is_shut ≡ false)) (sym q) tt)
+    c.requires.«open» (rw q tt)
 
 pub returns-clause-shut : goal.returns-clause-shut
 returns-clause-shut g c = (asked_walks c.ask.ensures (beside_then c.loop-next.invariant.walks.beside c.in_ok-next.ensures.walks.beside).writes.moves).shut

@@ -1,11 +1,9 @@
-use Rattle.std.proofs.Common.{rules, ◌≡◌, ◌+◌, ◌-◌, ◌<◌, ◌≤◌, length, inl, None, Ok, Err, refl, sym, ap, subst, ◌∙◌, arith}
+use Rattle.std.proofs.Common.{rules, ◌≡◌, ◌+◌, ◌-◌, ◌<◌, ◌≤◌, length, inl, None, refl, sym, ap, subst, ◌∙◌, arith}
 use Rattle.dbformat.specs.Cell.{count}
-use Rattle.dbformat.specs.Errands.{cell_errands}
 use Rattle.dbformat.specs.File.{page_bytes}
 use Rattle.dbsource.proofs.Logs.{has_weaker}
 use Rattle.dbwalk.specs.LeafCells.{AreRisingFrom}
-use Rattle.dbwalk.specs.Underway.{HasDone, done_below}
-use Rattle.dbwalk.specs.Watching.{fails, watches}
+use Rattle.dbwalk.specs.Watching.{fails}
 use Rattle.dbwalk.proofs.Leaves.LeafErrands.{seen_here, cells_here, leaf_errands_are}
 use Rattle.dbmarks.proofs.Readings.{log_none, log_then}
 use Rattle.dbwalk.proofs.Underway.Handing.{stopped_as}
@@ -73,9 +71,7 @@ loop-i-preserved g c =
           (on_more file from d t.kind v leaf g.K.Sink.takes g.T.Taker.takes (fails g.T.Taker.refuses)
           (c.args.self.now.sink.now, c.args.self.now.taker.now) c.loop-i.i (c.loop-i.self.marks.now, c.loop-i.self.tree) (new.self.marks.now, new.self.tree)
           (c.loop-i.self.sink.now, c.loop-i.self.taker.now) (new.self.sink.now, new.self.taker.now) low s
-          (subst (λ k. HasDone (watches g.K.Sink.takes g.T.Taker.takes) (fails g.T.Taker.refuses) file
-          (done_below file (cells_done file from d t.kind v c.loop-i.i) (cell_errands d k v c.loop-i.i)) (Ok tt) (new.self.marks.now, new.self.tree)
-          (c.loop-i.self.sink.now, c.loop-i.self.taker.now) (new.self.sink.now, new.self.taker.now)) w.tree.1 cell)));
+          (rw w.tree.1 at cell)));
     }
 
 pub returns-in_err-walk_leaf_cell-clause-log : goal.returns-in_err-walk_leaf_cell-clause-log
@@ -90,17 +86,11 @@ returns-in_err-walk_leaf_cell-clause-log g c =
     let cell = done (w.walked.shape ∙ e) (w.walked.coded ∙ coded) (cells_done file from d t.kind v c.loop-i.i) d v
     (leaf_as file t.kind c.loop-i.self.tree.kind t.start c.loop-i.self.tree.start t.path.items c.loop-i.self.tree.path.items c.args.bench.now.levels
     c.loop-i.bench.levels c.args.page d w.tree.1 w.tree.0 (ap (λ p. p.items) w.tree.3) w.levels at) viewed leaf low s.1 s.0.at in
-    stopped_as (err_is c.from_residual.ensures.1)
-    (subst (λ es. HasDone {A = Unit {0}} (watches g.K.Sink.takes g.T.Taker.takes) (fails g.T.Taker.refuses) file
-    (done_below file from es) (Err c.in_err-walk_leaf_cell.field-0.0) (new.self.marks.now, new.self.tree)
-    (c.args.self.now.sink.now, c.args.self.now.taker.now) (new.self.sink.now, new.self.taker.now))
-    (sym (leaf_errands_are file d t.kind v at.kind_is viewed leaf))
+    rw (leaf_errands_are file d t.kind v at.kind_is viewed leaf) (stopped_as (err_is c.from_residual.ensures.1)
     (on_stop file from d t.kind v leaf g.K.Sink.takes g.T.Taker.takes (fails g.T.Taker.refuses)
     (c.args.self.now.sink.now, c.args.self.now.taker.now) c.in_err-walk_leaf_cell.field-0.0 c.loop-i.i (c.loop-i.self.marks.now, c.loop-i.self.tree)
     (new.self.marks.now, new.self.tree) (c.loop-i.self.sink.now, c.loop-i.self.taker.now) (new.self.sink.now, new.self.taker.now) low s
-    (subst (λ k. HasDone {A = Unit {0}} (watches g.K.Sink.takes g.T.Taker.takes) (fails g.T.Taker.refuses) file
-    (done_below file (cells_done file from d t.kind v c.loop-i.i) (cell_errands d k v c.loop-i.i)) (Err c.in_err-walk_leaf_cell.field-0.0)
-    (new.self.marks.now, new.self.tree) (c.loop-i.self.sink.now, c.loop-i.self.taker.now) (new.self.sink.now, new.self.taker.now)) w.tree.1 cell))).handed)
+    (rw w.tree.1 at cell)).handed))
 
 pub returns-clause-log : goal.returns-clause-log
 returns-clause-log g c =
@@ -111,9 +101,7 @@ returns-clause-log g c =
     let s = on e coded from d v at viewed leaf before isat in
     let within = s.2 in
     let end : c.loop-i.i ≡ count v = omega arith in
-    subst (λ es. HasDone (watches g.K.Sink.takes g.T.Taker.takes) (fails g.T.Taker.refuses) file
-    (done_below file from es) (Ok tt) (c.loop-i.self.marks.now, c.loop-i.self.tree) (c.args.self.now.sink.now, c.args.self.now.taker.now)
-    (c.loop-i.self.sink.now, c.loop-i.self.taker.now)) (sym (leaf_errands_are file d t.kind v at.kind_is viewed leaf))
+    rw (leaf_errands_are file d t.kind v at.kind_is viewed leaf)
     (on_end file from d t.kind v leaf g.K.Sink.takes g.T.Taker.takes (fails g.T.Taker.refuses)
     (c.args.self.now.sink.now, c.args.self.now.taker.now) (c.loop-i.self.marks.now, c.loop-i.self.tree) (c.loop-i.self.sink.now, c.loop-i.self.taker.now)
     c.loop-i.i end s))
