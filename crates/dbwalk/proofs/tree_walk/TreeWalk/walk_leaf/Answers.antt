@@ -2,7 +2,6 @@ use Rattle.std.proofs.Common.{rules, ◌≡◌, ◌+◌, ◌-◌, ◌<◌, ◌�
 use Rattle.dbformat.specs.Cell.{count}
 use Rattle.dbformat.specs.File.{page_bytes}
 use Rattle.dbsource.proofs.Logs.{has_weaker}
-use Rattle.dbwalk.specs.LeafCells.{AreRisingFrom}
 use Rattle.dbwalk.specs.Watching.{fails}
 use Rattle.dbwalk.proofs.Leaves.LeafErrands.{seen_here, cells_here, leaf_errands_are}
 use Rattle.dbmarks.proofs.Readings.{log_none, log_then}
@@ -25,8 +24,7 @@ loop-i-init g c = record {
       let t = c.args.self.now.tree in
       let p = c.pass_cells-i.ensures in
       let seen = seen_here file at viewed (ap (λ s. s.usable) e) in
-      let rise = subst (λ q. (c.pass_cells-i.result ≤ count v) × AreRisingFrom q v 0 (c.pass_cells-i.result - 0) t.greatest c.pass_cells-i.new.tree.greatest)
-      (sym at.page) (p.passed.rising (page_bytes file c.args.page) v at.bytes seen (omega arith)) in
+      let rise = rw (sym at.page) at (p.passed.rising (page_bytes file c.args.page) v at.bytes seen (omega arith)) in
       on_pass file from d t.kind v leaf g.K.Sink.takes g.T.Taker.takes (fails g.T.Taker.refuses)
       (c.args.self.now.sink.now, c.args.self.now.taker.now) 0 c.pass_cells-i.result c.args.self.now.marks.now t c.pass_cells-i.new.tree
       (c.args.self.now.sink.now, c.args.self.now.taker.now) p.passed.ahead rise.0 (λ l. other_start d.address t.start at.start (p.other l)) rise.1
@@ -59,8 +57,7 @@ loop-i-preserved g c =
           (length new.self.tree.path.items) (length t.path.items) c.args.page (c.loop-i.i + 1) end new.self.tree.greatest after.greatest
           (ap (λ s. s.usable) (n.walked.shape ∙ w.walked.shape)) (n.tree.1 ∙ w.tree.1) (n.levels ∙ w.levels) (ap (λ p. length p.items) (n.tree.3 ∙ w.tree.3))
           p.passed in
-          let rise = subst (λ q. (end ≤ count v) × AreRisingFrom q v (c.loop-i.i + 1) (end - (c.loop-i.i + 1)) new.self.tree.greatest after.greatest)
-          (sym at.page) (passed.rising (page_bytes file c.args.page) v at.bytes seen (omega arith)) in
+          let rise = rw (sym at.page) at (passed.rising (page_bytes file c.args.page) v at.bytes seen (omega arith)) in
           let cell = done (w.walked.shape ∙ e) (w.walked.coded ∙ coded) (cells_done file from d t.kind v c.loop-i.i) d v
           (leaf_as file t.kind c.loop-i.self.tree.kind t.start c.loop-i.self.tree.start t.path.items c.loop-i.self.tree.path.items c.args.bench.now.levels
           c.loop-i.bench.levels c.args.page d w.tree.1 w.tree.0 (ap (λ p. p.items) w.tree.3) w.levels at) viewed leaf low s.1 s.0.at in
