@@ -1,24 +1,27 @@
 -- The leaves of a trunk, one after another.
 use Rattle.std.proofs.Common.{◌≡◌, ℕ, zero, suc, ◌+◌, ◌-◌, ◌*◌, ◌<◌, true, false, inl, inr, Bool, List, [], ◌∷◌, ◌++◌, map, Ok, sym, ap, subst, arith, ◌≤◌}
-use Rattle.std.proofs.Common.{cond, Some, None, Err, refl, ◌∙◌}
+use Rattle.std.proofs.Common.{cond, Some, None, Result, refl, ◌∙◌}
 use Rattle.dbsurvey.specs.Story.{Errand, Go, errands_of, Told, Tell}
 use Rattle.dbsurvey.specs.InOrder.{AreQuiet}
 use Rattle.dbformat.specs.Address.{then_step, freelist_start}
 use Rattle.dbformat.specs.Numbers.{u32_at}
-use Rattle.dbformat.specs.PageFaults.{role_faults, page_faults, trunk_fault}
+use Rattle.dbformat.specs.PageFaults.{role_faults, page_faults}
 use Rattle.dbformat.specs.Rows.{row_in}
 use Rattle.std.specs.Prelude.{option_to_list, nat_le, nat_lt, ◌==◌, pos}
 use Rattle.dbsurvey.specs.Moves.{Moves}
-use Rattle.dbformat.specs.Reference.{free_leaf, Way, Reference, role_of, Role, trunk, link, next_trunk, leaf_count, most_leaves}
+use Rattle.dbformat.specs.Reference.{free_leaf, Way, Reference, role_of, Role, bytes_left, tree_kind, trunk, link, next_trunk, leaf_count, most_leaves}
 use Rattle.dbformat.specs.Story.{Event, at_page, own_visit, story_of}
 use Rattle.dbformat.proofs.Looping.{none_at_free_leaf, by_leaf, all_quiet}
 use Rattle.dbmarks.specs.declared.marks.Mark.{Mark}
+use Rattle.dbwalk.specs.Beside.{EntersBeside, Turns}
+use Rattle.dbwalk.proofs.Telling.Besides.{turn_ended, turn_entered, turn_on}
 use Rattle.dbwalk.specs.Entered.{IsNext, Enters}
+use Rattle.dbtrace.specs.declared.Cause.TheVariants.{Itself}
 use Rattle.dbtrace.specs.Causes.{cause_of, refusal_cause}
 use Rattle.dbtrace.specs.Finding.{Finding, told_row, told_alone, told_by, told_at}
-use Rattle.dbwalk.specs.Trunks.{leaves_from, IsFirstTrunk, IsOnTrunks, TrunkTurns, trunk_step, next_step}
-use Rattle.dbwalk.specs.Done.{IsLeft, IsDone}
-use Rattle.dbwalk.proofs.Telling.Lefts.{left_refused, left_visit, left_start, left_none, left_untold}
+use Rattle.dbwalk.specs.Trunks.{leaves_from, IsFirstTrunk, IsOnTrunks, OpensTrunk, trunk_step, next_step}
+use Rattle.dbwalk.specs.Done.{IsLeft}
+use Rattle.dbwalk.proofs.Telling.Lefts.{left_refused, left_visit, left_start, left_none, no_chain_refusal}
 use Rattle.std.specs.List.{range_with_len}
 use Rattle.std.proofs.lemmas.Bool.Decides.{nat_tests}
 use Rattle.std.proofs.lemmas.List.{append-nil}
@@ -69,63 +72,60 @@ module _ {S : Type 0} (takes : S → Finding → S → Type 0) (file : List ℕ)
 
 -- The trunks of the freelist, one after another.
 
--- what is reported of a trunk
-pub told_trunk : (file : List ℕ) (V : List Reference) (d : Reference) → role_of d ≡ trunk → told_at file V (at_page d)
-    ≡ told_by (cause_of file V (at_page d)) (trunk_fault (usable_size file) d.page (page_bytes file d.page))
-unfolding page_faults
-told_trunk file V d r = ap (λ role. map told_row (option_to_list (row_in role file d)) ++ told_by (cause_of file V (at_page d)) (role_faults role file V d)) r
-
--- its leaves fit, or they are too many
-pub told_fitting : (file : List ℕ) (V : List Reference) (d : Reference) → role_of d ≡ trunk → leaf_count (page_bytes file d.page)
-    ≤ most_leaves (usable_size file) → told_at file V (at_page d) ≡ []
-told_fitting file V d r l =
-    let e : nat_lt (most_leaves (usable_size file)) (leaf_count (page_bytes file d.page)) ≡ false = grind (arith, nat_tests) in
-    told_trunk file V d r ∙ ap (λ b. told_by (cause_of file V (at_page d)) (cond b (fault L01 d.page 0 (pos (leaf_count (page_bytes file d.page))) ∷ []) [])) e
-
-pub told_too_many : (file : List ℕ) (V : List Reference) (d : Reference) → role_of d ≡ trunk
-    → most_leaves (usable_size file) < leaf_count (page_bytes file d.page)
-    → told_at file V (at_page d) ≡ told_alone (fault L01 d.page 0 (pos (leaf_count (page_bytes file d.page)))) ∷ []
-told_too_many file V d r l =
-    let e : nat_lt (most_leaves (usable_size file)) (leaf_count (page_bytes file d.page)) ≡ true = grind (arith, nat_tests) in
-    told_trunk file V d r ∙ ap (λ b. told_by (cause_of file V (at_page d)) (cond b (fault L01 d.page 0 (pos (leaf_count (page_bytes file d.page))) ∷ []) [])) e
-
--- what it leads to
-pub fitting_errands : (file : List ℕ) (d : Reference) → role_of d ≡ trunk → leaf_count (page_bytes file d.page) ≤ most_leaves (usable_size file)
-    → errands_of (story_of file) d ≡ leaf_errands d (page_bytes file d.page) (leaf_count (page_bytes file d.page))
-    ++ map (go d) (next_trunk d.page (page_bytes file d.page) (leaf_count (page_bytes file d.page)))
-fitting_errands file d r l =
-    let e : nat_le (leaf_count (page_bytes file d.page)) (most_leaves (usable_size file)) ≡ true = grind (arith, nat_tests) in
-    by_leaf file d r ∙ ap (λ b. cond b (leaf_errands d (page_bytes file d.page) (leaf_count (page_bytes file d.page))
-    ++ map (go d) (next_trunk d.page (page_bytes file d.page) (leaf_count (page_bytes file d.page))))
-    (map (go d) (next_trunk d.page (page_bytes file d.page) 0))) e
-
-pub crowded_errands : (file : List ℕ) (d : Reference) → role_of d ≡ trunk → most_leaves (usable_size file) < leaf_count (page_bytes file d.page)
-    → errands_of (story_of file) d ≡ map (go d) (next_trunk d.page (page_bytes file d.page) 0)
-crowded_errands file d r l =
-    let e : nat_le (leaf_count (page_bytes file d.page)) (most_leaves (usable_size file)) ≡ false = grind (arith, nat_tests) in
-    by_leaf file d r ∙ ap (λ b. cond b (leaf_errands d (page_bytes file d.page) (leaf_count (page_bytes file d.page))
-    ++ map (go d) (next_trunk d.page (page_bytes file d.page) (leaf_count (page_bytes file d.page))))
-    (map (go d) (next_trunk d.page (page_bytes file d.page) 0))) e
-
 -- none of its errands is an event
 no_leaf_own : (d : Reference) (page : List ℕ) (js : List ℕ) (e : Told Event) → IsIn (Tell e) (map (leaf_errand d page) js) → ⊥
 no_leaf_own d page [] e h = h
 no_leaf_own d page (j ∷ js) e (inl k) = cc
 no_leaf_own d page (j ∷ js) e (inr h) = no_leaf_own d page js e h
 
-pub quiet_trunk : (file : List ℕ) (d : Reference) → role_of d ≡ trunk → AreQuiet own_visit (errands_of (story_of file) d)
-quiet_trunk file d r = subst (λ es. AreQuiet own_visit es) (sym (by_leaf file d r))
-    (by_case (nat_le (leaf_count (page_bytes file d.page)) (most_leaves (usable_size file))))
-  where
-    by_case : (b : Bool) → AreQuiet own_visit (cond b (leaf_errands d (page_bytes file d.page) (leaf_count (page_bytes file d.page))
-        ++ map (go d) (next_trunk d.page (page_bytes file d.page) (leaf_count (page_bytes file d.page))))
-        (map (go d) (next_trunk d.page (page_bytes file d.page) 0)))
-    by_case false e h = all_quiet.2 d (next_trunk d.page (page_bytes file d.page) 0) e h
-    by_case true e h = elim (IsIn-cases (Tell e) (leaf_errands d (page_bytes file d.page) (leaf_count (page_bytes file d.page)))
-        (map (go d) (next_trunk d.page (page_bytes file d.page) (leaf_count (page_bytes file d.page)))) h) [
-          | inl k ↦ absurd (no_leaf_own d (page_bytes file d.page) (range_with_len 0 (leaf_count (page_bytes file d.page))) e k)
-          | inr k ↦ all_quiet.2 d (next_trunk d.page (page_bytes file d.page) (leaf_count (page_bytes file d.page))) e k
-        ]
+module _ (file : List ℕ) (d : Reference) (role : role_of d ≡ trunk) where
+  abbrev page : List ℕ
+  page = page_bytes file d.page
+
+  -- what is reported of a trunk, by whether its leaves are too many
+  told_by_count : (V : List Reference) (b : Bool) → nat_lt (most_leaves (usable_size file)) (leaf_count page) ≡ b
+      → told_at file V (at_page d) ≡ told_by (cause_of file V (at_page d)) (cond b (fault L01 d.page 0 (pos (leaf_count page)) ∷ []) [])
+  unfolding page_faults
+  told_by_count V b e =
+      ap (λ role. map told_row (option_to_list (row_in role file d)) ++ told_by (cause_of file V (at_page d)) (role_faults role file V d)) role
+      ∙ ap (λ b. told_by (cause_of file V (at_page d)) (cond b (fault L01 d.page 0 (pos (leaf_count page)) ∷ []) [])) e
+
+  -- what it leads to, by whether they fit
+  abbrev leads_to : Bool → List (Errand Way Event)
+  leads_to b = cond b (leaf_errands d page (leaf_count page) ++ map (go d) (next_trunk d.page page (leaf_count page)))
+      (map (go d) (next_trunk d.page page 0))
+
+  quiet_trunk : (b : Bool) → AreQuiet own_visit (leads_to b)
+  quiet_trunk false e h = all_quiet.2 d (next_trunk d.page page 0) e h
+  quiet_trunk true e h = elim (IsIn-cases (Tell e) (leaf_errands d page (leaf_count page)) (map (go d) (next_trunk d.page page (leaf_count page))) h) [
+    | inl k ↦ absurd (no_leaf_own d page (range_with_len 0 (leaf_count page)) e k)
+    | inr k ↦ all_quiet.2 d (next_trunk d.page page (leaf_count page)) e k
+  ]
+
+  module _ {S : Type 0} (takes : S → Finding → S → Type 0) (W : List Reference) (c : Reference) (before : S) (U : List Reference) (old marks : List Mark)
+      (s : S) (followed : is_followed (rules_of file) U d ≡ true) (marked : AreMarksOf file (U ++ d ∷ []) marks)
+      (left : IsLeft takes file W (Go c ∷ []) before U (Go d ∷ []) (old, s)) where
+    opened : (t : S) → Moves takes s (told_at file (U ++ d ∷ []) (at_page d)) t → (b : Bool) → nat_le (leaf_count page) (most_leaves (usable_size file)) ≡ b
+        → IsLeft takes file W (Go c ∷ []) before (U ++ d ∷ []) (leads_to b) (marks, t)
+    opened t m b e = subst (λ es. IsLeft takes file W (Go c ∷ []) before (U ++ d ∷ []) es (marks, t))
+        (append-nil (errands_of (story_of file) d) ∙ by_leaf file d role ∙ ap leads_to e)
+        (left_visit takes file W (Go c ∷ []) before U old s t marks d [] left followed
+        (subst (AreQuiet own_visit) (sym (by_leaf file d role)) (quiet_trunk (nat_le (leaf_count page) (most_leaves (usable_size file))))) marked m)
+
+    -- a trunk whose leaves fit: they are left, and the next trunk
+    pub opened_fitting : leaf_count page ≤ most_leaves (usable_size file)
+        → IsLeft takes file W (Go c ∷ []) before (U ++ d ∷ []) (leads_to true) (marks, s)
+    opened_fitting l =
+        let few : nat_lt (most_leaves (usable_size file)) (leaf_count page) ≡ false = grind (arith, nat_tests) in
+        opened s (subst (λ L. Moves takes s L s) (sym (told_by_count (U ++ d ∷ []) false few)) refl) true (grind (arith, nat_tests))
+
+    -- a trunk with too many leaves, which was reported: the next trunk is left
+    pub opened_crowded : (t : S) → most_leaves (usable_size file) < leaf_count page
+        → Moves takes s (told_alone (fault L01 d.page 0 (pos (leaf_count page))) ∷ []) t
+        → IsLeft takes file W (Go c ∷ []) before (U ++ d ∷ []) (leads_to false) (marks, t)
+    opened_crowded t l m =
+        let many : nat_lt (most_leaves (usable_size file)) (leaf_count page) ≡ true = grind (arith, nat_tests) in
+        opened t (subst (λ L. Moves takes s L t) (sym (told_by_count (U ++ d ∷ []) true many)) m) false (grind (arith, nat_tests))
 
 -- it is in no tree
 pub trunk_shallow : (c : Reference) → role_of c ≡ trunk → is_too_deep c ≡ false
@@ -135,63 +135,58 @@ trunk_shallow c h = by_role (role_of c) h
         ≡ false
     by_role role e = rw e refl
 
-module _ {S : Type 0} (takes : S → Finding → S → Type 0) (file : List ℕ) (W : List Reference) (c : Reference) (before : S) (U : List Reference)
-    (d : Reference) (old marks : List Mark) (s : S) (role : role_of d ≡ trunk) (followed : is_followed (rules_of file) U d ≡ true)
-    (marked : AreMarksOf file (U ++ d ∷ []) marks) (left : IsLeft takes file W (Go c ∷ []) before U (Go d ∷ []) (old, s)) where
-  -- a trunk whose leaves fit: they are left, and the next trunk
-  pub opened_fitting : leaf_count (page_bytes file d.page) ≤ most_leaves (usable_size file)
-      → IsLeft takes file W (Go c ∷ []) before (U ++ d ∷ [])
-      (leaf_errands d (page_bytes file d.page) (leaf_count (page_bytes file d.page))
-      ++ map (go d) (next_trunk d.page (page_bytes file d.page) (leaf_count (page_bytes file d.page)))) (marks, s)
-  opened_fitting l = subst (λ es. IsLeft takes file W (Go c ∷ []) before (U ++ d ∷ []) es (marks, s))
-      (append-nil (errands_of (story_of file) d) ∙ fitting_errands file d role l)
-      (left_visit takes file W (Go c ∷ []) before U old s s marks d [] left followed (quiet_trunk file d role) marked
-      (subst (λ L. Moves takes s L s) (sym (told_fitting file (U ++ d ∷ []) d role l)) refl))
+module _ {S : Type 0} {takes : S → Finding → S → Type 0} {file : List ℕ} {W : List Reference} {c : Reference} {before : S} {step : Step}
+    {marks : List Mark} {s : S} (on : IsOnTrunks takes file W c before step marks s) where
+  -- it is entered, and opened
+  module _ {b : Bool} {marks' : List Mark} {m : S} {here : List ℕ} (h : EntersBeside takes file step Itself marks s (Ok b) marks' m here) (is : b ≡ true) where
+    pub trunk_read : here ≡ page_bytes file step.page
+    trunk_read = (turn_entered on.at h is).1 ∙ ap (page_bytes file) on.at.is.page
 
-  -- a trunk with too many leaves, which was reported: the next trunk is left
-  pub opened_crowded : (t : S) → most_leaves (usable_size file) < leaf_count (page_bytes file d.page)
-      → Moves takes s (told_alone (fault L01 d.page 0 (pos (leaf_count (page_bytes file d.page)))) ∷ []) t
-      → IsLeft takes file W (Go c ∷ []) before (U ++ d ∷ []) (map (go d) (next_trunk d.page (page_bytes file d.page) 0)) (marks, t)
-  opened_crowded t l m = subst (λ es. IsLeft takes file W (Go c ∷ []) before (U ++ d ∷ []) es (marks, t))
-      (append-nil (errands_of (story_of file) d) ∙ crowded_errands file d role l)
-      (left_visit takes file W (Go c ∷ []) before U old s t marks d [] left followed (quiet_trunk file d role) marked
-      (subst (λ L. Moves takes s L t) (sym (told_too_many file (U ++ d ∷ []) d role l)) m))
-
-module _ {S : Type 0} (takes : S → Finding → S → Type 0) (file : List ℕ) (W : List Reference) (c : Reference) (before : S) (step : Step)
-    (marks : List Mark) (s : S) (on : IsOnTrunks takes file W c before step marks s) where
-  -- it is followed, but its page could not be read
-  pub trunk_unread : (x : RunError) (marks' : List Mark) (m : S) → Enters takes file on.visited on.d (refusal_cause file on.visited on.d) (Ok true) marks' s m
-      → IsDone {A = Unit {0}} takes file W (Go c ∷ []) (Err x) marks' before m
-  trunk_unread x marks' m e = left_untold takes file W (Go c ∷ []) before on.visited marks s m marks' x (Go on.d ∷ []) on.rest e.2
+    pub trunk_opened : (r : Result ℕ RunError) (marks'' : List Mark) (t : S) → ((U : List Reference) (d : Reference) (old : List Mark) → d.page ≡ step.page
+        → role_of d ≡ trunk → is_followed (rules_of file) U d ≡ true → AreMarksOf file (U ++ d ∷ []) marks'
+        → IsLeft takes file W (Go c ∷ []) before U (Go d ∷ []) (old, m) → OpensTrunk takes file W c before d r marks'' t)
+        → OpensTrunk takes file W c before on.at.d r marks'' t
+    trunk_opened r marks'' t opens =
+        let e = (turn_entered on.at h is).0 in
+        opens on.at.visited on.at.d marks on.at.is.page on.role e.0 e.1
+        (subst (λ y. IsLeft takes file W (Go c ∷ []) before on.at.visited (Go on.at.d ∷ []) (marks, y)) e.2 on.at.rest)
 
 -- the next trunk, or none
-pub next_turned : {S : Type 0} (takes : S → Finding → S → Type 0) (file : List ℕ) (W : List Reference) (c : Reference) (before : S) (d : Reference)
-    (page item : ℕ) (U : List Reference) (marks : List Mark) (s : S) → d.page ≡ page
+pub next_turned : {S : Type 0} {takes : S → Finding → S → Type 0} {file : List ℕ} {W : List Reference} {c : Reference} {before : S} (d : Reference) (item : ℕ)
+    {U : List Reference} {marks : List Mark} {s : S}
     → IsLeft takes file W (Go c ∷ []) before U (map (go d) (next_trunk d.page (page_bytes file d.page) item)) (marks, s)
-    → TrunkTurns takes file W c before (Ok (next_step (u32_at 0 (page_bytes file page)) page item)) marks s
-next_turned {S} takes file W c before d page item U marks s e h =
-    subst (λ p. TrunkTurns takes file W c before (Ok (next_step (u32_at 0 (page_bytes file p)) p item)) marks s) e
-    (by_next (u32_at 0 (page_bytes file d.page)) (u32_at 0 (page_bytes file d.page) == 0) h)
+    → Turns takes file W c before (λ step. IsOnTrunks takes file W c before step marks s) Unit
+    (Ok (next_step (u32_at 0 (page_bytes file d.page)) d.page item)) marks s
+next_turned {S} {takes} {file} {W} {c} {before} d item {U} {marks} {s} h =
+    by_next (u32_at 0 (page_bytes file d.page)) (u32_at 0 (page_bytes file d.page) == 0) h
   where
     by_next : (n : ℕ) (b : Bool) → IsLeft takes file W (Go c ∷ []) before U (map (go d) (cond b [] (link d.page item item trunk n ∷ []))) (marks, s)
-        → TrunkTurns takes file W c before (Ok (cond b None (Some (trunk_step n d.page item)))) marks s
-    by_next n true h = left_none takes file W (Go c ∷ []) before U marks s tt h
-    by_next n false h = record {
-      visited = U;
-      d = record { address = then_step d.address item; page = n; role = record { role = trunk; from = d.page; item = item } };
-      step = record { page = refl; mark = refl; from = refl; item = refl; deep = refl };
-      role = refl;
-      rest = h;
-    }
+        → Turns takes file W c before (λ step. IsOnTrunks takes file W c before step marks s) Unit (Ok (cond b None (Some (trunk_step n d.page item)))) marks s
+    by_next n true h = turn_ended (left_none takes file W (Go c ∷ []) before U marks s tt h) tt
+    by_next n false h =
+        let next : Reference = record { address = then_step d.address item; page = n; role = record { role = trunk; from = d.page; item = item } } in
+        turn_on (record {
+          at = record {
+            visited = U;
+            d = next;
+            is = record { page = refl; mark = refl; from = refl; item = refl; deep = refl };
+            cause_is = no_chain_refusal file U next refl refl;
+            rest = h;
+          };
+          role = refl;
+        })
 
 -- at the first trunk all is left
 pub trunks_start : {S : Type 0} (takes : S → Finding → S → Type 0) (file : List ℕ) (W : List Reference) (c : Reference) (first : ℕ) (marks : List Mark) (s : S)
     → IsFirstTrunk first c → IsNext W c → AreMarksOf file W marks
     → IsOnTrunks takes file W c s (trunk_step first 0 freelist_start) marks s
 trunks_start takes file W c first marks s h next m = record {
-  visited = W;
-  d = c;
-  step = record { page = h.page; mark = ap (λ r. role_mark r c.role.from) h.role; from = h.from; item = h.item; deep = trunk_shallow c h.role };
+  at = record {
+    visited = W;
+    d = c;
+    is = record { page = h.page; mark = ap (λ r. role_mark r c.role.from) h.role; from = h.from; item = h.item; deep = trunk_shallow c h.role };
+    cause_is = no_chain_refusal file W c (ap tree_kind h.role) (ap bytes_left h.role);
+    rest = left_start takes file W (Go c ∷ []) s marks m next ((λ e i. absurd i), tt);
+  };
   role = h.role;
-  rest = left_start takes file W (Go c ∷ []) s marks m next ((λ e i. absurd i), tt);
 }

@@ -1,30 +1,30 @@
 -- Overflow chains as a program walks them, and what a sieve is fed on the way.
-use Rattle.std.specs.Prelude.{ℕ, ◌+◌, ◌≤◌, List, [], ◌∷◌, ◌++◌, flat_map, Option, Some, None, ◌≡◌, Result, Ok, Err, IfOk, OnOk}
+use Rattle.std.specs.Prelude.{ℕ, ◌+◌, ◌≤◌, List, [], ◌∷◌, ◌++◌, flat_map, Option, Some, None, ◌≡◌}
 use Rattle.std.specs.Prelude.{◌==◌, if◌then◌else◌}
+use Rattle.dbsurvey.specs.Moves.{Moves}
 use Rattle.dbsurvey.specs.Story.{Go}
 use Rattle.dbformat.specs.Reference.{Reference, first_overflow, later_overflow, bytes_left, role_of, from_of, item_of}
 use Rattle.dbformat.specs.Schema.{held_bytes}
 use Rattle.dbformat.specs.declared.Encoding.{Encoding}
 use Rattle.dbbytes.specs.Sieve.{HasTaken}
 use Rattle.dbbytes.specs.declared.sieve.RowSieve.{RowSieve}
-use Rattle.dbtrace.specs.Causes.{cell_rowid, chain_head, nothing_seen, pages_for, seen_bytes, seen_from}
+use Rattle.dbtrace.specs.Causes.{cell_rowid, chain_head, nothing_seen, pages_for, seen_bytes}
+use Rattle.dbtrace.specs.declared.Cause.{Cause}
+use Rattle.dbtrace.specs.declared.Cause.TheVariants as cause
 use Rattle.dbtrace.specs.declared.CellChain.{CellChain}
 use Rattle.dbtrace.specs.declared.SeenBytes.{SeenBytes}
 use Rattle.dbtrace.specs.Finding.{visited_below, Finding, told_at}
 use Rattle.dbformat.specs.Address.{start_of, then_step, child_path, chain_place}
-use Rattle.dbformat.specs.File.{page_bytes}
 use Rattle.dbformat.specs.FixedPages.{IsPageNumber}
 use Rattle.dbformat.specs.Header.{usable_size}
-use Rattle.dbformat.specs.Payload.{most_payload, overflow_next}
+use Rattle.dbformat.specs.Payload.{most_payload}
 use Rattle.dbformat.specs.Story.{at_page}
-use Rattle.dbsource.specs.declared.error.RunError.{RunError}
 use Rattle.dbwalk.specs.declared.chain.Chain.{Chain}
+use Rattle.dbwalk.specs.declared.chain.ChainPage.{ChainPage}
 use Rattle.dbwalk.specs.declared.chain.ChainPlace.{ChainPlace}
 use Rattle.dbmarks.specs.declared.marks.Mark.{Mark}
-use Rattle.dbwalk.specs.Entered.{IsStepOf}
-use Rattle.dbwalk.specs.Done.{IsLeft, IsDone}
+use Rattle.dbwalk.specs.Beside.{IsAtStep}
 use Rattle.dbmarks.specs.Marking.{IsUse, named_page}
-use Rattle.dbwalk.specs.Telling.{Tells}
 
 -- What a sieve is fed, where there is one.
 
@@ -93,35 +93,29 @@ pub record HasHead (file : List ℕ) (chain : Chain) (V : List Reference) (d : R
 abbrev pub seen_before : ℕ → ℕ → List ℕ → SeenBytes
 seen_before usable number here = if number == 0 then nothing_seen else seen_bytes usable here
 
--- What the visit of a page of a chain leaves: the number of the next page, what was reported, what a sieve was fed, and the page that was read.
-pub record IsOverflowVisited {S : Type 0} (takes : S → Finding → S → Type 0)
-    (file : List ℕ) (chain : Chain) (number page left : ℕ) (r : Result ℕ RunError) (old new : Option RowSieve)
-    (before after : S) (here : List ℕ) : Type 0 where
-  pub next : IfOk r (λ next. next ≡ overflow_next (page_bytes file page))
-  pub loaded : OnOk r (here ≡ page_bytes file page)
-  pub told : (U : List Reference) (c : Reference) → c.page ≡ page → bytes_left (role_of c) ≡ Some left → IsOnChain chain number c
-      → HasHead file chain U c → Tells takes r before (told_at file U (at_page c)) after
-  pub fed : OnOk r ((c : Reference) → c.page ≡ page → bytes_left (role_of c) ≡ Some left → Feeds old (held_bytes file c) new)
+-- What the visit of the page at a place of a chain leaves: what was reported, and what a sieve was fed.
+pub record IsOverflowVisited {S : Type 0} (takes : S → Finding → S → Type 0) (file : List ℕ) (chain : Chain) (place : ChainPlace)
+    (old new : Option RowSieve) (before after : S) : Type 0 where
+  pub told : (U : List Reference) (c : Reference) → c.page ≡ place.step.page → bytes_left (role_of c) ≡ Some place.left → IsOnChain chain place.number c
+      → HasHead file chain U c → Moves takes before (told_at file U (at_page c)) after
+  pub fed : (c : Reference) → c.page ≡ place.step.page → bytes_left (role_of c) ≡ Some place.left → Feeds old (held_bytes file c) new
+
+-- what the fault of the reference at a place of a chain goes back to, where the page before it has these bytes; and at no place
+abbrev pub place_cause : Chain → ChainPlace → ℕ → List ℕ → Cause
+place_cause chain place usable here =
+    cause.Chain (walked_chain chain place.number usable place.left place.number (seen_before usable place.number here))
+
+abbrev pub known_cause : Option ChainPage → ℕ → List ℕ → Cause
+known_cause None usable here = cause.Itself
+known_cause (Some at) usable here = place_cause at.chain.now at.place usable here
 
 -- Along the chain below c: the reference at this place is left, a sieve was fed the pages so far, and the last one was read.
 pub record IsOnWay {S : Type 0} (takes : S → Finding → S → Type 0) (file : List ℕ) (W : List Reference) (c : Reference) (before : S) (chain : Chain)
     (place : ChainPlace) (marks : List Mark) (now : S) (old new : Option RowSieve) (here : List ℕ) : Type 0 where
+  pub at : IsAtStep takes file W c before place.step (place_cause chain place (usable_size file) here) marks now
   pub pages : List Reference
   pub fed : FeedsPages file old pages new
-  pub visited : List Reference
-  pub since : visited ≡ W ++ pages
-  pub d : Reference
-  pub step : IsStepOf place.step d
-  pub left : bytes_left (role_of d) ≡ Some place.left
-  pub on : IsOnChain chain place.number d
-  pub head : HasHead file chain visited d
-  pub seen : seen_before (usable_size file) place.number here ≡ seen_from file d
-  pub rest : IsLeft takes file W (Go c ∷ []) before visited (Go d ∷ []) (marks, now)
-
--- after a turn: at the next place, or at the end, or stopped by an error
-abbrev pub Turns : {S : Type 0} → (S → Finding → S → Type 0) → List ℕ → List Reference → Reference → S → Chain → Result (Option ChainPlace) RunError
-    → List Mark → S → Option RowSieve → Option RowSieve → List ℕ → Type 0
-Turns takes file W c before chain (Ok (Some place)) marks now old new here = IsOnWay takes file W c before chain place marks now old new here
-Turns takes file W c before chain (Ok None) marks now old new here =
-    IsDone {A = Unit {0}} takes file W (Go c ∷ []) (Ok tt) marks before now × FeedsChain file W c old new
-Turns takes file W c before chain (Err e) marks now old new here = IsDone {A = Unit {0}} takes file W (Go c ∷ []) (Err e) marks before now
+  pub since : at.visited ≡ W ++ pages
+  pub left : bytes_left (role_of at.d) ≡ Some place.left
+  pub on : IsOnChain chain place.number at.d
+  pub head : HasHead file chain at.visited at.d

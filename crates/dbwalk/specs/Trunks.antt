@@ -13,7 +13,8 @@ use Rattle.dbformat.specs.Address.{freelist_start}
 use Rattle.dbformat.specs.File.{page_bytes}
 use Rattle.dbwalk.specs.declared.entering.Step.{Step}
 use Rattle.dbmarks.specs.declared.marks.Mark.TheVariants.{Trunk}
-use Rattle.dbwalk.specs.Entered.{IsStepOf}
+use Rattle.dbtrace.specs.declared.Cause.TheVariants.{Itself}
+use Rattle.dbwalk.specs.Beside.{IsAtStep}
 
 -- The leaves of a trunk as a program enters them.
 
@@ -51,11 +52,8 @@ freelist_reference first = record { address = freelist_start ∷ []; page = firs
 -- On the way along the trunks from c on: this one is left.
 pub record IsOnTrunks {S : Type 0} (takes : S → Finding → S → Type 0) (file : List ℕ) (W : List Reference) (c : Reference) (before : S) (place : Step)
     (marks : List Mark) (now : S) : Type 0 where
-  pub visited : List Reference
-  pub d : Reference
-  pub step : IsStepOf place d
-  pub role : role_of d ≡ trunk
-  pub rest : IsLeft takes file W (Go c ∷ []) before visited (Go d ∷ []) (marks, now)
+  pub at : IsAtStep takes file W c before place Itself marks now
+  pub role : role_of at.d ≡ trunk
 
 -- a trunk is open: the next one is left, from this item, or an error stopped it
 abbrev pub OpensTrunk : {S : Type 0} → (S → Finding → S → Type 0) → List ℕ → List Reference → Reference → S → Reference → Result ℕ RunError
@@ -63,10 +61,3 @@ abbrev pub OpensTrunk : {S : Type 0} → (S → Finding → S → Type 0) → Li
 OpensTrunk takes file W c before d (Ok item) marks now = (U : List Reference)
     × IsLeft takes file W (Go c ∷ []) before U (map (go d) (next_trunk d.page (page_bytes file d.page) item)) (marks, now)
 OpensTrunk takes file W c before d (Err e) marks now = IsDone {A = Unit {0}} takes file W (Go c ∷ []) (Err e) marks before now
-
--- after a turn: at the next trunk, or at the end, or stopped by an error
-abbrev pub TrunkTurns : {S : Type 0} → (S → Finding → S → Type 0) → List ℕ → List Reference → Reference → S → Result (Option Step) RunError
-    → List Mark → S → Type 0
-TrunkTurns takes file W c before (Ok (Some step)) marks now = IsOnTrunks takes file W c before step marks now
-TrunkTurns takes file W c before (Ok None) marks now = IsDone {A = Unit {0}} takes file W (Go c ∷ []) (Ok tt) marks before now
-TrunkTurns takes file W c before (Err e) marks now = IsDone {A = Unit {0}} takes file W (Go c ∷ []) (Err e) marks before now

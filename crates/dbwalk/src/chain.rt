@@ -1,25 +1,24 @@
 // The walk along an overflow chain (Database File Format, 1.7).
-ghost use Rattle.std.specs.Prelude.{◌≡◌, ◌+◌, ◌≤◌, ◌<◌, ◌∷◌, List, [], Option, Some, false, length, IfSome, IfOk, OnOk, is_some};
+ghost use Rattle.std.specs.Prelude.{◌≡◌, ◌+◌, ◌≤◌, ◌<◌, ◌∷◌, ℕ, List, [], Option, length, IfSome, IfOk, OnOk, is_some};
 ghost use Rattle.dbformat.specs.FixedPages.{IsPageNumber};
 ghost use Rattle.dbsurvey.specs.Story.{Go};
-ghost use Rattle.dbformat.specs.File.{geometry};
-ghost use Rattle.dbformat.specs.Log.{page_range};
-ghost use Rattle.dbformat.specs.Payload.{most_payload};
+ghost use Rattle.dbformat.specs.File.{geometry, page_bytes};
+ghost use Rattle.dbformat.specs.Header.{usable_size};
+ghost use Rattle.dbformat.specs.Payload.{most_payload, overflow_next};
 ghost use Rattle.dbformat.specs.Reference.{Reference};
 ghost use Rattle.dbbytes.specs.declared.sieve.RowSieve.{RowSieve};
-ghost use Rattle.dbtrace.specs.declared.Cause.TheVariants as cause;
-ghost use Rattle.dbwalk.specs.Chains.{seen_before, walked_chain, IsChainOf, IsOnWay, IsOverflowVisited, Turns, FeedsChain, IsPlace};
+ghost use Rattle.dbwalk.specs.Chains.{IsChainOf, IsOnWay, IsOverflowVisited, FeedsChain, IsPlace};
 ghost use Rattle.dbwalk.specs.Done.{IsDone};
 ghost use Rattle.dbwalk.specs.Entered.{IsNext};
 ghost use Rattle.dbmarks.specs.Marking.{AreMarksOf};
-ghost use Rattle.dbwalk.specs.Beside.{LeavesBeside};
+ghost use Rattle.dbwalk.specs.Beside.{LeavesBeside, Turns, WalksBeside};
+ghost use Rattle.dbwalk.specs.Telling.{SinkMoves};
 ghost use Rattle.dbmarks.specs.Reads.{Reads};
 ghost use Rattle.dbsource.specs.Sources.{HasLog};
 
-use crate::entering::{Step, enter};
-use crate::overflow::{
-    chain_cause, feed_page, last_fault, next_page, overflow_row, seen_before, tell,
-};
+use crate::beside::enter_beside;
+use crate::entering::Step;
+use crate::overflow::{feed_page, last_fault, next_page, overflow_row, tell};
 use crate::{Mark, Marks, Sink};
 use dbbytes::RowSieve;
 use dbsource::{Bench, RunError, Source};
@@ -62,34 +61,31 @@ pub(crate) struct ChainPage<'a> {
     pub(crate) place: ChainPlace,
 }
 
-// Reads the page at a place of a chain, feeds its payload bytes to a sieve, reports its row and its fault, and answers the next page that it
+// Feeds the payload bytes of the page at a place of a chain to a sieve, reports its row and its fault, and answers the next page that it
 // names.
-fn visit_overflow<S: Source, K: Sink, A: Allocator>(
-    source: &mut S,
-    bench: &mut Bench<A>,
+fn visit_overflow<K: Sink>(
+    bytes: &[u8],
+    usable: u32,
     at: ChainPage<'_>,
     sieve: &mut Option<RowSieve>,
     sink: &mut K,
-) -> Result<u32, RunError>
-    requires within { (1 ≤ at.place.step.page) × (at.place.number + at.place.left ≤ most_payload) }
-    requires open { (K.held sink.old).is_shut ≡ false }
-    ensures log { HasLog S.step (λ log. log ≡ page_range bench.old.geometry.page_size at.entry.place.step.page ∷ [])
-        (λ file. bench.old.geometry ≡ geometry file
-        → IsOverflowVisited K.takes file at.entry.chain.now at.entry.place.number at.entry.place.step.page at.entry.place.left result
-        sieve.old sieve.new sink.old sink.new bench.new.chain)
-        (S.held source.old) (S.held source.new) }
-    ensures beside { LeavesBeside result (S.held source.old) (S.held source.new) (K.held sink.old) (K.held sink.new) bench.old bench.new }
+) -> u32
+    requires usable { (480 ≤ usable) × (usable ≤ 65536) }
+    requires whole { usable ≤ length bytes.now }
+    requires counted { at.place.number + at.place.left ≤ most_payload }
+    ensures next { result ≡ overflow_next bytes.now }
+    ensures visited { (file : List ℕ) → bytes.now ≡ page_bytes file at.entry.place.step.page → usable ≡ usable_size file
+        → IsOverflowVisited K.takes file at.entry.chain.now at.entry.place sieve.old sieve.new sink.old sink.new }
+    ensures moves { SinkMoves (K.held sink.old) (K.held sink.new) }
     ensures kept { is_some sieve.new ≡ is_some sieve.old }
 {
     let (page, left) = (at.place.step.page, at.place.left);
-    bench.load(CHAIN, source, page)?;
-    let usable = bench.geometry().usable;
-    let next = next_page(bench.page(CHAIN));
-    feed_page(bench.page(CHAIN), usable, left, sieve);
+    let next = next_page(bytes);
+    feed_page(bytes, usable, left, sieve);
     let row = overflow_row(at.chain, at.place, usable);
     let fault = last_fault(usable, left, page, next);
-    tell(&row, fault, at, usable, bench.page(CHAIN), sink);
-    Ok(next)
+    tell(&row, fault, at, usable, bytes, sink);
+    next
 }
 
 // Goes on by one page, if the next one may be followed.
@@ -102,31 +98,21 @@ fn enter_overflow<S: Source, K: Sink, A: Allocator>(
     sink: &mut K,
 ) -> Result<Option<ChainPlace>, RunError>
     requires place { IsPlace at.place }
-    ensures log { HasLog S.step (Reads bench.old.geometry.page_size marks.old marks.new) (λ file. bench.old.geometry ≡ geometry file
-        → (W : List Reference) (c : Reference) (before : K) (first : Option RowSieve)
+    ensures walks { WalksBeside S.step result (S.held source.old) (S.held source.new) (K.held sink.old) (K.held sink.new) bench.old bench.new
+        marks.old marks.new (λ file. (W : List Reference) (c : Reference) (before : K) (first : Option RowSieve)
         → IsOnWay K.takes file W c before at.entry.chain.now at.entry.place marks.old sink.old first sieve.old bench.old.chain
-        → Turns K.takes file W c before at.entry.chain.now result marks.new sink.new first sieve.new bench.new.chain)
-        (S.held source.old) (S.held source.new) }
-    ensures beside { LeavesBeside result (S.held source.old) (S.held source.new) (K.held sink.old) (K.held sink.new) bench.old bench.new }
+        → Turns K.takes file W c before (λ place. IsOnWay K.takes file W c before at.entry.chain.now place marks.new sink.new first sieve.new
+        bench.new.chain) (FeedsChain file W c first sieve.new) result marks.new sink.new) }
     ensures kept { is_some sieve.new ≡ is_some sieve.old }
     ensures next { IfOk result (λ o. IfSome o (λ next. IsPlace next × (next.left < at.entry.place.left))) }
 {
     let place = at.place;
-    let usable = bench.geometry().usable;
-    let here = bench.page(CHAIN);
-    let cause = ||
-        requires { (480 ≤ usable) × (usable ≤ 65536) × (at.place.number + at.place.left ≤ most_payload) × (usable ≤ length here.now) }
-        ensures { result ≡ cause.Chain (walked_chain at.entry.chain.now at.entry.place.number usable at.entry.place.left at.entry.place.number
-            (seen_before usable at.entry.place.number here.entry.now)) }
-    {
-        let number = at.place.number;
-        chain_cause(at, usable, number, seen_before(here, usable, number))
-    };
-    if !enter(marks, place.step, cause, sink)? {
+    if !enter_beside(source, bench, marks, place.step, Some(at), sink)? {
         return Ok(None);
     }
+    let usable = bench.geometry().usable;
     let room = usable - 4;
-    let next = visit_overflow(source, bench, at, sieve, sink)?;
+    let next = visit_overflow(bench.page(CHAIN), usable, at, sieve, sink);
     if place.left <= room {
         return Ok(None);
     }

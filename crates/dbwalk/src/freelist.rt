@@ -10,18 +10,19 @@ ghost use Rattle.dbformat.specs.Reference.{trunk, Way, Reference, role_of};
 ghost use Rattle.dbformat.specs.Survey.{rules_of};
 ghost use Rattle.dbformat.specs.Story.{Event};
 ghost use Rattle.dbsource.specs.declared.error.RunError.TheVariants as run_error;
-ghost use Rattle.dbwalk.specs.Beside.{LeavesBeside};
+ghost use Rattle.dbwalk.specs.Beside.{Turns, WalksBeside};
 ghost use Rattle.dbwalk.specs.Done.{IsDone, IsLeft};
 ghost use Rattle.dbwalk.specs.Entered.{IsNext};
-ghost use Rattle.dbwalk.specs.Trunks.{LeavesErrands, IsFirstTrunk, IsOnTrunks, OpensTrunk, TrunkTurns, next_step};
+ghost use Rattle.dbwalk.specs.Trunks.{LeavesErrands, IsFirstTrunk, IsOnTrunks, OpensTrunk, next_step};
 ghost use Rattle.dbmarks.specs.Marking.{AreMarksOf, KeepsMarks, unmarked_pages};
 ghost use Rattle.dbwalk.specs.Telling.{IsReadOrWrite, SinkAfter, SinkWalks};
 ghost use Rattle.dbmarks.specs.Reads.{Reads};
 ghost use Rattle.dbmarks.specs.declared.marks.Mark.{Mark};
 ghost use Rattle.dbmarks.specs.declared.marks.Mark.TheVariants as use_mark;
 ghost use Rattle.dbsource.specs.Errors.{is_read_failed, is_write_failed};
-ghost use Rattle.dbsource.specs.Sources.{Asks, HasLog};
+ghost use Rattle.dbsource.specs.Sources.{Asks};
 
+use crate::beside::enter_beside;
 use crate::chain::CHAIN;
 use crate::entering::{Step, ask, enter, itself};
 use crate::{Cause, Fault, Mark, Marks, Sink};
@@ -120,19 +121,15 @@ fn enter_trunk<S: Source, K: Sink, A: Allocator>(
     sink: &mut K,
 ) -> Result<Option<Step>, RunError>
     requires { step.mark ≡ use_mark.Trunk }
-    ensures log { HasLog S.step (Reads bench.old.geometry.page_size marks.old marks.new)
-        (λ file. bench.old.geometry ≡ geometry file → (W : List Reference) (c : Reference) (before : K)
-        → IsOnTrunks K.takes file W c before step marks.old sink.old
-        → TrunkTurns K.takes file W c before result marks.new sink.new)
-        (S.held source.old) (S.held source.new) }
-    ensures beside { LeavesBeside result (S.held source.old) (S.held source.new) (K.held sink.old) (K.held sink.new) bench.old bench.new }
+    ensures walks { WalksBeside S.step result (S.held source.old) (S.held source.new) (K.held sink.old) (K.held sink.new) bench.old bench.new
+        marks.old marks.new (λ file. (W : List Reference) (c : Reference) (before : K) → IsOnTrunks K.takes file W c before step marks.old sink.old
+        → Turns K.takes file W c before (λ next. IsOnTrunks K.takes file W c before next marks.new sink.new) Unit result marks.new sink.new) }
     ensures trunk { IfOk result (λ o. IfSome o (λ next. next.mark ≡ use_mark.Trunk)) }
     ensures less { IfOk result (λ o. IfSome o (λ next. unmarked_pages marks.new < unmarked_pages marks.old)) }
 {
-    if !enter(marks, step, itself, sink)? {
+    if !enter_beside(source, bench, marks, step, None, sink)? {
         return Ok(None);
     }
-    bench.load(CHAIN, source, step.page)?;
     let usable = bench.geometry().usable;
     let bytes = bench.page(CHAIN);
     let item = open_trunk(bytes, usable, marks, step.page, sink)?;

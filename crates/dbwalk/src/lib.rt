@@ -17,6 +17,10 @@
 //! another are one part, so the contract of a tree is made from those of its pages, and theirs from those of their cells. For
 //! an overflow chain and for the freelist, which do not change the progress, `IsDone` states the same by the visits.
 //!
+//! **Beside the pages of a tree** (specs/Beside) a walk goes from step to step: along an overflow chain, or from trunk to trunk.
+//! `enter_beside` marks and reads the page of a step. `IsAtStep` says what is left then, `Turns` what one turn leaves, and
+//! `WalksBeside` what such a walk reads and what it keeps of all that it borrows.
+//!
 //! **What a call keeps** (specs/Walked). A walk over a tree is one struct, `TreeWalk`, of all that it borrows but the page
 //! buffers. One clause of each of its methods, `Walked`, says that it still borrows the same, that each failure of a source or a
 //! taker is counted and answered, and that only the schema's tree calls the taker. Another, `SaysOfFiles`, says which pages were
@@ -40,6 +44,7 @@
 //! Other trees leave the place empty.
 #![tactic(auto)]
 
+mod beside;
 mod cells;
 mod chain;
 mod entering;

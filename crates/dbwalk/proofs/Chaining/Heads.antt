@@ -1,5 +1,5 @@
 -- The cell that an overflow chain belongs to, by the visits so far.
-use Rattle.std.proofs.Common.{◌≡◌, ℕ, ◌+◌, ◌-◌, ◌≤◌, Bool, true, false, cond, not, ◌&&◌, inl, inr, List, [], ◌∷◌, ◌++◌, length, take, Option, Some, None, refl}
+use Rattle.std.proofs.Common.{◌≡◌, ℕ, ◌+◌, ◌-◌, ◌≤◌, Bool, true, false, cond, inl, inr, List, [], ◌∷◌, ◌++◌, length, take, Option, Some, None, refl}
 use Rattle.std.proofs.Common.{sym, ap, ap₂, ◌∙◌, arith}
 use Rattle.std.specs.Prelude.{find, ◌==◌}
 use Rattle.std.specs.Option.{option_map_or, option_or}
@@ -8,10 +8,8 @@ use Rattle.std.proofs.lemmas.Bool.{cases_Bool}
 use Rattle.std.proofs.lemmas.Bool.Decides.{nat_tests}
 use Rattle.std.proofs.lemmas.List.{length-append, take-append-le}
 use Rattle.std.proofs.lemmas.List.Folds.{find-append}
-use Rattle.dbsurvey.specs.Address.{IsIn, Address, IsBefore}
-use Rattle.dbsurvey.specs.InOrder.{is_before}
+use Rattle.dbsurvey.specs.Address.{Address}
 use Rattle.dbsurvey.specs.Story.{Go}
-use Rattle.dbsurvey.proofs.Ordering.{is_before-from, is_before-itself}
 use Rattle.dbformat.specs.Address.{then_step, chain_place, chain_on, is_child_step, cell_of_step}
 use Rattle.dbformat.specs.Header.{usable_size}
 use Rattle.dbformat.specs.Reference.{Role, root, child, first_overflow, later_overflow, trunk, free_leaf, Reference, role_of, from_of, item_of, bytes_left}
@@ -25,6 +23,7 @@ use Rattle.dbwalk.specs.Chains.{HasHead, IsChainOf, IsOnChain, next_of, walked_c
 use Rattle.dbwalk.specs.Entered.{IsNext}
 use Rattle.dbwalk.specs.declared.chain.Chain.{Chain}
 use Rattle.dbwalk.proofs.Chaining.Overflows.{next_on_chain}
+use Rattle.dbwalk.proofs.Trees.Bounds.{first_here}
 
 number_is : (chain : Chain) (number : ℕ) (d : Reference) → IsOnChain chain number d → chain_number d.address ≡ number
 number_is chain number d on = ap (λ o. option_map_or (λ p. p.1) o 0) on.place
@@ -70,18 +69,15 @@ head_cause file V chain number left more seen d h on head =
       seen = seen;
     })
 
--- that of a reference that is refused, by the numbers that a program has
-pub refusal_here : (file : List ℕ) {usable : ℕ} → usable ≡ usable_size file
-    → (chain : Chain) (number left : ℕ) (d : Reference) (V : List Reference) {seen : SeenBytes} → seen ≡ seen_from file d
+-- that of a reference that is refused
+pub refusal_here : (file : List ℕ) (chain : Chain) (number left : ℕ) (d : Reference) (V : List Reference) {seen : SeenBytes} → seen ≡ seen_from file d
     → bytes_left (role_of d) ≡ Some left → IsOnChain chain number d → HasHead file chain V d
-    → {why : Cause} → why ≡ cause.Chain (walked_chain chain number usable left number seen) → refusal_cause file V d ≡ why
-refusal_here file u chain number left d V {seen = seen} z h on head e =
+    → refusal_cause file V d ≡ cause.Chain (walked_chain chain number (usable_size file) left number seen)
+refusal_here file chain number left d V z h on head =
     let n : number + 0 ≡ number = omega arith in
     ap (refusal_of file V d (rowids_of file V d)) (no_tree (role_of d) h)
     ∙ head_cause file V chain number left 0 (seen_from file d) d h on head
-    ∙ ap (λ n. cause.Chain (walked_chain chain number (usable_size file) left n (seen_from file d))) n
-    ∙ sym (e ∙ ap (λ x. cause.Chain (walked_chain chain number x left number seen)) u
-    ∙ ap (λ b. cause.Chain (walked_chain chain number (usable_size file) left number b)) z)
+    ∙ ap₂ (λ n b. cause.Chain (walked_chain chain number (usable_size file) left n b)) n (sym z)
   where
     no_tree : (r : Role) → bytes_left r ≡ Some left → tree_kind r ≡ None
     no_tree (root kind) e = cc
@@ -100,18 +96,6 @@ head_start file chain V c h = record {
   item = h.item;
   rowid = h.rowid;
 }
-
--- an address equals itself, and no address before it
-same_itself : (a : Address) → is_same a a ≡ true
-same_itself a = ap (λ b. not b && not b) (is_before-itself a)
-
-same_before : (a b : Address) → IsBefore a b → is_same a b ≡ false
-same_before a b h = ap (λ x. not x && not (is_before b a)) (is_before-from a b h)
-
-none_same : (V : List Reference) (a : Address) → ((u : Reference) → IsIn u V → IsBefore u.address a) → find (λ u. is_same u.address a) V ≡ None
-none_same [] a h = refl
-none_same (u ∷ V) a h = ap (λ b. cond b (Some u) (find (λ u. is_same u.address a) V)) (same_before u.address a (h u (inl refl)))
-    ∙ none_same V a (λ w i. h w (inr i))
 
 -- after the visit of the page
 module _ (file : List ℕ) (chain : Chain) (V : List Reference) (number : ℕ) (d : Reference) (on : IsOnChain chain number d) (head : HasHead file chain V d) where
@@ -173,9 +157,7 @@ module _ (file : List ℕ) (chain : Chain) (V : List Reference) (number : ℕ) (
     head_next = elim (cases_Bool (chain_number d.address == 0)) [
       | inl e ↦ record {
         head = d;
-        found = later number next_number d (ap (searched (V ++ d ∷ [])) (same_head ∙ first e) ∙ find-append (λ u. is_same u.address d.address) V (d ∷ [])
-            ∙ ap (λ o. option_or o (searched (d ∷ []) d.address)) (none_same V d.address (λ u i. past u (Go d) i (inl refl)))
-            ∙ ap (λ b. cond b (Some d) None) (same_itself d.address));
+        found = later number next_number d (ap (searched (V ++ d ∷ [])) (same_head ∙ first e) ∙ first_here V d (λ u i. past u (Go d) i (inl refl)));
         from = ap from_of (self e) ∙ head.from;
         item = ap item_of (self e) ∙ head.item;
         rowid = head.rowid;

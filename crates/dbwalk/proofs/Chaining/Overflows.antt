@@ -1,10 +1,9 @@
 -- What is reported of an overflow page, and what it leads to.
 use Rattle.std.proofs.Common.{◌≡◌, ℕ, ◌+◌, ◌-◌, ◌*◌, ◌≤◌, ◌<◌, Bool, true, false, cond, not, ◌&&◌, List, [], ◌∷◌, ◌++◌, length, map, take, drop, Option, Some}
-use Rattle.std.proofs.Common.{None, refl, sym, ap, ◌∙◌, arith, inl}
+use Rattle.std.proofs.Common.{None, refl, sym, ap, ◌∙◌, arith}
 use Rattle.std.specs.Prelude.{option_to_list, nat_le, nat_lt, ◌==◌, pos}
 use Rattle.std.proofs.lemmas.Bool.Decides.{nat_tests}
 use Rattle.std.proofs.lemmas.List.{length-append}
-use Rattle.dbsurvey.specs.Moves.{MovesBySome}
 use Rattle.dbsurvey.specs.Story.{Go, errands_of}
 use Rattle.dbformat.specs.Address.{start_of, then_step, is_child_step, cell_of_step, children_on, chain_on, child_path, chain_place}
 use Rattle.dbformat.specs.Counts.{overflow_counts}
@@ -33,11 +32,7 @@ use Rattle.dbwalk.specs.Chains.{IsOnChain, next_of}
 use Rattle.dbtrace.specs.Causes.{cause_of}
 use Rattle.dbtrace.specs.declared.Cause.{Cause}
 use Rattle.dbtrace.specs.Finding.{told_row, told_fault, told_by, told_at}
-
--- nothing that was taken is a beginning of every list
-pub moves_none : {S E : Type 0} (takes : S → E → S → Type 0) (s : S) (es : List E) → MovesBySome takes s es s
-moves_none takes s [] = refl
-moves_none takes s (e ∷ es) = inl refl
+use Rattle.std.proofs.lemmas.List.{append-nil}
 
 -- the bytes that a load leaves are those of the page
 pub page_read : (file bytes : List ℕ) (size p : ℕ) → length bytes ≡ size → IsRangeOf file ((p - 1) * size) bytes → (geometry file).page_size ≡ size → bytes
@@ -53,12 +48,8 @@ pub told_overflow : (file : List ℕ) (U : List Reference) (c : Reference) (left
 unfolding page_faults
 told_overflow file U c left h = by_role (role_of c) h
   where
-    by_left : (l : ℕ) → Some l ≡ Some left → told_row (overflow_page_row c (usable_size file) l)
-        ∷ told_by (cause_of file U (at_page c)) (overflow_fault (usable_size file) l c.page (page_bytes file c.page))
-        ≡ told_row (overflow_page_row c (usable_size file) left)
-        ∷ told_by (cause_of file U (at_page c)) (overflow_fault (usable_size file) left c.page (page_bytes file c.page))
-    by_left l e = let k : l ≡ left = cc in ap (λ l. told_row (overflow_page_row c (usable_size file) l)
-        ∷ told_by (cause_of file U (at_page c)) (overflow_fault (usable_size file) l c.page (page_bytes file c.page))) k
+    same : (l : ℕ) → Some l ≡ Some left → l ≡ left
+    same l e = cc
 
     by_role : (role : Role) → bytes_left role ≡ Some left → map told_row (option_to_list (row_in role file c))
         ++ told_by (cause_of file U (at_page c)) (role_faults role file U c)
@@ -66,8 +57,8 @@ told_overflow file U c left h = by_role (role_of c) h
         ∷ told_by (cause_of file U (at_page c)) (overflow_fault (usable_size file) left c.page (page_bytes file c.page))
     by_role (root kind) e = cc
     by_role (child kind) e = cc
-    by_role (first_overflow l) e = by_left l e
-    by_role (later_overflow l) e = by_left l e
+    by_role (first_overflow l) e = rw (same l e) refl
+    by_role (later_overflow l) e = rw (same l e) refl
     by_role trunk e = cc
     by_role free_leaf e = cc
 
@@ -135,25 +126,28 @@ last_errands file c left h l =
     by_chain file c left h
     ∙ ap (λ b. map (go c) (cond b (link c.page 0 0 (later_overflow (left - (usable_size file - 4))) (overflow_next (page_bytes file c.page)) ∷ []) [])) e
 
--- the place of the next page in the chain
-abbrev at : ℕ → ℕ → Option (ℕ × ℕ)
-at i n = Some (i, n)
+-- what a step after others adds to the children, and where it leads: to a child, into a chain, or on along one
+abbrev pub child_by : Option (ℕ × ℕ) → ℕ → List ℕ
+child_by None s = cond (is_child_step s) (cell_of_step s ∷ []) []
+child_by (Some place) s = []
 
-chain_more : (steps : List ℕ) (i n : ℕ) → chain_on steps ≡ at i n → (children_on (steps ++ 0 ∷ []) ≡ children_on steps)
-    × (chain_on (steps ++ 0 ∷ []) ≡ at i (n + 1))
-chain_more [] i n h = cc
-chain_more (step ∷ steps) i n h = by_step (is_child_step step) h (chain_more steps i n)
+abbrev pub place_by : Option (ℕ × ℕ) → ℕ → Option (ℕ × ℕ)
+place_by None s = cond (is_child_step s) None (Some (cell_of_step s, 0))
+place_by (Some place) s = Some (place.0, place.1 + 1)
+
+pub steps_then : (steps : List ℕ) (s : ℕ) → (children_on (steps ++ s ∷ []) ≡ children_on steps ++ child_by (chain_on steps) s)
+    × (chain_on (steps ++ s ∷ []) ≡ place_by (chain_on steps) s)
+steps_then [] s = (refl, refl)
+steps_then (t ∷ steps) s = by_step (is_child_step t) (steps_then steps s)
   where
-    last : (j m l : ℕ) → l ≡ m + 1 → at j m ≡ at i n → at j l ≡ at i (n + 1)
-    last j m l e h = let k : ◌≡◌ {A = ℕ × ℕ} (j, m) (i, n) = cc in let a : j ≡ i = ap (λ x. x.0) k in let b : m ≡ n =
-        ap (λ x. x.1) k in ap (λ k. at j k) (e ∙ ap (λ m. m + 1) b) ∙ ap (λ j. at j (n + 1)) a
-
-    by_step : (b : Bool) → cond b (chain_on steps) (at (cell_of_step step) (length steps)) ≡ at i n
-        → (chain_on steps ≡ at i n → (children_on (steps ++ 0 ∷ []) ≡ children_on steps) × (chain_on (steps ++ 0 ∷ []) ≡ at i (n + 1)))
-        → (cond b (cell_of_step step ∷ children_on (steps ++ 0 ∷ [])) [] ≡ cond b (cell_of_step step ∷ children_on steps) [])
-        × (cond b (chain_on (steps ++ 0 ∷ [])) (at (cell_of_step step) (length (steps ++ 0 ∷ []))) ≡ at i (n + 1))
-    by_step true h f = let k = f h in (ap (λ l. cell_of_step step ∷ l) k.0, k.1)
-    by_step false h f = (refl, last (cell_of_step step) (length steps) (length (steps ++ 0 ∷ [])) (length-append steps (0 ∷ [])) h)
+    by_step : (b : Bool) → (children_on (steps ++ s ∷ []) ≡ children_on steps ++ child_by (chain_on steps) s)
+        × (chain_on (steps ++ s ∷ []) ≡ place_by (chain_on steps) s)
+        → (cond b (cell_of_step t ∷ children_on (steps ++ s ∷ [])) []
+        ≡ cond b (cell_of_step t ∷ children_on steps) [] ++ child_by (cond b (chain_on steps) (Some (cell_of_step t, length steps))) s)
+        × (cond b (chain_on (steps ++ s ∷ [])) (Some (cell_of_step t, length (steps ++ s ∷ [])))
+        ≡ place_by (cond b (chain_on steps) (Some (cell_of_step t, length steps))) s)
+    by_step true h = (ap (λ l. cell_of_step t ∷ l) h.0, h.1)
+    by_step false h = (refl, ap (λ n. Some (cell_of_step t, n)) (length-append steps (s ∷ [])))
 
 pub next_on_chain : (chain : Chain) (number : ℕ) (c : Reference) (left page : ℕ) → IsOnChain chain number c → IsOnChain chain (number + 1) (next_of c left page)
 next_on_chain chain number c left page h = by_address c.address h.start h.path h.place
@@ -161,4 +155,8 @@ next_on_chain chain number c left page h = by_address c.address h.start h.path h
     by_address : (a : List ℕ) → start_of a ≡ chain.start → child_path a ≡ chain.path.now → chain_place a ≡ Some (chain.cell, number)
         → IsOnChain chain (number + 1) (record { address = then_step a 0; page = page; role = record { role = later_overflow left; from = c.page; item = 0 } })
     by_address [] s p q = absurd (let k : None ≡ Some (chain.cell, number) = q in cc)
-    by_address (x ∷ a) s p q = let k = chain_more a chain.cell number q in record { start = s; path = k.0 ∙ p; place = k.1 }
+    by_address (x ∷ a) s p q = let k = steps_then a 0 in record {
+      start = s;
+      path = k.0 ∙ ap (λ o. children_on a ++ child_by o 0) q ∙ append-nil (children_on a) ∙ p;
+      place = k.1 ∙ ap (λ o. place_by o 0) q;
+    }

@@ -1,22 +1,19 @@
 -- What is read of the cells of a leaf at a level.
-use Rattle.std.proofs.Common.{◌≡◌, ℕ, ◌+◌, ◌-◌, ◌<◌, ◌≤◌, Bool, true, false, cond, ◌&&◌, List, [], take, drop, Option, Some, None, Ok, Err, ℤ, refl, sym, ap}
+use Rattle.std.proofs.Common.{◌≡◌, ℕ, ◌+◌, ◌<◌, ◌≤◌, Bool, true, false, cond, ◌&&◌, List, [], Option, Some, None, Ok, Err, ℤ, refl, sym, ap}
 use Rattle.std.proofs.Common.{arith, ◌∙◌, subst, ◌*◌}
-use Rattle.std.specs.Prelude.{option_map, option_and_then, nat_le, nat_lt, ok_or, slice_get, slice_index_or, IfSome}
+use Rattle.std.specs.Prelude.{option_map, option_and_then, nat_le, nat_lt, slice_get, slice_index_or, IfSome}
 use Rattle.std.specs.Result.{result_ok}
-use Rattle.std.proofs.lemmas.Bool.{and_parts}
 use Rattle.std.proofs.lemmas.Bool.Decides.{nat_tests}
 use Rattle.std.proofs.lemmas.Option.{get_or_from_slice_get}
-use Rattle.dbformat.specs.Numbers.{u32_at}
-use Rattle.dbformat.specs.Varint.{varint, signed}
-use Rattle.dbformat.specs.Payload.{most_payload, local_len}
-use Rattle.dbformat.specs.Head.{View, content_start, undamaged}
-use Rattle.dbformat.specs.Cell.{Cell, bytes_from, payload_cell, cell_at, cell, cell_pointer, count, overflow_size}
+use Rattle.dbformat.specs.Varint.{varint}
+use Rattle.dbformat.specs.Payload.{most_payload}
+use Rattle.dbformat.specs.Head.{View, undamaged}
+use Rattle.dbformat.specs.Cell.{Cell, bytes_from, payload_cell, cell_at, cell, count, overflow_size}
 use Rattle.dbformat.specs.declared.PageKind.{PageKind}
 use Rattle.dbformat.specs.declared.PageKind.TheVariants.{InteriorIndex, InteriorTable, LeafIndex, LeafTable}
 use Rattle.dbformat.specs.declared.PayloadKind.{PayloadKind}
 use Rattle.dbformat.specs.declared.PayloadKind.TheVariants.{TableLeaf, Index}
 use Rattle.dbformat.specs.declared.CellFault.{CellFault}
-use Rattle.dbformat.specs.declared.CellFault.TheVariants.{Offset, Unreadable}
 use Rattle.dbformat.specs.declared.TreeKind.{TreeKind}
 use Rattle.dbsource.specs.Bench.{Pages, bytes_at}
 use Rattle.dbwalk.specs.LeafCells.{HasCell, HasCells}
@@ -25,89 +22,35 @@ use Rattle.dbbytes.specs.declared.sieve.RowSieve.{RowSieve}
 use Rattle.dbwalk.specs.Taking.{HasFed, HoldsCell, HasSieve}
 use Rattle.dbwalk.specs.Steps.{IsNextStep, HasNext}
 use Rattle.dbwalk.specs.declared.steps.Next.{Next}
+use Rattle.dbformat.proofs.CellParts.{at_offset, then_some}
 
 -- a payload is at most 2147483647 bytes long
 
 payload_size : (v : View) (kind : PayloadKind) (offset before size : ℕ) (left : Option ℕ) (key : Option ℤ) (x : Cell)
     → payload_cell v kind offset before size left key ≡ Some x → x.size ≤ most_payload
-payload_size v kind offset before size left key x e = by_test (nat_le size most_payload && nat_le (offset + (before + here + more)) v.usable) refl e
+payload_size v kind offset before size left key x e = by_test _ _ e (λ f. fits _ f)
   where
-    here : ℕ
-    here = local_len kind v.usable size
+    fits : (end : ℕ) → (nat_le size most_payload && nat_le end v.usable) ≡ true → size ≤ most_payload
+    fits end f = grind (arith, nat_tests)
 
-    more : ℕ
-    more = cond (nat_lt here size) 4 0
-
-    bytes : List ℕ
-    bytes = drop (offset + before) v.bytes
-
-    by_test : (b : Bool) → (nat_le size most_payload && nat_le (offset + (before + here + more)) v.usable) ≡ b
-        → cond b (Some (record {
-          offset = offset;
-          len = before + here + more;
-          size = size;
-          left = left;
-          key = key;
-          local = take here bytes;
-          overflow =
-              cond (nat_lt here size) (Some (u32_at (offset + before + here) v.bytes)) None;
-        })) None ≡ Some x → x.size ≤ most_payload
-    by_test true f g =
-        let h : size ≡ x.size = same g in
-        let k = (and_parts (nat_le size most_payload) (nat_le (offset + (before + here + more)) v.usable) f).0 in
-        let l : size ≤ most_payload = grind (arith, nat_tests) in
-        omega arith
-      where
-        same : {y : Cell} → Some y ≡ Some x → y.size ≡ x.size
-        same {y} g = let h : y ≡ x = cc in ap (λ y. y.size) h
-    by_test false f g = cc
+    by_test : (b : Bool) (y : Cell) → cond b (Some y) None ≡ Some x → (b ≡ true → y.size ≤ most_payload) → x.size ≤ most_payload
+    by_test true y e l = let same : y ≡ x = cc in subst (λ x. x.size ≤ most_payload) same (l refl)
+    by_test false y e l = cc
 
 cell_at_size : (kind : PageKind) (v : View) (offset : ℕ) (x : Cell) → cell_at kind v offset ≡ Some x → x.size ≤ most_payload
-cell_at_size LeafTable v offset x e = by_size (varint (bytes_from v offset)) e
+cell_at_size LeafTable v offset x e =
+    let size = then_some (varint (bytes_from v offset)) _ x e in
+    let rowid = then_some (varint (bytes_from v (offset + size.0.1))) _ x size.2 in
+    payload_size v TableLeaf offset _ _ None _ x rowid.2
+cell_at_size InteriorTable v offset x e = none (then_some (varint (bytes_from v (offset + 4))) _ x e).2 (omega arith)
   where
-    by_rowid : (size : ℕ × ℕ) (o : Option (ℕ × ℕ)) → option_and_then
-        (λ rowid. payload_cell v TableLeaf offset (size.1 + rowid.1) size.0 None (Some (signed rowid.0))) o ≡ Some x → x.size ≤ most_payload
-    by_rowid size None e = cc
-    by_rowid size (Some rowid) e = payload_size v TableLeaf offset (size.1 + rowid.1) size.0 None (Some (signed rowid.0)) x e
-
-    by_size : (o : Option (ℕ × ℕ)) → option_and_then (λ size. option_and_then
-        (λ rowid. payload_cell v TableLeaf offset (size.1 + rowid.1) size.0 None (Some (signed rowid.0))) (varint (bytes_from v (offset + size.1)))) o ≡ Some x
-        → x.size ≤ most_payload
-    by_size None e = cc
-    by_size (Some size) e = by_rowid size (varint (bytes_from v (offset + size.1))) e
-cell_at_size InteriorTable v offset x e = by_key (varint (bytes_from v (offset + 4))) e
-  where
-    by_key : (o : Option (ℕ × ℕ)) → option_and_then (λ key. Some
-        (record { offset = offset; len = 4 + key.1; size = 0; local = []; overflow = None; left = Some (u32_at offset v.bytes); key = Some (signed key.0) })) o
-        ≡ Some x → x.size ≤ most_payload
-    by_key None e = cc
-    by_key (Some key) e = let h = none e in omega arith
-      where
-        none : {y : Cell} → Some y ≡ Some x → y.size ≡ x.size
-        none {y} g = let h : y ≡ x = cc in ap (λ y. y.size) h
-cell_at_size LeafIndex v offset x e = by_size (varint (bytes_from v offset)) e
-  where
-    by_size : (o : Option (ℕ × ℕ)) → option_and_then (λ size. payload_cell v Index offset size.1 size.0 None None) o ≡ Some x → x.size ≤ most_payload
-    by_size None e = cc
-    by_size (Some size) e = payload_size v Index offset size.1 size.0 None None x e
-cell_at_size InteriorIndex v offset x e = by_size (varint (bytes_from v (offset + 4))) e
-  where
-    by_size : (o : Option (ℕ × ℕ)) → option_and_then (λ size. payload_cell v Index offset (4 + size.1) size.0 (Some (u32_at offset v.bytes)) None) o ≡ Some x
-        → x.size ≤ most_payload
-    by_size None e = cc
-    by_size (Some size) e = payload_size v Index offset (4 + size.1) size.0 (Some (u32_at offset v.bytes)) None x e
+    none : {y : Cell} → Some y ≡ Some x → y.size ≤ most_payload → x.size ≤ most_payload
+    none {y} e l = let same : y ≡ x = cc in subst (λ x. x.size ≤ most_payload) same l
+cell_at_size LeafIndex v offset x e = payload_size v Index offset _ _ None None x (then_some (varint (bytes_from v offset)) _ x e).2
+cell_at_size InteriorIndex v offset x e = payload_size v Index offset _ _ _ None x (then_some (varint (bytes_from v (offset + 4))) _ x e).2
 
 pub cell_size : (v : View) (i : ℕ) (x : Cell) → cell v i ≡ Ok x → x.size ≤ most_payload
-unfolding cell
-cell_size v i x e = by_test (nat_le (content_start v.number v.bytes) (cell_pointer v i) && nat_le (cell_pointer v i) (v.usable - 4)) e
-  where
-    by_cell : (o : Option Cell) → cell_at v.kind v (cell_pointer v i) ≡ o → ok_or o Unreadable ≡ Ok x → x.size ≤ most_payload
-    by_cell None f e = cc
-    by_cell (Some y) f e = cell_at_size v.kind v (cell_pointer v i) x (f ∙ (let h : y ≡ x = cc in ap (λ y. Some y) h))
-
-    by_test : (b : Bool) → cond b (ok_or (cell_at v.kind v (cell_pointer v i)) Unreadable) (Err Offset) ≡ Ok x → x.size ≤ most_payload
-    by_test true e = by_cell (cell_at v.kind v (cell_pointer v i)) refl e
-    by_test false e = cc
+cell_size v i x e = let at = at_offset v i x e in cell_at_size v.kind v at.0 x at.1
 
 -- the bytes at a level
 
@@ -135,6 +78,15 @@ module _ (b : Pages) (kind : TreeKind) (level page : ℕ) (low : level < 20) (us
     chain = λ y v e f l. (h v (seen y v e f) l).0;
     key_is = λ y v e f l. (h v (seen y v e f) l).1;
   }
+
+  -- the sieve of a cell, and what is at a step
+  pub has_sieve : (i : ℕ) (e : Encoding) (sieve : Option RowSieve) → ((v : View) → o ≡ Some v → i < count v → HoldsCell sieve e (result_ok (cell v i)))
+      → HasSieve b.geometry.usable kind b.levels level page i e sieve
+  has_sieve i e sieve h = record { read = λ y v a f l. h v (seen y v a f) l }
+
+  pub has_next : (s : ℕ) (next : Next) → ((v : View) → o ≡ Some v → (count v ≤ 32768) × IsNextStep v s next)
+      → HasNext b.geometry.usable kind b.levels level page s next
+  has_next s next h = record { few = λ y v e f. (h v (seen y v e f)).0; stands = λ y v e f. (h v (seen y v e f)).1 }
 
 -- what is read of a readable cell, and of one that is not
 module _ (w v : View) (same : Some w ≡ Some v) (i : ℕ) where
@@ -170,14 +122,6 @@ same_view w v e = cc
 
 -- The sieve of a cell of a leaf.
 
-pub has_sieve : (b : Pages) (kind : TreeKind) (level page : ℕ) (low : level < 20) (usable : ℕ) (usable_is : usable ≡ b.geometry.usable) (bytes : List ℕ)
-    (bytes_are : bytes ≡ bytes_at b level) (o : Option View) (viewed : undamaged kind page usable bytes ≡ o)
-    (i : ℕ) (e : Encoding) (sieve : Option RowSieve) → ((v : View) → o ≡ Some v → i < count v → HoldsCell sieve e (result_ok (cell v i)))
-    → HasSieve b.geometry.usable kind b.levels level page i e sieve
-has_sieve b kind level page low usable usable_is bytes bytes_are o viewed i e sieve h = record {
-  read = λ y v a f l. h v (seen b kind level page low usable usable_is bytes bytes_are o viewed y v a f) l;
-}
-
 module _ (w v : View) (same : Some w ≡ Some v) (i : ℕ) (e : Encoding) where
   pub holds_cell : (sieve : Option RowSieve) (x : Cell) → cell w i ≡ Ok x → HasFed sieve x.size e x.local → HoldsCell sieve e (result_ok (cell v i))
   holds_cell sieve x read h = subst (λ r. HoldsCell sieve e (result_ok r)) (sym read ∙ ap (λ w. cell w i) (same_view w v same)) h
@@ -192,14 +136,6 @@ no_overflow v n x e f y l g = let h : Ok x ≡ Ok y = sym e ∙ g in let i : x �
 
 pub bad_cell : (v : View) (n : ℕ) (f : CellFault) → cell v n ≡ Err f → (y : Cell) → n < count v → cell v n ≡ Ok y → y.overflow ≡ None
 bad_cell v n f e y l g = let h : Err f ≡ Ok y = sym e ∙ g in cc
-
-pub has_next : (b : Pages) (kind : TreeKind) (level page : ℕ) (low : level < 20) (usable : ℕ) (usable_is : usable ≡ b.geometry.usable) (bytes : List ℕ)
-    (bytes_are : bytes ≡ bytes_at b level) (o : Option View) (viewed : undamaged kind page usable bytes ≡ o)
-    (s : ℕ) (next : Next) → ((v : View) → o ≡ Some v → (count v ≤ 32768) × IsNextStep v s next) → HasNext b.geometry.usable kind b.levels level page s next
-has_next b kind level page low usable usable_is bytes bytes_are o viewed s next h = record {
-  few = λ y v e f. (h v (seen b kind level page low usable usable_is bytes bytes_are o viewed y v e f)).0;
-  stands = λ y v e f. (h v (seen b kind level page low usable usable_is bytes bytes_are o viewed y v e f)).1;
-}
 
 -- a view of a page that is read, at one of its steps
 pub at_step : (w v : View) → Some w ≡ Some v → (usable : ℕ) → usable ≤ 65536 → w.usable ≡ usable → (cells : ℕ) → cells ≡ count w → 2 * cells ≤ w.usable

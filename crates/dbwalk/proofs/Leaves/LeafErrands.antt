@@ -1,7 +1,7 @@
 -- What a cell of a leaf leads to: its overflow chain, and then its own event.
-use Rattle.std.proofs.Common.{◌≡◌, ℕ, ◌+◌, ◌-◌, ◌*◌, ◌%◌, ◌/◌, ◌<◌, Bool, true, false, cond, inl, inr, List, [], ◌∷◌, ◌++◌, length, map, Option, Some, None}
+use Rattle.std.proofs.Common.{◌≡◌, ℕ, ◌+◌, ◌*◌, ◌%◌, ◌/◌, ◌<◌, Bool, true, false, cond, inl, inr, List, [], ◌∷◌, ◌++◌, length, map, Option, Some, None}
 use Rattle.std.proofs.Common.{Result, Ok, Err, ℤ, refl, sym, ap, ap₂, subst, arith, ◌∙◌}
-use Rattle.std.specs.Prelude.{take, drop, nat_le, nat_lt, ok_or, option_map, option_and_then, option_to_list, slice_get, ◌==◌, ◌&&◌}
+use Rattle.std.specs.Prelude.{option_map, option_and_then, option_to_list, slice_get, ◌==◌}
 use Rattle.std.specs.Option.{option_map_or}
 use Rattle.std.specs.Result.{result_ok}
 use Rattle.std.proofs.lemmas.List.{append-nil}
@@ -11,11 +11,8 @@ use Rattle.dbsurvey.specs.InOrder.{AreQuiet, IsPast}
 use Rattle.dbsurvey.specs.Moves.{Moves}
 use Rattle.dbsurvey.specs.Story.{Errand, errand_key, errands_of}
 use Rattle.dbformat.specs.Address.{start_of, then_step, overflow_step, child_step, is_child_step, cell_of_step, children_on, chain_on, child_path, chain_place}
-use Rattle.dbformat.specs.Numbers.{u32_at}
-use Rattle.dbformat.specs.Varint.{varint, signed}
-use Rattle.dbformat.specs.Payload.{most_payload, local_len}
-use Rattle.dbformat.specs.Head.{View, content_start, if_of_tree, is_interior, is_same_tree, right_number, tree_of, undamaged, view}
-use Rattle.dbformat.specs.Cell.{Cell, bytes_from, payload_cell, cell_at, cell, cell_pointer, count, overflow_size}
+use Rattle.dbformat.specs.Head.{View, if_of_tree, is_interior, is_same_tree, right_number, tree_of, undamaged, view}
+use Rattle.dbformat.specs.Cell.{Cell, cell, count, overflow_size}
 use Rattle.dbformat.specs.Errands.{go, tell_cell, errands_in, cell_errands, errands_before}
 use Rattle.dbformat.specs.File.{page_bytes}
 use Rattle.dbformat.specs.Header.{usable_size}
@@ -23,12 +20,9 @@ use Rattle.dbformat.specs.Reference.{child, first_overflow, Way, Reference, link
 use Rattle.dbformat.specs.Story.{Event, own_visit, story_of}
 use Rattle.dbformat.proofs.Looping.{by_cell}
 use Rattle.dbformat.specs.declared.CellFault.{CellFault}
-use Rattle.dbformat.specs.declared.CellFault.TheVariants.{Offset, Unreadable}
 use Rattle.dbformat.specs.declared.HeadFault.{HeadFault}
 use Rattle.dbformat.specs.declared.PageKind.{PageKind}
 use Rattle.dbformat.specs.declared.PageKind.TheVariants.{InteriorIndex, InteriorTable, LeafIndex, LeafTable}
-use Rattle.dbformat.specs.declared.PayloadKind.{PayloadKind}
-use Rattle.dbformat.specs.declared.PayloadKind.TheVariants.{TableLeaf, Index}
 use Rattle.dbformat.specs.declared.TreeKind.{TreeKind}
 use Rattle.dbtrace.specs.Causes.{cell_rowid}
 use Rattle.dbtrace.specs.Finding.{Finding}
@@ -41,68 +35,19 @@ use Rattle.dbwalk.specs.declared.chain.Chain.{Chain}
 use Rattle.dbmarks.specs.declared.marks.Mark.{Mark}
 use Rattle.dbwalk.proofs.Pages.PageTellings.{view_is}
 use Rattle.dbwalk.proofs.Telling.Belows.{visited_none, told_none}
+use Rattle.dbformat.proofs.CellParts.{Fits, at_offset, cell_fits}
+use Rattle.dbwalk.proofs.Chaining.Overflows.{child_by, place_by, steps_then}
 
 -- a leaf's cells have no left child
 
-payload_left : (v : View) (kind : PayloadKind) (offset before size : ℕ) (left : Option ℕ) (key : Option ℤ) (x : Cell)
-    → payload_cell v kind offset before size left key ≡ Some x → x.left ≡ left
-payload_left v kind offset before size left key x e = by_test (nat_le size most_payload && nat_le (offset + (before + here + more)) v.usable) e
-  where
-    here : ℕ
-    here = local_len kind v.usable size
+of_leaf : (kind : PageKind) (x : Cell) → is_interior kind ≡ false → Fits kind x → x.left ≡ None
+of_leaf LeafTable x leaf f = f.0
+of_leaf InteriorTable x leaf f = cc
+of_leaf LeafIndex x leaf f = f.0
+of_leaf InteriorIndex x leaf f = cc
 
-    more : ℕ
-    more = cond (nat_lt here size) 4 0
-
-    by_test : (b : Bool) → cond b (Some (record {
-      offset = offset;
-      len = before + here + more;
-      size = size;
-      left = left;
-      key = key;
-      local =
-          take here (drop (offset + before) v.bytes);
-      overflow = cond (nat_lt here size) (Some (u32_at (offset + before + here) v.bytes)) None;
-    })) None ≡ Some x
-        → x.left ≡ left
-    by_test true g = same g
-      where
-        same : {y : Cell} → Some y ≡ Some x → x.left ≡ y.left
-        same {y} g = let h : y ≡ x = cc in ap (λ y. y.left) (sym h)
-    by_test false g = cc
-
-cell_at_left : (kind : PageKind) (v : View) (offset : ℕ) (x : Cell) → is_interior kind ≡ false → cell_at kind v offset ≡ Some x → x.left ≡ None
-cell_at_left LeafTable v offset x i e = by_size (varint (bytes_from v offset)) e
-  where
-    by_rowid : (size : ℕ × ℕ) (o : Option (ℕ × ℕ)) → option_and_then
-        (λ rowid. payload_cell v TableLeaf offset (size.1 + rowid.1) size.0 None (Some (signed rowid.0))) o ≡ Some x → x.left ≡ None
-    by_rowid size None e = cc
-    by_rowid size (Some rowid) e = payload_left v TableLeaf offset (size.1 + rowid.1) size.0 None (Some (signed rowid.0)) x e
-
-    by_size : (o : Option (ℕ × ℕ)) → option_and_then (λ size. option_and_then
-        (λ rowid. payload_cell v TableLeaf offset (size.1 + rowid.1) size.0 None (Some (signed rowid.0))) (varint (bytes_from v (offset + size.1)))) o ≡ Some x
-        → x.left ≡ None
-    by_size None e = cc
-    by_size (Some size) e = by_rowid size (varint (bytes_from v (offset + size.1))) e
-cell_at_left InteriorTable v offset x i e = cc
-cell_at_left LeafIndex v offset x i e = by_size (varint (bytes_from v offset)) e
-  where
-    by_size : (o : Option (ℕ × ℕ)) → option_and_then (λ size. payload_cell v Index offset size.1 size.0 None None) o ≡ Some x → x.left ≡ None
-    by_size None e = cc
-    by_size (Some size) e = payload_left v Index offset size.1 size.0 None None x e
-cell_at_left InteriorIndex v offset x i e = cc
-
-pub leaf_left : (v : View) (i : ℕ) (x : Cell) → is_interior v.kind ≡ false → cell v i ≡ Ok x → x.left ≡ None
-unfolding cell
-leaf_left v i x k e = by_test (nat_le (content_start v.number v.bytes) (cell_pointer v i) && nat_le (cell_pointer v i) (v.usable - 4)) e
-  where
-    by_cell : (o : Option Cell) → cell_at v.kind v (cell_pointer v i) ≡ o → ok_or o Unreadable ≡ Ok x → x.left ≡ None
-    by_cell None f e = cc
-    by_cell (Some y) f e = cell_at_left v.kind v (cell_pointer v i) x k (f ∙ (let h : y ≡ x = cc in ap (λ y. Some y) h))
-
-    by_test : (b : Bool) → cond b (ok_or (cell_at v.kind v (cell_pointer v i)) Unreadable) (Err Offset) ≡ Ok x → x.left ≡ None
-    by_test true e = by_cell (cell_at v.kind v (cell_pointer v i)) refl e
-    by_test false e = cc
+leaf_left : (v : View) (i : ℕ) (x : Cell) → is_interior v.kind ≡ false → cell v i ≡ Ok x → x.left ≡ None
+leaf_left v i x leaf e = let at = at_offset v i x e in of_leaf v.kind x leaf (cell_fits v.kind v at.0 x at.1)
 
 -- the address of a cell's first overflow page
 
@@ -120,19 +65,13 @@ no_child_step i = zero_one ((3 * i) % 3) (step_rest i)
 
 pub chain_first : (steps : List ℕ) (i : ℕ) → chain_on steps ≡ None → (children_on (steps ++ (overflow_step i ∷ [])) ≡ children_on steps)
     × (chain_on (steps ++ (overflow_step i ∷ [])) ≡ Some (i, 0))
-chain_first [] i h = (
-  ap (λ b. cond b (cell_of_step (overflow_step i) ∷ []) []) (no_child_step i),
-  ap (λ b. cond b None (Some (cell_of_step (overflow_step i), 0))) (no_child_step i) ∙ ap (λ n. Some (n, 0)) (step_cell i),
-)
-chain_first (step ∷ steps) i h = by_step (is_child_step step) h (λ e. chain_first steps i e)
-  where
-    by_step : (b : Bool) → cond b (chain_on steps) (Some (cell_of_step step, length steps)) ≡ None
-        → (chain_on steps ≡ None → (children_on (steps ++ (overflow_step i ∷ [])) ≡ children_on steps)
-        × (chain_on (steps ++ (overflow_step i ∷ [])) ≡ Some (i, 0)))
-        → (cond b (cell_of_step step ∷ children_on (steps ++ (overflow_step i ∷ []))) [] ≡ cond b (cell_of_step step ∷ children_on steps) [])
-        × (cond b (chain_on (steps ++ (overflow_step i ∷ []))) (Some (cell_of_step step, length (steps ++ (overflow_step i ∷ [])))) ≡ Some (i, 0))
-    by_step true h deeper = let k = deeper h in (ap (λ l. cell_of_step step ∷ l) k.0, k.1)
-    by_step false h deeper = cc
+chain_first steps i h =
+    let s = overflow_step i in
+    let k = steps_then steps s in (
+      k.0 ∙ ap (λ o. children_on steps ++ child_by o s) h ∙ ap (λ b. children_on steps ++ cond b (cell_of_step s ∷ []) []) (no_child_step i)
+          ∙ append-nil (children_on steps),
+      k.1 ∙ ap (λ o. place_by o s) h ∙ ap (λ b. cond b None (Some (cell_of_step s, 0))) (no_child_step i) ∙ ap (λ n. Some (n, 0)) (step_cell i),
+    )
 
 -- the errands of a cell: of its overflow page, and of the cell itself
 

@@ -1,24 +1,19 @@
 -- The keys of a leaf whose cells are readable, without overflow pages and in the order of their keys, from the first to the last.
-use Rattle.std.proofs.Common.{◌≡◌, ℕ, zero, suc, ◌+◌, ◌-◌, ◌<◌, ◌≤◌, Bool, true, false, cond, ◌&&◌, [], take, drop, Option, Some, None, Ok, Err, ℤ, ◌<ℤ◌, refl}
+use Rattle.std.proofs.Common.{◌≡◌, ℕ, zero, suc, ◌+◌, ◌-◌, ◌<◌, ◌≤◌, Bool, true, false, Option, Some, None, Ok, ℤ, ◌<ℤ◌, refl}
 use Rattle.std.proofs.Common.{sym, ap, subst, arith, ◌∙◌}
-use Rattle.std.specs.Prelude.{nat_le, nat_lt, ok_or, is_some, option_and_then}
+use Rattle.std.specs.Prelude.{is_some, option_and_then}
 use Rattle.std.specs.Option.{option_or}
 use Rattle.std.specs.Result.{result_ok}
-use Rattle.dbformat.specs.Numbers.{u32_at}
-use Rattle.dbformat.specs.Varint.{varint, signed}
-use Rattle.dbformat.specs.Payload.{most_payload, local_len}
-use Rattle.dbformat.specs.Head.{View, content_start}
-use Rattle.dbformat.specs.Cell.{Cell, bytes_from, payload_cell, cell_at, cell, cell_pointer, count}
-use Rattle.dbformat.specs.declared.CellFault.TheVariants.{Offset, Unreadable}
+use Rattle.dbformat.specs.Head.{View}
+use Rattle.dbformat.specs.Cell.{Cell, cell, count}
 use Rattle.dbformat.specs.declared.PageKind.{PageKind}
 use Rattle.dbformat.specs.declared.PageKind.TheVariants.{InteriorIndex, InteriorTable, LeafIndex, LeafTable}
-use Rattle.dbformat.specs.declared.PayloadKind.{PayloadKind}
-use Rattle.dbformat.specs.declared.PayloadKind.TheVariants.{TableLeaf, Index}
 use Rattle.dbpage.specs.Packed.{IsAboveLast, IsAllLocal, key_at}
 use Rattle.dbtrace.specs.Progress.{key_value}
 use Rattle.dbtrace.specs.declared.CellKey.{CellKey}
 use Rattle.dbwalk.specs.LeafCells.{HasSpan, AreRisingFrom, placed}
 use Rattle.dbwalk.specs.declared.state.KeySpan.{KeySpan}
+use Rattle.dbformat.proofs.CellParts.{Fits, at_offset, cell_fits}
 
 -- the cells of a table have keys, and those of an index have none
 
@@ -28,79 +23,14 @@ has_keys InteriorTable = true
 has_keys LeafIndex = false
 has_keys InteriorIndex = false
 
-payload_key : (v : View) (kind : PayloadKind) (offset before size : ℕ) (left : Option ℕ) (key : Option ℤ) (x : Cell)
-    → payload_cell v kind offset before size left key ≡ Some x → x.key ≡ key
-payload_key v kind offset before size left key x e = by_test (nat_le size most_payload && nat_le (offset + (before + here + more)) v.usable) e
-  where
-    here : ℕ
-    here = local_len kind v.usable size
-
-    more : ℕ
-    more = cond (nat_lt here size) 4 0
-
-    by_test : (b : Bool) → cond b (Some (record {
-      offset = offset;
-      len = before + here + more;
-      size = size;
-      left = left;
-      key = key;
-      local =
-          take here (drop (offset + before) v.bytes);
-      overflow = cond (nat_lt here size) (Some (u32_at (offset + before + here) v.bytes)) None;
-    })) None ≡ Some x
-        → x.key ≡ key
-    by_test true g = same g
-      where
-        same : {y : Cell} → Some y ≡ Some x → x.key ≡ y.key
-        same {y} g = let h : y ≡ x = cc in ap (λ y. y.key) (sym h)
-    by_test false g = cc
-
-cell_at_key : (kind : PageKind) (v : View) (offset : ℕ) (x : Cell) → cell_at kind v offset ≡ Some x → is_some x.key ≡ has_keys kind
-cell_at_key LeafTable v offset x e = by_size (varint (bytes_from v offset)) e
-  where
-    by_rowid : (size : ℕ × ℕ) (o : Option (ℕ × ℕ)) → option_and_then
-        (λ rowid. payload_cell v TableLeaf offset (size.1 + rowid.1) size.0 None (Some (signed rowid.0))) o ≡ Some x → is_some x.key ≡ true
-    by_rowid size None e = cc
-    by_rowid size (Some rowid) e = ap is_some (payload_key v TableLeaf offset (size.1 + rowid.1) size.0 None (Some (signed rowid.0)) x e)
-
-    by_size : (o : Option (ℕ × ℕ)) → option_and_then (λ size. option_and_then
-        (λ rowid. payload_cell v TableLeaf offset (size.1 + rowid.1) size.0 None (Some (signed rowid.0))) (varint (bytes_from v (offset + size.1)))) o ≡ Some x
-        → is_some x.key ≡ true
-    by_size None e = cc
-    by_size (Some size) e = by_rowid size (varint (bytes_from v (offset + size.1))) e
-cell_at_key InteriorTable v offset x e = by_key (varint (bytes_from v (offset + 4))) e
-  where
-    by_key : (o : Option (ℕ × ℕ)) → option_and_then (λ key. Some
-        (record { offset = offset; len = 4 + key.1; size = 0; local = []; overflow = None; left = Some (u32_at offset v.bytes); key = Some (signed key.0) })) o
-        ≡ Some x → is_some x.key ≡ true
-    by_key None e = cc
-    by_key (Some key) e = same e
-      where
-        same : {y : Cell} → Some y ≡ Some x → is_some x.key ≡ is_some y.key
-        same {y} g = let h : y ≡ x = cc in ap (λ y. is_some y.key) (sym h)
-cell_at_key LeafIndex v offset x e = by_size (varint (bytes_from v offset)) e
-  where
-    by_size : (o : Option (ℕ × ℕ)) → option_and_then (λ size. payload_cell v Index offset size.1 size.0 None None) o ≡ Some x → is_some x.key ≡ false
-    by_size None e = cc
-    by_size (Some size) e = ap is_some (payload_key v Index offset size.1 size.0 None None x e)
-cell_at_key InteriorIndex v offset x e = by_size (varint (bytes_from v (offset + 4))) e
-  where
-    by_size : (o : Option (ℕ × ℕ)) → option_and_then (λ size. payload_cell v Index offset (4 + size.1) size.0 (Some (u32_at offset v.bytes)) None) o ≡ Some x
-        → is_some x.key ≡ false
-    by_size None e = cc
-    by_size (Some size) e = ap is_some (payload_key v Index offset (4 + size.1) size.0 (Some (u32_at offset v.bytes)) None x e)
+of_kind : (kind : PageKind) (x : Cell) → Fits kind x → is_some x.key ≡ has_keys kind
+of_kind LeafTable x f = ap is_some f.1.1
+of_kind InteriorTable x f = ap is_some f.2.1
+of_kind LeafIndex x f = ap is_some f.1
+of_kind InteriorIndex x f = ap is_some f.1
 
 cell_has_key : (v : View) (i : ℕ) (x : Cell) → cell v i ≡ Ok x → is_some x.key ≡ has_keys v.kind
-unfolding cell
-cell_has_key v i x e = by_test (nat_le (content_start v.number v.bytes) (cell_pointer v i) && nat_le (cell_pointer v i) (v.usable - 4)) e
-  where
-    by_cell : (o : Option Cell) → cell_at v.kind v (cell_pointer v i) ≡ o → ok_or o Unreadable ≡ Ok x → is_some x.key ≡ has_keys v.kind
-    by_cell None f e = cc
-    by_cell (Some y) f e = cell_at_key v.kind v (cell_pointer v i) x (f ∙ (let h : y ≡ x = cc in ap (λ y. Some y) h))
-
-    by_test : (b : Bool) → cond b (ok_or (cell_at v.kind v (cell_pointer v i)) Unreadable) (Err Offset) ≡ Ok x → is_some x.key ≡ has_keys v.kind
-    by_test true e = by_cell (cell_at v.kind v (cell_pointer v i)) refl e
-    by_test false e = cc
+cell_has_key v i x e = let at = at_offset v i x e in of_kind v.kind x (cell_fits v.kind v at.0 x at.1)
 
 whole_key : (v : View) (i : ℕ) → IsAllLocal v i → is_some (key_at v i) ≡ has_keys v.kind
 whole_key v i w = ap (λ r. is_some (option_and_then (λ c. c.key) (result_ok r))) w.readable ∙ cell_has_key v i w.whole w.readable

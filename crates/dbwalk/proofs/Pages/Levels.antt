@@ -1,12 +1,11 @@
 -- The bytes at the levels of a bench after a page was read, and the number of pages that are left without a mark.
-use Rattle.std.proofs.Common.{◌≡◌, ℕ, zero, suc, ◌+◌, ◌-◌, ◌*◌, ◌<◌, ◌≤◌, Bool, true, false, cond, List, [], ◌∷◌, length, set, Some, None, Result, Ok, Err}
+use Rattle.std.proofs.Common.{◌≡◌, ℕ, zero, suc, ◌-◌, ◌*◌, ◌<◌, ◌≤◌, Bool, true, false, cond, List, [], ◌∷◌, length, set, Some, None, Result, Ok, Err}
 use Rattle.std.proofs.Common.{refl}
 use Rattle.std.proofs.Common.{sym, ap, subst, arith, ◌∙◌}
 use Rattle.std.specs.Prelude.{slice_get, nat_lt, count_by, ◌==◌, IfOk, IfSome, OnOk}
 use Rattle.std.specs.Option.{option_map_or}
 use Rattle.std.proofs.lemmas.Bool.Decides.{nat_tests}
 use Rattle.std.proofs.lemmas.List.{length-map}
-use Rattle.std.proofs.lemmas.List.Sums.{sum_by-cons}
 use Rattle.dbformat.specs.FixedPages.{IsInRange}
 use Rattle.dbformat.specs.declared.Geometry.{Geometry}
 use Rattle.dbsource.specs.Answers.{IsRangeOf, Step, answer}
@@ -19,6 +18,7 @@ use Rattle.dbmarks.specs.declared.marks.Mark.{Mark}
 use Rattle.dbmarks.specs.declared.marks.Mark.TheVariants.{Unmarked}
 use Rattle.dbmarks.proofs.Readings.{log_load, log_page}
 use Rattle.dbwalk.specs.Found.{IsUsable, HasPageAt}
+use Rattle.dbsurvey.proofs.Lists.{count_more}
 
 -- a page has all usable bytes
 pub whole_page : {g h : Geometry} {n : ℕ} → g ≡ h → IsInRange g → n ≡ h.page_size → g.usable ≤ n
@@ -72,9 +72,6 @@ module _ {old new : Pages} {level : ℕ} {P : List ℕ → Type 0} (read : Chang
 
 -- pages without a mark, where marks stay
 
-count_more : (x : Mark) (xs : List Mark) → count_by is_none (x ∷ xs) ≡ cond (is_none x) 1 0 + count_by is_none xs
-count_more x xs = sum_by-cons (λ x. cond (is_none x) 1 0) x xs
-
 fewer_by : (xs ys : List Mark) → length ys ≡ length xs → ((i : ℕ) → option_map_or is_none (slice_get xs i) false ≡ false → slice_get ys i ≡ slice_get xs i)
     → count_by is_none ys ≤ count_by is_none xs
 fewer_by [] [] l h = omega arith
@@ -82,8 +79,8 @@ fewer_by [] (y ∷ ys) l h = absurd (omega arith)
 fewer_by (x ∷ xs) [] l h = absurd (omega arith)
 fewer_by (x ∷ xs) (y ∷ ys) l h =
     let rest : count_by is_none ys ≤ count_by is_none xs = fewer_by xs ys (omega arith) (λ i u. h (suc i) u) in
-    let a = count_more x xs in
-    let b = count_more y ys in
+    let a = count_more is_none x xs in
+    let b = count_more is_none y ys in
     let one : ◌≤◌ (cond (is_none y) 1 0) (cond (is_none x) 1 0) = head (is_none x) refl in
     omega arith
   where

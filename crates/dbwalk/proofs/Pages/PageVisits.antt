@@ -181,28 +181,16 @@ module _ {S : Type 0} (takes : S → Finding → S → Type 0) (held : S → Sin
   abbrev Exit : S → Option TreeLeaf → Type 0
   Exit t new = IsReportedTo takes held s (page_findings file rowids leaf c) t × (new ≡ leaf_after file leaf rowids c)
 
-  seen_as : (o : Option View) → undamaged kind p usable bytes ≡ o → undamaged kind p (usable_size file) (page_bytes file p) ≡ o
-  seen_as o e = ap (λ u. undamaged kind p u (page_bytes file p)) (sym usable_is) ∙ ap (λ b. undamaged kind p usable b) (sym bytes_are) ∙ e
-
-  read_faults : (b : Bool) (fs : List Fault) → tree_page_faults kind b p usable bytes ≡ fs → tree_page_faults kind b p (usable_size file) (page_bytes file p)
-      ≡ fs
-  read_faults b fs e = ap (λ u. tree_page_faults kind b p u (page_bytes file p)) (sym usable_is) ∙ ap (λ y. tree_page_faults kind b p usable y) (sym bytes_are)
-      ∙ e
-
   module _ (f : Fault) (none : undamaged kind p usable bytes ≡ None) (one : (b : Bool) → tree_page_faults kind b p usable bytes ≡ f ∷ []) (t : S)
       (told : IsReportedTo takes held s (damaged_findings k path' rowids' p usable bytes f) t) where
-    all_told : page_findings file rowids leaf c ≡ damaged_findings k path' rowids' p usable bytes f
-    all_told = told_damaged file kind k path p from item c candidate rowids leaf f (seen_as None none)
-        (read_faults (nat_lt 1 (length path + 1)) (f ∷ []) (one (nat_lt 1 (length path + 1))))
-        ∙ ap (λ q. damaged_findings k q rowids p (usable_size file) (page_bytes file p) f) (sym path_is)
-        ∙ ap (λ u. damaged_findings k path' rowids p u (page_bytes file p) f) (sym usable_is)
-        ∙ ap₂ (λ w b. damaged_findings k path' w p usable b f) (sym rowids_are) (sym bytes_are)
-
     pub exit_damaged : Exit t leaf
-    exit_damaged = (
-      subst (λ L. IsReportedTo takes held s L t) (sym all_told) told,
-      sym (leaf_after_damaged file kind k path p from item c candidate rowids leaf (seen_as None none)),
-    )
+    exit_damaged =
+        let e = rw (usable_is, bytes_are) at none in
+        let faults = rw (usable_is, bytes_are) at (one (nat_lt 1 (length path + 1))) in (
+          subst (λ L. IsReportedTo takes held s L t) (sym (told_damaged file kind k path p from item c candidate rowids leaf f e faults))
+              (rw (path_is, rowids_are, usable_is, bytes_are) at told),
+          sym (leaf_after_damaged file kind k path p from item c candidate rowids leaf e),
+        )
 
   module _ (v : View) (viewed : undamaged kind p usable bytes ≡ Some v) (number : v.number ≡ p)
       (within : (b : Bool) → tree_page_faults kind b p usable bytes ≡ inner_faults v b) (t : S)
@@ -211,15 +199,13 @@ module _ {S : Type 0} (takes : S → Finding → S → Type 0) (held : S → Sin
     first_told = undamaged_findings k path rowids v (nat_lt 1 (length path + 1))
 
     told_first : IsReportedTo takes held s first_told t
-    told_first = subst (λ n. IsReportedTo takes held s (undamaged_findings k path rowids v (nat_lt 1 n)) t) depth_is
-        (subst (λ q. IsReportedTo takes held s (undamaged_findings k q rowids v (nat_lt 1 depth)) t) path_is
-        (subst (λ w. IsReportedTo takes held s (undamaged_findings k path' w v (nat_lt 1 depth)) t) rowids_are told))
+    told_first = rw (path_is, rowids_are, depth_is) at told
 
-    abbrev there : undamaged kind p (usable_size file) (page_bytes file p) ≡ Some v
-    there = seen_as (Some v) viewed
+    there : undamaged kind p (usable_size file) (page_bytes file p) ≡ Some v
+    there = rw (usable_is, bytes_are) at viewed
 
-    abbrev inner : tree_page_faults kind (nat_lt 1 (length path + 1)) p (usable_size file) (page_bytes file p) ≡ inner_faults v (nat_lt 1 (length path + 1))
-    inner = read_faults (nat_lt 1 (length path + 1)) (inner_faults v (nat_lt 1 (length path + 1))) (within (nat_lt 1 (length path + 1)))
+    inner : tree_page_faults kind (nat_lt 1 (length path + 1)) p (usable_size file) (page_bytes file p) ≡ inner_faults v (nat_lt 1 (length path + 1))
+    inner = rw (usable_is, bytes_are) at (within (nat_lt 1 (length path + 1)))
 
     pub exit_interior : is_interior v.kind ≡ true → Exit t leaf
     exit_interior i = (
@@ -233,8 +219,7 @@ module _ {S : Type 0} (takes : S → Finding → S → Type 0) (held : S → Sin
       last_told = depth_told rowids leaf p (length path + 1)
 
       told_last : IsReportedTo takes held t last_told t1
-      told_last = subst (λ w. IsReportedTo takes held t (depth_told w leaf p (length path + 1)) t1) rowids_are
-          (subst (λ n. IsReportedTo takes held t (depth_told rowids' leaf p n) t1) depth_is last)
+      told_last = rw (rowids_are, depth_is) at last
 
       pub exit_leaf : (new : Option TreeLeaf) → new ≡ Some (first_of rowids' leaf p depth) → Exit t1 new
       exit_leaf new n = (

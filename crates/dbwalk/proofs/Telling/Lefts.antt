@@ -127,21 +127,14 @@ module _ {S : Type 0} (takes : S → Finding → S → Type 0) (file : List ℕ)
       told = subst (λ L. Moves takes before L s) (sym (append-nil h.items) ∙ ap (λ L. h.items ++ L) (sym (told_none file U)) ∙ h.rest) h.told;
     }
 
-    -- an error, while the first items of what is left are reported
-    pub left_stop : {A : Type 0} (t : S) (marks' : List Mark) (e : RunError) (left : List (Errand Way Event))
-        (part rest : List Finding)
-        → IsLeft takes file W errands before U left (marks, s) → part ++ rest ≡ told_below file U left
-        → MovesBySome takes s part t → IsDone {A = A} takes file W errands (Err e) marks' before t
-    left_stop t marks' e left part rest h whole k = record {
-      marked = tt;
-      told = subst (λ L. MovesBySome takes before L t) (ap (λ L. h.items ++ L) whole ∙ h.rest)
-          (some_after takes before s t h.items (part ++ rest) h.told (some_first takes s t part rest k));
-    }
-
     -- an error before anything of what is left is reported
     pub left_untold : {A : Type 0} (t : S) (marks' : List Mark) (e : RunError) (left : List (Errand Way Event))
         → IsLeft takes file W errands before U left (marks, s) → s ≡ t → IsDone {A = A} takes file W errands (Err e) marks' before t
-    left_untold t marks' e left h same = left_stop t marks' e left [] (told_below file U left) h refl same
+    left_untold t marks' e left h same =
+        let rest = told_below file U left in record {
+          marked = tt;
+          told = subst (λ L. MovesBySome takes before L t) h.rest (some_after takes before s t h.items rest h.told (some_first takes s t [] rest same));
+        }
 
 -- the last reference that is left is refused: then all is done
 pub refused_last : {S : Type 0} (takes : S → Finding → S → Type 0) (file : List ℕ) (W : List Reference) (errands : List (Errand Way Event)) (before : S)

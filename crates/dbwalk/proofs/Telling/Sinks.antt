@@ -1,12 +1,17 @@
 -- What calls of a sink leave of its state, call after call.
 use Rattle.std.proofs.Common.{◌≡◌, Bool, true, false, inl, inr, List, [], ◌∷◌, Result, Ok, Err, refl, sym, ap, subst, ◌∙◌}
-use Rattle.std.specs.Prelude.{if◌then◌else◌, IfErr, OnOk}
+use Rattle.std.specs.Prelude.{if◌then◌else◌, IfErr, OnOk, IsErrAnd}
+use Rattle.std.proofs.lemmas.Result.{err_from_is_err_and}
 use Rattle.std.proofs.lemmas.Bool.{false≢true}
 use Rattle.dbsurvey.specs.Moves.{Moves, MovesBySome}
 use Rattle.dbsource.specs.Errors.{is_write_failed}
 use Rattle.dbsource.specs.declared.error.RunError.{RunError}
 use Rattle.dbsource.specs.declared.error.RunError.TheVariants.{Refused, ReadFailed, OutOfMemory, WriteFailed}
 use Rattle.dbwalk.specs.Telling.{SinkAfter, SinkMoves, SinkState, SinkWalks, HasFailed}
+
+-- what the exit of a `?` answers, where the error is known
+pub err_is : {A : Type 0} {r : Result A RunError} {e : RunError} → IsErrAnd r (λ x. x ≡ e) → r ≡ Err e
+err_is {r = r} h = let q = err_from_is_err_and r h in q.1 ∙ ap Err q.2
 
 -- some items, and then others
 pub moves_then : {a b c : SinkState} → SinkMoves a b → SinkMoves b c → SinkMoves a c

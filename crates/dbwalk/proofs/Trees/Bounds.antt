@@ -62,22 +62,17 @@ one_step [] e = absurd (none e)
 one_step (x ∷ []) e = (refl, refl)
 one_step (x ∷ y ∷ a) e = absurd (omega arith)
 
--- it is the first visit at its address
+-- a reference is the first at its address, where all visits are before it
+pub first_here : (W : List Reference) (c : Reference) → ((u : Reference) → IsIn u W → IsBefore u.address c.address)
+    → find (λ u. is_same u.address c.address) (W ++ (c ∷ [])) ≡ Some c
+first_here [] c before = ap (λ b. cond (not b && not b) (Some c) None) (is_before-itself c.address)
+first_here (u ∷ W) c before = ap (λ b. cond (not b && not (is_before c.address u.address)) (Some u) (find (λ u. is_same u.address c.address) (W ++ (c ∷ []))))
+    (is_before-from u.address c.address (before u (inl refl))) ∙ first_here W c (λ v i. before v (inr i))
+
+-- so is a root
 pub root_first : (W : List Reference) (c : Reference) → length c.address ≡ 1 → IsNext W c → root_of (W ++ (c ∷ [])) c.address ≡ Some c
 root_first W c one next = ap (λ a. find (λ u. is_same u.address a) (W ++ (c ∷ []))) (one_step c.address one).0
-    ∙ behind W (λ u i. next u (Go c) i (inl refl))
-  where
-    itself : is_same c.address c.address ≡ true
-    itself = ap (λ b. not b && not b) (is_before-itself c.address)
-
-    other : (u : Reference) → IsBefore u.address c.address → is_same u.address c.address ≡ false
-    other u l = ap (λ b. not b && not (is_before c.address u.address)) (is_before-from u.address c.address l)
-
-    behind : (W : List Reference) → ((u : Reference) → IsIn u W → IsBefore u.address c.address)
-        → find (λ u. is_same u.address c.address) (W ++ (c ∷ [])) ≡ Some c
-    behind [] before = ap (λ b. cond b (Some c) None) itself
-    behind (u ∷ W) before = ap (λ b. cond b (Some u) (find (λ u. is_same u.address c.address) (W ++ (c ∷ [])))) (other u (before u (inl refl)))
-        ∙ behind W (λ v i. before v (inr i))
+    ∙ first_here W c (λ u i. next u (Go c) i (inl refl))
 
 -- no cell leads to it
 pub no_key_from : (file : List ℕ) (root c : Reference) → length c.address ≡ 1 → key_from file root c ≡ None

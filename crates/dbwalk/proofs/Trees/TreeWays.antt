@@ -1,5 +1,5 @@
 -- The visits of frames: each is a page of the tree, reached through the children of the frames below.
-use Rattle.std.proofs.Common.{◌≡◌, ℕ, suc, ◌+◌, ◌-◌, ◌*◌, ◌%◌, Bool, true, false, cond, List, [], ◌∷◌, ◌++◌, length, Option, Some, None, refl, sym, ap, subst}
+use Rattle.std.proofs.Common.{◌≡◌, ℕ, suc, ◌+◌, ◌-◌, ◌*◌, ◌%◌, true, cond, List, [], ◌∷◌, ◌++◌, length, Option, Some, None, refl, sym, ap, subst}
 use Rattle.std.proofs.Common.{arith, ◌∙◌, append_assoc}
 use Rattle.std.specs.Prelude.{◌==◌}
 use Rattle.std.proofs.lemmas.Bool.Decides.{nat_tests}
@@ -9,6 +9,7 @@ use Rattle.dbformat.specs.Reference.{child, Reference}
 use Rattle.dbformat.specs.declared.TreeKind.{TreeKind}
 use Rattle.dbwalk.specs.Walking.{child_at, top_visit, AreCalls, IsCandidate, role_at, path_of}
 use Rattle.dbwalk.specs.declared.steps.StackFrame.{StackFrame}
+use Rattle.dbwalk.proofs.Chaining.Overflows.{child_by, place_by, steps_then}
 
 is_child : (n : ℕ) → is_child_step (child_step n) ≡ true
 is_child n = one ((3 * n + 1) % 3) (rest n)
@@ -21,16 +22,10 @@ is_child n = one ((3 * n + 1) % 3) (rest n)
 
 children_more : (steps : List ℕ) (s : ℕ) → is_child_step s ≡ true → chain_on steps ≡ None
     → (children_on (steps ++ (s ∷ [])) ≡ children_on steps ++ (cell_of_step s ∷ [])) × (◌≡◌ {A = Option (ℕ × ℕ)} (chain_on (steps ++ (s ∷ []))) None)
-children_more [] s e h = (ap (λ b. cond b (cell_of_step s ∷ []) []) e, ap (λ b. cond b None (Some (cell_of_step s, 0))) e)
-children_more (t ∷ steps) s e h = by_step (is_child_step t) h (λ g. children_more steps s e g)
-  where
-    by_step : (b : Bool) → ◌≡◌ {A = Option (ℕ × ℕ)} (cond b (chain_on steps) (Some (cell_of_step t, length steps))) None
-        → (chain_on steps ≡ None → (children_on (steps ++ (s ∷ [])) ≡ children_on steps ++ (cell_of_step s ∷ []))
-        × (◌≡◌ {A = Option (ℕ × ℕ)} (chain_on (steps ++ (s ∷ []))) None))
-        → (cond b (cell_of_step t ∷ children_on (steps ++ (s ∷ []))) [] ≡ cond b (cell_of_step t ∷ children_on steps) [] ++ (cell_of_step s ∷ []))
-        × (◌≡◌ {A = Option (ℕ × ℕ)} (cond b (chain_on (steps ++ (s ∷ []))) (Some (cell_of_step t, length (steps ++ (s ∷ []))))) None)
-    by_step true h deeper = let k = deeper h in (ap (λ l. cell_of_step t ∷ l) k.0, k.1)
-    by_step false h deeper = cc
+children_more steps s e h = let k = steps_then steps s in (
+  k.0 ∙ ap (λ o. children_on steps ++ child_by o s) h ∙ ap (λ b. children_on steps ++ cond b (cell_of_step s ∷ []) []) e,
+  k.1 ∙ ap (λ o. place_by o s) h ∙ ap (λ b. cond b None (Some (cell_of_step s, 0))) e,
+)
 
 role_more : (kind : TreeKind) (l : List ℕ) (x : ℕ) → role_at kind (l ++ (x ∷ [])) ≡ child kind
 role_more kind [] x = refl

@@ -46,6 +46,11 @@ use Rattle.dbwalk.proofs.Telling.Belows.{told_none}
 use Rattle.dbwalk.proofs.Underway.CellSteps.{order_told_of, cell_items, greatest_behind, no_row_elsewhere}
 use Rattle.dbwalk.proofs.Underway.Handing.{HasEnded, bare_visits, done_then, done_stops, found_handed, no_memory, handed_after, stop_first, row_handed}
 
+-- there is no sieve
+pub gone : (o : Option RowSieve) → is_some o ≡ false → o ≡ None
+gone None e = refl
+gone (Some s) e = cc
+
 -- the row of a readable cell of the schema's tree, by these visits
 abbrev pub rows_behind : List ℕ → List Reference → Reference → View → ℕ → Option Cell → List SchemaCell
 rows_behind file U c v i None = []
@@ -163,8 +168,7 @@ module _ (file : List ℕ) (from : Walk) (c : Reference) (kind : TreeKind) (v : 
         ≡ from.state.greatest → tree.leaf ≡ from.state.leaf
         → IsDone {A = Unit {0}} takes file from.visits chain (Err e) marks s s' → Whole (Err e) now (s, t) (s', t)
     chain_stops e marks now s s' t only tree top depth done =
-        subst (λ es. HasEnded (watches takes keeps) (fails refuses) file (done_below file from es) (Err e) now (s, t) (s', t)) (sym split)
-        (done_stops (watches takes keeps) (fails refuses) file from e chain own (marks, tree) now (s, t) (s', t) (quiet_overflow c i overflow)
+        rw split (done_stops (watches takes keeps) (fails refuses) file from e chain own (marks, tree) now (s, t) (s', t) (quiet_overflow c i overflow)
         (chain_done (Err e) marks tree s s' t only top depth done))
 
     -- it was, and then row and key were handed out, or not
@@ -173,8 +177,7 @@ module _ (file : List ℕ) (from : Walk) (c : Reference) (kind : TreeKind) (v : 
         → Handed (watches takes keeps) (fails refuses) r (s', t) (map given rows ++ key_items) x
         → OnOk r ((new.greatest ≡ top_after old.greatest c.page i key) × (new.leaf ≡ old.leaf)) → Whole r (marks, new) (s, t) x
     own_done r marks old new s s' t x top depth done handed tree_is =
-        subst (λ es. HasEnded (watches takes keeps) (fails refuses) file (done_below file from es) r (marks, new) (s, t) x) (sym split)
-        (done_then (watches takes keeps) (fails refuses) file from tt r chain own (marks, old) (marks, new) (s, t) (s', t) x
+        rw split (done_then (watches takes keeps) (fails refuses) file from tt r chain own (marks, old) (marks, new) (s, t) (s', t) x
         (quiet_overflow c i overflow) (chain_done (Ok tt) marks old s s' t tt top depth done) (record {
           at = by_ok r tree_is;
           handed = subst (λ l. Handed (watches takes keeps) (fails refuses) r (s', t) l x) (sym behind.items) handed;
@@ -198,8 +201,7 @@ module _ (file : List ℕ) (from : Walk) (c : Reference) (kind : TreeKind) (v : 
       Rows cells = Handed (watches takes keeps) (fails refuses) r (s, t) (map given cells) (s', t')
 
       none_handed : new ≡ None → Rows []
-      none_handed none = let q = quiet none in subst (λ r. Handed (watches takes keeps) (fails refuses) r (s, t) [] (s', t')) (sym q.0)
-          (subst (λ s'. ◌≡◌ {A = S × T} (s, t) (s', t')) (sym q.1) (subst (λ t'. ◌≡◌ {A = S × T} (s, t) (s, t')) (sym q.2) refl))
+      none_handed none = let q = quiet none in rw (q.0, q.1, q.2) refl
 
       -- in other trees there is none
       no_row_handed : (start_of c.address == schema_start) ≡ false → new ≡ None → Rows rows
@@ -215,10 +217,6 @@ module _ (file : List ℕ) (from : Walk) (c : Reference) (kind : TreeKind) (v : 
           → TellsRow takes keeps refuses (place, schema_row bytes size e) r (s, t) (s', t')) → Rows rows
       cell_row_handed schema old holds before fed kept told = by_cell (result_ok (cell v i)) key_is holds
         where
-          gone : (o : Option RowSieve) → is_some o ≡ false → o ≡ None
-          gone None e = refl
-          gone (Some s) e = cc
-
           by_cell : (o : Option Cell) → key ≡ option_and_then (λ c. c.key) o → HoldsCell old e o → Rows (rows_behind file m.visits c v i o)
           by_cell None key_is h = none_handed (gone new (kept ∙ ap is_some h))
           by_cell (Some x) key_is h =
@@ -227,11 +225,7 @@ module _ (file : List ℕ) (from : Walk) (c : Reference) (kind : TreeKind) (v : 
               let one : rows_of file m.visits c v (i, x) ≡ schema_cell file m.visits c (i, x) ∷ [] = rw (schema, leaf) refl in
               let here : place ≡ row_place c.page i x.key = place_is ∙ ap (λ q. row_place q i key) (sym page) ∙ ap (row_place c.page i) key_is in
               subst Rows (sym one) (row_handed takes keeps refuses r (schema_cell file m.visits c (i, x)) (s, t) (s', t')
-              (subst (λ q. TellsRow takes keeps refuses (q, schema_row (payload file m.visits c.address i x) x.size (encoding file)) r (s, t) (s', t'))
-              here
-              (subst (λ e. TellsRow takes keeps refuses (place, schema_row (payload file m.visits c.address i x) x.size e) r (s, t) (s', t')) coded
-              (subst (λ b. TellsRow takes keeps refuses (place, schema_row b x.size e) r (s, t) (s', t')) bytes
-              (told x.size e _ (fed.fed x e before h))))))
+              (rw (bytes, coded, here) at (told x.size e _ (fed.fed x e before h))))
 
       -- by the start of the tree
       pub row_told : (k : ℕ) → start_of c.address ≡ k → (old : Option RowSieve) → (k ≡ schema_start → HoldsCell old e (result_ok (cell v i)))
@@ -244,10 +238,6 @@ module _ (file : List ℕ) (from : Walk) (c : Reference) (kind : TreeKind) (v : 
         | inr f ↦ no_row_handed f (gone new (kept ∙ ap is_some (other (later start f))))
       ]
         where
-          gone : (o : Option RowSieve) → is_some o ≡ false → o ≡ None
-          gone None e = refl
-          gone (Some s) e = cc
-
           later : start_of c.address ≡ k → (start_of c.address == schema_start) ≡ false → 1 ≤ k
           later e f = grind (arith, nat_tests)
 

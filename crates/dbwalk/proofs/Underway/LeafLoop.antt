@@ -45,19 +45,13 @@ cells_done file from c kind v i = done_below file from (errands_before c kind v 
 -- the visit of the leaf, where what a program has is the same
 pub leaf_as : (file : List ℕ) (kind kind' : TreeKind) (k k' : ℕ) (children children' : List ℕ) (levels levels' : List (List ℕ)) (p : ℕ) (c : Reference) → kind'
     ≡ kind → k' ≡ k → children' ≡ children → levels' ≡ levels → IsLeafAt file kind k children c levels p → IsLeafAt file kind' k' children' c levels' p
-leaf_as file kind kind' k k' children children' levels levels' p c a b d e at =
-    subst (λ kind. IsLeafAt file kind k' children' c levels' p) (sym a)
-    (subst (λ k. IsLeafAt file kind k children' c levels' p) (sym b)
-    (subst (λ children. IsLeafAt file kind k children c levels' p) (sym d) (subst (λ levels. IsLeafAt file kind k children c levels p) (sym e) at)))
+leaf_as file kind kind' k k' children children' levels levels' p c a b d e leaf = rw (a, b, d, e) leaf
 
 -- what is passed over, by the same bytes
 pub passed_same : (usable' usable : ℕ) (kind' kind : TreeKind) (levels' levels : List (List ℕ)) (level' level page from end : ℕ)
     (greatest after : Option CellKey) → usable' ≡ usable → kind' ≡ kind → levels' ≡ levels → level' ≡ level
     → ArePassedAt usable' kind' levels' level' page from end greatest after → ArePassedAt usable kind levels level page from end greatest after
-passed_same usable' usable kind' kind levels' levels level' level page from end greatest after a b c d passed =
-    subst (λ u. ArePassedAt u kind levels level page from end greatest after) a (subst (λ k. ArePassedAt usable' k levels level page from end greatest after) b
-    (subst (λ ls. ArePassedAt usable' kind' ls level page from end greatest after) c
-    (subst (λ l. ArePassedAt usable' kind' levels' l page from end greatest after) d passed)))
+passed_same usable' usable kind' kind levels' levels level' level page from end greatest after a b c d passed = rw (← a, ← b, ← c, ← d) passed
 
 -- cells from one on, after those before it
 pub cells_after : (c : Reference) (kind : TreeKind) (v : View) (i n : ℕ) → errands_before c kind v (i + n) ≡ errands_before c kind v i
@@ -118,8 +112,7 @@ module _ (file : List ℕ) (from : Walk) (c : Reference) (kind : TreeKind) (v : 
         → HasEnded (watches takes keeps) stops file (D i) (Ok tt) mid w x
         → HasEnded (watches takes keeps) stops file (done_below file (D i) (cell_errands c kind v i)) r now x y
         → HasEnded (watches takes keeps) stops file (D (i + 1)) r now w y
-    cells_more r i mid now x y h k = subst (λ es. HasEnded (watches takes keeps) stops file (done_below file from es) r now w y)
-        (sym (one_cell_more c kind v i))
+    cells_more r i mid now x y h k = rw (one_cell_more c kind v i)
         (done_then (watches takes keeps) stops file from tt r (errands_before c kind v i) (cell_errands c kind v i) mid now w x y (quiet_before i) h k)
 
     -- an error in the first cells

@@ -100,8 +100,7 @@ module _ {P : Type 0} (moves : P → Item → P → Type 0) (stops : P → Item 
         → Moves moves w (visited file from c).items x
         → HasDone moves stops file (done_below file from (Go c ∷ [])) (Ok a) now w x
     visit_alone a now w x none at h = visit_then (Ok a) now w x x h
-        (subst (λ es. HasDone moves stops file (done_below file (visited file from c) es) (Ok a) now x x) (sym none)
-        (done_none moves stops file (visited file from c) a now x at))
+        (rw none (done_none moves stops file (visited file from c) a now x at))
 
 module _ {P : Type 0} (moves : P → Item → P → Type 0) (stops : P → Item → P → Type 0) (file : List ℕ) (from : Walk) (c : Reference)
     (levels : List (List ℕ)) where
@@ -114,8 +113,7 @@ module _ {P : Type 0} (moves : P → Item → P → Type 0) (stops : P → Item 
   pub entered_err : {A : Type 0} (r : Result Bool RunError) (e : RunError) (now : List Mark × Tree) (w x : P) → r ≡ Err e
       → HasDone {A = A} moves stops file (done_below file from (Go c ∷ [])) (Err e) now w x
       → HasDone moves stops file (entered file from c r) r now w x × IsEntered file from c r levels
-  entered_err r e now w x q h = subst (λ r. HasDone moves stops file (entered file from c r) r now w x × IsEntered file from c r levels) (sym q)
-      (record { at = tt; handed = h.handed }, tt)
+  entered_err r e now w x q h = rw q (record { at = tt; handed = h.handed }, tt)
 
 -- all below the reference was done, where the answer is false
 pub entered_done : {P A : Type 0} {moves : P → Item → P → Type 0} {stops : P → Item → P → Type 0} {file : List ℕ} (from : Walk) (c : Reference)
@@ -123,7 +121,7 @@ pub entered_done : {P A : Type 0} {moves : P → Item → P → Type 0} {stops :
     → yes ≡ false → HasDone moves stops file (entered file from c (Ok yes)) (Ok yes) now w x
     → HasDone moves stops file (done_below file from (Go c ∷ [])) (Ok a) now w x
 entered_done {moves = moves} {stops = stops} {file = file} from c {now = now} {w = w} {x = x} a is h =
-    let k = subst (λ y. HasDone moves stops file (entered file from c (Ok y)) (Ok y) now w x) is h in
+    let k = rw is at h in
     record { at = k.at; handed = k.handed }
 
 -- what was done, from another name of the state, and to one

@@ -48,10 +48,7 @@ use Rattle.dbwalk.proofs.Underway.Underways.{under_visit, under_end}
 -- a candidate by other names
 pub candidate_as : (kind kind' : TreeKind) (k k' : ℕ) (l l' : List ℕ) (p p' from item item' : ℕ) (c : Reference) → kind' ≡ kind → k' ≡ k → l' ≡ l → p' ≡ p
     → item' ≡ item → IsCandidate kind k l p from item c → IsCandidate kind' k' l' p' from item' c
-candidate_as kind kind' k k' l l' p p' from item item' c a b d e f is =
-    subst (λ x. IsCandidate x k' l' p' from item' c) (sym a) (subst (λ x. IsCandidate kind x l' p' from item' c) (sym b)
-    (subst (λ x. IsCandidate kind k x p' from item' c) (sym d)
-    (subst (λ x. IsCandidate kind k l x from item' c) (sym e) (subst (λ x. IsCandidate kind k l p from x c) (sym f) is))))
+candidate_as kind kind' k k' l l' p p' from item item' c a b d e f is = rw (a, b, d, e, f) is
 
 -- the root
 module _ (file : List ℕ) (kind : TreeKind) (k : ℕ) (p from item : ℕ) (W : List Reference) (c : Reference) (candidate : IsCandidate kind k [] p from item c)
@@ -146,8 +143,7 @@ module _ {P : Type 0} {moves : P → Item → P → Type 0} {stops : P → Item 
       → {yes : Bool} → yes ≡ true → HasDone moves stops file (entered file (begin W) c (Ok yes)) (Ok yes) (marks, tree) w x
       × IsEntered file (begin W) c (Ok yes) levels → IsWalkingOn moves file W c w (items, levels) (marks, tree) x
   tree_started {levels = levels} {marks = marks} {tree = tree} {x = x} f are page start bound next role one is entry =
-      let first = subst (λ y. HasDone moves stops file (entered file (begin W) c (Ok y)) (Ok y) (marks, tree) w x × IsEntered file (begin W) c (Ok y) levels) is
-      entry in
+      let first = rw is at entry in
       let done = first.0 in
       let inside = first.1 refl in
       let none : Tree = record tree { greatest = None; leaf = None } in

@@ -1,7 +1,6 @@
 use Rattle.std.proofs.Common.{◌≡◌, true, false, Some, Ok, Err, refl, sym, ap, ◌∙◌, subst, inl, inr}
 use Rattle.std.specs.Prelude.{option_map}
 use Rattle.std.proofs.lemmas.Bool.{both_ways, not-true}
-use Rattle.std.proofs.lemmas.Result.{err_from_is_err_and}
 use Rattle.dbsurvey.specs.Moves.{Moves}
 use Rattle.dbformat.specs.File.{geometry}
 use Rattle.dbformat.specs.FixedPages.{fixed_use, is_fixed}
@@ -17,26 +16,27 @@ use Rattle.dbmarks.specs.EndMarks.{entry_value}
 use Rattle.dbscan.specs.MapReads.{HasMapFor, IsMapInUse}
 use Rattle.dbscan.proofs.EndItems.{fixed_items, other_items, used_items}
 use Rattle.dbscan.proofs.MapLogs.{asks_nothing}
-use Rattle.dbwalk.proofs.Chaining.Overflows.{moves_none, page_read}
+use Rattle.dbsurvey.proofs.Moving.{some_none}
+use Rattle.dbwalk.proofs.Chaining.Overflows.{page_read}
 use Rattle.dbmarks.proofs.Readings.{log_load}
 use Rattle.dbscan.proofs.MapPlaces.{next_read, next_kept, not_map, on_ok, not_in_use}
+use Rattle.dbwalk.proofs.Telling.Sinks.{err_is}
 use Rattle.dbscan.proofs.end_pass.end_page.Goals as goal
 
 pub returns-in_err-load-clause-asks : goal.returns-in_err-load-clause-asks
 returns-in_err-load-clause-asks g c =
-    let q = err_from_is_err_and c.from_residual.result c.from_residual.ensures.1 in
     let used = subst (λ (g : Geometry). IsMapInUse g c.args.page) c.geometry-geometry.ensures.value (c.is_map_in_use.ensures.0 c.if-is_map_in_use.true) in
     let size = c.args.bench.now.geometry.page_size in
     let level = c.in_err-load.ensures.level in
-    rw q.1 (rw q.2 (record {
+    rw (err_is c.from_residual.ensures.1) (record {
       log = has_weaker _ _ (log_load size c.args.page level.bytes (Err c.in_err-load.field-0.0) c.in_err-load.ensures.told level.size level.holds)
           (λ log l. inr (l, used))
           (λ file bytes mark m e ok same chain. (
-            moves_none g.K.Reporter.hears c.args.reporter.now (page_notices file c.args.least_other c.args.page mark),
+            some_none g.K.Reporter.hears c.args.reporter.now (page_notices file c.args.least_other c.args.page mark),
             tt,
           ));
       count = c.in_err-load.ensures.count;
-    }))
+    })
 
 pub returns-in_ok-load-clause-asks : goal.returns-in_ok-load-clause-asks
 returns-in_ok-load-clause-asks g c =

@@ -1,5 +1,4 @@
 use Rattle.std.proofs.Common.{◌≡◌, ◌+◌, length, Ok, Err, refl, sym, ap, ◌∙◌, subst, arith}
-use Rattle.std.proofs.lemmas.Result.{err_from_is_err_and}
 use Rattle.dbsurvey.specs.Moves.{Moves, MovesBySome}
 use Rattle.dbsurvey.proofs.Moving.{Moves-append, some_first, some_after}
 use Rattle.dbformat.specs.File.{geometry}
@@ -12,6 +11,7 @@ use Rattle.dbscan.specs.EndPass.{page_notices, pages_items}
 use Rattle.dbscan.specs.MapReads.{IsMapInUse, IsMapTurn, MapReadsBefore}
 use Rattle.dbscan.proofs.EndItems.{items_one_more, items_begin, fixed_by_mark}
 use Rattle.dbscan.proofs.MapLogs.{reads_none, reads_more}
+use Rattle.dbwalk.proofs.Telling.Sinks.{err_is}
 use Rattle.dbscan.proofs.end_pass.end_pages.Goals as goal
 
 pub loop-index-init : goal.loop-index-init
@@ -30,8 +30,8 @@ returns-in_err-end_page-clause-asks g c =
     let i = c.loop-index.index in
     let shape = c.args.bench.now.geometry in
     let same = ap (λ (b : Pages). b.geometry) c.loop-index.invariant.bench in
-    let q = err_from_is_err_and c.from_residual.result c.from_residual.ensures.1 in
-    rw q.1 (rw q.2 (asks_then (MapReadsBefore shape (i + 1)) (IsMapTurn c.loop-index.bench.geometry (i + 1)) _ _ (Err c.in_err-end_page.field-0.0) (λ n. refl)
+    rw (err_is c.from_residual.ensures.1)
+    (asks_then (MapReadsBefore shape (i + 1)) (IsMapTurn c.loop-index.bench.geometry (i + 1)) _ _ (Err c.in_err-end_page.field-0.0) (λ n. refl)
     (λ n. refl)
     c.loop-index.invariant.asks c.in_err-end_page.ensures.asks
     (λ a b e f. (reads_more shape.page_size (IsMapInUse shape) (i + 1) (i + 1) a b (omega arith) e
@@ -50,7 +50,7 @@ returns-in_err-end_page-clause-asks g c =
     let rest = items_begin file V c.args.least_other (i + 1) (geometry file).pages (omega arith) in
     subst (λ l. MovesBySome g.K.Reporter.hears c.args.reporter.now l c.end_page.new.reporter) rest.1
     (some_first g.K.Reporter.hears c.args.reporter.now c.end_page.new.reporter
-    (pages_items file V c.args.least_other (i + 1)) rest.0 more))))
+    (pages_items file V c.args.least_other (i + 1)) rest.0 more)))
 
 pub loop-index-preserved : goal.loop-index-preserved
 loop-index-preserved g c =

@@ -1,5 +1,4 @@
 use Rattle.std.proofs.Common.{rules, ◌≡◌, List, Err, map, refl, sym, ap, ◌∙◌, subst}
-use Rattle.std.proofs.lemmas.Result.{err_from_is_err_and}
 use Rattle.dbformat.specs.EndFaults.{end_faults, has_rows}
 use Rattle.dbformat.specs.File.{geometry}
 use Rattle.dbformat.specs.FixedPages.{geometry_of}
@@ -12,7 +11,7 @@ use Rattle.dbsource.proofs.Logs.{asks_weaker}
 use Rattle.dbmarks.specs.EndMarks.{least_other_marked}
 use Rattle.dbmarks.specs.Marking.{AreMarksOf, marks_of}
 use Rattle.dbwalk.specs.Telling.{SinkAfter, SinkState, Tells}
-use Rattle.dbwalk.proofs.Telling.Sinks.{moves_open}
+use Rattle.dbwalk.proofs.Telling.Sinks.{err_is, moves_open}
 use Rattle.dbsurvey.specs.Moves.{MovesBySome}
 use Rattle.dbsurvey.proofs.Moving.{some_first, some_none}
 use Rattle.dbscan.specs.Desks.{DeskView}
@@ -28,25 +27,24 @@ use Rattle.dbscan.proofs.end_pass.tell_end.Goals as goal
 
 pub returns-in_err-ask-clause-asks : goal.returns-in_err-ask-clause-asks
 returns-in_err-ask-clause-asks g c =
-    let q = err_from_is_err_and c.from_residual.result c.from_residual.ensures.1 in
     let shape = geometry_of c.args.desk.now.header.bytes c.args.desk.now.header.file_len in
     let header = ap (λ (d : DeskView). d.header) c.desk.view_is in
     let marks = ap (λ (d : DeskView). d.marks) c.desk.view_is in
     let e = c.in_err-ask.field-0.0 in
     let is = asked_error (g.K.Reporter.held c.count_marks-counts.new.reporter).is_shut c.in_err-ask.ensures in
-    rw q.1 (rw q.2 (asks_nothing g.S.Source.step _ (Err e) _ is (reads_none shape.page_size (IsMapInUse shape) 1).reads (λ file of V s m rows.
+    rw (err_is c.from_residual.ensures.1)
+    (asks_nothing g.S.Source.step _ (Err e) _ is (reads_none shape.page_size (IsMapInUse shape) 1).reads (λ file of V s m rows.
     pages_then {A = Unit {0}} g.K.Reporter.hears file V (Err e) c.args.reporter.now c.count_marks-counts.new.reporter c.count_marks-counts.new.reporter
     c.geometry-geometry.result c.desk.inside.marks
     (c.geometry-geometry.ensures.shape ∙ (subst (λ h. IsHeaderOf h file) (sym header) of).shape) (marks ∙ m) c.count_marks-counts.ensures.told.items
-    (some_none g.K.Reporter.hears c.count_marks-counts.new.reporter (map (whole part.End) (end_faults file V))))))
+    (some_none g.K.Reporter.hears c.count_marks-counts.new.reporter (map (whole part.End) (end_faults file V)))))
 
 pub returns-in_err-tell_all-clause-asks : goal.returns-in_err-tell_all-clause-asks
 returns-in_err-tell_all-clause-asks g c =
-    let q = err_from_is_err_and c.from_residual-in_err-tell_all.result c.from_residual-in_err-tell_all.ensures.1 in
     let shape = geometry_of c.args.desk.now.header.bytes c.args.desk.now.header.file_len in
     let header = ap (λ (d : DeskView). d.header) c.desk.view_is in
     let marks = ap (λ (d : DeskView). d.marks) c.desk.view_is in
-    rw q.1 (rw q.2 (asks_nothing g.S.Source.step _ (Err c.in_err-tell_all.field-0.0) _ c.in_err-tell_all.ensures.only
+    rw (err_is c.from_residual-in_err-tell_all.ensures.1) (asks_nothing g.S.Source.step _ (Err c.in_err-tell_all.field-0.0) _ c.in_err-tell_all.ensures.only
     (reads_none shape.page_size (IsMapInUse shape) 1).reads (λ file is V s m rows.
     let counts = c.count_marks-counts.result in
     let pages = pages_items file V (least_other_marked (marks_of (geometry file) V)) (geometry file).pages in
@@ -59,7 +57,7 @@ returns-in_err-tell_all-clause-asks g c =
     (c.geometry-geometry.ensures.shape ∙ its.shape) (marks ∙ m) c.count_marks-counts.ensures.told.items
     (subst (λ l. MovesBySome g.K.Reporter.hears c.count_marks-counts.new.reporter l c.tell_all.new.reporter) items
     (some_first g.K.Reporter.hears c.count_marks-counts.new.reporter c.tell_all.new.reporter
-    (items_of part.End c.counted_faults-faults.result) pages c.in_err-tell_all.ensures.told)))))
+    (items_of part.End c.counted_faults-faults.result) pages c.in_err-tell_all.ensures.told))))
 
 pub returns-clause-asks : goal.returns-clause-asks
 returns-clause-asks g c =
@@ -87,8 +85,7 @@ returns-clause-asks g c =
 
 pub returns-in_err-ask-clause-writes : goal.returns-in_err-ask-clause-writes
 returns-in_err-ask-clause-writes g c =
-    let q = err_from_is_err_and c.from_residual.result c.from_residual.ensures.1 in
-    rw q.1 (rw q.2 (asked_after c.in_err-ask.ensures c.count_marks-counts.ensures.told.count c.requires))
+    rw (err_is c.from_residual.ensures.1) (asked_after c.in_err-ask.ensures c.count_marks-counts.ensures.told.count c.requires)
 
 pub end_pages-requires : goal.end_pages-requires
 end_pages-requires g c = (

@@ -1,15 +1,14 @@
 use Rattle.std.proofs.Common.{rules, Err, subst, sym, ◌∙◌}
-use Rattle.std.proofs.lemmas.Result.{err_from_is_err_and}
 use Rattle.dbsource.specs.Headed.{HeadedStep}
 use Rattle.dbsource.proofs.Runs.{same_front}
 use Rattle.dbscan.specs.Finishes.{HasReported, Leaves}
 use Rattle.dbscan.proofs.Keeping.{keeps_error, keeps_then}
 use Rattle.dbscan.proofs.Traced.{run_reported, scan_finished, scan_stopped}
+use Rattle.dbwalk.proofs.Telling.Sinks.{err_is}
 use Rattle.dbscan.proofs.finish.run_over.Goals as goal
 
 pub returns-in_err-scan : goal.returns-in_err-scan
 returns-in_err-scan g c =
-    let q = err_from_is_err_and c.from_residual.result c.from_residual.ensures.1 in
     let e = c.in_err-scan.field-0.0 in
     let held = g.K.Reporter.held in
     let leaves = Leaves g.K.Reporter.hears g.K.Finish.leaves in
@@ -18,10 +17,11 @@ returns-in_err-scan g c =
     let asks = scan_stopped g.K.Reporter.hears g.K.Finish.leaves (HeadedStep g.S.Source.step) c.renew.new.self end.desk c.args.reporter.now end.reporter e
     c.in_err-scan.ensures.asks in
     let same = (same_front g.S.Source.step _ _ _ _ _ _ _ _ asks.log).0 in
-    rw q.1 (rw q.2 (subst (λ x. HasReported g.S.Source held leaves (Err e) c.args.desk.now end.desk old (x, end.reporter)) (search (rules, same))
+    rw (err_is c.from_residual.ensures.1)
+    (subst (λ x. HasReported g.S.Source held leaves (Err e) c.args.desk.now end.desk old (x, end.reporter)) (search (rules, same))
     (run_reported g.S.Source held leaves (Err e) c.args.desk.now c.renew.new.self end.desk c.new-headed.result.header.now old
     (end.source.source.now, end.reporter) c.renew.ensures.header c.renew.ensures.refusals (c.new-headed.ensures.header ∙ c.header.ensures.value)
-    c.new-headed.ensures.source c.header.ensures.accepted asks (keeps_error c.in_err-scan.ensures.keeps))))
+    c.new-headed.ensures.source c.header.ensures.accepted asks (keeps_error c.in_err-scan.ensures.keeps)))
 
 pub returns : goal.returns
 returns g c =

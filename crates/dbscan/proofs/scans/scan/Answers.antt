@@ -1,5 +1,4 @@
 use Rattle.std.proofs.Common.{rules, ◌≡◌, ◌++◌, map, Ok, Err, refl, sym, ap, subst, ◌∙◌}
-use Rattle.std.proofs.lemmas.Result.{err_from_is_err_and}
 use Rattle.dbsurvey.specs.Moves.{Moves}
 use Rattle.dbformat.specs.FixedPages.{geometry_of}
 use Rattle.dbformat.specs.HeaderFaults.{header_faults}
@@ -22,21 +21,21 @@ use Rattle.dbscan.proofs.TreeWalks.{schema_stopped}
 use Rattle.dbscan.specs.Kept.{KeepsHeader, KeepsRoots}
 use Rattle.dbscan.specs.Walks.{AreWalked}
 use Rattle.dbscan.proofs.Keeping.{keeps_then}
+use Rattle.dbwalk.proofs.Telling.Sinks.{err_is}
 use Rattle.dbscan.proofs.scans.scan.Goals as goal
 
 pub returns-in_err-tell_header-clause-asks : goal.returns-in_err-tell_header-clause-asks
 returns-in_err-tell_header-clause-asks g c =
-    let q = err_from_is_err_and c.from_residual.result c.from_residual.ensures.1 in
     let e = c.in_err-tell_header.field-0.0 in
     let geo = geometry_of c.args.desk.now.header.bytes c.args.desk.now.header.file_len in
-    rw q.1 (rw q.2 (asks_nothing g.S.Source.step _ (Err e) _ c.in_err-tell_header.ensures.only
+    rw (err_is c.from_residual.ensures.1) (asks_nothing g.S.Source.step _ (Err e) _ c.in_err-tell_header.ensures.only
     (no_log geo c.args.desk.now.marks (fresh_marks geo c.args.desk.now.marks c.requires.fresh.marks)) (λ file is V s. record {
       told = header_stopped g.K.Reporter.hears file V c.header.result.now
           (subst (λ (h : HeaderBytes). IsHeaderOf h file) (sym c.header.ensures.value) is) c.args.reporter.now e c.tell_header.new.reporter
           c.in_err-tell_header.ensures.told;
       marked = tt;
       listed = tt;
-    })))
+    }))
 
 -- the faults of the header, as they were reported of the header on the desk
 abbrev header_told : {S : Type 0} (hears : S → Notice → S → Type 0) (s a : S) (h h' : HeaderBytes) → h ≡ h'
@@ -46,20 +45,18 @@ header_told hears s a h h' same told = subst (λ (h : HeaderBytes). Moves hears 
 
 pub returns-in_err-any_rows-clause-asks : goal.returns-in_err-any_rows-clause-asks
 returns-in_err-any_rows-clause-asks g c =
-    let q = err_from_is_err_and c.from_residual-in_err-any_rows.result c.from_residual-in_err-any_rows.ensures.1 in
     let hears = g.K.Reporter.hears in
     let s = c.args.reporter.now in
     let a = c.tell_header.new.reporter in
     let m = c.walk_schema.new in
     let e = c.in_err-any_rows.field-0.0 in
-    rw q.1 (rw q.2 (scan_stopped hears g.S.Source.step c.args.desk.now m.desk s a m.reporter e c.requires.fresh
+    rw (err_is c.from_residual-in_err-any_rows.ensures.1) (scan_stopped hears g.S.Source.step c.args.desk.now m.desk s a m.reporter e c.requires.fresh
     (header_told hears s a c.header.result.now c.args.desk.now.header c.header.ensures.value c.in_ok-tell_header.ensures.told)
     (asks_weaker _ _ (Err e) (λ n. refl) c.in_err-any_rows.ensures.asks (λ log reads. reads) (λ file walked is V survey.
-    schema_stopped hears file V m.desk.marks m.desk.roots.rows a m.reporter e (walked is).tree))))
+    schema_stopped hears file V m.desk.marks m.desk.roots.rows a m.reporter e (walked is).tree)))
 
 pub returns-in_err-walk_roots-clause-asks : goal.returns-in_err-walk_roots-clause-asks
 returns-in_err-walk_roots-clause-asks g c =
-    let q = err_from_is_err_and c.from_residual-in_err-walk_roots.result c.from_residual-in_err-walk_roots.ensures.1 in
     let hears = g.K.Reporter.hears in
     let step = g.S.Source.step in
     let s = c.args.reporter.now in
@@ -67,15 +64,14 @@ returns-in_err-walk_roots-clause-asks g c =
     let m = c.walk_schema.new in
     let t = c.walk_roots.new in
     let e = c.in_err-walk_roots.field-0.0 in
-    rw q.1 (rw q.2 (scan_stopped hears step c.args.desk.now t.desk s a t.reporter e c.requires.fresh
+    rw (err_is c.from_residual-in_err-walk_roots.ensures.1) (scan_stopped hears step c.args.desk.now t.desk s a t.reporter e c.requires.fresh
     (header_told hears s a c.header.result.now c.args.desk.now.header c.header.ensures.value c.in_ok-tell_header.ensures.told)
     (starts_asks hears step c.args.desk.now m.desk t.desk c.in_ok-any_rows.any_rows (Err e) a m.reporter t.reporter
     c.requires.fresh c.in_ok-any_rows.ensures.keeps.desk.header c.in_err-walk_roots.ensures.keeps.roots c.in_ok-any_rows.ensures.asks
-    (roots_stopped hears step m.desk t.desk e m.reporter t.reporter c.in_err-walk_roots.ensures.asks))))
+    (roots_stopped hears step m.desk t.desk e m.reporter t.reporter c.in_err-walk_roots.ensures.asks)))
 
 pub returns-in_err-walk_trunks-clause-asks : goal.returns-in_err-walk_trunks-clause-asks
 returns-in_err-walk_trunks-clause-asks g c =
-    let q = err_from_is_err_and c.from_residual-in_err-walk_trunks.result c.from_residual-in_err-walk_trunks.ensures.1 in
     let hears = g.K.Reporter.hears in
     let step = g.S.Source.step in
     let s = c.args.reporter.now in
@@ -84,7 +80,7 @@ returns-in_err-walk_trunks-clause-asks g c =
     let t = c.walk_roots.new in
     let u = c.walk_trunks.new in
     let e = c.in_err-walk_trunks.field-0.0 in
-    rw q.1 (rw q.2 (scan_stopped hears step c.args.desk.now u.desk s a _ e c.requires.fresh
+    rw (err_is c.from_residual-in_err-walk_trunks.ensures.1) (scan_stopped hears step c.args.desk.now u.desk s a _ e c.requires.fresh
     (header_told hears s a c.header.result.now c.args.desk.now.header c.header.ensures.value c.in_ok-tell_header.ensures.told)
     (asks_weaker _ _ (Err e) (λ n. refl)
     (starts_asks hears step c.args.desk.now m.desk u.desk c.in_ok-any_rows.any_rows (Err e) a m.reporter u.teller.reporter.now
@@ -93,7 +89,7 @@ returns-in_err-walk_trunks-clause-asks g c =
     (later_asks hears step m.desk t.desk u.desk (Err e) m.reporter t.reporter u.teller.reporter.now c.in_ok-walk_roots.ensures.keeps.header
     c.in_ok-walk_roots.ensures.asks (reporter_first hears step t.desk u.desk (Err e) c.new.ensures.reporter c.in_err-walk_trunks.ensures.asks)))
     (λ log reads. reads)
-    (λ file done is V survey. subst (λ x. AreWalked hears file V (Err e) u.desk.marks u.desk.roots.rows a x) (search rules) (done is V survey)))))
+    (λ file done is V survey. subst (λ x. AreWalked hears file V (Err e) u.desk.marks u.desk.roots.rows a x) (search rules) (done is V survey))))
 
 pub returns-clause-asks : goal.returns-clause-asks
 returns-clause-asks g c =

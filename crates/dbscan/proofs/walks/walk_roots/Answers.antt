@@ -2,7 +2,6 @@ use Rattle.std.proofs.Common.{rules, ◌≡◌, ◌+◌, ◌-◌, ℕ, List, [],
 use Rattle.std.specs.Prelude.{option_map, slice_get}
 use Rattle.std.specs.List.{enumerate_from}
 use Rattle.std.proofs.lemmas.Option.{none-some}
-use Rattle.std.proofs.lemmas.Result.{err_from_is_err_and}
 use Rattle.dbformat.specs.File.{geometry}
 use Rattle.dbformat.specs.Header.{encoding}
 use Rattle.dbformat.specs.Reference.{Reference}
@@ -19,6 +18,7 @@ use Rattle.dbscan.proofs.DeskWalks.{desk_asks}
 use Rattle.dbscan.proofs.Starts.{drop_none, row_there}
 use Rattle.dbscan.proofs.Tellers.{unread}
 use Rattle.dbscan.proofs.TreeWalks.{from_ended, from_stopped, next_row}
+use Rattle.dbwalk.proofs.Telling.Sinks.{err_is}
 use Rattle.dbscan.proofs.walks.walk_roots.Goals as goal
 
 pub loop-index-init : goal.loop-index-init
@@ -44,7 +44,6 @@ unreachable-requires g c =
 
 pub returns-in_err-walk_tree-clause-asks : goal.returns-in_err-walk_tree-clause-asks
 returns-in_err-walk_tree-clause-asks g c =
-    let q = err_from_is_err_and c.from_residual.result c.from_residual.ensures.1 in
     let at = c.loop-index in
     let d = c.desk.inside in
     let marks = c.walk_tree.new.marks in
@@ -54,7 +53,7 @@ returns-in_err-walk_tree-clause-asks g c =
     let stops = λ (u : g.row.K.Denot) (o : DeskView) (file : List ℕ). (V : List Reference) → Survey file V → (before : g.row.K.Denot)
     → IsBetweenStarts hears file V before (enumerate_from 1 o.roots.rows) o.marks c.args.reporter.now
     → StopsTelling hears file V before [] (Err e) marks u in
-    rw q.1 (rw q.2 (asks_weaker {A = Unit {0}} _ _ (Err e) (λ n. refl)
+    rw (err_is c.from_residual.ensures.1) (asks_weaker {A = Unit {0}} _ _ (Err e) (λ n. refl)
     (desk_asks {B = Unit {0}} g.S.Source.step d c.args.desk.now marks
     (λ file. c.encoding-encoding.result ≡ encoding file → stops end.reporter.now (desk_view d) file)
     (stops end.reporter.now) (Err e) c.desk.invariant c.desk.view_is (λ n. refl)
@@ -67,11 +66,10 @@ returns-in_err-walk_tree-clause-asks g c =
     (from_stopped hears _ _ file c.root_of-root.result at.desk-inside.marks marks c.new-teller.result end _ _ c.root_of-root.ensures.own e
     (walked (at.invariant.shape ∙ same)))))
     (λ file is told. told (c.encoding-encoding.ensures ∙ ap encoding is.begins ∙ encoding_within file)))
-    (λ log r. r) (λ file done is. subst (λ u. stops u c.args.desk.now file) (search rules) (done is))))
+    (λ log r. r) (λ file done is. subst (λ u. stops u c.args.desk.now file) (search rules) (done is)))
 
 pub returns-in_err-end-clause-asks : goal.returns-in_err-end-clause-asks
 returns-in_err-end-clause-asks g c =
-    let q = err_from_is_err_and c.from_residual-in_err-end.result c.from_residual-in_err-end.ensures.1 in
     let at = c.loop-index in
     let d = c.desk.inside in
     let marks = c.walk_tree.new.marks in
@@ -81,7 +79,7 @@ returns-in_err-end-clause-asks g c =
     let stops = λ (u : g.row.K.Denot) (o : DeskView) (file : List ℕ). (V : List Reference) → Survey file V → (before : g.row.K.Denot)
     → IsBetweenStarts hears file V before (enumerate_from 1 o.roots.rows) o.marks c.args.reporter.now
     → StopsTelling hears file V before [] (Err e) marks u in
-    rw q.1 (rw q.2 (asks_weaker {A = Unit {0}} _ _ (Err e) (λ n. refl)
+    rw (err_is c.from_residual-in_err-end.ensures.1) (asks_weaker {A = Unit {0}} _ _ (Err e) (λ n. refl)
     (desk_asks {B = Unit {0}} g.S.Source.step d c.args.desk.now marks
     (λ file. c.encoding-encoding.result ≡ encoding file → stops end.reporter.now (desk_view d) file)
     (stops end.reporter.now) (Err e) c.desk.invariant c.desk.view_is (λ n. refl)
@@ -97,7 +95,7 @@ returns-in_err-end-clause-asks g c =
     end c.in_err-end.ensures.ends c.in_err-end.ensures.rows (Err e)
     (walked (at.invariant.shape ∙ same)))))
     (λ file is told. told (c.encoding-encoding.ensures ∙ ap encoding is.begins ∙ encoding_within file)))
-    (λ log r. r) (λ file done is. subst (λ u. stops u c.args.desk.now file) (search rules) (done is))))
+    (λ log r. r) (λ file done is. subst (λ u. stops u c.args.desk.now file) (search rules) (done is)))
 
 pub loop-index-preserved : goal.loop-index-preserved
 loop-index-preserved g c =

@@ -1,13 +1,10 @@
 use Rattle.std.proofs.Common.{◌≡◌, List, Ok}
 use Rattle.std.specs.Prelude.{is_some}
-use Rattle.dbformat.specs.File.{geometry}
 use Rattle.dbformat.specs.Reference.{Reference}
-use Rattle.dbsource.specs.Sources.{HasLog}
 use Rattle.dbwalk.specs.Chains.{IsChainOf, IsOnWay, IsPlace}
 use Rattle.dbwalk.specs.Entered.{IsNext}
-use Rattle.dbwalk.specs.Beside.{LeavesBeside}
+use Rattle.dbwalk.specs.Beside.{WalksBeside}
 use Rattle.dbmarks.specs.Marking.{AreMarksOf}
-use Rattle.dbmarks.specs.Reads.{Reads}
 use Rattle.dbwalk.proofs.chain.walk_chain.Given as goal
 
 abbrev pub decreases-loop-next : goal.decreases-loop-next
@@ -15,13 +12,10 @@ decreases-loop-next g l = l.place.left
 
 abbrev pub invariant-loop-next : goal.invariant-loop-next
 invariant-loop-next g l = record {
-  log : HasLog g.S.Source.step (Reads l.initial.bench.geometry.page_size l.initial.marks l.marks)
-      (λ file. l.initial.bench.geometry ≡ geometry file → (W : List Reference) (c : Reference)
+  walks : WalksBeside {A = Unit {0}} g.S.Source.step (Ok tt) (g.S.Source.held l.initial.source) (g.S.Source.held l.source) (g.K.Sink.held l.initial.sink)
+      (g.K.Sink.held l.sink) l.initial.bench l.bench l.initial.marks l.marks (λ file. (W : List Reference) (c : Reference)
       → IsChainOf file l.chain c → IsNext W c → AreMarksOf file W l.initial.marks
-      → IsOnWay g.K.Sink.takes file W c l.initial.sink l.chain l.place l.marks l.sink l.initial.sieve l.sieve l.bench.chain)
-      (g.S.Source.held l.initial.source) (g.S.Source.held l.source);
-  beside : LeavesBeside {A = Unit {0}} (Ok tt) (g.S.Source.held l.initial.source) (g.S.Source.held l.source) (g.K.Sink.held l.initial.sink)
-      (g.K.Sink.held l.sink) l.initial.bench l.bench;
+      → IsOnWay g.K.Sink.takes file W c l.initial.sink l.chain l.place l.marks l.sink l.initial.sieve l.sieve l.bench.chain);
   kept : is_some l.sieve ≡ is_some l.initial.sieve;
   place : IsPlace l.place;
 }

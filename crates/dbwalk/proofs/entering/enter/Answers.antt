@@ -1,10 +1,9 @@
-use Rattle.std.proofs.Common.{rules, [], ◌∷◌, ◌++◌, Err, refl, sym, ap, subst, ◌∙◌}
-use Rattle.std.proofs.lemmas.Result.{err_from_is_err_and}
+use Rattle.std.proofs.Common.{rules, [], ◌∷◌, ◌++◌, refl, sym, ap, subst, ◌∙◌}
 use Rattle.dbsurvey.specs.Moves.{Moves}
 use Rattle.dbmarks.specs.Marking.{AreMarksOf, followed}
-use Rattle.dbwalk.specs.Entered.{Enters}
 use Rattle.dbtrace.specs.Finding.{told_fault}
 use Rattle.dbwalk.proofs.Telling.Lefts.{refusal_none, entered_yes, entered_no}
+use Rattle.dbwalk.proofs.Telling.Sinks.{err_is}
 use Rattle.dbwalk.proofs.entering.enter.Goals as goal
 
 pub returns-in-None-clause-entered : goal.returns-in-None-clause-entered
@@ -41,5 +40,4 @@ returns-in-None-clause-marked g c = search rules
 
 pub returns-in_err-ask-clause-entered : goal.returns-in_err-ask-clause-entered
 returns-in_err-ask-clause-entered g c = λ file W d why is next m causes.
-    let p = err_from_is_err_and c.from_residual.result c.from_residual.ensures.1 in
-    subst (λ r. Enters g.K.Sink.takes file W d why r c.args.marks.now c.args.sink.now c.args.sink.now) (sym (p.1 ∙ ap Err p.2)) (m, refl)
+    rw (err_is c.from_residual.ensures.1) (m, refl)

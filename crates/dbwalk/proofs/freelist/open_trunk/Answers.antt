@@ -1,7 +1,6 @@
-use Rattle.std.proofs.Common.{rules, ◌-◌, ◌/◌, ◌<◌, ◌≤◌, [], ◌∷◌, ◌++◌, map, Err, refl, sym, ap, subst, ◌∙◌}
-use Rattle.std.proofs.lemmas.Result.{err_from_is_err_and}
+use Rattle.std.proofs.Common.{rules, ◌-◌, ◌/◌, ◌<◌, ◌≤◌, [], ◌∷◌, ◌++◌, map, refl, sym, ap, subst, ◌∙◌}
 use Rattle.dbsurvey.specs.Story.{Go}
-use Rattle.dbformat.specs.Errands.{go, leaf_errands}
+use Rattle.dbformat.specs.Errands.{go}
 use Rattle.dbformat.specs.Faults.{fault}
 use Rattle.dbformat.specs.File.{page_bytes}
 use Rattle.dbformat.specs.Header.{usable_size}
@@ -11,9 +10,8 @@ use Rattle.dbformat.specs.declared.FaultCode.TheVariants.{L01}
 use Rattle.std.specs.Prelude.{pos}
 use Rattle.dbtrace.specs.Finding.{told_alone}
 use Rattle.dbwalk.specs.Done.{IsLeft}
-use Rattle.dbwalk.specs.Trunks.{OpensTrunk}
 use Rattle.dbwalk.proofs.FreeTrunks.{opened_fitting, opened_crowded}
-use Rattle.dbwalk.proofs.Telling.Sinks.{walks_as, walks_ok}
+use Rattle.dbwalk.proofs.Telling.Sinks.{err_is, walks_as, walks_ok}
 use Rattle.dbwalk.proofs.freelist.open_trunk.Goals as goal
 
 pub returns-in_err-walk_leaves-clause-opened : goal.returns-in_err-walk_leaves-clause-opened
@@ -22,14 +20,9 @@ returns-in_err-walk_leaves-clause-opened g c = λ file W d before U e old p r b 
     let n = c.u32_at-count.ensures ∙ ap (u32_at 4) k in
     let l = subst (λ x. x ≤ most_leaves (usable_size file)) n (subst (λ u. c.u32_at-count.result ≤ u / 4 - 2) u c.if-count-usable.true) in
     let tail = map (go e) (next_trunk e.page (page_bytes file e.page) (leaf_count (page_bytes file e.page))) in
-    let o = opened_fitting g.K.Sink.takes file W d before U e old c.args.marks.now c.args.sink.now r f m h l in
-    let q = err_from_is_err_and c.from_residual.result c.from_residual.ensures.1 in
-    subst (λ r. OpensTrunk g.K.Sink.takes file W d before e r c.walk_leaves.new.marks c.walk_leaves.new.sink) (sym (q.1 ∙ ap Err q.2))
-    (c.in_err-walk_leaves.ensures.done file W (Go d ∷ []) before (U ++ e ∷ []) e tail p
-    (subst (λ b. IsLeft g.K.Sink.takes file W (Go d ∷ []) before (U ++ e ∷ []) (leaf_errands e b c.u32_at-count.result ++ tail)
-    (c.args.marks.now, c.args.sink.now)) (sym k)
-    (subst (λ n. IsLeft g.K.Sink.takes file W (Go d ∷ []) before (U ++ e ∷ []) (leaf_errands e (page_bytes file e.page) n ++ tail)
-    (c.args.marks.now, c.args.sink.now)) (sym n) o)))
+    let o = opened_fitting file e r g.K.Sink.takes W d before U old c.args.marks.now c.args.sink.now f m h l in
+    rw (err_is c.from_residual.ensures.1) (c.in_err-walk_leaves.ensures.done file W (Go d ∷ []) before (U ++ e ∷ []) e tail p
+    (rw (k, n) o))
 
 pub returns-in_ok-walk_leaves-clause-opened : goal.returns-in_ok-walk_leaves-clause-opened
 returns-in_ok-walk_leaves-clause-opened g c = λ file W d before U e old p r b u f m h.
@@ -37,12 +30,9 @@ returns-in_ok-walk_leaves-clause-opened g c = λ file W d before U e old p r b u
     let n = c.u32_at-count.ensures ∙ ap (u32_at 4) k in
     let l = subst (λ x. x ≤ most_leaves (usable_size file)) n (subst (λ u. c.u32_at-count.result ≤ u / 4 - 2) u c.if-count-usable.true) in
     let tail = map (go e) (next_trunk e.page (page_bytes file e.page) (leaf_count (page_bytes file e.page))) in
-    let o = opened_fitting g.K.Sink.takes file W d before U e old c.args.marks.now c.args.sink.now r f m h l in
+    let o = opened_fitting file e r g.K.Sink.takes W d before U old c.args.marks.now c.args.sink.now f m h l in
     let t = c.in_ok-walk_leaves.ensures.done file W (Go d ∷ []) before (U ++ e ∷ []) e tail p
-    (subst (λ b. IsLeft g.K.Sink.takes file W (Go d ∷ []) before (U ++ e ∷ []) (leaf_errands e b c.u32_at-count.result ++ tail)
-    (c.args.marks.now, c.args.sink.now)) (sym k)
-    (subst (λ n. IsLeft g.K.Sink.takes file W (Go d ∷ []) before (U ++ e ∷ []) (leaf_errands e (page_bytes file e.page) n ++ tail)
-    (c.args.marks.now, c.args.sink.now)) (sym n) o)) in (
+    (rw (k, n) o) in (
       t.0,
       subst (λ n. IsLeft g.K.Sink.takes file W (Go d ∷ []) before t.0 (map (go e) (next_trunk e.page (page_bytes file e.page) n))
           (c.walk_leaves.new.marks, c.walk_leaves.new.sink)) (sym n) t.1,
@@ -55,7 +45,7 @@ returns-else-count-usable-clause-opened g c = λ file W d before U e old p r b u
     let l = subst (λ x. most_leaves (usable_size file) < x) n (subst (λ u. u / 4 - 2 < c.u32_at-count.result) u c.if-count-usable.false) in
     let w = c.new-fault.ensures ∙ ap (λ p. fault L01 p 0 (pos c.u32_at-count.result)) (sym p) ∙ ap (λ n. fault L01 e.page 0 (pos n)) n in (
       U ++ e ∷ [],
-      opened_crowded g.K.Sink.takes file W d before U e old c.args.marks.now c.args.sink.now r f m h c.fault.new.self l
+      opened_crowded file e r g.K.Sink.takes W d before U old c.args.marks.now c.args.sink.now f m h c.fault.new.self l
           (c.fault.new.self, subst (λ x. g.K.Sink.takes c.args.sink.now (told_alone x) c.fault.new.self) w c.fault.ensures.item, refl),
     )
 
@@ -64,8 +54,7 @@ returns-in_ok-walk_leaves-clause-only g c = search rules
 
 pub returns-in_err-walk_leaves-clause-writes : goal.returns-in_err-walk_leaves-clause-writes
 returns-in_err-walk_leaves-clause-writes g c =
-    let q = err_from_is_err_and c.from_residual.result c.from_residual.ensures.1 in
-    walks_as (q.1 ∙ ap Err q.2) c.in_err-walk_leaves.ensures.writes
+    walks_as (err_is c.from_residual.ensures.1) c.in_err-walk_leaves.ensures.writes
 
 pub returns-in_ok-walk_leaves-clause-writes : goal.returns-in_ok-walk_leaves-clause-writes
 returns-in_ok-walk_leaves-clause-writes g c = walks_ok c.in_ok-walk_leaves.ensures.writes.moves

@@ -1,11 +1,8 @@
 use Rattle.std.proofs.Common.{◌≡◌, List, Ok}
-use Rattle.dbformat.specs.File.{geometry}
 use Rattle.dbformat.specs.Reference.{Reference}
-use Rattle.dbsource.specs.Sources.{HasLog}
 use Rattle.dbwalk.specs.Entered.{IsNext}
-use Rattle.dbwalk.specs.Beside.{LeavesBeside}
+use Rattle.dbwalk.specs.Beside.{WalksBeside}
 use Rattle.dbmarks.specs.Marking.{AreMarksOf, unmarked_pages}
-use Rattle.dbmarks.specs.Reads.{Reads}
 use Rattle.dbwalk.specs.Trunks.{IsFirstTrunk, IsOnTrunks}
 use Rattle.dbmarks.specs.declared.marks.Mark.TheVariants.{Trunk}
 use Rattle.dbwalk.proofs.freelist.walk_freelist.Given as goal
@@ -15,11 +12,8 @@ decreases-loop-next g l = unmarked_pages l.marks
 
 abbrev pub invariant-loop-next : goal.invariant-loop-next
 invariant-loop-next g l = record {
-  log : HasLog g.S.Source.step (Reads l.initial.bench.geometry.page_size l.initial.marks l.marks)
-      (λ file. l.initial.bench.geometry ≡ geometry file → (W : List Reference) (c : Reference)
-      → IsFirstTrunk l.first c → IsNext W c → AreMarksOf file W l.initial.marks → IsOnTrunks g.K.Sink.takes file W c l.initial.sink l.step l.marks l.sink)
-      (g.S.Source.held l.initial.source) (g.S.Source.held l.source);
-  beside : LeavesBeside {A = Unit {0}} (Ok tt) (g.S.Source.held l.initial.source) (g.S.Source.held l.source) (g.K.Sink.held l.initial.sink)
-      (g.K.Sink.held l.sink) l.initial.bench l.bench;
+  walks : WalksBeside {A = Unit {0}} g.S.Source.step (Ok tt) (g.S.Source.held l.initial.source) (g.S.Source.held l.source) (g.K.Sink.held l.initial.sink)
+      (g.K.Sink.held l.sink) l.initial.bench l.bench l.initial.marks l.marks (λ file. (W : List Reference) (c : Reference)
+      → IsFirstTrunk l.first c → IsNext W c → AreMarksOf file W l.initial.marks → IsOnTrunks g.K.Sink.takes file W c l.initial.sink l.step l.marks l.sink);
   trunk : l.step.mark ≡ Trunk;
 }

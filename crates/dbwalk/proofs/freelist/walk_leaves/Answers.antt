@@ -1,15 +1,14 @@
-use Rattle.std.proofs.Common.{◌≡◌, ◌+◌, ◌-◌, ◌<◌, inl, inr, ◌++◌, ◌∷◌, Err, refl, sym, ap, subst, ◌∙◌, arith}
+use Rattle.std.proofs.Common.{◌≡◌, ◌+◌, ◌-◌, ◌<◌, inl, inr, ◌++◌, ◌∷◌, refl, sym, subst, arith}
 use Rattle.std.proofs.lemmas.Bool.{cases_Bool}
-use Rattle.std.proofs.lemmas.Result.{err_from_is_err_and}
 use Rattle.dbtrace.specs.Causes.{refusal_cause}
-use Rattle.dbwalk.specs.Trunks.{LeavesErrands, leaves_from}
 use Rattle.dbwalk.specs.Done.{IsLeft}
+use Rattle.dbwalk.specs.Trunks.{leaves_from}
 use Rattle.dbmarks.specs.Marking.{KeepsMarks}
 use Rattle.dbwalk.proofs.FreeTrunks.{leaf_of, leaves_more, next_of_left, leaf_entered}
 use Rattle.dbwalk.proofs.Telling.Lefts.{left_untold}
 use Rattle.dbmarks.proofs.Readings.{keeps_same, keeps_then, keeps_put}
 use Rattle.dbsurvey.specs.Story.{Go}
-use Rattle.dbwalk.proofs.Telling.Sinks.{moves_then, walks_after, walks_as, walks_ok}
+use Rattle.dbwalk.proofs.Telling.Sinks.{err_is, moves_then, walks_after, walks_as, walks_ok}
 use Rattle.dbwalk.proofs.freelist.walk_leaves.Goals as goal
 
 pub returns-clause-done : goal.returns-clause-done
@@ -17,20 +16,17 @@ returns-clause-done g c = λ file W errands before U d tail p h.
     let k = c.loop-index.invariant.left file W errands before U d tail p h in
     let z : c.args.count - c.loop-index.index ≡ 0 = omega arith in (
       k.0,
-      subst (λ n. IsLeft g.K.Sink.takes file W errands before k.0 (leaves_from d c.args.bytes.now c.loop-index.index n ++ tail)
-          (c.loop-index.marks, c.loop-index.sink)) z k.1,
+      rw z at k.1,
     )
 
 pub returns-in_err-enter-clause-done : goal.returns-in_err-enter-clause-done
 returns-in_err-enter-clause-done g c = λ file W errands before U d tail p h.
     let k = c.loop-index.invariant.left file W errands before U d tail p h in
     let n : 0 < c.args.count - c.loop-index.index = omega arith in
-    let l = subst (λ es. IsLeft g.K.Sink.takes file W errands before k.0 (es ++ tail) (c.loop-index.marks, c.loop-index.sink))
-    (leaves_more d c.args.bytes.now c.loop-index.index (c.args.count - c.loop-index.index) n) k.1 in
-    let q = err_from_is_err_and c.from_residual.result c.from_residual.ensures.1 in
+    let l = rw (leaves_more d c.args.bytes.now c.loop-index.index (c.args.count - c.loop-index.index) n) at k.1 in
     let e = leaf_of d c.args.bytes.now c.loop-index.index in
     let es = leaves_from d c.args.bytes.now (c.loop-index.index + 1) (c.args.count - c.loop-index.index - 1) ++ tail in
-    subst (λ r. LeavesErrands g.K.Sink.takes file W errands before tail r c.enter.new.marks c.enter.new.sink) (sym (q.1 ∙ ap Err q.2))
+    rw (err_is c.from_residual.ensures.1)
     (left_untold g.K.Sink.takes file W errands before k.0 c.loop-index.marks c.loop-index.sink c.enter.new.sink c.enter.new.marks
     c.in_err-enter.field-0.0 (Go e ∷ es) l
     (c.in_err-enter.ensures.entered file k.0 e (refusal_cause file k.0 e)
@@ -40,8 +36,7 @@ returns-in_err-enter-clause-done g c = λ file W errands before U d tail p h.
 
 pub returns-in_err-enter-clause-writes : goal.returns-in_err-enter-clause-writes
 returns-in_err-enter-clause-writes g c =
-    let q = err_from_is_err_and c.from_residual.result c.from_residual.ensures.1 in
-    walks_as (q.1 ∙ ap Err q.2) (walks_after c.in_err-enter.ensures.writes c.loop-index.invariant.writes)
+    walks_as (err_is c.from_residual.ensures.1) (walks_after c.in_err-enter.ensures.writes c.loop-index.invariant.writes)
 
 pub returns-clause-writes : goal.returns-clause-writes
 returns-clause-writes g c = walks_ok c.loop-index.invariant.writes
@@ -58,8 +53,7 @@ loop-index-preserved g c = record {
   left = λ file W errands before U d tail p h.
       let k = c.loop-index.invariant.left file W errands before U d tail p h in
       let n : 0 < c.args.count - c.loop-index.index = omega arith in
-      let l = subst (λ es. IsLeft g.K.Sink.takes file W errands before k.0 (es ++ tail) (c.loop-index.marks, c.loop-index.sink))
-      (leaves_more d c.args.bytes.now c.loop-index.index (c.args.count - c.loop-index.index) n) k.1 in
+      let l = rw (leaves_more d c.args.bytes.now c.loop-index.index (c.args.count - c.loop-index.index) n) at k.1 in
       let e = leaf_of d c.args.bytes.now c.loop-index.index in
       let es = leaves_from d c.args.bytes.now (c.loop-index.index + 1) (c.args.count - c.loop-index.index - 1) ++ tail in
       let m : c.args.count - c.loop-index.index - 1 ≡ c.args.count - (c.loop-index.index + 1) = omega arith in

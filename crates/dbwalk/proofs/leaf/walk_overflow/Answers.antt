@@ -1,11 +1,8 @@
-use Rattle.std.proofs.Common.{rules, ◌≤◌, inl, refl, sym, subst}
+use Rattle.std.proofs.Common.{rules, ◌≤◌, inl, refl, subst}
 use Rattle.std.specs.Prelude.{IfSome}
 use Rattle.dbformat.specs.Payload.{most_payload}
 use Rattle.dbsource.proofs.Logs.{has_weaker}
-use Rattle.dbsurvey.specs.InOrder.{IsPast}
-use Rattle.dbwalk.specs.Done.{IsDone}
 use Rattle.dbmarks.proofs.Readings.{log_none}
-use Rattle.dbwalk.specs.LeafCells.{overflow_errands}
 use Rattle.dbwalk.proofs.Leaves.LeafErrands.{none_done, chain_start}
 use Rattle.dbwalk.proofs.Chaining.Feedings.{on_ok, feeds_nothing, feeds_chain}
 use Rattle.dbwalk.proofs.Telling.Besides.{beside_told}
@@ -21,11 +18,10 @@ returns-in-None-clause-log g c = log_none c.args.bench.now.geometry.page_size c.
 pub returns-in-Some-clause-log : goal.returns-in-Some-clause-log
 returns-in-Some-clause-log g c = has_weaker _ _ c.walk_chain.ensures.log (λ log r. r) (λ file h e U d at row past m.
     let t = c.args.at.tree.now in
-    let next = subst (λ o. IsPast U (overflow_errands d c.args.at.item o)) c.in-Some.is past in
+    let next = rw c.in-Some.is at past in
     let k = h e U _ (chain_start _ file t.kind t.start t.path.items d c.args.bench.now.levels c.args.at.page c.args.at.item c.in-Some.first c.in-Some.left at
     refl c.as_slice.ensures.value refl refl refl refl row) next m in (
-      subst (λ o. IsDone g.K.Sink.takes file U (overflow_errands d c.args.at.item o) c.walk_chain.result c.walk_chain.new.marks c.args.sink.now
-          c.walk_chain.new.sink) (sym c.in-Some.is) k.0,
+      rw c.in-Some.is k.0,
       on_ok c.walk_chain.result k.1 (feeds_chain file U d c.args.at.item c.in-Some.first c.in-Some.left c.args.at.cell.overflow c.args.sieve.now
           c.walk_chain.new.sieve c.in-Some.is next),
     ))

@@ -1,10 +1,8 @@
-use Rattle.std.proofs.Common.{◌==◌, ◌&&◌, length, sym, ap, ◌∙◌, subst}
+use Rattle.std.proofs.Common.{◌==◌, ◌&&◌, length, sym, ap, ◌∙◌}
 use Rattle.std.specs.Prelude.{flat_map}
 use Rattle.std.specs.List.{range_with_len}
 use Rattle.dbformat.specs.PageFaults.{cell_fault}
-use Rattle.dbtrace.specs.Finding.{told_by}
 use Rattle.dbwalk.specs.Found.{inner_cause}
-use Rattle.dbwalk.specs.Telling.{IsReportedTo}
 use Rattle.dbwalk.proofs.Pages.PageTellings.{faults_then, faults_more, none_more}
 use Rattle.dbwalk.proofs.page.tell_cells.Goals as goal
 
@@ -12,8 +10,7 @@ pub loop-i-preserved : goal.loop-i-preserved
 loop-i-preserved g c =
     let f = cell_fault c.args.view.now in
     record {
-      told = subst (λ fs. IsReportedTo g.K.Sink.takes g.K.Sink.held c.args.sink.now (told_by (inner_cause c.args.cause.now) fs) c.tell_cell-good.new.sink)
-          (sym (faults_more f c.loop-i.i)) (faults_then (inner_cause c.args.cause.now) (flat_map f (range_with_len 0 c.loop-i.i)) (f c.loop-i.i)
+      told = rw (faults_more f c.loop-i.i) (faults_then (inner_cause c.args.cause.now) (flat_map f (range_with_len 0 c.loop-i.i)) (f c.loop-i.i)
           c.loop-i.invariant.told c.tell_cell-good.ensures.told);
       good = ap (λ x. x && c.tell_cell-good.result) c.loop-i.invariant.good
           ∙ ap (λ x. (length (flat_map f (range_with_len 0 c.loop-i.i)) == 0) && x) c.tell_cell-good.ensures.good

@@ -1,10 +1,8 @@
-use Rattle.std.proofs.Common.{◌≡◌, ◌+◌, ◌++◌, sym, subst, arith, take, slice_index_or, None}
+use Rattle.std.proofs.Common.{◌≡◌, ◌+◌, ◌++◌, arith, take, slice_index_or, None}
 use Rattle.std.specs.List.{flat_map}
 use Rattle.std.specs.Option.{option_to_list}
 use Rattle.std.proofs.lemmas.Grind.{common_steps}
-use Rattle.dbtrace.specs.Finding.{told_by}
 use Rattle.dbwalk.specs.Found.{inner_cause}
-use Rattle.dbwalk.specs.Telling.{IsReportedTo}
 use Rattle.dbwalk.proofs.Pages.PageTellings.{faults_then, told_nothing}
 use Rattle.dbwalk.proofs.page.tell_each.Goals as goal
 
@@ -17,6 +15,5 @@ loop-found-preserved g c =
     let i = c.loop-found.found-index in
     let more : flat_map option_to_list (take (i + 1) fs) ≡ flat_map option_to_list (take i fs) ++ option_to_list (slice_index_or fs i None) =
     grind (arith, common_steps) in
-    subst (λ l. IsReportedTo g.K.Sink.takes g.K.Sink.held c.args.sink.now (told_by (inner_cause c.args.cause.now) l) c.tell_found.new.sink) (sym more)
-    (faults_then (inner_cause c.args.cause.now) (flat_map option_to_list (take i fs)) (option_to_list (slice_index_or fs i None)) c.loop-found.invariant
+    rw more (faults_then (inner_cause c.args.cause.now) (flat_map option_to_list (take i fs)) (option_to_list (slice_index_or fs i None)) c.loop-found.invariant
     c.tell_found.ensures)

@@ -1,19 +1,15 @@
-use Rattle.std.proofs.Common.{rules, ◌≡◌, ◌+◌, ◌-◌, ◌<◌, ◌≤◌, length, inl, None, Ok, Err, refl, sym, ap, subst, ◌∙◌, arith}
-use Rattle.std.proofs.lemmas.Result.{err_from_is_err_and}
+use Rattle.std.proofs.Common.{rules, ◌≡◌, ◌+◌, ◌-◌, ◌<◌, ◌≤◌, length, inl, None, refl, sym, ap, subst, ◌∙◌, arith}
 use Rattle.dbformat.specs.Cell.{count}
-use Rattle.dbformat.specs.Errands.{cell_errands}
 use Rattle.dbformat.specs.File.{page_bytes}
 use Rattle.dbsource.proofs.Logs.{has_weaker}
-use Rattle.dbwalk.specs.LeafCells.{AreRisingFrom}
-use Rattle.dbwalk.specs.Underway.{HasDone, done_below}
-use Rattle.dbwalk.specs.Watching.{fails, watches}
+use Rattle.dbwalk.specs.Watching.{fails}
 use Rattle.dbwalk.proofs.Leaves.LeafErrands.{seen_here, cells_here, leaf_errands_are}
 use Rattle.dbmarks.proofs.Readings.{log_none, log_then}
 use Rattle.dbwalk.proofs.Underway.Handing.{stopped_as}
 use Rattle.dbwalk.proofs.Underway.LeafLoop.{cells_done, leaf_as, passed_same, on_start, on_more, on_stop, on_pass, on_end}
 use Rattle.dbwalk.proofs.Underway.CellSteps.{other_start}
 use Rattle.dbwalk.proofs.Underway.Walks.{walked_as, walked_behind, walked_by, walked_tree}
-use Rattle.dbwalk.proofs.Telling.Sinks.{walks_ok}
+use Rattle.dbwalk.proofs.Telling.Sinks.{err_is, walks_ok}
 use Rattle.dbwalk.proofs.tree_walk.TreeWalk.walk_leaf.Goals as goal
 
 pub loop-i-init : goal.loop-i-init
@@ -28,8 +24,7 @@ loop-i-init g c = record {
       let t = c.args.self.now.tree in
       let p = c.pass_cells-i.ensures in
       let seen = seen_here file at viewed (ap (λ s. s.usable) e) in
-      let rise = subst (λ q. (c.pass_cells-i.result ≤ count v) × AreRisingFrom q v 0 (c.pass_cells-i.result - 0) t.greatest c.pass_cells-i.new.tree.greatest)
-      (sym at.page) (p.passed.rising (page_bytes file c.args.page) v at.bytes seen (omega arith)) in
+      let rise = rw (sym at.page) at (p.passed.rising (page_bytes file c.args.page) v at.bytes seen (omega arith)) in
       on_pass file from d t.kind v leaf g.K.Sink.takes g.T.Taker.takes (fails g.T.Taker.refuses)
       (c.args.self.now.sink.now, c.args.self.now.taker.now) 0 c.pass_cells-i.result c.args.self.now.marks.now t c.pass_cells-i.new.tree
       (c.args.self.now.sink.now, c.args.self.now.taker.now) p.passed.ahead rise.0 (λ l. other_start d.address t.start at.start (p.other l)) rise.1
@@ -62,8 +57,7 @@ loop-i-preserved g c =
           (length new.self.tree.path.items) (length t.path.items) c.args.page (c.loop-i.i + 1) end new.self.tree.greatest after.greatest
           (ap (λ s. s.usable) (n.walked.shape ∙ w.walked.shape)) (n.tree.1 ∙ w.tree.1) (n.levels ∙ w.levels) (ap (λ p. length p.items) (n.tree.3 ∙ w.tree.3))
           p.passed in
-          let rise = subst (λ q. (end ≤ count v) × AreRisingFrom q v (c.loop-i.i + 1) (end - (c.loop-i.i + 1)) new.self.tree.greatest after.greatest)
-          (sym at.page) (passed.rising (page_bytes file c.args.page) v at.bytes seen (omega arith)) in
+          let rise = rw (sym at.page) at (passed.rising (page_bytes file c.args.page) v at.bytes seen (omega arith)) in
           let cell = done (w.walked.shape ∙ e) (w.walked.coded ∙ coded) (cells_done file from d t.kind v c.loop-i.i) d v
           (leaf_as file t.kind c.loop-i.self.tree.kind t.start c.loop-i.self.tree.start t.path.items c.loop-i.self.tree.path.items c.args.bench.now.levels
           c.loop-i.bench.levels c.args.page d w.tree.1 w.tree.0 (ap (λ p. p.items) w.tree.3) w.levels at) viewed leaf low s.1 s.0.at in
@@ -74,9 +68,7 @@ loop-i-preserved g c =
           (on_more file from d t.kind v leaf g.K.Sink.takes g.T.Taker.takes (fails g.T.Taker.refuses)
           (c.args.self.now.sink.now, c.args.self.now.taker.now) c.loop-i.i (c.loop-i.self.marks.now, c.loop-i.self.tree) (new.self.marks.now, new.self.tree)
           (c.loop-i.self.sink.now, c.loop-i.self.taker.now) (new.self.sink.now, new.self.taker.now) low s
-          (subst (λ k. HasDone (watches g.K.Sink.takes g.T.Taker.takes) (fails g.T.Taker.refuses) file
-          (done_below file (cells_done file from d t.kind v c.loop-i.i) (cell_errands d k v c.loop-i.i)) (Ok tt) (new.self.marks.now, new.self.tree)
-          (c.loop-i.self.sink.now, c.loop-i.self.taker.now) (new.self.sink.now, new.self.taker.now)) w.tree.1 cell)));
+          (rw w.tree.1 at cell)));
     }
 
 pub returns-in_err-walk_leaf_cell-clause-log : goal.returns-in_err-walk_leaf_cell-clause-log
@@ -84,7 +76,6 @@ returns-in_err-walk_leaf_cell-clause-log g c =
     let w = c.loop-i.invariant in
     log_then _ _ (ap (λ s. s.page_size) w.walked.shape) w.log c.in_err-walk_leaf_cell.ensures.log (λ file on done e coded from d v at viewed leaf before isat.
     let t = c.args.self.now.tree in
-    let q = err_from_is_err_and c.from_residual.result c.from_residual.ensures.1 in
     let cells = cells_here file at viewed (ap (λ s. s.usable) e) c.len-level.ensures.value c.leaf_cells-cells.ensures in
     let low : c.loop-i.i < count v = omega arith in
     let s = on e coded from d v at viewed leaf before isat in
@@ -92,17 +83,11 @@ returns-in_err-walk_leaf_cell-clause-log g c =
     let cell = done (w.walked.shape ∙ e) (w.walked.coded ∙ coded) (cells_done file from d t.kind v c.loop-i.i) d v
     (leaf_as file t.kind c.loop-i.self.tree.kind t.start c.loop-i.self.tree.start t.path.items c.loop-i.self.tree.path.items c.args.bench.now.levels
     c.loop-i.bench.levels c.args.page d w.tree.1 w.tree.0 (ap (λ p. p.items) w.tree.3) w.levels at) viewed leaf low s.1 s.0.at in
-    stopped_as (q.1 ∙ ap Err q.2)
-    (subst (λ es. HasDone {A = Unit {0}} (watches g.K.Sink.takes g.T.Taker.takes) (fails g.T.Taker.refuses) file
-    (done_below file from es) (Err c.in_err-walk_leaf_cell.field-0.0) (new.self.marks.now, new.self.tree)
-    (c.args.self.now.sink.now, c.args.self.now.taker.now) (new.self.sink.now, new.self.taker.now))
-    (sym (leaf_errands_are file d t.kind v at.kind_is viewed leaf))
+    rw (leaf_errands_are file d t.kind v at.kind_is viewed leaf) (stopped_as (err_is c.from_residual.ensures.1)
     (on_stop file from d t.kind v leaf g.K.Sink.takes g.T.Taker.takes (fails g.T.Taker.refuses)
     (c.args.self.now.sink.now, c.args.self.now.taker.now) c.in_err-walk_leaf_cell.field-0.0 c.loop-i.i (c.loop-i.self.marks.now, c.loop-i.self.tree)
     (new.self.marks.now, new.self.tree) (c.loop-i.self.sink.now, c.loop-i.self.taker.now) (new.self.sink.now, new.self.taker.now) low s
-    (subst (λ k. HasDone {A = Unit {0}} (watches g.K.Sink.takes g.T.Taker.takes) (fails g.T.Taker.refuses) file
-    (done_below file (cells_done file from d t.kind v c.loop-i.i) (cell_errands d k v c.loop-i.i)) (Err c.in_err-walk_leaf_cell.field-0.0)
-    (new.self.marks.now, new.self.tree) (c.loop-i.self.sink.now, c.loop-i.self.taker.now) (new.self.sink.now, new.self.taker.now)) w.tree.1 cell))).handed)
+    (rw w.tree.1 at cell)).handed))
 
 pub returns-clause-log : goal.returns-clause-log
 returns-clause-log g c =
@@ -113,9 +98,7 @@ returns-clause-log g c =
     let s = on e coded from d v at viewed leaf before isat in
     let within = s.2 in
     let end : c.loop-i.i ≡ count v = omega arith in
-    subst (λ es. HasDone (watches g.K.Sink.takes g.T.Taker.takes) (fails g.T.Taker.refuses) file
-    (done_below file from es) (Ok tt) (c.loop-i.self.marks.now, c.loop-i.self.tree) (c.args.self.now.sink.now, c.args.self.now.taker.now)
-    (c.loop-i.self.sink.now, c.loop-i.self.taker.now)) (sym (leaf_errands_are file d t.kind v at.kind_is viewed leaf))
+    rw (leaf_errands_are file d t.kind v at.kind_is viewed leaf)
     (on_end file from d t.kind v leaf g.K.Sink.takes g.T.Taker.takes (fails g.T.Taker.refuses)
     (c.args.self.now.sink.now, c.args.self.now.taker.now) (c.loop-i.self.marks.now, c.loop-i.self.tree) (c.loop-i.self.sink.now, c.loop-i.self.taker.now)
     c.loop-i.i end s))
@@ -129,8 +112,7 @@ walk_leaf_cell-requires g c =
 
 pub returns-in_err-walk_leaf_cell-clause-walked : goal.returns-in_err-walk_leaf_cell-clause-walked
 returns-in_err-walk_leaf_cell-clause-walked g c =
-    let q = err_from_is_err_and c.from_residual.result c.from_residual.ensures.1 in
-    walked_as g.S.Source.held g.K.Sink.held g.T.Taker.refusals {R = Unit {0}} (q.1 ∙ ap Err q.2)
+    walked_as g.S.Source.held g.K.Sink.held g.T.Taker.refusals {R = Unit {0}} (err_is c.from_residual.ensures.1)
     (walked_behind g.S.Source.held g.K.Sink.held g.T.Taker.refusals c.in_err-walk_leaf_cell.ensures.walked c.loop-i.invariant.walked)
 
 pub returns-in_err-walk_leaf_cell-clause-tree : goal.returns-in_err-walk_leaf_cell-clause-tree

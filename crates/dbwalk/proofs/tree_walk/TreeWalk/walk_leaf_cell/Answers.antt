@@ -1,8 +1,6 @@
-use Rattle.std.proofs.Common.{rules, ℕ, ◌≡◌, ◌≤◌, false, Option, Some, None, Result, Ok, Err, refl, sym, ap, subst, ◌∙◌}
+use Rattle.std.proofs.Common.{rules, ℕ, ◌≡◌, ◌≤◌, Result, Ok, Err, refl, sym, ap, subst, ◌∙◌}
 use Rattle.std.specs.Prelude.{is_some}
-use Rattle.dbbytes.specs.declared.sieve.RowSieve.{RowSieve}
 use Rattle.dbsource.specs.declared.error.RunError.{RunError}
-use Rattle.std.proofs.lemmas.Result.{err_from_is_err_and}
 use Rattle.dbformat.specs.File.{page_bytes}
 use Rattle.dbsource.proofs.Logs.{has_weaker}
 use Rattle.dbsurvey.specs.Moves.{Moves}
@@ -11,22 +9,17 @@ use Rattle.dbwalk.specs.Telling.{IsWriteOrMemory}
 use Rattle.dbwalk.specs.Walked.{IsTreeError}
 use Rattle.dbwalk.proofs.Leaves.LeafErrands.{past_cell, seen_here, rowid_here, cell_here}
 use Rattle.dbwalk.proofs.Underway.Handing.{stopped_as, found_moves}
-use Rattle.dbwalk.proofs.Underway.LeafCellRuns.{chain_stops, row_told, row_stops, key_done}
+use Rattle.dbwalk.proofs.Underway.LeafCellRuns.{gone, chain_stops, row_told, row_stops, key_done}
 use Rattle.dbwalk.proofs.Underway.Walks.{tree_error, unread, walked_as, walked_by, walked_err}
-use Rattle.dbwalk.proofs.Telling.Sinks.{moves_then, walks_after, walks_ok}
+use Rattle.dbwalk.proofs.Telling.Sinks.{err_is, moves_then, walks_after, walks_ok}
 use Rattle.dbsource.specs.Bench.{Pages}
 use Rattle.dbwalk.proofs.tree_walk.TreeWalk.walk_leaf_cell.Goals as goal
-
-gone : (o : Option RowSieve) → is_some o ≡ false → o ≡ None
-gone None e = refl
-gone (Some s) e = cc
 
 pub returns-in_err-walk_overflow-clause-log : goal.returns-in_err-walk_overflow-clause-log
 returns-in_err-walk_overflow-clause-log g c = has_weaker _ _ c.in_err-walk_overflow.ensures.log (λ log r. r)
     (λ file h e coded from d v at viewed leaf low before isat.
-    let q = err_from_is_err_and c.from_residual.result c.from_residual.ensures.1 in
     let cell = cell_here file at viewed (ap (λ s. s.usable) e) c.len.ensures.value c.leaf_cell-cell.ensures low in
-    stopped_as (q.1 ∙ ap Err q.2)
+    stopped_as (err_is c.from_residual.ensures.1)
     (chain_stops file from d c.args.self.now.tree.kind v leaf c.args.i c.leaf_cell-cell.result.overflow cell.0 c.leaf_cell-cell.result.key cell.1 g.K.Sink.takes
     g.T.Taker.takes g.T.Taker.refuses c.in_err-walk_overflow.field-0.0 c.walk_overflow.new.marks
     (c.walk_overflow.new.marks, c.args.self.now.tree)
@@ -37,11 +30,10 @@ returns-in_err-walk_overflow-clause-log g c = has_weaker _ _ c.in_err-walk_overf
 pub returns-in_err-tell_row-clause-log : goal.returns-in_err-tell_row-clause-log
 returns-in_err-tell_row-clause-log g c = has_weaker _ _ c.in_ok-walk_overflow.ensures.log (λ log r. r)
     (λ file h e coded from d v at viewed leaf low before isat.
-    let q = err_from_is_err_and c.from_residual-in_err-tell_row.result c.from_residual-in_err-tell_row.ensures.1 in
     let cell = cell_here file at viewed (ap (λ s. s.usable) e) c.len.ensures.value c.leaf_cell-cell.ensures low in
     let done = h e from.visits d at (rowid_here file at viewed (ap (λ s. s.usable) e) c.args.i ∙ sym cell.1)
     (past_cell from.visits d c.args.i c.leaf_cell-cell.result.overflow before) isat.0 in
-    stopped_as (q.1 ∙ ap Err q.2)
+    stopped_as (err_is c.from_residual-in_err-tell_row.ensures.1)
     (row_stops file from d c.args.self.now.tree.kind v leaf c.args.i c.leaf_cell-cell.result.overflow cell.0 c.leaf_cell-cell.result.key cell.1 g.K.Sink.takes
     g.T.Taker.takes g.T.Taker.refuses c.in_err-tell_row.field-0.0 c.walk_overflow.new.marks c.args.self.now.tree c.args.self.now.tree
     c.args.self.now.sink.now c.walk_overflow.new.sink c.args.self.now.taker.now (c.tell_row.new.sink, c.tell_row.new.taker) isat.1 isat.2 done.0
@@ -79,9 +71,8 @@ returns-clause-log g c = has_weaker _ _ c.in_ok-walk_overflow.ensures.log (λ lo
 
 pub returns-in_err-walk_overflow-clause-walked : goal.returns-in_err-walk_overflow-clause-walked
 returns-in_err-walk_overflow-clause-walked g c =
-    let q = err_from_is_err_and c.from_residual.result c.from_residual.ensures.1 in
     let e = c.in_err-walk_overflow.ensures.beside in
-    walked_err g.S.Source.held g.K.Sink.held g.T.Taker.refusals (q.1 ∙ ap Err q.2) e.only (refl, refl, refl, refl, refl, refl, refl)
+    walked_err g.S.Source.held g.K.Sink.held g.T.Taker.refusals (err_is c.from_residual.ensures.1) e.only (refl, refl, refl, refl, refl, refl, refl)
     (ap (λ (p : Pages). p.geometry) e.bench) e.reads e.writes refl (λ l. refl)
 
 -- without a sieve nothing can fail there, and only the tree of the schema has one
@@ -91,11 +82,10 @@ row_error start {e} only none = let no : 1 ≤ start → ⊥ = λ l. (let h = no
 
 pub returns-in_err-tell_row-clause-walked : goal.returns-in_err-tell_row-clause-walked
 returns-in_err-tell_row-clause-walked g c =
-    let q = err_from_is_err_and c.from_residual-in_err-tell_row.result c.from_residual-in_err-tell_row.ensures.1 in
     let e = c.in_err-tell_row.ensures in
     let no = row_error c.args.self.now.tree.start e.only (λ later. (e.none (gone c.walk_overflow.new.sieve
     (c.walk_overflow.ensures.kept ∙ ap is_some (c.begin_row.ensures.other later ∙ c.requires.2 later)))).0) in
-    walked_as g.S.Source.held g.K.Sink.held g.T.Taker.refusals {R = Unit {0}} (q.1 ∙ ap Err q.2)
+    walked_as g.S.Source.held g.K.Sink.held g.T.Taker.refusals {R = Unit {0}} (err_is c.from_residual-in_err-tell_row.ensures.1)
     (walked_by g.S.Source.held g.K.Sink.held g.T.Taker.refusals (refl, refl, refl, refl, refl, refl, refl) (ap (λ (p : Pages). p.geometry)
     c.walk_overflow.ensures.beside.bench) (unread e.only c.in_ok-walk_overflow.ensures.beside.reads)
     (walks_after e.writes c.in_ok-walk_overflow.ensures.beside.writes.moves) e.refusals no.0 (λ l. absurd (no.1 l)))
