@@ -23,7 +23,7 @@ pub trait Notes {
     /// The run begins, over the file with these changes.
     fn begin(&mut self, changes: &Changes);
 
-    /// This many references of the file lead to pages after the end that its header states. The outcome is told after that.
+    /// The number of references that lead to pages after the stated end; called before the outcome is told.
     fn tell_references(&mut self, count: u64);
 
     /// The run has this outcome. The line of an error is not yet put.

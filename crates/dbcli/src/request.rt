@@ -28,7 +28,7 @@ pub enum Request<'a> {
     Map { name: &'a str },
 }
 
-// The verdict of an explanation; the notes are told how many references lead to pages after the stated end.
+// The verdict of an explanation, whose count of references goes to the notes.
 fn told_verdict<N: Notes>(
     answer: Result<Explanation, RunError>,
     notes: &mut N,

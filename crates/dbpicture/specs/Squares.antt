@@ -92,9 +92,11 @@ page_square g index = record {
 }
 
 -- it names the tree that its page is said to be in, if it is in one
+abbrev pub page_tree : Drawn → ℕ → Option ℕ
+page_tree g index = place_tree (g.place (page_at g index)) (g.start (page_at g index))
+
 abbrev pub page_square_text : Drawn → ℕ → List ℕ
-page_square_text g index =
-    page_text (page_square g index) g.grid.width (option_map_or g.tree (place_tree (g.place (page_at g index)) (g.start (page_at g index))) []) (g.faults index)
+page_square_text g index = page_text (page_square g index) g.grid.width (option_map_or g.tree (page_tree g index) []) (g.faults index)
 
 -- ---- a square of a group of pages
 

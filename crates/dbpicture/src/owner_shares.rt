@@ -18,7 +18,7 @@ pub(crate) const FIXED: usize = 14;
 
 pub(crate) const NOBODY: usize = 15;
 
-/// The number that stands for the owner of pages that are one byte throughout, whosever they are.
+/// Pages of one byte throughout are shown as those of an owner with this number.
 pub(crate) const BLANK: usize = 16;
 
 /// A number of pages, and how many of them are overflow pages.

@@ -1,11 +1,11 @@
 // The squares of the picture, row by row.
-ghost use Rattle.std.specs.Prelude.{◌≡◌, ◌+◌, ◌-◌, ◌<◌, ℕ, List};
+ghost use Rattle.std.specs.Prelude.{◌≡◌, ◌+◌, ◌-◌, ◌<◌, ◌≤◌, ℕ, List};
 ghost use Rattle.dbformat.specs.Reference.{Reference};
 ghost use Rattle.dbformat.specs.Starts.{start_at};
 ghost use Rattle.dblines.specs.Writing.{WroteOf};
-ghost use Rattle.dbpicture.specs.Keeping.{AreOf, blank_by, drawn_by, HoldsTreeName, marked_place};
+ghost use Rattle.dbpicture.specs.Keeping.{AreOf, blank_by, drawn_by, HoldsTreeName, marked_place, tree_named};
 ghost use Rattle.dbpicture.specs.Owners.{capped_pages, owner_by, shares_by};
-ghost use Rattle.dbpicture.specs.Squares.{row_text, rows_text, group_square_text, square_text, squares_text};
+ghost use Rattle.dbpicture.specs.Squares.{group_square, page_square, page_tree, row_text, rows_text};
 
 use crate::fault_notes::FaultNotes;
 use crate::grid::Grid;
@@ -95,7 +95,7 @@ impl<'a, A: Allocator> Squares<'a, A> {
         }
     }
 
-    // Draws the squares of a row.
+    // Draws a row: its squares, and the outlines of pages that are not in the file.
     fn draw_row<O: Out>(&self, writer: &mut Writer<'_, O>, row: u32)
         ensures { WroteOf O.held writer.old (AreOf self.now) (λ file V. row_text (drawn_by self.now V) row) writer.new }
     {
@@ -107,64 +107,57 @@ impl<'a, A: Allocator> Squares<'a, A> {
             Piece::Number(grid.top_of(row)),
             Piece::Markup(")\">\n"),
         ]);
-        self.draw_squares(writer, row);
+        let mut tree = NamedTree::none();
+        let (first, end) = self.grid.places_of(row, self.grid.squares);
+        for index in first..end {
+            let faults = self.notes.of_square(index);
+            if grid.group == 1 {
+                let square = self.page_square(&mut tree, index);
+                square.draw(writer, grid.width, &tree.name, faults);
+            } else {
+                let square = self.group_square(index);
+                square.draw(writer, grid.width, &self.labels, faults);
+            }
+        }
         draw_outlines(writer, grid, row);
         writer.write_all(&[Piece::Markup("</g>\n")]);
     }
 
-    // Draws the squares of a row, and nothing else of it.
-    fn draw_squares<O: Out>(&self, writer: &mut Writer<'_, O>, row: u32)
-        ensures { WroteOf O.held writer.old (AreOf self.now) (λ file V. squares_text (drawn_by self.now V) row) writer.new }
-    {
-        let mut tree = NamedTree::none();
-        let (first, end) = self.grid.places_of(row, self.grid.squares);
-        for index in first..end {
-            self.draw_square(writer, &mut tree, index);
-        }
-    }
-
-    // Draws a square.
-    fn draw_square<O: Out>(&self, writer: &mut Writer<'_, O>, tree: &mut NamedTree, index: u32)
+    // The square that is a page. `tree` becomes the tree of that page, or none.
+    fn page_square(&self, tree: &mut NamedTree, index: u32) -> PageSquare
         requires { HoldsTreeName self.now.names tree.old }
-        ensures drawn { WroteOf O.held writer.old (AreOf self.now) (λ file V. square_text (drawn_by self.now V) index) writer.new }
+        ensures square { (file : List ℕ) (V : List Reference) → AreOf self.now file V → result ≡ page_square (drawn_by self.now V) index }
+        ensures x { result.x ≤ 3556 }
+        ensures owner { result.owner < 16 }
+        ensures named { (file : List ℕ) (V : List Reference) → AreOf self.now file V
+            → tree.new ≡ tree_named self.now.names (page_tree (drawn_by self.now V) index) }
         ensures tree { HoldsTreeName self.now.names tree.new }
     {
         let grid = &self.grid;
-        if grid.group != 1 {
-            self.draw_group(writer, index);
-            return;
-        }
         let (page, _) = grid.group_of(index, grid.pages);
         let place = place_of(self.marks, page);
         let start = self.trees.start_of(self.marks, page);
         tree.turn_to(&self.names, place_tree(place, start));
-        let square = PageSquare {
+        PageSquare {
             x: grid.x_of(index),
             page,
             owner: self.owner(place, start),
             place,
             fixed: self.header.geometry().fixed(page),
-        };
-        square.draw(writer, grid.width, &tree.name, self.notes.of_square(index));
+        }
     }
 
-    // Draws the square of a group of pages.
-    fn draw_group<O: Out>(&self, writer: &mut Writer<'_, O>, index: u32)
-        ensures { WroteOf O.held writer.old (AreOf self.now) (λ file V. group_square_text (drawn_by self.now V) index) writer.new }
+    // The square that is a group of pages.
+    fn group_square(&self, index: u32) -> GroupSquare
+        ensures { (file : List ℕ) (V : List Reference) → AreOf self.now file V → result ≡ group_square (drawn_by self.now V) index }
     {
         let grid = &self.grid;
         let (first, last) = grid.group_of(index, grid.pages);
-        let group = GroupSquare {
+        GroupSquare {
             x: grid.x_of(index),
             first,
             last,
             shares: self.shares(first, last),
-        };
-        group.draw(
-            writer,
-            grid.width,
-            &self.labels,
-            self.notes.of_square(index),
-        );
+        }
     }
 }

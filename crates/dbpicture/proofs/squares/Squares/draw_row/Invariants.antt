@@ -3,7 +3,7 @@ use Rattle.std.specs.List.{flat_map, range_with_len}
 use Rattle.dblines.specs.Writing.{WroteOf}
 use Rattle.dbpicture.specs.Keeping.{AreOf, drawn_by, HoldsTreeName}
 use Rattle.dbpicture.specs.Squares.{square_text}
-use Rattle.dbpicture.proofs.squares.Squares.draw_squares.Given as goal
+use Rattle.dbpicture.proofs.squares.Squares.draw_row.Given as goal
 
 abbrev pub invariant-loop-index : goal.invariant-loop-index
 invariant-loop-index g l = record {
