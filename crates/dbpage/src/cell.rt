@@ -39,6 +39,13 @@ impl<'a> Model for Cell<'a> {
     ghost view = { λ c. record { offset = c.offset; len = c.len; size = c.size; local = c.local.now; left = c.left; key = c.key; overflow = c.overflow } };
 }
 
+// Where a cell with a payload begins, and how many of its bytes are before the payload.
+#[derive(Clone, Copy)]
+struct CellStart {
+    offset: u32,
+    before: u32,
+}
+
 impl<'a> Cell<'a> {
     /// How many bytes of its payload are on overflow pages.
     pub fn overflow_size(&self) -> u32
@@ -154,13 +161,13 @@ impl<'a> PageView<'a> {
         let (size, size_len) = self.first_varint_at(offset)?;
         let (rowid, rowid_len) = self.varint_at(offset + size_len)?;
         let before = size_len + rowid_len;
+        let key = Some(rowid.cast_signed());
         self.payload_cell(
             PayloadKind::TableLeaf,
-            offset,
-            before,
+            CellStart { offset, before },
             size,
             None,
-            Some(rowid.cast_signed()),
+            key,
         )
     }
 
@@ -200,7 +207,8 @@ impl<'a> PageView<'a> {
             return None;
         }
         let key = Some(rowid.cast_signed());
-        Some(self.whole_cell(PayloadKind::TableLeaf, offset, before, size, None, key))
+        let start = CellStart { offset, before };
+        Some(self.whole_cell(PayloadKind::TableLeaf, start, size, None, key))
     }
 
     // `cell` of a leaf of an index, if all of it is on the page and it has at most 56 bytes, by the short way as well.
@@ -233,7 +241,8 @@ impl<'a> PageView<'a> {
         if offset + before + size > self.usable {
             return None;
         }
-        Some(self.whole_cell(PayloadKind::Index, offset, before, size, None, None))
+        let start = CellStart { offset, before };
+        Some(self.whole_cell(PayloadKind::Index, start, size, None, None))
     }
 
     #[inline(always)]
@@ -260,8 +269,14 @@ impl<'a> PageView<'a> {
         requires most { self.now.usable ≤ 65536 }
         ensures { result ≡ cell_at LeafIndex self.now offset }
     {
-        let (size, size_len) = self.first_varint_at(offset)?;
-        self.payload_cell(PayloadKind::Index, offset, size_len, size, None, None)
+        let (size, before) = self.first_varint_at(offset)?;
+        self.payload_cell(
+            PayloadKind::Index,
+            CellStart { offset, before },
+            size,
+            None,
+            None,
+        )
     }
 
     #[inline(always)]
@@ -272,7 +287,14 @@ impl<'a> PageView<'a> {
     {
         let (size, size_len) = self.varint_at(offset + 4)?;
         let left = Some(u32_at(self.bytes, offset));
-        self.payload_cell(PayloadKind::Index, offset, 4 + size_len, size, left, None)
+        let before = 4 + size_len;
+        self.payload_cell(
+            PayloadKind::Index,
+            CellStart { offset, before },
+            size,
+            left,
+            None,
+        )
     }
 
     // The number at `offset` and its length, where it ends within the usable bytes.
@@ -310,30 +332,29 @@ impl<'a> PageView<'a> {
         }
     }
 
-    // The cell at `offset` whose payload of `size` bytes begins `before` bytes into it.
+    // The cell that begins so, and has a payload of `size` bytes.
     #[inline(always)]
     #[tactic(auto, unfolding(dbformat::specs::Payload::local_len))]
     fn payload_cell(
         &self,
         kind: PayloadKind,
-        offset: u32,
-        before: u32,
+        start: CellStart,
         size: u64,
         left: Option<u32>,
         key: Option<i64>,
     ) -> Option<Cell<'a>>
-        requires place { offset + before ≤ self.now.usable }
+        requires place { start.offset + start.before ≤ self.now.usable }
         requires most { self.now.usable ≤ 65536 }
-        ensures { result ≡ payload_cell self.now kind offset before size left key }
+        ensures { result ≡ payload_cell self.now kind start.offset start.before size left key }
     {
-        let payload = offset + before;
+        let payload = start.offset + start.before;
         // Most payloads are wholly in their cells.
         if size <= u64::from(most_local(kind, self.usable)) {
             let size = size as u32;
             if payload + size > self.usable {
                 return None;
             }
-            return Some(self.whole_cell(kind, offset, before, size, left, key));
+            return Some(self.whole_cell(kind, start, size, left, key));
         }
         if size > 2147483647 {
             return None;
@@ -346,8 +367,8 @@ impl<'a> PageView<'a> {
             return None;
         }
         Some(Cell {
-            offset,
-            len: before + here + overflow_len,
+            offset: start.offset,
+            len: start.before + here + overflow_len,
             size,
             local: &self.bytes[payload as usize..end as usize],
             left,
@@ -360,28 +381,27 @@ impl<'a> PageView<'a> {
         })
     }
 
-    // The cell at `offset` whose payload of `size` bytes, which begins `before` bytes into it, is wholly in it.
+    // The cell that begins so, and has a payload of `size` bytes, which is wholly in it.
     #[inline(always)]
     #[tactic(auto, unfolding(dbformat::specs::Payload::local_len))]
     fn whole_cell(
         &self,
         kind: PayloadKind,
-        offset: u32,
-        before: u32,
+        start: CellStart,
         size: u32,
         left: Option<u32>,
         key: Option<i64>,
     ) -> Cell<'a>
         requires here { size ≤ most_local kind self.now.usable }
-        requires place { offset + before + size ≤ self.now.usable }
+        requires place { start.offset + start.before + size ≤ self.now.usable }
         requires most { self.now.usable ≤ 65536 }
-        ensures cell { payload_cell self.now kind offset before size left key ≡ Some result }
-        ensures span { (result.offset ≡ offset) × (result.len ≡ before + size) }
+        ensures cell { payload_cell self.now kind start.offset start.before size left key ≡ Some result }
+        ensures span { (result.offset ≡ start.offset) × (result.len ≡ start.before + size) }
     {
-        let payload = offset + before;
+        let payload = start.offset + start.before;
         Cell {
-            offset,
-            len: before + size,
+            offset: start.offset,
+            len: start.before + size,
             size,
             local: &self.bytes[payload as usize..(payload + size) as usize],
             left,
