@@ -4,7 +4,7 @@ ghost use Rattle.dbformat.specs.Cell.{bytes_from, cell, cell_at, cell_pointer, c
 ghost use Rattle.dbformat.specs.NamedPages.{named_page};
 ghost use Rattle.dbformat.specs.Varint.{varint};
 ghost use Rattle.dbformat.specs.Payload.{most_local};
-ghost use Rattle.dbpage.specs.Beginning.{EndsAt};
+ghost use Rattle.dbpage.specs.Beginning.{EndsAt, IsShort};
 ghost use Rattle.dbformat.specs.declared.PageKind.TheVariants.{InteriorIndex, InteriorTable, LeafIndex, LeafTable};
 
 use crate::view::PageView;
@@ -182,7 +182,7 @@ impl<'a> PageView<'a> {
     {
         let offset = self.pointer(i);
         // A size and a rowid of four bytes each are before the end.
-        if offset < self.start || end.saturating_sub(offset) < 8 {
+        if offset < self.start || u64::from(offset) + 8 > u64::from(end) {
             return None;
         }
         self.table_leaf_cell_up_to(offset, end)
@@ -211,12 +211,12 @@ impl<'a> PageView<'a> {
         Some(self.whole_cell(PayloadKind::TableLeaf, start, size, None, key))
     }
 
-    // `cell` of a leaf of an index, if all of it is on the page and it has at most 56 bytes, by the short way as well.
+    // `cell` of a leaf of an index, if all of it is on the page and it has 4 to 56 bytes, by the short way as well.
     #[inline(always)]
     pub(crate) fn short_index_cell(&self, i: u32) -> Option<Cell<'a>>
         requires within { i < count self.now }
         requires kind { self.now.kind ≡ LeafIndex }
-        ensures { IfSome result (λ c. (cell self.now i ≡ Ok c) × (c.len ≤ 56)) }
+        ensures { IfSome result (λ c. (cell self.now i ≡ Ok c) × IsShort c) }
     {
         let offset = self.pointer(i);
         if offset < self.start || offset > self.usable - 4 {
@@ -230,11 +230,15 @@ impl<'a> PageView<'a> {
     fn short_index_leaf_cell(&self, offset: u32) -> Option<Cell<'a>>
         requires room { offset + 4 ≤ self.now.usable }
         requires most { self.now.usable ≤ 65536 }
-        ensures { IfSome result (λ c. (cell_at LeafIndex self.now offset ≡ Some c) × (c.len ≤ 56)) }
+        ensures { IfSome result (λ c. (cell_at LeafIndex self.now offset ≡ Some c) × IsShort c) }
     {
+        // Each page has room for as much. By its first byte, the size has no other.
+        let first = self.bytes[offset as usize];
+        if first < 3 || first > 52 {
+            return None;
+        }
         let (size, before) = self.short_varint_at(offset)?;
-        // Each page has room for as much.
-        if size > 52 {
+        if size < 3 || size > 52 {
             return None;
         }
         let size = size as u32;
@@ -324,7 +328,7 @@ impl<'a> PageView<'a> {
     fn short_varint_at(&self, offset: u32) -> Option<(u64, u32)>
         requires { offset + 4 ≤ self.now.usable }
         ensures value { IfSome result (λ r. varint (bytes_from self.now offset) ≡ Some r) }
-        ensures within { IfSome result (λ r. r.1 ≤ 4) }
+        ensures within { IfSome result (λ r. (0 < r.1) × (r.1 ≤ 4)) }
     {
         match short_varint(&self.bytes[offset as usize..self.usable as usize]) {
             Ok((value, len)) => Some((value, len as u32)),
