@@ -32,4 +32,4 @@ pub use plain::plain_name_text;
 pub use row::{MAX_NAME, SchemaRow};
 pub use serial::serial_len;
 pub use sieve::RowSieve;
-pub use varints::{short_varint, varint, varint_of_four};
+pub use varints::{short_varint, varint, varint_of_four, varint_of_nine};

@@ -37,7 +37,20 @@ pub fn varint_of_four(bytes: &[u8]) -> Option<(u64, usize)>
     match short_varint(bytes) {
         Ok(short) => Some(short),
         Err(_) if bytes.len() < 9 => varint_by_bytes(bytes),
-        Err(four) => Some(varint_after_four(bytes, four)),
+        Err(four) => Some(far_varint_after_four(bytes, four)),
+    }
+}
+
+/// `varint` of nine bytes or more, for a loop over numbers that often have more than four: all of it is read in the caller.
+#[inline(always)]
+pub fn varint_of_nine(bytes: &[u8]) -> (u64, usize)
+    requires { 9 ≤ length bytes.now }
+    ensures value { Some result ≡ varint bytes.now }
+    ensures within { (0 < result.1) × (result.1 ≤ 9) }
+{
+    match short_varint(bytes) {
+        Ok(short) => short,
+        Err(four) => varint_after_four(bytes, four),
     }
 }
 
@@ -68,10 +81,22 @@ pub fn short_varint(bytes: &[u8]) -> Result<(u64, usize), u64>
     Err(four - THREE_MORE - 128)
 }
 
-// `varint`, whose first four bytes gave `four` and say that more follow. Cold, so that what the loops of callers keep in
-// registers is what shorter numbers need.
+// `varint_after_four`, not read in the caller. Cold, so that what the loops of callers keep in registers is what shorter
+// numbers need.
 #[cold]
 #[inline(never)]
+fn far_varint_after_four(bytes: &[u8], four: u64) -> (u64, usize)
+    requires nine { 9 ≤ length bytes.now }
+    requires more { GoesOn 4 four (drop 4 bytes.now) bytes.now }
+    requires small { four < 268435456 }
+    ensures value { Some result ≡ varint bytes.now }
+    ensures within { (5 ≤ result.1) × (result.1 ≤ 9) }
+{
+    varint_after_four(bytes, four)
+}
+
+// `varint`, whose first four bytes gave `four` and say that more follow.
+#[inline(always)]
 fn varint_after_four(bytes: &[u8], four: u64) -> (u64, usize)
     requires nine { 9 ≤ length bytes.now }
     requires more { GoesOn 4 four (drop 4 bytes.now) bytes.now }

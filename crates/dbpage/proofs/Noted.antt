@@ -2,13 +2,14 @@
 use Rattle.std.proofs.Common.{◌≡◌, ℕ, zero, suc, ◌+◌, ◌-◌, ◌<◌, ◌≤◌, ◌⊎◌, inl, inr, Bool, true, false, ◌||◌, List, [], ◌∷◌, ◌++◌, length, refl, sym, ap, ◌∙◌}
 use Rattle.std.proofs.Common.{arith, length-append}
 use Rattle.std.specs.List.{range_with_len, list_any}
-use Rattle.std.proofs.lemmas.Bool.{cases_lt, cases_eq}
+use Rattle.std.proofs.lemmas.Bool.{cases_lt, cases_eq, false_from_ne_true}
 use Rattle.std.proofs.lemmas.List.{length_push}
 use Rattle.dbformat.specs.Coverage.{Span, is_held}
 use Rattle.dbpage.specs.Marking.{ShareNoByte}
 use Rattle.dbpage.specs.Notes.{bytes_below, Rise, Notes, HasNear, Covers, AreApart, AreInside, AreNoted, Walked}
 use Rattle.dbpage.proofs.Ranges.{any_at}
-use Rattle.dbpage.proofs.Overlaps.{holds, is_held_push, is_held_inside, within, from_within, is_overlapping-append, is_overlapping_at, ShareNoByte_push}
+use Rattle.dbpage.proofs.Overlaps.{IsBeside, holds, is_held_push, is_held_inside, within}
+use Rattle.dbpage.proofs.Overlaps.{from_within, is_overlapping-append, is_overlapping_at, ShareNoByte_push}
 
 not_both : {b : Bool} → b ≡ false → b ≡ true → ⊥
 not_both e h = cc
@@ -29,12 +30,9 @@ module _ (spans : List Span) (s : Span) (h : AreApart (spans ++ s ∷ [])) where
   none_held : list_any (is_held spans) (range_with_len s.offset s.len) ≡ false
   none_held = sym (is_overlapping_at spans s []) ∙ h (length spans) (omega (arith, length_push spans s))
 
-  pub last_apart : (byte : ℕ) → s.offset ≤ byte → byte < s.offset + s.len → is_held spans byte ≡ false
-  last_apart byte from under = by_case (is_held spans byte) refl
-    where
-      by_case : (b : Bool) → is_held spans byte ≡ b → is_held spans byte ≡ false
-      by_case false e = e
-      by_case true e = absurd (not_both none_held (any_at (is_held spans) s.offset s.len byte from under e))
+  pub last_apart : IsBeside spans s
+  last_apart byte from under = false_from_ne_true (is_held spans byte)
+      (λ e. not_both none_held (any_at (is_held spans) s.offset s.len byte from under e))
 
 module _ (spans : List Span) (s : Span) (start end : ℕ) (ends : ℕ → ℕ) (held : ℕ) (was : AreNoted spans start end ends held)
     (low : start ≤ s.offset) (high : s.offset + s.len ≤ end) (four : 4 ≤ s.len) where
@@ -141,12 +139,9 @@ module _ (spans : List Span) (s : Span) (start end : ℕ) (ends : ℕ → ℕ) (
           after : (p : ℕ) → s.offset ≤ p → (p ≡ s.offset → ⊥) → s.offset < p
           after p on other = elim (cases_lt s.offset p) [ inl less ↦ less | inr over ↦ absurd (other (omega (arith, on, over))) ]
 
-      beside : (byte : ℕ) → s.offset ≤ byte → byte < s.offset + s.len → is_held spans byte ≡ false
-      beside byte from under = by_case (is_held spans byte) refl
-        where
-          by_case : (b : Bool) → is_held spans byte ≡ b → is_held spans byte ≡ false
-          by_case false e = e
-          by_case true e = absurd (clash byte from under (was.covers byte (omega (arith, low, from)) (omega (arith, high, under)) e))
+      beside : IsBeside spans s
+      beside byte from under = false_from_ne_true (is_held spans byte)
+          (λ e. clash byte from under (was.covers byte (omega (arith, low, from)) (omega (arith, high, under)) e))
 
       apart_more : ShareNoByte (spans ++ s ∷ []) start end (held + s.len)
       apart_more = ShareNoByte_push spans s beside start end held (was.apart rise_before) low high

@@ -51,8 +51,12 @@ within from to byte low high = grind (arith, nat_tests)
 pub from_within : (from to byte : ℕ) → is_within from to byte ≡ true → (from ≤ byte) × (byte < to)
 from_within from to byte h = (grind (arith, nat_tests), grind (arith, nat_tests))
 
+-- no byte of a span is in others
+abbrev pub IsBeside : List Span → Span → Type 0
+IsBeside spans s = (byte : ℕ) → s.offset ≤ byte → byte < s.offset + s.len → is_held spans byte ≡ false
+
 -- an item apart from those before it
-module _ (spans : List Span) (s : Span) (free : (byte : ℕ) → s.offset ≤ byte → byte < s.offset + s.len → is_held spans byte ≡ false) where
+module _ (spans : List Span) (s : Span) (free : IsBeside spans s) where
   pass_more : PassMore (is_held spans) (is_held (spans ++ s ∷ [])) s.offset (s.offset + s.len)
   pass_more = (
     free,
@@ -80,7 +84,7 @@ module _ (spans : List Span) (s : Span) (free : (byte : ℕ) → s.offset ≤ by
 module _ (spans : List Span) (s : Span) (start end : ℕ) (table : List ℕ) (held : ℕ) (was : AreMarked spans start end table held) where
   -- an item whose bytes are free is apart from those before it
   pub apart_from : start ≤ s.offset → s.offset + s.len ≤ end → ((byte : ℕ) → s.offset ≤ byte → byte < s.offset + s.len → is_claimed table byte ≡ false)
-      → (byte : ℕ) → s.offset ≤ byte → byte < s.offset + s.len → is_held spans byte ≡ false
+      → IsBeside spans s
   apart_from low high free byte from below = sym (was.marked byte (omega arith) (omega arith)) ∙ free byte from below
 
   -- one more item is marked

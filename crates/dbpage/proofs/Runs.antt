@@ -11,7 +11,7 @@ use Rattle.dbpage.specs.Beginning.{IsCellRun, AreInRun, EndsRun, IsBegun}
 use Rattle.dbpage.specs.declared.packed.Beginning.{Beginning}
 use Rattle.dbpage.specs.Marking.{is_claimed, is_within, Marks, AreAdjoining, ShareNoByte, AreMarked, Holds, cells_upto, cell_spans}
 use Rattle.dbpage.proofs.Items.{cells_upto_more}
-use Rattle.dbpage.proofs.Overlaps.{holds, is_held_push, ShareNoByte_push}
+use Rattle.dbpage.proofs.Overlaps.{IsBeside, holds, is_held_push, ShareNoByte_push}
 use Rattle.dbpage.proofs.Unheld.{none_held}
 
 pub no_cells : (v : View) (at : ℕ) → content_start v.number v.bytes ≤ at → at ≤ v.usable → AreInRun v 0 at at
@@ -53,7 +53,7 @@ module _ (spans : List Span) (start end from to : ℕ) (was : IsCellRun spans st
       above : (byte : ℕ) → s.offset ≡ to → first ≡ from → last ≡ s.offset + s.len → (is_within from to byte || holds s byte) ≡ is_within first last byte
       above byte a b c = grind (arith, nat_tests, was.between)
 
-  beside : (byte : ℕ) → s.offset ≤ byte → byte < s.offset + s.len → is_held spans byte ≡ false
+  beside : IsBeside spans s
   beside byte from_on below = was.held byte (omega (arith, low)) (omega (arith, high))
       ∙ other byte (elim all [ inl under ↦ inl (omega (arith, under)) | inr over ↦ inr (omega (arith, over)) ])
     where

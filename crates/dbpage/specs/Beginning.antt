@@ -13,6 +13,11 @@ pub record EndsAt (c : Cell) (end : ℕ) : Type 0 where
   pub ends : c.offset + c.len ≡ end
   pub four : 4 ≤ c.len
 
+-- a cell takes 4 to 56 bytes
+pub record IsShort (c : Cell) : Type 0 where
+  pub four : 4 ≤ c.len
+  pub most : c.len ≤ 56
+
 -- no two spans share a byte, and they hold those of one range alone
 pub record IsCellRun (spans : List Span) (start end from to : ℕ) : Type 0 where
   pub low : start ≤ from
@@ -52,6 +57,11 @@ pub record IsRunning (v : View) (b : Beginning) : Type 0 where
   pub few : b.cells ≤ count v
   pub read : AddUpTo v b.cells b.sums
   pub run : AreInRun v b.cells b.run.from b.run.to
+
+-- the first n cells are a run, and these are their sums
+pub record HasRun (v : View) (n : ℕ) (b : Beginning) : Type 0 where
+  pub read : AddUpTo v n b.sums
+  pub run : AreInRun v n b.run.from b.run.to
 
 -- These are the first cells, their sums, and how many bytes they hold, which are marked.
 pub record AreRead (v : View) (table : List ℕ) (m : MarkedCells) : Type 0 where

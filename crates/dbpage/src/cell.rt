@@ -4,7 +4,7 @@ ghost use Rattle.dbformat.specs.Cell.{bytes_from, cell, cell_at, cell_pointer, c
 ghost use Rattle.dbformat.specs.NamedPages.{named_page};
 ghost use Rattle.dbformat.specs.Varint.{varint};
 ghost use Rattle.dbformat.specs.Payload.{most_local};
-ghost use Rattle.dbpage.specs.Beginning.{EndsAt};
+ghost use Rattle.dbpage.specs.Beginning.{EndsAt, IsShort};
 ghost use Rattle.dbformat.specs.declared.PageKind.TheVariants.{InteriorIndex, InteriorTable, LeafIndex, LeafTable};
 
 use crate::view::PageView;
@@ -37,6 +37,13 @@ impl<'a> Model for Cell<'a> {
     ghost Value = { Cell };
 
     ghost view = { λ c. record { offset = c.offset; len = c.len; size = c.size; local = c.local.now; left = c.left; key = c.key; overflow = c.overflow } };
+}
+
+// Where a cell with a payload begins, and how many of its bytes are before the payload.
+#[derive(Clone, Copy)]
+struct CellStart {
+    offset: u32,
+    before: u32,
 }
 
 impl<'a> Cell<'a> {
@@ -154,13 +161,13 @@ impl<'a> PageView<'a> {
         let (size, size_len) = self.first_varint_at(offset)?;
         let (rowid, rowid_len) = self.varint_at(offset + size_len)?;
         let before = size_len + rowid_len;
+        let key = Some(rowid.cast_signed());
         self.payload_cell(
             PayloadKind::TableLeaf,
-            offset,
-            before,
+            CellStart { offset, before },
             size,
             None,
-            Some(rowid.cast_signed()),
+            key,
         )
     }
 
@@ -175,7 +182,7 @@ impl<'a> PageView<'a> {
     {
         let offset = self.pointer(i);
         // A size and a rowid of four bytes each are before the end.
-        if offset < self.start || end.saturating_sub(offset) < 8 {
+        if offset < self.start || u64::from(offset) + 8 > u64::from(end) {
             return None;
         }
         self.table_leaf_cell_up_to(offset, end)
@@ -200,15 +207,16 @@ impl<'a> PageView<'a> {
             return None;
         }
         let key = Some(rowid.cast_signed());
-        Some(self.whole_cell(PayloadKind::TableLeaf, offset, before, size, None, key))
+        let start = CellStart { offset, before };
+        Some(self.whole_cell(PayloadKind::TableLeaf, start, size, None, key))
     }
 
-    // `cell` of a leaf of an index, if all of it is on the page and it has at most 56 bytes, by the short way as well.
+    // `cell` of a leaf of an index, if all of it is on the page and it has 4 to 56 bytes, by the short way as well.
     #[inline(always)]
     pub(crate) fn short_index_cell(&self, i: u32) -> Option<Cell<'a>>
         requires within { i < count self.now }
         requires kind { self.now.kind ≡ LeafIndex }
-        ensures { IfSome result (λ c. (cell self.now i ≡ Ok c) × (c.len ≤ 56)) }
+        ensures { IfSome result (λ c. (cell self.now i ≡ Ok c) × IsShort c) }
     {
         let offset = self.pointer(i);
         if offset < self.start || offset > self.usable - 4 {
@@ -222,18 +230,23 @@ impl<'a> PageView<'a> {
     fn short_index_leaf_cell(&self, offset: u32) -> Option<Cell<'a>>
         requires room { offset + 4 ≤ self.now.usable }
         requires most { self.now.usable ≤ 65536 }
-        ensures { IfSome result (λ c. (cell_at LeafIndex self.now offset ≡ Some c) × (c.len ≤ 56)) }
+        ensures { IfSome result (λ c. (cell_at LeafIndex self.now offset ≡ Some c) × IsShort c) }
     {
+        // Each page has room for as much. By its first byte, the size has no other.
+        let first = self.bytes[offset as usize];
+        if first < 3 || first > 52 {
+            return None;
+        }
         let (size, before) = self.short_varint_at(offset)?;
-        // Each page has room for as much.
-        if size > 52 {
+        if size < 3 || size > 52 {
             return None;
         }
         let size = size as u32;
         if offset + before + size > self.usable {
             return None;
         }
-        Some(self.whole_cell(PayloadKind::Index, offset, before, size, None, None))
+        let start = CellStart { offset, before };
+        Some(self.whole_cell(PayloadKind::Index, start, size, None, None))
     }
 
     #[inline(always)]
@@ -260,8 +273,14 @@ impl<'a> PageView<'a> {
         requires most { self.now.usable ≤ 65536 }
         ensures { result ≡ cell_at LeafIndex self.now offset }
     {
-        let (size, size_len) = self.first_varint_at(offset)?;
-        self.payload_cell(PayloadKind::Index, offset, size_len, size, None, None)
+        let (size, before) = self.first_varint_at(offset)?;
+        self.payload_cell(
+            PayloadKind::Index,
+            CellStart { offset, before },
+            size,
+            None,
+            None,
+        )
     }
 
     #[inline(always)]
@@ -272,7 +291,14 @@ impl<'a> PageView<'a> {
     {
         let (size, size_len) = self.varint_at(offset + 4)?;
         let left = Some(u32_at(self.bytes, offset));
-        self.payload_cell(PayloadKind::Index, offset, 4 + size_len, size, left, None)
+        let before = 4 + size_len;
+        self.payload_cell(
+            PayloadKind::Index,
+            CellStart { offset, before },
+            size,
+            left,
+            None,
+        )
     }
 
     // The number at `offset` and its length, where it ends within the usable bytes.
@@ -302,7 +328,7 @@ impl<'a> PageView<'a> {
     fn short_varint_at(&self, offset: u32) -> Option<(u64, u32)>
         requires { offset + 4 ≤ self.now.usable }
         ensures value { IfSome result (λ r. varint (bytes_from self.now offset) ≡ Some r) }
-        ensures within { IfSome result (λ r. r.1 ≤ 4) }
+        ensures within { IfSome result (λ r. (0 < r.1) × (r.1 ≤ 4)) }
     {
         match short_varint(&self.bytes[offset as usize..self.usable as usize]) {
             Ok((value, len)) => Some((value, len as u32)),
@@ -310,30 +336,29 @@ impl<'a> PageView<'a> {
         }
     }
 
-    // The cell at `offset` whose payload of `size` bytes begins `before` bytes into it.
+    // The cell that begins so, and has a payload of `size` bytes.
     #[inline(always)]
     #[tactic(auto, unfolding(dbformat::specs::Payload::local_len))]
     fn payload_cell(
         &self,
         kind: PayloadKind,
-        offset: u32,
-        before: u32,
+        start: CellStart,
         size: u64,
         left: Option<u32>,
         key: Option<i64>,
     ) -> Option<Cell<'a>>
-        requires place { offset + before ≤ self.now.usable }
+        requires place { start.offset + start.before ≤ self.now.usable }
         requires most { self.now.usable ≤ 65536 }
-        ensures { result ≡ payload_cell self.now kind offset before size left key }
+        ensures { result ≡ payload_cell self.now kind start.offset start.before size left key }
     {
-        let payload = offset + before;
+        let payload = start.offset + start.before;
         // Most payloads are wholly in their cells.
         if size <= u64::from(most_local(kind, self.usable)) {
             let size = size as u32;
             if payload + size > self.usable {
                 return None;
             }
-            return Some(self.whole_cell(kind, offset, before, size, left, key));
+            return Some(self.whole_cell(kind, start, size, left, key));
         }
         if size > 2147483647 {
             return None;
@@ -346,8 +371,8 @@ impl<'a> PageView<'a> {
             return None;
         }
         Some(Cell {
-            offset,
-            len: before + here + overflow_len,
+            offset: start.offset,
+            len: start.before + here + overflow_len,
             size,
             local: &self.bytes[payload as usize..end as usize],
             left,
@@ -360,28 +385,27 @@ impl<'a> PageView<'a> {
         })
     }
 
-    // The cell at `offset` whose payload of `size` bytes, which begins `before` bytes into it, is wholly in it.
+    // The cell that begins so, and has a payload of `size` bytes, which is wholly in it.
     #[inline(always)]
     #[tactic(auto, unfolding(dbformat::specs::Payload::local_len))]
     fn whole_cell(
         &self,
         kind: PayloadKind,
-        offset: u32,
-        before: u32,
+        start: CellStart,
         size: u32,
         left: Option<u32>,
         key: Option<i64>,
     ) -> Cell<'a>
         requires here { size ≤ most_local kind self.now.usable }
-        requires place { offset + before + size ≤ self.now.usable }
+        requires place { start.offset + start.before + size ≤ self.now.usable }
         requires most { self.now.usable ≤ 65536 }
-        ensures cell { payload_cell self.now kind offset before size left key ≡ Some result }
-        ensures span { (result.offset ≡ offset) × (result.len ≡ before + size) }
+        ensures cell { payload_cell self.now kind start.offset start.before size left key ≡ Some result }
+        ensures span { (result.offset ≡ start.offset) × (result.len ≡ start.before + size) }
     {
-        let payload = offset + before;
+        let payload = start.offset + start.before;
         Cell {
-            offset,
-            len: before + size,
+            offset: start.offset,
+            len: start.before + size,
             size,
             local: &self.bytes[payload as usize..(payload + size) as usize],
             left,

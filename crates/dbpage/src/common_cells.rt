@@ -1,10 +1,10 @@
 // The commonest cells: each kind has a loop that calls nothing, so that all that it needs is in registers.
-ghost use Rattle.std.specs.Prelude.{◌≡◌, ◌<◌, ◌≤◌, None, length, MatchOption};
+ghost use Rattle.std.specs.Prelude.{◌≡◌, ◌+◌, ◌<◌, ◌≤◌, None, length, MatchBool, MatchOption};
 ghost use Rattle.dbformat.specs.Head.{content_start};
 ghost use Rattle.dbformat.specs.Cell.{count};
 ghost use Rattle.dbformat.specs.declared.PageKind.TheVariants.{LeafIndex, LeafTable};
 ghost use Rattle.dbpage.specs.Marking.{AreMarked, cells_upto};
-ghost use Rattle.dbpage.specs.Beginning.{AreRead, IsBegun, IsRunning};
+ghost use Rattle.dbpage.specs.Beginning.{AreRead, HasRun, IsBegun, IsRunning};
 ghost use Rattle.dbpage.specs.Packed.{IsUnpacked, key_at};
 
 use crate::mark_count::MarkCount;
@@ -46,17 +46,42 @@ impl<'a> PageView<'a> {
         ensures { MatchOption result (IsUnpacked self.now) (IsRunning self.now) }
     {
         let mut begun = Beginning::new(first, self.usable);
-        for i in 0..self.cells {
-            let Some(cell) = self.cell_up_to(i, begun.run.from) else {
-                break;
-            };
-            if !self.add_read(i, &cell, &mut begun.sums) {
-                return None;
-            }
-            begun.run.from = cell.offset;
-            begun.cells = i + 1;
+        // The first has a turn of its own: after it, each cell has one before it.
+        if self.cells == 0 {
+            return Some(begun);
         }
+        if !self.add_to_run(0, &mut begun)? {
+            return Some(begun);
+        }
+        for i in 1..self.cells {
+            if !self.add_to_run(i, &mut begun)? {
+                begun.cells = i;
+                return Some(begun);
+            }
+        }
+        begun.cells = self.cells;
         Some(begun)
+    }
+
+    // Adds cell `i` of a leaf of a table to those before it, if it ends where they begin: and answers whether it does.
+    #[inline(always)]
+    fn add_to_run(&self, i: u32, begun: &mut Beginning) -> Option<bool>
+        requires kind { self.now.kind ≡ LeafTable }
+        requires within { i < count self.now }
+        requires before { HasRun self.now i begun.old }
+        ensures { MatchOption result (IsUnpacked self.now)
+            (λ joins. MatchBool joins (HasRun self.now (i + 1) begun.new) (HasRun self.now i begun.new × (begun.new ≡ begun.old))) }
+    {
+        // This gives the proof what is known of the view.
+        let _ = &self.usable;
+        let Some(cell) = self.cell_up_to(i, begun.run.from) else {
+            return Some(false);
+        };
+        if !self.add_read(i, &cell, &mut begun.sums) {
+            return None;
+        }
+        begun.run.from = cell.offset;
+        Some(true)
     }
 
     // Marks the next cells of a page of this kind, while they are short: only those of a leaf of an index.
@@ -131,11 +156,10 @@ impl<'a> PageView<'a> {
             if !self.add_read(i, &cell, &mut marked.sums) {
                 return None;
             }
-            let len = cell.len.max(4);
-            if !claim(table, cell.offset, len, mark_count) {
+            if !claim(table, cell.offset, cell.len, mark_count) {
                 return None;
             }
-            marked.held += len;
+            marked.held += cell.len;
             marked.cells = i + 1;
         }
         Some(marked)

@@ -20,8 +20,9 @@ pub(crate) fn note(table: &mut [u8], start: u32, offset: u32, len: u32) -> bool
     requires room { (offset - start) / 2 + 2 ≤ length table.old }
     requires some { 1 ≤ len }
     requires short { len < 16384 }
-    ensures { (end : ℕ) → offset ≤ end
-        → MatchBool result (Notes (end_at table.old start end) (end_at table.new start end) offset (offset + len)) (HasNear (end_at table.old start end) offset) }
+    ensures { (end : ℕ) → offset ≤ end → MatchBool result
+        (Notes (end_at table.old start end) (end_at table.new start end) offset (offset + len))
+        (HasNear (end_at table.old start end) offset) }
 {
     let at = offset - start;
     if note_at(table, at) >= 4 {
@@ -35,6 +36,7 @@ pub(crate) fn note(table: &mut [u8], start: u32, offset: u32, len: u32) -> bool
 }
 
 // How many bytes the items hold that a walk meets, from the first byte of the content area on: after an item it goes on at its end.
+// The other bytes are counted, as they are few.
 #[inline(always)]
 pub(crate) fn held_in_order(table: &[u8], start: u32, end: u32) -> u32
     requires order { start ≤ end }
@@ -44,30 +46,29 @@ pub(crate) fn held_in_order(table: &[u8], start: u32, end: u32) -> u32
     ensures { Walked (end_at table.now start end) end end result }
 {
     let mut at = start;
-    let mut seen = 0;
+    let mut others = 0;
     while at < end {
-        let next = end_at(table, start, at);
-        if next == 0 {
+        let len = len_at(table, start, at);
+        if len == 0 {
             at += 1;
+            others += 1;
             continue;
         }
-        seen += next - at;
-        at = next;
+        at += len;
     }
-    seen
+    end - start - others
 }
 
-// Where the item ends that begins at an offset, or 0.
+// The length of the item that begins at an offset, or 0.
 #[inline(always)]
-fn end_at(table: &[u8], start: u32, at: u32) -> u32
+fn len_at(table: &[u8], start: u32, at: u32) -> u32
     requires from { start ≤ at }
-    requires most { at ≤ 65536 }
     requires room { (at - start) / 2 + 2 ≤ length table.now }
-    ensures { (end : ℕ) → at ≤ end → result ≡ end_at table.now start end at }
+    ensures { (end : ℕ) → at ≤ end → result ≡ end_at table.now start end at - at }
 {
     let note = note_at(table, at - start);
-    if note >= 4 && note % 4 == (at - start) % 4 {
-        at + note / 4
+    if note % 4 == (at - start) % 4 {
+        note / 4
     } else {
         0
     }
@@ -81,5 +82,5 @@ fn note_at(table: &[u8], at: u32) -> u32
     ensures fits { result < 65536 }
 {
     let place = (at / 4 * 2) as usize;
-    u32::from(table[place]) + 256 * u32::from(table[place + 1])
+    u32::from(u16::from_le_bytes([table[place], table[place + 1]]))
 }

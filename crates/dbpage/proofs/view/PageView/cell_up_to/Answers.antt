@@ -13,7 +13,7 @@ returns c =
     let v = c.args.self.now in
     let start = ap (λ (w : View). content_start w.number w.bytes) c.self.view_is in
     let inside = cell_inside v c.args.i (omega (arith, start, c.self.invariant.start_is, c.pointer-offset.ensures, c.if-offset-self.false))
-    (omega (arith, c.pointer-offset.ensures, c.saturating_sub.ensures, c.if-saturating_sub-lt8.false, c.requires.end)) in
+    (omega (arith, c.pointer-offset.ensures, c.from-else-offset-self.ensures, c.from.ensures, c.if-from.false, c.requires.end)) in
     let found = ap (λ (at : ℕ). ok_or (cell_at v.kind v at) Unreadable) c.pointer-offset.ensures in
     let kind = ap (λ (k : PageKind). ok_or (cell_at k v c.pointer-offset.result) Unreadable) c.requires.kind in
     cell_found c.table_leaf_cell_up_to.result _ _ (λ (d : Cell). EndsAt d c.args.end) c.table_leaf_cell_up_to.ensures (inside ∙ sym found ∙ kind)

@@ -1,9 +1,10 @@
-use Rattle.std.proofs.Common.{ℕ, ◌≤◌, ap, sym, ◌∙◌, arith}
+use Rattle.std.proofs.Common.{ℕ, ap, sym, ◌∙◌, arith}
 use Rattle.std.specs.Prelude.{ok_or}
 use Rattle.dbformat.specs.Head.{View, content_start}
-use Rattle.dbformat.specs.Cell.{Cell, cell_at}
+use Rattle.dbformat.specs.Cell.{cell_at}
 use Rattle.dbformat.specs.declared.CellFault.TheVariants.{Unreadable}
 use Rattle.dbformat.specs.declared.PageKind.{PageKind}
+use Rattle.dbpage.specs.Beginning.{IsShort}
 use Rattle.dbpage.proofs.CellLemmas.{cell_found, cell_inside}
 use Rattle.dbpage.proofs.view.PageView.short_index_cell.Goals as goal
 
@@ -16,4 +17,4 @@ returns c =
     (omega (arith, usable, c.pointer-offset.ensures, c.if-offset-self-2.false)) in
     let found = ap (λ (at : ℕ). ok_or (cell_at v.kind v at) Unreadable) c.pointer-offset.ensures in
     let kind = ap (λ (k : PageKind). ok_or (cell_at k v c.pointer-offset.result) Unreadable) c.requires.kind in
-    cell_found c.short_index_leaf_cell.result _ _ (λ (d : Cell). d.len ≤ 56) c.short_index_leaf_cell.ensures (inside ∙ sym found ∙ kind)
+    cell_found c.short_index_leaf_cell.result _ _ IsShort c.short_index_leaf_cell.ensures (inside ∙ sym found ∙ kind)
