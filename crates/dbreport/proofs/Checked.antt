@@ -1,18 +1,8 @@
 -- What a check has written at each of its ends, and what it found, by the faults of the file.
-use Rattle.std.proofs.Common.{◌≡◌, ◌∙◌, ℕ, false, List, None, Result, Ok, Err, inl, inr, subst, sym}
-use Rattle.std.specs.Prelude.{IfOk}
-use Rattle.dbsurvey.specs.Moves.{Moves, MovesBySome}
-use Rattle.dbformat.specs.Reference.{Reference}
-use Rattle.dbformat.specs.Report.{check_text, faults, report}
-use Rattle.dbformat.specs.Survey.{Survey}
-use Rattle.dbformat.specs.File.{refusal}
-use Rattle.dbformat.specs.declared.Command.TheVariants.{Check}
-use Rattle.dbformat.specs.declared.Verdict.{Verdict}
-use Rattle.dbsource.specs.Outs.{OutState, Puts, Writes}
-use Rattle.dbsource.specs.declared.error.RunError.{RunError}
-use Rattle.dbsource.specs.declared.error.RunError.TheVariants.{WriteFailed}
+use Rattle.std.proofs.Common.{◌≡◌, ◌∙◌, ℕ, false, List, None, Result, Ok, Err, inl, inr, subst, sym, IfOk}
+use Rattle.dbreport.proofs.Common.{Moves, MovesBySome, Reference, check_text, faults, report, Survey, refusal, Check, Verdict, OutState, Puts, Writes, RunError}
+use Rattle.dbreport.proofs.Common.{WriteFailed, HearsFaults, run_notices}
 use Rattle.dbscan.specs.Finishes.{Leaves}
-use Rattle.dbscan.specs.Notices.{HearsFaults, run_notices}
 use Rattle.dbscan.proofs.FaultsHeard.{faults_heard_by}
 use Rattle.dbreport.specs.CheckReporter.{LeavesCheck, ShowsFault, end_text, found_verdict}
 use Rattle.dbreport.specs.declared.checking.CheckReporter.{CheckReporter}

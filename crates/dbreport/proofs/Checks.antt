@@ -1,18 +1,14 @@
 -- What a check has written and found, by the findings that its reporter heard.
 use Rattle.std.proofs.Common.{◌≡◌, ℕ, zero, suc, ◌+◌, ◌-◌, ◌^◌, ◌<◌, ◌≤◌, true, false, cond, inl, inr, List, [], ◌∷◌, ◌++◌, length, take, drop, Result, Ok, Err}
-use Rattle.std.proofs.Common.{refl, sym, ap, ap₂, ◌∙◌, subst, arith, append_assoc, length-drop}
-use Rattle.std.specs.Prelude.{flat_map, ◌==◌, nat_lt}
+use Rattle.std.proofs.Common.{refl, sym, ap, ap₂, ◌∙◌, subst, arith, append_assoc, length-drop, flat_map, ◌==◌, nat_lt}
+use Rattle.dbreport.proofs.Common.{Moves, MovesBySome, counted, fault_line, ok_line, check_text, verdict, verdict_of, Fault, Verdict, Begins, OutState, Puts}
 use Rattle.std.proofs.Math.Seq.{take-nil}
 use Rattle.std.proofs.lemmas.Grind.{common_steps}
 use Rattle.std.proofs.lemmas.Bool.{cases_Bool}
 use Rattle.std.proofs.lemmas.Bool.Decides.{nat_tests}
-use Rattle.dbsurvey.specs.Moves.{Moves, MovesBySome}
-use Rattle.dbformat.specs.Lines.{counted, fault_line, more_line, ok_line}
-use Rattle.dbformat.specs.Report.{check_text, more_text, verdict, verdict_of}
-use Rattle.dbformat.specs.declared.Fault.{Fault}
-use Rattle.dbformat.specs.declared.Verdict.{Verdict}
+use Rattle.dbformat.specs.Lines.{more_line}
+use Rattle.dbformat.specs.Report.{more_text}
 use Rattle.dbformat.proofs.Verdicts.{verdict_counted}
-use Rattle.dbsource.specs.Outs.{Begins, OutState, Puts}
 use Rattle.dbsource.proofs.Beginnings.{begins_more}
 use Rattle.dbsource.proofs.Puts.{puts_then}
 use Rattle.dblines.specs.Writing.{Wrote, failure_answer}

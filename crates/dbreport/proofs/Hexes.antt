@@ -1,7 +1,6 @@
 -- A number in hexadecimal, digit by digit from its end.
 use Rattle.std.proofs.Common.{◌≡◌, ℕ, zero, suc, ◌+◌, ◌-◌, ◌*◌, ◌/◌, ◌%◌, ◌^◌, ◌<◌, ◌≤◌, true, false, List, ◌∷◌, ◌++◌, length, length-drop, min, take, drop}
-use Rattle.std.proofs.Common.{eqb, refl, sym, ap, ◌∙◌, arith}
-use Rattle.std.specs.Prelude.{replicate, slice_set}
+use Rattle.std.proofs.Common.{eqb, refl, sym, ap, ◌∙◌, arith, replicate, slice_set}
 use Rattle.std.specs.Fmt.{digits, digits_onto, digit_glyph}
 use Rattle.std.proofs.Math.Nat.{pow-suc}
 use Rattle.std.proofs.lemmas.Bool.Decides.{nat_tests}

@@ -1,5 +1,6 @@
 pub mod Checked
 pub mod Checks
+pub mod Common
 pub mod Flushed
 pub mod Hexes
 pub mod ListedNames

@@ -1,17 +1,15 @@
 -- The names of trees, by the rows of a list.
-use Rattle.std.proofs.Common.{◌≡◌, ℕ, zero, suc, false, cond, arith, List, [], ◌∷◌, take, Some, sym, ap, ◌∙◌}
-use Rattle.std.specs.Prelude.{slice_get, codes, ◌==◌}
+use Rattle.std.proofs.Common.{◌≡◌, ℕ, zero, suc, false, cond, arith, List, [], ◌∷◌, take, Some, sym, ap, ◌∙◌, slice_get, codes, ◌==◌}
+use Rattle.dbreport.proofs.Common.{schema_start, tree_name, Reference, name_at}
 use Rattle.std.specs.Option.{option_map_or}
 use Rattle.std.proofs.lemmas.Bool.Decides.{nat_tests}
-use Rattle.dbformat.specs.Address.{last_root_start, schema_start}
+use Rattle.dbformat.specs.Address.{last_root_start}
 use Rattle.dbformat.specs.Header.{encoding}
-use Rattle.dbformat.specs.Lines.{row_name_text, tree_name}
-use Rattle.dbformat.specs.Reference.{Reference}
+use Rattle.dbformat.specs.Lines.{row_name_text}
 use Rattle.dbformat.specs.Schema.{schema, rooted_rows}
 use Rattle.dbformat.specs.SchemaRow.{SchemaRow}
 use Rattle.dbscan.specs.Roots.{AreListed}
 use Rattle.dbscan.specs.Starts.{at_row}
-use Rattle.dbreport.specs.TreeNames.{name_at}
 
 of_first : {X : Type 0} (n : ℕ) (xs : List X) (k : ℕ) (x : X) → slice_get (take n xs) k ≡ Some x → slice_get xs k ≡ Some x
 of_first zero [] k x e = cc

@@ -1,10 +1,7 @@
 -- What holds of an Out where there was no run: the answer is an error other than a failed write.
-use Rattle.std.proofs.Common.{◌≡◌, ℕ, false, List, Err, refl, ap, sym, subst}
-use Rattle.std.specs.Prelude.{if◌then◌else◌}
-use Rattle.dbformat.specs.declared.Verdict.{Verdict}
-use Rattle.dbsource.specs.Errors.{is_write_failed}
-use Rattle.dbsource.specs.Failures.{CountsAfter, HasOneMore, MovesIf, failures_after, one_more}
-use Rattle.dbsource.specs.declared.error.RunError.{RunError}
+use Rattle.std.proofs.Common.{◌≡◌, ℕ, false, List, Err, refl, ap, sym, subst, if◌then◌else◌}
+use Rattle.dbreport.proofs.Common.{Verdict, is_write_failed, CountsAfter, failures_after, RunError}
+use Rattle.dbsource.specs.Failures.{HasOneMore, MovesIf, one_more}
 
 -- it has as many failures
 pub no_failure : (e : RunError) (n : ℕ) → is_write_failed e ≡ false → n ≡ failures_after {A = Verdict} is_write_failed (Err e) n

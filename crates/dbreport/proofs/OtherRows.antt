@@ -1,17 +1,15 @@
 -- The rows of the other pages are those that the marks give.
-use Rattle.std.proofs.Common.{◌≡◌, ℕ, zero, suc, ◌+◌, Bool, true, false, cond, List, [], ◌∷◌, ◌++◌, map, Option, Some, None, refl, ap, subst, ◌∙◌}
-use Rattle.std.specs.Prelude.{flat_map, filter_map, option_map, if◌then◌else◌}
+use Rattle.std.proofs.Common.{◌≡◌, ℕ, zero, suc, ◌+◌, Bool, true, false, cond, List, [], ◌∷◌, ◌++◌, map, Option, Some, None, refl, ap, subst, ◌∙◌, flat_map}
+use Rattle.std.proofs.Common.{filter_map, option_map, if◌then◌else◌}
+use Rattle.dbreport.proofs.Common.{geometry, form_line, other_line, Role, root, child, first_overflow, later_overflow, trunk, free_leaf, Reference, role_of}
+use Rattle.dbreport.proofs.Common.{OtherPage, FormRow, other_rows, Survey, Geometry}
 use Rattle.std.specs.List.{cons_option, range_with_len}
 use Rattle.std.specs.Option.{option_map_or}
 use Rattle.dbsurvey.proofs.Lists.{flat_map-same}
 use Rattle.dbformat.specs.EndFaults.{visit_of, page_numbers}
-use Rattle.dbformat.specs.File.{geometry}
 use Rattle.dbformat.specs.FixedPages.{fixed_use, is_fixed}
-use Rattle.dbformat.specs.Lines.{form_line, other_line}
-use Rattle.dbformat.specs.Reference.{Role, root, child, first_overflow, later_overflow, trunk, free_leaf, Reference, role_of, from_of}
-use Rattle.dbformat.specs.Rows.{OtherPage, FormRow, other_row, other_rows, other_page, other_visited, other_unvisited}
-use Rattle.dbformat.specs.Survey.{Survey}
-use Rattle.dbformat.specs.declared.Geometry.{Geometry}
+use Rattle.dbformat.specs.Reference.{from_of}
+use Rattle.dbformat.specs.Rows.{other_row, other_page, other_visited, other_unvisited}
 use Rattle.dbmarks.specs.EndMarks.{AreVisits}
 use Rattle.dbmarks.specs.Marking.{role_mark, visit_mark, mark_of, marks_of}
 use Rattle.dbmarks.specs.declared.marks.Mark.{Mark}

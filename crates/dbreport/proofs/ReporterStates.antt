@@ -1,10 +1,8 @@
 -- What a reporter borrows after an answer, and what its Outs count.
 use Rattle.std.proofs.Common.{◌≡◌, ℕ, Bool, inl, inr, List, [], ◌∷◌, Ok, Err, Result, ap, ◌∙◌}
-use Rattle.dbsource.specs.Errors.{is_write_failed}
-use Rattle.dbsource.specs.Failures.{CountsAfter, failures_after}
-use Rattle.dbsource.specs.declared.error.RunError.{RunError}
-use Rattle.dbsource.specs.declared.error.RunError.TheVariants.{ReadFailed, WriteFailed, OutOfMemory, Refused}
-use Rattle.dbwalk.specs.Telling.{SinkAfter, SinkState, one_out}
+use Rattle.dbreport.proofs.Common.{is_write_failed, CountsAfter, failures_after, RunError, WriteFailed, OutOfMemory, one_out}
+use Rattle.dbsource.specs.declared.error.RunError.TheVariants.{ReadFailed, Refused}
+use Rattle.dbwalk.specs.Telling.{SinkAfter, SinkState}
 use Rattle.dbscan.proofs.Tellers.{first}
 
 -- the second of some numbers

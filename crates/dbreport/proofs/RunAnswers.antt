@@ -1,33 +1,24 @@
 -- What the answer of a run says.
-use Rattle.std.proofs.Common.{◌≡◌, ◌∙◌, ℕ, List, [], ◌∷◌, ◌++◌, None, Some, Option, Ok, Err, Result, inl, inr, refl, sym, ap, subst}
+use Rattle.std.proofs.Common.{◌≡◌, ◌∙◌, ℕ, List, [], ◌∷◌, ◌++◌, None, Some, Option, Ok, Err, Result, inl, inr, refl, sym, ap, subst, ◌↔◌, IfErr, IfOk, OnOk}
+use Rattle.dbreport.proofs.Common.{refusal, ok_line, Reference, Report, report, Survey, Check, Stat, Verdict, run_error, is_write_failed, CountsAfter}
+use Rattle.dbreport.proofs.Common.{failures_after, IsOpenLog, IsRefusalOf, RunError, OutOfMemory, WriteFailed, IsReadWriteOrMemory, AsksHeaderAlone, IsAnswerOf}
+use Rattle.dbreport.proofs.Common.{IsReported}
 use Rattle.std.specs.Io.KnownBytes.{Appends}
-use Rattle.std.specs.Prelude.{◌↔◌, IfErr, IfOk, OnOk}
 use Rattle.std.proofs.lemmas.List.{append_cancel_left}
-use Rattle.dbformat.specs.File.{refusal}
-use Rattle.dbformat.specs.Lines.{ok_line}
-use Rattle.dbformat.specs.Reference.{Reference}
-use Rattle.dbformat.specs.Report.{Report, report}
 use Rattle.dbformat.specs.Sound.{Sound}
-use Rattle.dbformat.specs.Survey.{Survey, survey}
+use Rattle.dbformat.specs.Survey.{survey}
 use Rattle.dbformat.specs.declared.Command.{Command}
-use Rattle.dbformat.specs.declared.Command.TheVariants.{Check, Stat}
-use Rattle.dbformat.specs.declared.Verdict.{Verdict}
 use Rattle.dbformat.specs.declared.Verdict.TheVariants.{Clean}
 use Rattle.dbformat.proofs.Theory.{one_survey}
 use Rattle.dbsound.proofs.Soundness.{sound_by_ok, sound_by_verdict}
 use Rattle.dbsource.specs.Answers.{Step, Trail}
-use Rattle.dbsource.specs.Errors.{run_error, is_write_failed}
-use Rattle.dbsource.specs.Failures.{CountsAfter, failures_after}
-use Rattle.dbsource.specs.Headers.{IsOpenLog, IsRefusalOf}
 use Rattle.dbsource.specs.Sources.{HasRanges}
 use Rattle.dbsource.specs.declared.error.OpenError.{OpenError}
-use Rattle.dbsource.specs.declared.error.OpenError.TheVariants as opening
-use Rattle.dbsource.specs.declared.error.RunError.{RunError}
-use Rattle.dbsource.specs.declared.error.RunError.TheVariants.{Refused, ReadFailed, OutOfMemory, WriteFailed}
-use Rattle.dbwalk.specs.Telling.{IsReadWriteOrMemory}
+use Rattle.dbsource.specs.declared.error.RunError.TheVariants.{Refused, ReadFailed}
 use Rattle.dbsource.proofs.Beginnings.{begins_nothing}
-use Rattle.dbreport.specs.Runs.{AsksHeaderAlone, IsAnswerOf, IsReported, IsReportedBy, IsRunBy, IsRunOf, IsUnwritten, SaysOk, SaysOkWhereSound}
+use Rattle.dbreport.specs.Runs.{IsReportedBy, IsRunBy, IsRunOf, IsUnwritten, SaysOk, SaysOkWhereSound}
 use Rattle.dbreport.proofs.RunReports.{counts_pages}
+use Rattle.dbsource.specs.declared.error.OpenError.TheVariants as opening
 
 -- the header was not read
 pub refused_answer : (file : List ℕ) (e : OpenError) → IsRefusalOf e file → IsAnswerOf {A = Verdict} (Err (run_error e)) file

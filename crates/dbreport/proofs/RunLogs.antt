@@ -1,14 +1,12 @@
 -- What a run asks for: the header, and then pages.
 use Rattle.std.proofs.Common.{◌≡◌, ℕ, arith, false, List, [], ◌∷◌, length, None, refl, subst, inl, inr, Ok, Err, Result}
-use Rattle.dbformat.specs.File.{geometry, refusal_of}
+use Rattle.dbreport.proofs.Common.{geometry, Geometry, HeaderBytes, IsHeaderOf, IsOpenLog, IsRefusalOf, Opens}
+use Rattle.dbformat.specs.File.{refusal_of}
 use Rattle.dbformat.specs.FixedPages.{geometry_of, IsInRange}
 use Rattle.dbformat.specs.Log.{header_range, IsPageLog, IsRunLog, IsSomeRunLog}
 use Rattle.dbformat.specs.declared.ByteRange.{ByteRange}
-use Rattle.dbformat.specs.declared.Geometry.{Geometry}
 use Rattle.dbformat.specs.declared.Refusal.TheVariants.{Short, Magic, PageSize, Usable, NoPage, TooManyPages, MapAtLock}
 use Rattle.dbsource.specs.Answers.{Lengths, Step, given}
-use Rattle.dbsource.specs.HeaderBytes.{HeaderBytes}
-use Rattle.dbsource.specs.Headers.{IsHeaderOf, IsOpenLog, IsRefusalOf, Opens}
 use Rattle.dbsource.specs.Snapshots.{HasRead, HasReadAfterHeader}
 use Rattle.dbsource.specs.Sources.{SourceState}
 use Rattle.dbsource.specs.declared.error.OpenError.{OpenError}

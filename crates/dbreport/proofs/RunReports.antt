@@ -1,23 +1,15 @@
 -- The report of a file that is read, by what was written of it and what was found.
-use Rattle.std.proofs.Common.{◌≡◌, List, [], Ok, Err, Result, None, Option, refl, sym, ap, ◌∙◌, subst, ℕ}
-use Rattle.std.specs.Prelude.{flat_map, true, false}
-use Rattle.dbformat.specs.File.{refusal}
-use Rattle.dbformat.specs.Lines.{fault_line, form_line}
-use Rattle.dbformat.specs.Reference.{Reference}
-use Rattle.dbformat.specs.Report.{Report, report, check_report, check_text, stat_report, verdict, faults}
-use Rattle.dbformat.specs.Rows.{StatForm, form_rows}
-use Rattle.dbformat.specs.Survey.{Survey}
+use Rattle.std.proofs.Common.{◌≡◌, List, [], Ok, Err, Result, None, Option, refl, sym, ap, ◌∙◌, subst, ℕ, flat_map, true, false}
+use Rattle.dbreport.proofs.Common.{refusal, fault_line, form_line, Reference, Report, report, check_text, verdict, faults, form_rows, Survey, Check, Stat}
+use Rattle.dbreport.proofs.Common.{Verdict, Writes, RunError, Form}
+use Rattle.dbformat.specs.Report.{check_report, stat_report}
+use Rattle.dbformat.specs.Rows.{StatForm}
 use Rattle.dbformat.specs.declared.Command.{Command}
-use Rattle.dbformat.specs.declared.Command.TheVariants.{Check, Stat}
-use Rattle.dbformat.specs.declared.Verdict.{Verdict}
-use Rattle.dbsource.specs.Outs.{Writes}
-use Rattle.dbsource.specs.declared.error.RunError.{RunError}
 use Rattle.dbsource.proofs.Beginnings.{begins_nothing}
 use Rattle.dbsource.proofs.Puts.{appends_nothing}
 use Rattle.dbsound.proofs.RowCounts.FormRows.{adds_up, counts_each_page, counts_no_page_twice}
 use Rattle.dbreport.specs.Runs.{CountsPages}
 use Rattle.dbreport.specs.Statistics.{form_of}
-use Rattle.dbreport.specs.declared.statistics.Form.{Form}
 
 -- at an error nothing is a beginning, and to no bytes nothing is added
 pub writes_nothing : (r : Result Verdict RunError) (held : Option (List ℕ)) → Writes r held held []

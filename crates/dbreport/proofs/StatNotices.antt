@@ -1,25 +1,17 @@
 -- What the reporter of the statistics writes of what it hears, notice after notice.
 use Rattle.std.proofs.Common.{◌≡◌, ℕ, ◌+◌, ◌⊎◌, inl, inr, Bool, false, not, List, [], ◌∷◌, ◌++◌, Result, Ok, Err, refl, sym, ap, ◌∙◌, subst, arith, append-nil}
-use Rattle.std.specs.Prelude.{OnOk}
+use Rattle.std.proofs.Common.{OnOk}
+use Rattle.dbreport.proofs.Common.{Moves, Stops, MovesBySome, counted, fault_line, StatRow, Fault, Begins, OutState, RunError, Tells, Notice, heard_fault}
+use Rattle.dbreport.proofs.Common.{heard_row, ended, marked, tree_end_text, pages_text, CutsStat, HasBegun, HasWritten, HearsOpen, HearsStat, IsFlushedIf}
+use Rattle.dbreport.proofs.Common.{WritesBoth, name_at, Form, StatReporter}
 use Rattle.std.specs.Io.KnownBytes.{Appends}
-use Rattle.dbsurvey.specs.Moves.{Moves, Stops, MovesBySome}
-use Rattle.dbformat.specs.Lines.{counted, fault_line}
-use Rattle.dbformat.specs.Rows.{StatRow}
 use Rattle.dbformat.specs.declared.Encoding.{Encoding}
-use Rattle.dbformat.specs.declared.Fault.{Fault}
-use Rattle.dbsource.specs.Outs.{Begins, OutState}
-use Rattle.dbsource.specs.declared.error.RunError.{RunError}
 use Rattle.dbsource.proofs.Beginnings.{begins_more}
 use Rattle.dbsource.proofs.Puts.{appends_nothing, kept_appends}
-use Rattle.dbwalk.specs.Telling.{Tells}
-use Rattle.dbscan.specs.Notices.{Notice, heard_fault, heard_row, ended, marked, faults_heard}
+use Rattle.dbscan.specs.Notices.{faults_heard}
 use Rattle.dbscan.specs.Starts.{At}
-use Rattle.dbreport.specs.StatReporter.{tree_end_text, other_text, pages_text, CutsStatFault, CutsStat, HasBegun, HasWritten, HearsOpen, HearsStat}
-use Rattle.dbreport.specs.StatReporter.{IsFlushedIf, IsSameReporter, TakesFault, WritesBoth}
+use Rattle.dbreport.specs.StatReporter.{other_text, CutsStatFault, IsSameReporter, TakesFault}
 use Rattle.dbreport.specs.Sums.{sums_of}
-use Rattle.dbreport.specs.TreeNames.{name_at}
-use Rattle.dbreport.specs.declared.statistics.Form.{Form}
-use Rattle.dbreport.specs.declared.statistics.reporter.StatReporter.{StatReporter}
 use Rattle.dbreport.proofs.Flushed.{keeps_begins, kept_if}
 use Rattle.dbreport.proofs.StatShut.{all_open, some_open}
 use Rattle.dbreport.proofs.StatWrites.{begun_first, begun_none, begun_then, written_none, written_then}

@@ -1,33 +1,16 @@
 -- What the statistics have written of a file in the end, and what they found: its report.
-use Rattle.std.proofs.Common.{◌≡◌, ℕ, false, None, ◌+◌, List, [], ◌++◌, length, Result, Ok, Err, inl, inr, sym, ap, ◌∙◌, subst, arith}
-use Rattle.std.specs.Prelude.{flat_map, if◌then◌else◌}
+use Rattle.std.proofs.Common.{◌≡◌, ℕ, false, None, ◌+◌, List, [], ◌++◌, length, Result, Ok, Err, inl, inr, sym, ap, ◌∙◌, subst, arith, flat_map, if◌then◌else◌}
+use Rattle.dbreport.proofs.Common.{Moves, MovesBySome, geometry, refusal, Stat, counted, fault_line, form_line, Reference, faults, verdict_of, form_rows}
+use Rattle.dbreport.proofs.Common.{other_rows, page_rows, tree_rows, Survey, Geometry, Verdict, HeaderBytes, IsHeaderOf, OutState, Writes, RunError}
+use Rattle.dbreport.proofs.Common.{run_notices, IsReported, HasBegun, HasWritten, HearsOpen, StatReporter, Form}
 use Rattle.std.proofs.lemmas.Grind.{flat_map-append}
-use Rattle.dbsurvey.specs.Moves.{Moves, MovesBySome}
-use Rattle.dbformat.specs.File.{geometry, refusal}
-use Rattle.dbformat.specs.declared.Command.TheVariants.{Stat}
 use Rattle.dbformat.specs.Header.{encoding as encoding_of}
-use Rattle.dbformat.specs.Lines.{counted, fault_line, form_line}
-use Rattle.dbformat.specs.Reference.{Reference}
-use Rattle.dbformat.specs.Report.{faults, verdict_of}
-use Rattle.dbformat.specs.Rows.{form_rows, other_rows, page_rows, tree_rows}
-use Rattle.dbformat.specs.Survey.{Survey}
-use Rattle.dbformat.specs.declared.Geometry.{Geometry}
-use Rattle.dbformat.specs.declared.Verdict.{Verdict}
 use Rattle.dbformat.proofs.HeaderPrefix.{encoding_within}
 use Rattle.dbformat.proofs.Verdicts.{verdict_counted}
-use Rattle.dbsource.specs.HeaderBytes.{HeaderBytes}
-use Rattle.dbsource.specs.Headers.{IsHeaderOf}
-use Rattle.dbsource.specs.Outs.{OutState, Writes}
-use Rattle.dbsource.specs.declared.error.RunError.{RunError}
 use Rattle.dbscan.specs.Finishes.{Leaves}
-use Rattle.dbscan.specs.Notices.{run_notices}
-use Rattle.dbreport.specs.Runs.{IsReported}
-use Rattle.dbreport.specs.StatReporter.{HasBegun, HasWritten, HearsOpen}
 use Rattle.dbreport.specs.StatStarts.{IsForFile, LeavesStat, rows_text}
 use Rattle.dbreport.specs.Statistics.{form_of}
 use Rattle.dbreport.specs.Sums.{sums_of}
-use Rattle.dbreport.specs.declared.statistics.reporter.StatReporter.{StatReporter}
-use Rattle.dbreport.specs.declared.statistics.Form.{Form}
 use Rattle.dbreport.proofs.RunAnswers.{if_ok}
 use Rattle.dbreport.proofs.RunReports.{stat_answer, stat_err, stat_out}
 use Rattle.dbreport.proofs.StatStarts.{run_written}

@@ -1,12 +1,9 @@
 -- The reporter of the statistics takes nothing once it is shut.
 use Rattle.std.proofs.Common.{◌≡◌, ◌⊎◌, Bool, true, false, inl, inr, List, [], ◌∷◌, sym, ap, subst, ◌∙◌}
+use Rattle.dbreport.proofs.Common.{Moves, Stops, MovesBySome, OutState, Notice, CutsStat, HearsOpen, HearsStat, StatReporter}
 use Rattle.std.proofs.lemmas.Bool.{cases_Bool, false≢true}
-use Rattle.dbsurvey.specs.Moves.{Moves, Stops, MovesBySome}
-use Rattle.dbsource.specs.Outs.{OutState}
 use Rattle.dbwalk.proofs.Telling.Sinks.{moves_some}
-use Rattle.dbscan.specs.Notices.{Notice}
-use Rattle.dbreport.specs.StatReporter.{CutsStat, HearsBy, HearsOpen, HearsStat}
-use Rattle.dbreport.specs.declared.statistics.reporter.StatReporter.{StatReporter}
+use Rattle.dbreport.specs.StatReporter.{HearsBy}
 
 module _ {O E : Type 0} (held : O → OutState) (held' : E → OutState) where
   abbrev all : StatReporter O E → Notice → StatReporter O E → Type 0

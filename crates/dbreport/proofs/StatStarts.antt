@@ -1,46 +1,31 @@
 -- What the statistics write of the starts of a file, by what is reported of them.
 use Rattle.std.proofs.Common.{◌≡◌, ℕ, suc, ◌+◌, Bool, true, false, cond, List, [], ◌∷◌, ◌++◌, length, map, Some, Result, refl, sym, ap, ap₂, ◌∙◌, subst, arith}
-use Rattle.std.proofs.Common.{append_assoc, append-nil}
-use Rattle.std.specs.Prelude.{OnOk, flat_map, slice_get, codes, ◌==◌}
+use Rattle.std.proofs.Common.{append_assoc, append-nil, OnOk, flat_map, slice_get, codes, ◌==◌}
+use Rattle.dbreport.proofs.Common.{geometry, faults, Fault, Geometry, page_size, page_line, tree_name, trunk, Way, Reference, StatRow, Survey, OutState}
+use Rattle.dbreport.proofs.Common.{RunError, Tells, Notice, heard_fault, heard_row, ended, marked, run_notices, name_at, HearsOpen, tree_end_text, pages_text}
+use Rattle.dbreport.proofs.Common.{WritesBoth, StatReporter, Form}
 use Rattle.std.specs.List.{enumerate_from}
 use Rattle.dbsurvey.specs.Story.{Errand, Go, Follow, errands_at}
 use Rattle.dbformat.specs.Address.{freelist_start}
 use Rattle.dbformat.specs.EndFaults.{end_faults}
-use Rattle.dbformat.specs.File.{geometry}
 use Rattle.dbformat.specs.HeaderFaults.{header_faults}
-use Rattle.dbformat.specs.Report.{faults}
-use Rattle.dbformat.specs.declared.Fault.{Fault}
-use Rattle.dbformat.specs.declared.Geometry.{Geometry}
-use Rattle.dbformat.specs.Header.{encoding as encoding_of, first_trunk, page_size}
-use Rattle.dbformat.specs.Lines.{page_line, tree_name}
-use Rattle.dbformat.specs.Reference.{trunk, Way, Reference}
-use Rattle.dbformat.specs.Rows.{StatRow}
+use Rattle.dbformat.specs.Header.{encoding as encoding_of, first_trunk}
 use Rattle.dbformat.specs.Schema.{start}
 use Rattle.dbformat.specs.SchemaRow.{SchemaRow}
 use Rattle.dbformat.specs.Story.{Event, start_errands}
-use Rattle.dbformat.specs.Survey.{Survey}
-use Rattle.dbsource.specs.Outs.{OutState}
-use Rattle.dbsource.specs.declared.error.RunError.{RunError}
 use Rattle.dbmarks.specs.Marking.{marks_of}
 use Rattle.dbmarks.specs.declared.marks.Mark.{Mark}
 use Rattle.dbtrace.specs.Finding.{Finding, told_row, told_fault, told_below, visited_below}
 use Rattle.dbwalk.specs.Trunks.{freelist_reference}
-use Rattle.dbwalk.specs.Telling.{Tells}
 use Rattle.dbwalk.proofs.Telling.Belows.{told_none}
 use Rattle.dbtrace.specs.declared.Part.{Part}
-use Rattle.dbtrace.specs.declared.Part.TheVariants as part
-use Rattle.dbscan.specs.Notices.{Notice, heard_fault, heard_row, whole, found, ended, marked, pages_from, errands_left, root_reference, tree_notices}
-use Rattle.dbscan.specs.Notices.{later_notices}
-use Rattle.dbscan.specs.Notices.{start_notices, end_notices, run_notices}
+use Rattle.dbscan.specs.Notices.{whole, found, pages_from, errands_left, root_reference, tree_notices, later_notices, start_notices, end_notices}
 use Rattle.dbscan.specs.Roots.{listed_rows}
 use Rattle.dbscan.specs.Starts.{At, at_freelist, at_row, at_schema, schema_reference}
 use Rattle.dbscan.specs.Findings.{found_rows}
 use Rattle.dbreport.specs.StatLines.{tree_rows_text, starts_text}
-use Rattle.dbreport.specs.TreeNames.{name_at}
-use Rattle.dbreport.specs.StatReporter.{HearsOpen, tree_end_text, other_text, pages_text, WritesBoth}
+use Rattle.dbreport.specs.StatReporter.{other_text}
 use Rattle.dbreport.specs.StatStarts.{IsForFile, rows_text}
-use Rattle.dbreport.specs.declared.statistics.reporter.StatReporter.{StatReporter}
-use Rattle.dbreport.specs.declared.statistics.Form.{Form}
 use Rattle.dbreport.proofs.ListedNames.{listed_name}
 use Rattle.dbreport.proofs.OtherRows.{others_from, others_text}
 use Rattle.dbreport.proofs.StatNotices.{Sheet, all_lines, lines, next, notices_written}
@@ -50,6 +35,7 @@ use Rattle.dbscan.proofs.StartByStart.{of_later}
 use Rattle.dbscan.proofs.Starts.{quiet_go}
 use Rattle.dbscan.proofs.HeardFaults.{faults_are_heard}
 use Rattle.dbscan.proofs.ToldStarts.{start_errands_listed}
+use Rattle.dbtrace.specs.declared.Part.TheVariants as part
 
 schema_name : (file : List ℕ) (V : List Reference) → codes "sqlite_schema" ≡ tree_name file V 0
 unfolding tree_name

@@ -1,7 +1,8 @@
 -- The text of the statistics, written start by start, is that of the rows of the form.
-use Rattle.std.proofs.Common.{◌≡◌, ℕ, inl, inr, Bool, true, false, cond, if◌then◌else◌, List, [], ◌∷◌, ◌++◌, map, refl, sym, ap, ap₂, subst}
-use Rattle.std.proofs.Common.{◌∙◌, append-nil}
-use Rattle.std.specs.Prelude.{filter, flat_map, ◌==◌}
+use Rattle.std.proofs.Common.{◌≡◌, ℕ, inl, inr, Bool, true, false, cond, if◌then◌else◌, List, [], ◌∷◌, ◌++◌, map, refl, sym, ap, ap₂, subst, ◌∙◌, append-nil}
+use Rattle.std.proofs.Common.{filter, flat_map, ◌==◌}
+use Rattle.dbreport.proofs.Common.{schema_start, geometry, page_size, form_line, page_line, tree_line, tree_name, Way, Reference, StatRow, stat_rows, tree_rows}
+use Rattle.dbreport.proofs.Common.{page_rows, Survey, rules_of}
 use Rattle.std.proofs.lemmas.Bool.{eq-eqb}
 use Rattle.std.proofs.lemmas.Grind.{flat_map-append}
 use Rattle.std.proofs.lemmas.List.{map-append}
@@ -12,15 +13,9 @@ use Rattle.dbsurvey.specs.Survey.{Link, IsRising}
 use Rattle.dbsurvey.specs.Traverse.{part_of}
 use Rattle.dbsurvey.proofs.Lists.{filter-all}
 use Rattle.dbsurvey.proofs.Remaining.{rest_join}
-use Rattle.dbformat.specs.Address.{schema_start}
-use Rattle.dbformat.specs.File.{geometry}
-use Rattle.dbformat.specs.Header.{page_size}
-use Rattle.dbformat.specs.Lines.{form_line, page_line, tree_line, tree_name}
-use Rattle.dbformat.specs.Reference.{Way, Reference}
-use Rattle.dbformat.specs.Rows.{StatRow, page_row, stat_rows, tree_rows, page_rows}
+use Rattle.dbformat.specs.Rows.{page_row}
 use Rattle.dbformat.specs.Schema.{starts}
 use Rattle.dbformat.specs.Story.{Event, start_errands}
-use Rattle.dbformat.specs.Survey.{Survey, rules_of}
 use Rattle.dbformat.proofs.Rising.{starts_rise}
 use Rattle.dbformat.proofs.Theory.{are_rules}
 use Rattle.dbtrace.specs.Finding.{visited_below}
@@ -30,8 +25,8 @@ use Rattle.dbscan.proofs.RowsBelow.{rows_below, rows_join, rows_none}
 use Rattle.dbscan.proofs.RunItems.{all_visited, goes_named}
 use Rattle.dbscan.proofs.Starts.{quiet_go}
 use Rattle.dbsound.proofs.RowCounts.FormRows.{start_role}
-use Rattle.dbreport.proofs.StatTrees.{row_of_tree, HasLaterStarts, trees_apart, IsTree, no_tree, tree, IsStart, below_links}
-use Rattle.dbreport.proofs.StatTrees.{later_starts_below, row_start, one_tree}
+use Rattle.dbreport.proofs.StatTrees.{row_of_tree, HasLaterStarts, trees_apart, IsTree, no_tree, tree, IsStart, below_links, later_starts_below, row_start}
+use Rattle.dbreport.proofs.StatTrees.{one_tree}
 
 -- ---- what is written
 

@@ -1,7 +1,8 @@
 -- What is visited below a start: it has this start, and the rows of at most one tree.
 use Rattle.std.proofs.Common.{◌≡◌, ℕ, zero, suc, ◌+◌, ◌<◌, ◌⊎◌, inl, inr, true, false, cond, List, [], ◌∷◌, ◌++◌, map, length, Some, None, refl, sym, ap, ap₂}
-use Rattle.std.proofs.Common.{subst, ◌∙◌, arith, length-append, append-nil}
-use Rattle.std.specs.Prelude.{filter, filter_map, ◌==◌}
+use Rattle.std.proofs.Common.{subst, ◌∙◌, arith, length-append, append-nil, filter, filter_map, ◌==◌}
+use Rattle.dbreport.proofs.Common.{geometry, Role, root, child, first_overflow, later_overflow, trunk, free_leaf, Way, Reference, role_of, StatRow, FormRow}
+use Rattle.dbreport.proofs.Common.{stat_rows, tree_rows, rules_of}
 use Rattle.std.specs.List.{cons_option}
 use Rattle.std.proofs.lemmas.Bool.{cases_Bool, ne_eqb}
 use Rattle.std.proofs.lemmas.List.{map-append}
@@ -15,10 +16,8 @@ use Rattle.dbsurvey.proofs.Ordering.{IsIn-from_map}
 use Rattle.dbsurvey.proofs.Remaining.{rest_none, rest_skip, rest_one}
 use Rattle.dbsurvey.proofs.Traversal.{free_at_most, traverse_part}
 use Rattle.dbformat.specs.Address.{start_of}
-use Rattle.dbformat.specs.File.{geometry}
-use Rattle.dbformat.specs.Reference.{Role, root, child, first_overflow, later_overflow, trunk, free_leaf, Way, Reference, role_of, is_root, is_on_freelist}
-use Rattle.dbformat.specs.Rows.{StatRow, FormRow, tree_row, row_in, stat_rows, trees_reached, tree_rows}
-use Rattle.dbformat.specs.Survey.{rules_of}
+use Rattle.dbformat.specs.Reference.{is_root, is_on_freelist}
+use Rattle.dbformat.specs.Rows.{tree_row, row_in, trees_reached}
 use Rattle.dbformat.proofs.Roles.{child_leads, no_root_on, root_off}
 use Rattle.dbformat.proofs.Theory.{are_rules}
 use Rattle.dbscan.proofs.RowsBelow.{rows_join, rows_none}

@@ -1,15 +1,10 @@
 -- What the reporter of the statistics has written, one part after another.
-use Rattle.std.proofs.Common.{◌≡◌, ℕ, ◌+◌, List, [], ◌++◌, length, refl, sym, ap, ◌∙◌, subst, arith, length-append}
-use Rattle.std.specs.Prelude.{flat_map}
+use Rattle.std.proofs.Common.{◌≡◌, ℕ, ◌+◌, List, [], ◌++◌, length, refl, sym, ap, ◌∙◌, subst, arith, length-append, flat_map}
+use Rattle.dbreport.proofs.Common.{counted, fault_line, Fault, OutState, HasWritten, HasBegun, StatReporter}
 use Rattle.std.specs.Io.KnownBytes.{Appends}
 use Rattle.std.proofs.lemmas.Grind.{flat_map-append}
-use Rattle.dbformat.specs.Lines.{counted, fault_line}
-use Rattle.dbformat.specs.declared.Fault.{Fault}
-use Rattle.dbsource.specs.Outs.{OutState}
 use Rattle.dbsource.proofs.Puts.{appends_append, appends_nothing}
 use Rattle.dbsource.proofs.Beginnings.{begins_nothing, begins_more, begins_after}
-use Rattle.dbreport.specs.StatReporter.{HasWritten, HasBegun}
-use Rattle.dbreport.specs.declared.statistics.reporter.StatReporter.{StatReporter}
 
 lines_more : (xs ys : List Fault) → flat_map fault_line xs ++ flat_map fault_line ys ≡ flat_map fault_line (xs ++ ys)
 lines_more xs ys = sym (flat_map-append fault_line xs ys)

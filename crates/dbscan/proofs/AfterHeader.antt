@@ -1,15 +1,10 @@
 -- What a run reads after a header.
 use Rattle.std.proofs.Common.{◌≡◌, ℕ, List, length, None, sym, subst}
-use Rattle.dbformat.specs.File.{refusal_of}
-use Rattle.dbformat.specs.FixedPages.{geometry_of}
-use Rattle.dbformat.specs.Log.{IsPageLog}
+use Rattle.dbscan.proofs.Common.{refusal_of, geometry_of, IsPageLog, Step, HeaderBytes, IsHeaderOf, SourceState}
 use Rattle.dbformat.specs.declared.ByteRange.{ByteRange}
-use Rattle.dbsource.specs.Answers.{Step}
 use Rattle.dbsource.specs.Headed.{HeadedStep, headed}
-use Rattle.dbsource.specs.HeaderBytes.{HeaderBytes}
-use Rattle.dbsource.specs.Headers.{IsHeaderOf}
 use Rattle.dbsource.specs.Snapshots.{HasReadAfterHeader}
-use Rattle.dbsource.specs.Sources.{HasLog, SourceState}
+use Rattle.dbsource.specs.Sources.{HasLog}
 use Rattle.dbsource.proofs.Runs.{read_after}
 
 -- what was asked of a source with its header before it, which a run made of a source and gave back

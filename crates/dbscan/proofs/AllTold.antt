@@ -1,20 +1,13 @@
 -- What is reported with its causes is the faults of the file, in their order.
 use Rattle.std.proofs.Common.{◌≡◌, ℕ, List, [], ◌∷◌, ◌++◌, length, map, refl, ap₂, ◌∙◌}
+use Rattle.dbscan.proofs.Common.{start_of, end_faults, header_faults, Reference, event_faults, faults, Event, telling, Fault, cause_of, at_start, of_file}
+use Rattle.dbscan.proofs.Common.{walk_told, told_faults, faults_of}
 use Rattle.std.proofs.lemmas.List.{map-append}
-use Rattle.dbsurvey.specs.Story as story
 use Rattle.dbsurvey.proofs.Lists.{flat_map-same, map-flat_map}
-use Rattle.dbformat.specs.Address.{start_of}
-use Rattle.dbformat.specs.EndFaults.{end_faults}
-use Rattle.dbformat.specs.HeaderFaults.{header_faults}
-use Rattle.dbformat.specs.Reference.{Reference}
-use Rattle.dbformat.specs.Report.{event_faults, walk_faults, faults}
-use Rattle.dbformat.specs.Story.{Event, telling}
-use Rattle.dbformat.specs.declared.Fault.{Fault}
-use Rattle.dbtrace.specs.Causes.{cause_of}
-use Rattle.dbtrace.specs.declared.Part.TheVariants as part
+use Rattle.dbformat.specs.Report.{walk_faults}
 use Rattle.dbtrace.specs.declared.TracedFault.{TracedFault}
-use Rattle.dbscan.specs.Notices.{at_start, of_file}
-use Rattle.dbscan.specs.Placed.{walk_told, told_faults, faults_of}
+use Rattle.dbsurvey.specs.Story as story
+use Rattle.dbtrace.specs.declared.Part.TheVariants as part
 
 -- the faults alone, whatever each is reported with
 bare : (tell : Fault → TracedFault) → ((f : Fault) → (tell f).fault ≡ f) → (fs : List Fault) → faults_of (map tell fs) ≡ fs

@@ -1,7 +1,7 @@
 -- What marks count, one more at a time.
 use Rattle.std.proofs.Common.{◌≡◌, ℕ, zero, suc, ◌+◌, ◌-◌, ◌<◌, ◌≤◌, Bool, true, false, cond, max, List, [], ◌∷◌, ◌++◌, length, take, filter, get_or, Some}
-use Rattle.std.proofs.Common.{None, refl, sym, ap, ◌∙◌, arith, rules, inl, inr}
-use Rattle.std.specs.Prelude.{count_by, fold, find, ◌==◌, slice_get}
+use Rattle.std.proofs.Common.{None, refl, sym, ap, ◌∙◌, arith, rules, inl, inr, count_by, fold, find, ◌==◌, slice_get}
+use Rattle.dbscan.proofs.Common.{Mark, Unmarked, page_mark, is_marked}
 use Rattle.std.specs.List.{range_with_len}
 use Rattle.std.specs.Option.{option_map_or, option_or}
 use Rattle.std.proofs.lemmas.Bool.{cases_Bool}
@@ -10,10 +10,6 @@ use Rattle.std.proofs.lemmas.List.Elements.{filter-append}
 use Rattle.std.proofs.lemmas.List.Sums.{count_by_more_yes, count_by_more_no, fold-append}
 use Rattle.std.proofs.lemmas.List.Folds.{find-append}
 use Rattle.std.proofs.lemmas.List.FromFn.{map-range_with_len_more}
-use Rattle.dbmarks.specs.declared.marks.Mark.{Mark}
-use Rattle.dbmarks.specs.declared.marks.Mark.TheVariants.{Unmarked}
-use Rattle.dbmarks.specs.Marking.{page_mark}
-use Rattle.dbmarks.specs.EndMarks.{is_marked}
 
 pub numbers_more : (n : ℕ) → range_with_len 1 (n + 1) ≡ range_with_len 1 n ++ ((n + 1) ∷ [])
 numbers_more n =

@@ -1,17 +1,9 @@
 -- What a walk over the parts of a desk asked for, as what is asked over the desk.
 use Rattle.std.proofs.Common.{◌≡◌, ℕ, List, Result, subst, ◌∙◌}
-use Rattle.dbformat.specs.File.{geometry}
-use Rattle.dbformat.specs.declared.Geometry.{Geometry}
-use Rattle.dbsource.specs.Answers.{Step}
-use Rattle.dbsource.specs.Errors.{is_read_failed}
-use Rattle.dbsource.specs.Failures.{failures_after}
-use Rattle.dbsource.specs.Headers.{IsHeaderOf}
-use Rattle.dbsource.specs.Sources.{Asks, SourceState}
-use Rattle.dbsource.specs.declared.error.RunError.{RunError}
+use Rattle.dbscan.proofs.Common.{geometry, Geometry, Step, is_read_failed, failures_after, IsHeaderOf, Asks, SourceState, RunError, Reads, Mark, DeskView}
+use Rattle.dbscan.proofs.Common.{shape_of, desk_view}
 use Rattle.dbsource.proofs.Logs.{asks_weaker}
-use Rattle.dbmarks.specs.Reads.{Reads}
-use Rattle.dbmarks.specs.declared.marks.Mark.{Mark}
-use Rattle.dbscan.specs.Desks.{AreForHeader, DeskView, shape_of, desk_view}
+use Rattle.dbscan.specs.Desks.{AreForHeader}
 use Rattle.dbscan.specs.declared.desk.Desk.TheInside.{Inside}
 
 pub desk_asks : {A B C : Type 0} (step : Step) (d : Inside A) (old : DeskView) (marks : List Mark) (U : List ℕ → Type 0) (T : DeskView → List ℕ → Type 0)

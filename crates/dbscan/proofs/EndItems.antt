@@ -1,41 +1,31 @@
 -- What is reported at the end: page after page by the marks, and all of it by the visits.
 use Rattle.std.proofs.Common.{◌≡◌, ℕ, ◌+◌, ◌-◌, ◌≤◌, Bool, true, false, cond, ◌&&◌, List, [], ◌∷◌, ◌++◌, map, Option, Some, None, Result, Ok, Err, refl, sym}
-use Rattle.std.proofs.Common.{ap, ap₂, subst, ◌∙◌, arith}
-use Rattle.std.specs.Prelude.{◌*◌, ◌/◌, count_by, flat_map, nat_le, not, option_map, option_to_list, nat_lt, pos}
+use Rattle.std.proofs.Common.{ap, ap₂, subst, ◌∙◌, arith, ◌*◌, ◌/◌, count_by, flat_map, nat_le, not, option_map, option_to_list, nat_lt, pos}
+use Rattle.dbscan.proofs.Common.{Moves, visit_of, end_faults, has_rows, geometry, map_entry, entry_in, MapEntry, is_fixed, is_page, map_page_of}
+use Rattle.dbscan.proofs.Common.{entries_per_map, Role, root, child, first_overflow, later_overflow, trunk, free_leaf, Reference, role_of, from_of, Survey}
+use Rattle.dbscan.proofs.Common.{Fault, Geometry, HeaderBytes, IsHeaderOf, RunError, is_free_mark, least_other_marked, mark_fault, late_fault, Notice, whole}
+use Rattle.dbscan.proofs.Common.{end_notices, pages_from, mark_of, marks_of, role_mark, visit_mark, AreMarksOf, Tells, Mark, Unmarked, Fixed, is_fixed_mark}
+use Rattle.dbscan.proofs.Common.{page_notices, pages_items, items_of}
 use Rattle.std.specs.List.{range_with_len}
 use Rattle.std.specs.Option.{option_map_or}
 use Rattle.std.proofs.lemmas.Grind.{flat_map-append}
 use Rattle.std.proofs.lemmas.List.{append-nil, map-append}
-use Rattle.dbsurvey.specs.Moves.{Moves}
 use Rattle.dbsurvey.proofs.Lists.{flat_map-same, map-flat_map}
 use Rattle.dbformat.proofs.Looping.{range-parts}
-use Rattle.dbformat.specs.EndFaults.{visit_of, end_faults, sum_faults, page_end_faults, page_numbers, has_rows}
+use Rattle.dbformat.specs.EndFaults.{sum_faults, page_end_faults, page_numbers}
 use Rattle.dbformat.specs.Faults.{fault}
-use Rattle.dbformat.specs.File.{geometry, map_entry, entry_in, MapEntry}
-use Rattle.dbformat.specs.FixedPages.{is_fixed, is_page, map_page_of, entries_per_map}
 use Rattle.dbformat.specs.Header.{has_pointer_map, schema_format, encoding_number, greatest_root, freelist_count}
-use Rattle.dbformat.specs.Reference.{Role, root, child, first_overflow, later_overflow, trunk, free_leaf, Reference, role_of, from_of}
-use Rattle.dbformat.specs.Survey.{Survey}
 use Rattle.dbformat.specs.Tests.{told_if}
-use Rattle.dbformat.specs.declared.Fault.{Fault}
 use Rattle.dbformat.specs.declared.FaultCode.TheVariants.{M02}
-use Rattle.dbformat.specs.declared.Geometry.{Geometry}
 use Rattle.dbformat.proofs.HeaderPrefix.{schema_format_within, encoding_number_within, greatest_root_within, freelist_count_within}
-use Rattle.dbsource.specs.HeaderBytes.{HeaderBytes}
-use Rattle.dbsource.specs.Headers.{IsHeaderOf}
-use Rattle.dbsource.specs.declared.error.RunError.{RunError}
-use Rattle.dbmarks.specs.EndMarks.{is_free_mark, greatest_root_marked, least_other_marked, mark_fault, late_fault}
-use Rattle.dbtrace.specs.declared.Part.TheVariants as part
-use Rattle.dbscan.specs.Notices.{Notice, whole, end_notices, pages_from}
-use Rattle.dbmarks.specs.Marking.{is_none, mark_of, marks_of, role_mark, visit_mark, AreMarksOf}
-use Rattle.dbwalk.specs.Telling.{Tells}
-use Rattle.dbmarks.specs.declared.marks.Mark.{Mark}
-use Rattle.dbmarks.specs.declared.marks.Mark.TheVariants.{Unmarked, Fixed, Root, Trunk, FreeLeaf, FirstOverflow, LaterOverflow, Child}
+use Rattle.dbmarks.specs.EndMarks.{greatest_root_marked}
+use Rattle.dbmarks.specs.Marking.{is_none}
+use Rattle.dbmarks.specs.declared.marks.Mark.TheVariants.{Root, Trunk, FreeLeaf, FirstOverflow, LaterOverflow, Child}
 use Rattle.dbmarks.proofs.LateRoots.{marks_tell_the_end}
 use Rattle.dbsurvey.proofs.Moving.{Moves-append, some_after}
-use Rattle.dbscan.specs.EndPass.{counted_faults, is_fixed_mark, page_notices, pages_items}
-use Rattle.dbscan.specs.Telling.{items_of}
+use Rattle.dbscan.specs.EndPass.{counted_faults}
 use Rattle.dbscan.proofs.CountedMarks.{numbers_more}
+use Rattle.dbtrace.specs.declared.Part.TheVariants as part
 
 -- ---- one page
 

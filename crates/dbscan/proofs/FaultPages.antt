@@ -1,36 +1,29 @@
 -- The faults of an event are of its page: of the one that is visited, or that a reference is found on.
 use Rattle.std.proofs.Common.{◌≡◌, ℕ, inl, inr, Bool, true, false, cond, not, ◌&&◌, List, [], ◌∷◌, ◌++◌, map, length, Option, Some, None, Result, Ok, Err, refl}
-use Rattle.std.proofs.Common.{sym, ap, subst, ◌∙◌}
-use Rattle.std.specs.Prelude.{flat_map, is_none, nat_le, pos, ℤ, ◌==◌}
+use Rattle.std.proofs.Common.{sym, ap, subst, ◌∙◌, flat_map, is_none, nat_le, pos, ℤ, ◌==◌}
+use Rattle.dbscan.proofs.Common.{IsIn, Follow, start_of, schema_start, last_root_start, page_bytes, View, is_interior, usable_size, Role, root, child}
+use Rattle.dbscan.proofs.Common.{first_overflow, later_overflow, trunk, free_leaf, Way, Reference, role_of, from_of, event_faults, SchemaCell, schema_cell}
+use Rattle.dbscan.proofs.Common.{SchemaRow, Event, at_page, at_key, at_refused, story_of, Fault}
 use Rattle.std.specs.List.{range_with_len}
-use Rattle.dbsurvey.specs.Address.{IsIn}
-use Rattle.dbsurvey.specs.Story.{PageStep, Follow, Place}
+use Rattle.dbsurvey.specs.Story.{PageStep, Place}
 use Rattle.dbsurvey.proofs.Order.{IsIn-cases}
 use Rattle.dbsurvey.proofs.Ordering.{IsIn-from_flat_map}
-use Rattle.dbformat.specs.Address.{start_of, schema_start, last_root_start}
 use Rattle.dbformat.specs.Cell.{Cell, cell, cells, count}
 use Rattle.dbformat.specs.Coverage.{bad_freeblock, coverage}
 use Rattle.dbformat.specs.Faults.{fault}
-use Rattle.dbformat.specs.File.{page_bytes}
-use Rattle.dbformat.specs.Head.{View, view, view_of_kind, type_byte, page_kind, pointers_end, content_start, undamaged, is_interior, is_same_tree, tree_of}
-use Rattle.dbformat.specs.Header.{usable_size}
+use Rattle.dbformat.specs.Head.{view, view_of_kind, type_byte, page_kind, pointers_end, content_start, undamaged, is_same_tree, tree_of}
 use Rattle.dbformat.specs.KeyFaults.{Key, key_of, key_faults, earlier_roots, row_faults, row_faults_if, row_faults_at, cell_place_faults}
 use Rattle.dbformat.specs.PageFaults.{cell_fault, cell_faults, freeblock_fault, coverage_fault, fragment_fault, empty_fault, inner_faults, faults_of_view}
 use Rattle.dbformat.specs.PageFaults.{tree_page_faults, depth_fault, role_faults, page_faults}
-use Rattle.dbformat.specs.Reference.{Role, root, child, first_overflow, later_overflow, trunk, free_leaf, Way, Reference, role_of, from_of, cell_links}
-use Rattle.dbformat.specs.Reference.{right_links, overflow_links, trunk_links}
+use Rattle.dbformat.specs.Reference.{cell_links, right_links, overflow_links, trunk_links}
 use Rattle.dbformat.specs.ReferenceFaults.{refusal_fault, reference_faults}
-use Rattle.dbformat.specs.Report.{event_faults}
-use Rattle.dbformat.specs.Schema.{SchemaCell, schema_cell}
-use Rattle.dbformat.specs.SchemaRow.{SchemaRow}
-use Rattle.dbformat.specs.Story.{Event, at_page, at_key, at_refused, cell_items, page_items, role_items, story_of}
+use Rattle.dbformat.specs.Story.{cell_items, page_items, role_items}
 use Rattle.dbformat.specs.Survey.{refused}
 use Rattle.dbformat.specs.Tests.{told_if}
 use Rattle.dbformat.specs.declared.CellFault.{CellFault}
 use Rattle.dbformat.specs.declared.CellFault.TheVariants.{Offset, Unreadable}
 use Rattle.dbformat.specs.declared.Coverage.{Coverage}
 use Rattle.dbformat.specs.declared.Coverage.TheVariants.{Overlap, Unheld}
-use Rattle.dbformat.specs.declared.Fault.{Fault}
 use Rattle.dbformat.specs.declared.FaultCode.{FaultCode}
 use Rattle.dbformat.specs.declared.FaultCode.TheVariants.{P02}
 use Rattle.dbformat.specs.declared.HeadFault.{HeadFault}

@@ -1,14 +1,9 @@
 -- What a run makes of a reporter on which only faults have an effect: it takes the faults of the file.
 use Rattle.std.proofs.Common.{inl, inr, ℕ, List, [], ◌∷◌, Result, Ok, Err, subst}
-use Rattle.dbsurvey.specs.Moves.{Moves, MovesBySome}
+use Rattle.dbscan.proofs.Common.{Moves, MovesBySome, Reference, faults, Survey, Fault, RunError, Tells, Notice, heard_fault, heard_row, ended, marked}
+use Rattle.dbscan.proofs.Common.{faults_heard, run_notices}
 use Rattle.dbsurvey.proofs.Moving.{some_none}
-use Rattle.dbformat.specs.Reference.{Reference}
-use Rattle.dbformat.specs.Report.{faults}
-use Rattle.dbformat.specs.Survey.{Survey}
-use Rattle.dbformat.specs.declared.Fault.{Fault}
-use Rattle.dbsource.specs.declared.error.RunError.{RunError}
-use Rattle.dbwalk.specs.Telling.{Tells}
-use Rattle.dbscan.specs.Notices.{HearsFaults, Notice, heard_fault, heard_row, ended, marked, faults_heard, run_notices}
+use Rattle.dbscan.specs.Notices.{HearsFaults}
 use Rattle.dbscan.proofs.HeardFaults.{faults_are_heard}
 
 module _ {S : Type 0} (takes : S → Fault → S → Type 0) where

@@ -1,18 +1,9 @@
 -- The end of a report for which nothing is read.
-use Rattle.std.proofs.Common.{◌≡◌, ℕ, List, Result, Ok, Err, inr, refl}
-use Rattle.std.specs.Prelude.{IfErr}
-use Rattle.dbformat.specs.Reference.{Reference}
+use Rattle.std.proofs.Common.{◌≡◌, ℕ, List, Result, Ok, Err, inr, refl, IfErr}
+use Rattle.dbscan.proofs.Common.{Reference, is_write_failed, RunError, WriteFailed, IsReadOrWrite, SinkAfter, SinkState, DeskView, shape_of, IsUnmarked, Notice}
 use Rattle.dbformat.specs.declared.Verdict.{Verdict}
-use Rattle.dbsource.specs.Errors.{is_write_failed}
-use Rattle.dbsource.specs.declared.error.RunError.{RunError}
-use Rattle.dbsource.specs.declared.error.RunError.TheVariants.{WriteFailed}
 use Rattle.dbsource.specs.declared.source.Source.{Ghosts as SourceWords}
-use Rattle.dbwalk.specs.Telling.{IsReadOrWrite}
-use Rattle.dbwalk.specs.Telling.{SinkAfter, SinkState}
-use Rattle.dbscan.specs.Desks.{DeskView, shape_of}
 use Rattle.dbscan.specs.Finishes.{HasFinished, HasHeard}
-use Rattle.dbscan.specs.Looks.{IsUnmarked}
-use Rattle.dbscan.specs.Notices.{Notice}
 use Rattle.dbscan.proofs.MapLogs.{asks_nothing, reads_none}
 
 of_write : {A : Type 0} (r : Result A RunError) → IfErr r (λ e. e ≡ WriteFailed) → IfErr r IsReadOrWrite

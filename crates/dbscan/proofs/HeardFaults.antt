@@ -1,21 +1,13 @@
 -- The faults of all that a reporter hears are those of the file, with their parts and causes.
 use Rattle.std.proofs.Common.{◌≡◌, ℕ, List, [], ◌∷◌, ◌++◌, length, map, refl, sym, ap, ap₂, ◌∙◌, append_assoc}
+use Rattle.dbscan.proofs.Common.{end_faults, geometry, header_faults, Reference, faults, Survey, Fault, marks_of, Part, Notice, heard_fault, heard_row, ended}
+use Rattle.dbscan.proofs.Common.{marked, of_file, whole, end_notices, faults_heard, run_notices, start_notices, faults_of, reported_in, reported_of}
+use Rattle.dbscan.proofs.Common.{told_faults, walk_told}
 use Rattle.std.proofs.lemmas.List.Elements.{filter_map-append}
-use Rattle.dbformat.specs.EndFaults.{end_faults}
-use Rattle.dbformat.specs.File.{geometry}
-use Rattle.dbformat.specs.HeaderFaults.{header_faults}
-use Rattle.dbformat.specs.Reference.{Reference}
-use Rattle.dbformat.specs.Report.{faults}
-use Rattle.dbformat.specs.Survey.{Survey}
-use Rattle.dbformat.specs.declared.Fault.{Fault}
-use Rattle.dbmarks.specs.Marking.{marks_of}
-use Rattle.dbtrace.specs.declared.Part.{Part}
-use Rattle.dbtrace.specs.declared.Part.TheVariants as part
-use Rattle.dbscan.specs.Notices.{Notice, heard_fault, heard_row, ended, marked, of_file, whole, end_notices, faults_heard, run_notices, start_notices}
-use Rattle.dbscan.specs.Placed.{faults_of, reported_in, reported_of, told_faults, walk_told}
 use Rattle.dbscan.proofs.AllTold.{all_told}
 use Rattle.dbscan.proofs.PagesHeard.{past_pages}
 use Rattle.dbscan.proofs.PlacedFaults.{starts_told}
+use Rattle.dbtrace.specs.declared.Part.TheVariants as part
 
 of_whole : (p : Part) (fs : List Fault) → reported_in (map (whole p) fs) ≡ map (of_file p) fs
 of_whole p [] = refl

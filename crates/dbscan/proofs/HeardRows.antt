@@ -1,40 +1,22 @@
 -- The rows of all that a reporter hears are those of the file.
-use Rattle.std.proofs.Common.{◌≡◌, ℕ, Bool, true, false, cond, inl, inr, List, [], ◌∷◌, ◌++◌, length, map, refl, sym, ap, ap₂, ◌∙◌, append-nil}
-use Rattle.std.specs.Prelude.{◌==◌}
+use Rattle.std.proofs.Common.{◌≡◌, ℕ, Bool, true, false, cond, inl, inr, List, [], ◌∷◌, ◌++◌, length, map, refl, sym, ap, ap₂, ◌∙◌, append-nil, ◌==◌}
+use Rattle.dbscan.proofs.Common.{AreQuiet, Errand, Go, Follow, errands_at, goes, freelist_start, end_faults, geometry, first_trunk, header_faults, Way}
+use Rattle.dbscan.proofs.Common.{Reference, trunk, stat_rows, start, SchemaRow, Event, own_visit, Survey, rules_of, Fault, marks_of, Finding, told_row}
+use Rattle.dbscan.proofs.Common.{told_fault, told_below, visited_below, Part, found_rows, Notice, found, ended, whole, errands_left, root_reference}
+use Rattle.dbscan.proofs.Common.{tree_notices, later_notices, start_notices, end_notices, run_notices, listed_rows, At, at_freelist, at_row, at_schema}
+use Rattle.dbscan.proofs.Common.{schema_reference}
 use Rattle.std.specs.List.{enumerate_from}
 use Rattle.std.proofs.lemmas.List.Elements.{filter_map-append}
-use Rattle.dbsurvey.specs.InOrder.{AreQuiet}
-use Rattle.dbsurvey.specs.Story.{Errand, Go, Follow, errands_at, goes}
 use Rattle.dbsurvey.proofs.Remaining.{rest_join}
-use Rattle.dbformat.specs.Address.{freelist_start}
-use Rattle.dbformat.specs.EndFaults.{end_faults}
-use Rattle.dbformat.specs.File.{geometry}
-use Rattle.dbformat.specs.Header.{first_trunk}
-use Rattle.dbformat.specs.HeaderFaults.{header_faults}
-use Rattle.dbformat.specs.Reference.{Way, Reference, trunk}
-use Rattle.dbformat.specs.Rows.{stat_rows}
-use Rattle.dbformat.specs.Schema.{start}
-use Rattle.dbformat.specs.SchemaRow.{SchemaRow}
-use Rattle.dbformat.specs.Story.{Event, own_visit}
-use Rattle.dbformat.specs.Survey.{Survey, rules_of}
-use Rattle.dbformat.specs.declared.Fault.{Fault}
 use Rattle.dbformat.proofs.Theory.{are_rules}
-use Rattle.dbmarks.specs.Marking.{marks_of}
-use Rattle.dbtrace.specs.Finding.{Finding, told_row, told_fault, told_below, visited_below}
-use Rattle.dbtrace.specs.declared.Part.{Part}
-use Rattle.dbtrace.specs.declared.Part.TheVariants as part
-use Rattle.dbscan.specs.Findings.{found_rows}
 use Rattle.dbscan.specs.HeardRows.{row_heard, rows_heard}
-use Rattle.dbscan.specs.Notices.{Notice, found, ended, whole, errands_left, root_reference, tree_notices, later_notices, start_notices}
-use Rattle.dbscan.specs.Notices.{end_notices, run_notices}
-use Rattle.dbscan.specs.Roots.{listed_rows}
-use Rattle.dbscan.specs.Starts.{At, at_freelist, at_row, at_schema, schema_reference}
 use Rattle.dbscan.proofs.PagesHeard.{past_pages}
 use Rattle.dbscan.proofs.RowsBelow.{rows_below, rows_join}
 use Rattle.dbscan.proofs.RunItems.{all_visited}
 use Rattle.dbscan.proofs.StartByStart.{of_later}
 use Rattle.dbscan.proofs.Starts.{quiet_go}
 use Rattle.dbscan.proofs.ToldStarts.{start_errands_listed}
+use Rattle.dbtrace.specs.declared.Part.TheVariants as part
 
 of_found : (at : At) (items : List Finding) → rows_heard (map (found at) items) ≡ found_rows items
 of_found at [] = refl

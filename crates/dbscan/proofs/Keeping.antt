@@ -1,14 +1,9 @@
 -- A call of a run that adds no root to the list, after one that may have added some.
-use Rattle.std.proofs.Common.{inl, Ok, Err, Result, ap, subst, ◌∙◌}
-use Rattle.std.specs.Prelude.{IfErr}
-use Rattle.dbsource.specs.Errors.{is_write_failed}
-use Rattle.dbsource.specs.declared.error.RunError.{RunError}
-use Rattle.dbwalk.specs.Telling.{IsReadOrWrite, IsReadWriteOrMemory}
-use Rattle.dbwalk.specs.Telling.{SinkAfter, SinkState}
+use Rattle.std.proofs.Common.{inl, Ok, Err, Result, ap, subst, ◌∙◌, IfErr}
+use Rattle.dbscan.proofs.Common.{is_write_failed, RunError, IsReadOrWrite, SinkAfter, SinkState, DeskView, Listed}
+use Rattle.dbwalk.specs.Telling.{IsReadWriteOrMemory}
 use Rattle.dbwalk.proofs.Underway.Walks.{none_refused}
-use Rattle.dbscan.specs.Desks.{DeskView}
 use Rattle.dbscan.specs.Kept.{KeepsHeader, KeepsRoots}
-use Rattle.dbscan.specs.Roots.{Listed}
 
 -- an error of reading or writing is one of a run
 read_or_write : {A : Type 0} (r : Result A RunError) → IfErr r IsReadOrWrite → IfErr r IsReadWriteOrMemory

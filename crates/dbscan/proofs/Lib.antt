@@ -1,5 +1,6 @@
 pub mod AfterHeader
 pub mod AllTold
+pub mod Common
 pub mod CountedMarks
 pub mod DeskWalks
 pub mod EndItems

@@ -1,30 +1,20 @@
 -- What is read of the pointer map: page after page, and after what walks read.
 use Rattle.std.proofs.Common.{◌≡◌, ◌≢◌, ℕ, ◌+◌, ◌<◌, ◌≤◌, Bool, true, false, cond, ◌&&◌, inl, inr, List, [], ◌∷◌, ◌++◌, Some, None, Result, Ok, Err, refl, sym}
-use Rattle.std.proofs.Common.{ap, ap₂, ◌∙◌, subst, arith}
-use Rattle.std.specs.Prelude.{IfErr, is_some, ◌==◌}
+use Rattle.std.proofs.Common.{ap, ap₂, ◌∙◌, subst, arith, IfErr, is_some, ◌==◌}
+use Rattle.dbscan.proofs.Common.{fixed_use, is_fixed, is_map_position, is_page, lock_page, page_range, IsPageLog, Geometry, Step, is_read_failed}
+use Rattle.dbscan.proofs.Common.{failures_after, Asks, SourceState, RunError, WriteFailed, is_unmarked, AreMarksFor, Reads, Mark, IsUnmarked, ReadsMarked}
+use Rattle.dbscan.proofs.Common.{ReadsRising, IsMapInUse, MapReads}
 use Rattle.std.proofs.lemmas.Bool.{both_ways, cases_Bool, eq-eqb}
 use Rattle.std.proofs.lemmas.List.{append-nil, map-append}
 use Rattle.dbsurvey.proofs.Elements.{each_weaker}
 use Rattle.dbsurvey.proofs.Order.{IsIn-cases, EachPair-append}
-use Rattle.dbformat.specs.FixedPages.{fixed_use, is_fixed, is_map_position, is_page, lock_page}
-use Rattle.dbformat.specs.Log.{page_range, IsPageLog, IsReadable}
+use Rattle.dbformat.specs.Log.{IsReadable}
 use Rattle.dbformat.specs.declared.ByteRange.{ByteRange}
 use Rattle.dbformat.specs.declared.Fixed.TheVariants.{Lock, Map}
-use Rattle.dbformat.specs.declared.Geometry.{Geometry}
-use Rattle.dbsource.specs.Answers.{Step}
-use Rattle.dbsource.specs.Errors.{is_read_failed}
-use Rattle.dbsource.specs.Failures.{failures_after}
-use Rattle.dbsource.specs.Sources.{Asks, SourceState}
-use Rattle.dbsource.specs.declared.error.RunError.{RunError}
-use Rattle.dbsource.specs.declared.error.RunError.TheVariants.{WriteFailed}
 use Rattle.dbsource.proofs.Logs.{has_none}
-use Rattle.dbmarks.specs.Marking.{is_unmarked, AreMarksFor}
-use Rattle.dbmarks.specs.Reads.{Reads}
-use Rattle.dbmarks.specs.declared.marks.Mark.{Mark}
 use Rattle.dbmarks.proofs.Readings.{keeps_same}
 use Rattle.dbmarks.proofs.Unfixed.{marks_for-kept, readable, unmarked_unfixed}
-use Rattle.dbscan.specs.Looks.{IsUnmarked, ReadsMarked, ReadsOrNot, ReadsRising, ReadsRisingBefore}
-use Rattle.dbscan.specs.MapReads.{IsMapInUse, MapReads}
+use Rattle.dbscan.specs.Looks.{ReadsOrNot, ReadsRisingBefore}
 use Rattle.dbscan.proofs.MapPlaces.{at_position}
 
 -- ---- page after page

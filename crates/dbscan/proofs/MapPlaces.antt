@@ -1,18 +1,17 @@
 -- The position of the entry of a page in the pointer map; and the map page that was read last is the one that has it.
 use Rattle.std.proofs.Common.{◌≡◌, ℕ, ◌+◌, ◌-◌, ◌*◌, ◌/◌, ◌%◌, ◌<◌, ◌≤◌, Bool, true, false, cond, not, ◌&&◌, List, length, Some, None, Result, Ok, Err, refl}
-use Rattle.std.proofs.Common.{sym, ap, ap₂, ◌∙◌, subst, arith, inl, inr, rules}
-use Rattle.std.specs.Prelude.{◌==◌, nat_lt, nat_le, option_map, is_some, slice_index, OnOk}
+use Rattle.std.proofs.Common.{sym, ap, ap₂, ◌∙◌, subst, arith, inl, inr, rules, ◌==◌, nat_lt, nat_le, option_map, is_some, slice_index, OnOk}
+use Rattle.dbscan.proofs.Common.{MapEntry, geometry, refusal, refusal_of, page_bytes, map_entry, entry_in, is_page, lock_page, entries_per_map, is_map_position}
+use Rattle.dbscan.proofs.Common.{fixed_use, is_fixed, map_page_of, Geometry, HasMapFor, IsMapInUse}
 use Rattle.std.proofs.lemmas.Bool.{cases_Bool, and_parts, eqb-true, not-true}
 use Rattle.std.proofs.lemmas.Bool.Decides.{nat_tests}
 use Rattle.std.proofs.lemmas.Nat.{div-mul-add, div-add-mod'}
 use Rattle.std.proofs.Math.Nat.{mod-lt, mod-eq_of_lt}
 use Rattle.dbformat.proofs.TestsLemmas.{AllFalse-from_none}
-use Rattle.dbformat.specs.File.{MapEntry, geometry, refusal, refusal_of, refusal_tests, page_bytes, map_entry, entry_in}
+use Rattle.dbformat.specs.File.{refusal_tests}
 use Rattle.dbformat.specs.Numbers.{u32_at}
-use Rattle.dbformat.specs.FixedPages.{is_page, lock_page, entries_per_map, is_map_position, fixed_use, is_fixed, map_page_of}
-use Rattle.dbformat.specs.declared.Geometry.{Geometry}
 use Rattle.dbformat.specs.declared.Fixed.TheVariants.{Lock, Map}
-use Rattle.dbscan.specs.MapReads.{last_map, HasMapFor, IsMapInUse}
+use Rattle.dbscan.specs.MapReads.{last_map}
 
 -- a number that is no multiple has the multiples before it that its predecessor has
 div_before : (q k : ℕ) → 0 < k → 1 ≤ q % k → (q - 1) / k ≡ q / k

@@ -1,14 +1,8 @@
 -- A visited page is owned, by what its start is.
-use Rattle.std.proofs.Common.{◌≡◌, ℕ, inl, inr, cond, List, [], ◌∷◌, Some, sym, ap, subst, ◌∙◌}
-use Rattle.std.specs.Prelude.{find, option_map, ◌==◌}
+use Rattle.std.proofs.Common.{◌≡◌, ℕ, inl, inr, cond, List, [], ◌∷◌, Some, sym, ap, subst, ◌∙◌, find, option_map, ◌==◌}
+use Rattle.dbscan.proofs.Common.{IsIn, start_of, freelist_start, visit_of, Reference, starts, Survey}
 use Rattle.std.specs.Option.{option_map_or}
 use Rattle.std.proofs.lemmas.Bool.{cases_Bool, eqb-true, eq-eqb, ne_eqb}
-use Rattle.dbsurvey.specs.Address.{IsIn}
-use Rattle.dbformat.specs.Address.{start_of, freelist_start}
-use Rattle.dbformat.specs.EndFaults.{visit_of}
-use Rattle.dbformat.specs.Reference.{Reference}
-use Rattle.dbformat.specs.Schema.{starts}
-use Rattle.dbformat.specs.Survey.{Survey}
 use Rattle.dbformat.proofs.Visited.{allowed, visit_is}
 use Rattle.dbformat.specs.Starts.{is_start, first_start}
 use Rattle.dbscan.specs.Owners.{Owner, Nobody, Layout, Freelist, Tree, owner_at, owner_of, AreOwned}

@@ -1,28 +1,19 @@
 -- What the marks of a survey say of a page: what it is, and with the starts that were noted, which start it belongs to.
-use Rattle.std.proofs.Common.{◌≡◌, ℕ, ◌≤◌, inl, inr, Bool, true, false, cond, List, Option, Some, None, refl, sym, ap, subst, ◌∙◌, arith}
-use Rattle.std.specs.Prelude.{option_map, slice_get}
+use Rattle.std.proofs.Common.{◌≡◌, ℕ, ◌≤◌, inl, inr, Bool, true, false, cond, List, Option, Some, None, refl, sym, ap, subst, ◌∙◌, arith, option_map, slice_get}
+use Rattle.dbscan.proofs.Common.{IsIn, start_of, freelist_start, visit_of, geometry, is_page, is_fixed, fixed_use, Role, root, child, first_overflow}
+use Rattle.dbscan.proofs.Common.{later_overflow, trunk, free_leaf, Reference, role_of, from_of, Survey, Mark, Unmarked, Fixed, role_mark, visit_mark, mark_of}
+use Rattle.dbscan.proofs.Common.{marks_of, page_mark, start_at, AreTrees, place_by, start_by}
 use Rattle.std.specs.Option.{option_map_or}
 use Rattle.std.proofs.lemmas.Bool.{cases_Bool}
 use Rattle.std.proofs.lemmas.Bool.Decides.{nat_tests}
-use Rattle.dbsurvey.specs.Address.{IsIn}
-use Rattle.dbformat.specs.Address.{start_of, freelist_start}
-use Rattle.dbformat.specs.EndFaults.{visit_of}
-use Rattle.dbformat.specs.File.{geometry}
-use Rattle.dbformat.specs.FixedPages.{is_page, is_fixed, fixed_use}
-use Rattle.dbformat.specs.Reference.{Role, root, child, first_overflow, later_overflow, trunk, free_leaf, Reference, role_of, from_of, is_on_freelist}
-use Rattle.dbformat.specs.Survey.{Survey}
+use Rattle.dbformat.specs.Reference.{is_on_freelist}
 use Rattle.dbformat.proofs.Visited.{allowed}
-use Rattle.dbmarks.specs.declared.marks.Mark.{Mark}
-use Rattle.dbmarks.specs.declared.marks.Mark.TheVariants.{Unmarked, Fixed}
-use Rattle.dbmarks.specs.Marking.{role_mark, visit_mark, mark_of, marks_of, page_mark}
 use Rattle.dbmarks.proofs.Markings.{page_mark-in, page_mark-out}
 use Rattle.dbmarks.proofs.EndMarking.{found_in, survey_visits, visited-mark}
 use Rattle.dbscan.specs.declared.place.Place.{Place}
-use Rattle.dbscan.specs.declared.place.Place.TheVariants as place
-use Rattle.dbformat.specs.Starts.{start_at}
 use Rattle.dbscan.specs.Owners.{place_in, place_of}
-use Rattle.dbscan.specs.Trees.{AreTrees, place_by, start_by}
 use Rattle.dbformat.proofs.BelowStarts.{start_here, on_freelist}
+use Rattle.dbscan.specs.declared.place.Place.TheVariants as place
 
 -- role by role
 

@@ -1,14 +1,8 @@
 -- The pages with their marks, as a reporter hears of them one after another.
-use Rattle.std.proofs.Common.{◌≡◌, ℕ, ◌+◌, ◌≤◌, List, [], ◌∷◌, ◌++◌, length, drop, Option, Some, None, refl, sym, ap, subst, ◌∙◌}
-use Rattle.std.specs.Prelude.{filter_map}
+use Rattle.std.proofs.Common.{◌≡◌, ℕ, ◌+◌, ◌≤◌, List, [], ◌∷◌, ◌++◌, length, drop, Option, Some, None, refl, sym, ap, subst, ◌∙◌, filter_map}
+use Rattle.dbscan.proofs.Common.{Moves, Geometry, page_mark, Mark, Unmarked, Notice, marked, pages_from}
 use Rattle.std.specs.List.{cons_option}
 use Rattle.std.proofs.lemmas.List.{drop_all, drop_more}
-use Rattle.dbsurvey.specs.Moves.{Moves}
-use Rattle.dbformat.specs.declared.Geometry.{Geometry}
-use Rattle.dbmarks.specs.Marking.{page_mark}
-use Rattle.dbmarks.specs.declared.marks.Mark.{Mark}
-use Rattle.dbmarks.specs.declared.marks.Mark.TheVariants.{Unmarked}
-use Rattle.dbscan.specs.Notices.{Notice, marked, pages_from}
 use Rattle.dbscan.proofs.CountedMarks.{got, marked_at}
 
 -- who hears the pages after the first i has heard of all

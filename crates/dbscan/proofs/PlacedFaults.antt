@@ -1,23 +1,13 @@
 -- A reporter hears each fault of the walk at the start of its address, and with its cause.
-use Rattle.std.proofs.Common.{◌≡◌, ℕ, Bool, true, false, cond, inl, inr, List, [], ◌∷◌, ◌++◌, map, refl, sym, ap, ap₂, subst, ◌∙◌, append-nil}
-use Rattle.std.specs.Prelude.{◌==◌}
+use Rattle.std.proofs.Common.{◌≡◌, ℕ, Bool, true, false, cond, inl, inr, List, [], ◌∷◌, ◌++◌, map, refl, sym, ap, ap₂, subst, ◌∙◌, append-nil, ◌==◌}
+use Rattle.dbscan.proofs.Common.{IsIn, Errand, Go, Follow, errands_at, freelist_start, first_trunk, Way, Reference, trunk, start, SchemaRow, Event, Survey}
+use Rattle.dbscan.proofs.Common.{Finding, told_row, told_fault, told_below, visited_below, Notice, at_start, found, ended, errands_left, root_reference}
+use Rattle.dbscan.proofs.Common.{tree_notices, later_notices, start_notices, reported_in, reported_of, walk_told, listed_rows, At, at_freelist, at_row}
+use Rattle.dbscan.proofs.Common.{at_schema, schema_reference}
 use Rattle.std.specs.List.{enumerate_from}
 use Rattle.std.proofs.lemmas.List.Elements.{filter_map-append}
-use Rattle.dbsurvey.specs.Address.{IsIn}
-use Rattle.dbsurvey.specs.Story.{Errand, Go, Follow, errand_key, errands_at}
-use Rattle.dbformat.specs.Address.{freelist_start}
-use Rattle.dbformat.specs.Header.{first_trunk}
-use Rattle.dbformat.specs.Reference.{Way, Reference, trunk}
-use Rattle.dbformat.specs.Schema.{start}
-use Rattle.dbformat.specs.SchemaRow.{SchemaRow}
-use Rattle.dbformat.specs.Story.{Event}
-use Rattle.dbformat.specs.Survey.{Survey}
-use Rattle.dbtrace.specs.Finding.{Finding, told_row, told_fault, told_below, visited_below}
+use Rattle.dbsurvey.specs.Story.{errand_key}
 use Rattle.dbtrace.proofs.ByStarts.{BeginsWith, made_at, made_below, below_start, root_then, all_made}
-use Rattle.dbscan.specs.Notices.{Notice, at_start, found, ended, errands_left, root_reference, tree_notices, later_notices, start_notices}
-use Rattle.dbscan.specs.Placed.{reported_in, reported_of, walk_told}
-use Rattle.dbscan.specs.Roots.{listed_rows}
-use Rattle.dbscan.specs.Starts.{At, at_freelist, at_row, at_schema, schema_reference}
 use Rattle.dbscan.proofs.StartByStart.{of_later}
 use Rattle.dbscan.proofs.ToldStarts.{start_errands_listed}
 

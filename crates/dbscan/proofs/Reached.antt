@@ -1,42 +1,30 @@
 -- A fault that is reported at a start is of a page that was reached from it, and each such start is one of the file's.
-use Rattle.std.proofs.Common.{◌≡◌, ℕ, ◌+◌, inl, inr, Bool, true, false, cond, List, [], ◌∷◌, ◌++◌, map, take, length, Some, refl, sym, ap, subst, ◌∙◌}
-use Rattle.std.specs.Prelude.{◌==◌}
+use Rattle.std.proofs.Common.{◌≡◌, ℕ, ◌+◌, inl, inr, Bool, true, false, cond, List, [], ◌∷◌, ◌++◌, map, take, length, Some, refl, sym, ap, subst, ◌∙◌, ◌==◌}
+use Rattle.dbscan.proofs.Common.{Address, IsIn, Told, Follow, goes, start_of, schema_start, last_root_start, freelist_start, end_faults, page_bytes}
+use Rattle.dbscan.proofs.Common.{first_trunk, usable_size, header_faults, Way, Reference, role_of, from_of, trunk, event_faults, schema, root_start}
+use Rattle.dbscan.proofs.Common.{rooted_rows, start, freelist_starts, later_starts, starts, SchemaRow, Event, at_page, at_key, at_refused, start_errands}
+use Rattle.dbscan.proofs.Common.{story_of, telling, Survey, rules_of, Fault, cause_of, Part, start_at, at_start, of_file, told_faults, walk_told}
 use Rattle.std.specs.List.{enumerate_from}
-use Rattle.dbsurvey.specs.Address.{Address, IsIn}
 use Rattle.dbsurvey.specs.From.{under}
-use Rattle.dbsurvey.specs.Story.{Told, Follow, goes, IsTold, of_errand, of_page, of_place, of_refused}
+use Rattle.dbsurvey.specs.Story.{IsTold, of_errand, of_page, of_place, of_refused}
 use Rattle.dbsurvey.specs.Survey.{Link, children, named_at}
 use Rattle.dbsurvey.proofs.Composing.{named_at-from}
 use Rattle.dbsurvey.proofs.Order.{IsIn-cases}
 use Rattle.dbsurvey.proofs.Ordering.{IsIn-from_map, IsIn-from_flat_map}
 use Rattle.dbsurvey.proofs.Tellings.{goes-errands}
-use Rattle.dbformat.specs.Address.{start_of, schema_start, last_root_start, freelist_start}
-use Rattle.dbformat.specs.EndFaults.{end_faults}
-use Rattle.dbformat.specs.File.{page_bytes}
-use Rattle.dbformat.specs.Header.{first_trunk, usable_size}
-use Rattle.dbformat.specs.HeaderFaults.{header_faults}
-use Rattle.dbformat.specs.Reference.{Way, Reference, role_of, from_of, role_links, trunk}
-use Rattle.dbformat.specs.Report.{event_faults}
-use Rattle.dbformat.specs.Schema.{schema, root_start, rooted_rows, root_starts, start, freelist_starts, later_starts, starts}
-use Rattle.dbformat.specs.SchemaRow.{SchemaRow}
-use Rattle.dbformat.specs.Story.{Event, at_page, at_key, at_refused, start_errands, story_of, telling}
-use Rattle.dbformat.specs.Survey.{Survey, rules_of}
-use Rattle.dbformat.specs.declared.Fault.{Fault}
+use Rattle.dbformat.specs.Reference.{role_links}
+use Rattle.dbformat.specs.Schema.{root_starts}
 use Rattle.std.proofs.lemmas.Bool.{both_ways}
 use Rattle.dbformat.proofs.LookBack.{key_at}
 use Rattle.dbformat.proofs.Theory.{links-follows, no_tell, told_in_order}
 use Rattle.dbformat.proofs.Visited.{has_address}
-use Rattle.dbtrace.specs.Causes.{cause_of}
-use Rattle.dbtrace.specs.declared.Part.{Part}
-use Rattle.dbtrace.specs.declared.Part.TheVariants as part
 use Rattle.dbtrace.specs.declared.TracedFault.{TracedFault}
 use Rattle.dbtrace.proofs.Told.{IsOf, told_of}
-use Rattle.dbformat.specs.Starts.{start_at}
 use Rattle.dbformat.proofs.BelowStarts.{one_below, start_here, start_of-step, start_visited}
 use Rattle.dbformat.proofs.Ways.{of_role}
-use Rattle.dbscan.specs.Notices.{at_start, of_file}
-use Rattle.dbscan.specs.Placed.{told_faults, walk_told, IsOfStart}
+use Rattle.dbscan.specs.Placed.{IsOfStart}
 use Rattle.dbscan.proofs.FaultPages.{accepted, is_refusal, page_of_event, event_of_page}
+use Rattle.dbtrace.specs.declared.Part.TheVariants as part
 
 -- starts are from no page
 rows_from : (file : List ℕ) (k : ℕ) (rows : List SchemaRow) (l : Link Way) → IsIn l (map (root_start file) (enumerate_from k rows)) → l.role.from ≡ 0

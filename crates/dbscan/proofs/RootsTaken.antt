@@ -1,20 +1,15 @@
 -- What a list of roots holds by the rows that it was given, and the starts that this makes.
 use Rattle.std.proofs.Common.{◌≡◌, ℕ, Bool, true, false, cond, not, List, [], ◌∷◌, ◌++◌, length, take, map, filter_map, None, Some, Result, Ok, Err, refl, sym}
-use Rattle.std.proofs.Common.{ap, ◌∙◌, append_assoc}
-use Rattle.std.specs.Prelude.{◌==◌}
+use Rattle.std.proofs.Common.{ap, ◌∙◌, append_assoc, ◌==◌}
+use Rattle.dbscan.proofs.Common.{Moves, last_root_start, Reference, SchemaCell, schema, rooted, rooted_rows, root_start, freelist_starts, later_starts}
+use Rattle.dbscan.proofs.Common.{SchemaRow, Listed, kept_row, TakesRow, AreListed, listed_rows}
 use Rattle.std.specs.Result.{result_ok}
 use Rattle.std.specs.List.{enumerate_from, cons_option, take-map}
 use Rattle.std.proofs.lemmas.List.{append-nil}
-use Rattle.dbsurvey.specs.Moves.{Moves}
-use Rattle.dbformat.specs.Address.{last_root_start}
-use Rattle.dbformat.specs.Reference.{Reference}
-use Rattle.dbformat.specs.Schema.{SchemaCell, schema, rooted, rooted_rows, root_start, freelist_starts, later_starts}
-use Rattle.dbformat.specs.SchemaRow.{SchemaRow}
 use Rattle.dbformat.specs.Sound.{with_root}
 use Rattle.dbformat.specs.declared.RowFault.{RowFault}
 use Rattle.dbwalk.specs.Taking.{HasRootRoom, StartsEmpty, roots_after, first_roots, gives, readable_rows}
 use Rattle.dbwalk.proofs.RootTakings.{list_has_room, first_more}
-use Rattle.dbscan.specs.Roots.{Listed, kept_row, TakesRow, AreListed, listed_rows}
 use Rattle.dbscan.proofs.ShortNames.{roots_are_kept}
 
 roots_have_room : HasRootRoom TakesRow (λ l. length l.rows)

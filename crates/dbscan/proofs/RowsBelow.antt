@@ -1,25 +1,16 @@
 -- The rows that are found below some errands are those of the visits there.
-use Rattle.std.proofs.Common.{◌≡◌, ℕ, List, [], ◌∷◌, ◌++◌, map, Option, Some, None, refl, ap, ap₂, ◌∙◌, append-nil}
-use Rattle.std.specs.Prelude.{filter_map, option_to_list}
+use Rattle.std.proofs.Common.{◌≡◌, ℕ, List, [], ◌∷◌, ◌++◌, map, Option, Some, None, refl, ap, ap₂, ◌∙◌, append-nil, filter_map, option_to_list}
+use Rattle.dbscan.proofs.Common.{AreQuiet, read_back, visits_in, Told, Errand, telling_of, geometry, Way, Reference, role_of, event_faults, StatRow, row_in}
+use Rattle.dbscan.proofs.Common.{stat_rows, Event, at_page, at_key, at_refused, own_visit, story_of, rules_of, Fault, cause_of, told_row, told_by, told_at}
+use Rattle.dbscan.proofs.Common.{told_below, visited_below, found_rows}
 use Rattle.std.specs.List.{cons_option}
 use Rattle.std.proofs.lemmas.List.Elements.{filter_map-append}
-use Rattle.dbsurvey.specs.InOrder.{AreQuiet, read_back, visits_in}
-use Rattle.dbsurvey.specs.Story.{Told, Errand, telling_of}
 use Rattle.dbsurvey.proofs.Parting.{visits_of}
-use Rattle.dbformat.specs.File.{geometry}
 use Rattle.dbformat.specs.Laws.{event_row}
-use Rattle.dbformat.specs.Reference.{Way, Reference, role_of}
-use Rattle.dbformat.specs.Report.{event_faults}
-use Rattle.dbformat.specs.Rows.{StatRow, row_in, stat_rows}
-use Rattle.dbformat.specs.Story.{Event, at_page, at_key, at_refused, own_visit, story_of}
-use Rattle.dbformat.specs.Survey.{rules_of}
-use Rattle.dbformat.specs.declared.Fault.{Fault}
 use Rattle.dbformat.specs.declared.FaultCode.{FaultCode}
 use Rattle.dbformat.proofs.Theory.{are_rules, is_story, shows_visits}
-use Rattle.dbtrace.specs.Causes.{cause_of}
-use Rattle.dbtrace.specs.Finding.{told_row, told_by, told_at, told_below, visited_below}
 use Rattle.dbtrace.specs.declared.Cause.{Cause}
-use Rattle.dbscan.specs.Findings.{found_row, found_rows}
+use Rattle.dbscan.specs.Findings.{found_row}
 
 pub rows_none : (file : List ℕ) → stat_rows file [] ≡ []
 unfolding stat_rows

@@ -1,29 +1,19 @@
 -- What a run finds in the walks from all starts: the survey, and its faults.
 use Rattle.std.proofs.Common.{◌≡◌, ℕ, List, [], ◌∷◌, ◌++◌, map, refl, sym, ap, subst, ◌∙◌}
-use Rattle.dbsurvey.specs.Address.{IsIn}
+use Rattle.dbscan.proofs.Common.{IsIn, Go, Follow, errands_at, goes, schema_start, geometry, schema_part, Way, Reference, schema, later_starts, starts, Event}
+use Rattle.dbscan.proofs.Common.{start_errands, Survey, rules_of, visited_below, AreMarksOf, Mark, AreBelowStarts, schema_reference, later_errands, IsAtStarts}
 use Rattle.dbsurvey.specs.From.{under}
-use Rattle.dbsurvey.specs.Story.{Go, Follow, errands_at, goes, AreErrandsApart}
+use Rattle.dbsurvey.specs.Story.{AreErrandsApart}
 use Rattle.dbsurvey.specs.Survey.{Link, named_at}
 use Rattle.dbsurvey.specs.Traverse.{part_of}
 use Rattle.dbsurvey.proofs.Tellings.{errands_at-apart}
-use Rattle.dbformat.specs.Address.{schema_start}
-use Rattle.dbformat.specs.File.{geometry}
-use Rattle.dbformat.specs.Laws.{schema_part}
-use Rattle.dbformat.specs.Reference.{Way, Reference}
-use Rattle.dbformat.specs.Schema.{schema, later_starts, starts}
-use Rattle.dbformat.specs.Story.{Event, start_errands}
-use Rattle.dbformat.specs.Survey.{Survey, rules_of}
 use Rattle.dbformat.proofs.LookBack.{by_starts}
 use Rattle.dbformat.proofs.Rising.{starts_rise, follows_pairs}
 use Rattle.dbformat.proofs.SchemaStart.{schema_below}
 use Rattle.dbformat.proofs.Visited.{has_address}
-use Rattle.dbtrace.specs.Finding.{visited_below}
-use Rattle.dbmarks.specs.Marking.{AreMarksOf}
-use Rattle.dbmarks.specs.declared.marks.Mark.{Mark}
 use Rattle.dbwalk.proofs.Telling.Belows.{visited_join}
 use Rattle.dbwalk.proofs.Telling.Lefts.{left_start}
-use Rattle.dbscan.specs.Starts.{AreBelowStarts, schema_reference, later_errands}
-use Rattle.dbscan.specs.Walks.{Any, IsAtStarts}
+use Rattle.dbscan.specs.Walks.{Any}
 
 -- starts depend only on the schema
 later_same : (file : List ℕ) (U V : List Reference) → schema file U ≡ schema file V → later_starts file U ≡ later_starts file V

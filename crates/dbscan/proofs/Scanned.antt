@@ -1,31 +1,17 @@
 -- What a reporter hears in a scan, part by part: the faults of the header, what is found at the starts, and what is reported
 -- after the walks.
 use Rattle.std.proofs.Common.{◌≡◌, ℕ, Bool, List, ◌++◌, length, map, Result, Ok, Err, refl, sym, ap, ap₂, subst, ◌∙◌}
-use Rattle.dbsurvey.specs.Moves.{Moves, MovesBySome}
-use Rattle.dbformat.specs.HeaderFaults.{header_faults}
-use Rattle.dbformat.specs.Reference.{Reference}
-use Rattle.dbformat.specs.Survey.{Survey}
+use Rattle.dbscan.proofs.Common.{Moves, MovesBySome, header_faults, Reference, Survey, Step, is_read_failed, HeaderBytes, IsHeaderOf, Asks, SourceState}
+use Rattle.dbscan.proofs.Common.{RunError, AreMarksOf, AreListed, Tells, AsksOver, DeskView, IsFresh, shape_of, ReadsMarked, Notice, whole, start_notices}
+use Rattle.dbscan.proofs.Common.{end_notices, run_notices, AreWalked}
 use Rattle.dbformat.proofs.HeaderPrefix.{header_faults_within}
-use Rattle.dbsource.specs.Answers.{Step}
-use Rattle.dbsource.specs.Errors.{is_read_failed}
-use Rattle.dbsource.specs.HeaderBytes.{HeaderBytes}
-use Rattle.dbsource.specs.Headers.{IsHeaderOf}
-use Rattle.dbsource.specs.Sources.{Asks, SourceState}
-use Rattle.dbsource.specs.declared.error.RunError.{RunError}
 use Rattle.dbsource.proofs.Logs.{asks_weaker}
 use Rattle.dbmarks.proofs.FirstMarks.{fresh_marks}
-use Rattle.dbmarks.specs.Marking.{AreMarksOf}
-use Rattle.dbscan.specs.Roots.{AreListed}
-use Rattle.dbwalk.specs.Telling.{Tells}
 use Rattle.dbsurvey.proofs.Moving.{some_first, some_after}
-use Rattle.dbscan.specs.Desks.{AsksOver, DeskView, IsFresh, shape_of}
-use Rattle.dbscan.specs.Looks.{ReadsMarked}
-use Rattle.dbtrace.specs.declared.Part.TheVariants as part
-use Rattle.dbscan.specs.Notices.{Notice, whole, start_notices, end_notices, run_notices}
 use Rattle.dbscan.specs.Scans.{IsScanned}
-use Rattle.dbscan.specs.Walks.{AreWalked}
 use Rattle.dbscan.proofs.EndItems.{tells_then}
 use Rattle.dbscan.proofs.MapLogs.{walk_log}
+use Rattle.dbtrace.specs.declared.Part.TheVariants as part
 
 -- the header's faults, as they are reported
 header_items : (file : List ℕ) (h : HeaderBytes) → IsHeaderOf h file

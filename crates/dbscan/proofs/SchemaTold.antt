@@ -1,39 +1,30 @@
 -- What is reported below the schema's start shows whether the schema has a row.
 use Rattle.std.proofs.Common.{◌≡◌, ℕ, inl, inr, Bool, true, false, cond, not, ◌&&◌, List, [], ◌∷◌, ◌++◌, map, Option, Some, None, refl, sym, ap, ap₂, ◌∙◌}
-use Rattle.std.specs.Prelude.{option_to_list, ◌||◌, ◌==◌}
+use Rattle.std.proofs.Common.{option_to_list, ◌||◌, ◌==◌}
+use Rattle.dbscan.proofs.Common.{IsIn, Address, visits_in, read_back, Told, Follow, errands_at, telling_of, start_of, schema_start, has_rows, geometry, View}
+use Rattle.dbscan.proofs.Common.{is_interior, schema_part, Role, root, child, first_overflow, later_overflow, trunk, free_leaf, Reference, role_of, tree_view}
+use Rattle.dbscan.proofs.Common.{event_faults, StatRow, row_in, later_starts, Event, at_page, at_key, at_refused, own_visit, story_of, Survey, rules_of, Fault}
+use Rattle.dbscan.proofs.Common.{cause_of, told_row, told_by, told_at, told_below, is_schema_row}
 use Rattle.std.specs.Option.{option_map_or}
 use Rattle.std.specs.List.{list_any, cons_option}
 use Rattle.std.proofs.Math.Bool.{and-false}
 use Rattle.std.proofs.lemmas.Bool.{and_parts}
 use Rattle.std.proofs.lemmas.List.Folds.{list_any-append}
-use Rattle.dbsurvey.specs.Address.{IsIn, Address}
-use Rattle.dbsurvey.specs.From as start_words
 use Rattle.dbsurvey.specs.From.{under}
-use Rattle.dbsurvey.specs.InOrder.{visits_in, read_back}
-use Rattle.dbsurvey.specs.Story.{Told, Follow, errands_at, telling_of}
 use Rattle.dbsurvey.proofs.Parting.{visits_of}
 use Rattle.dbsurvey.proofs.Starting.{survey_from_first}
-use Rattle.dbformat.specs.Address.{start_of, schema_start}
-use Rattle.dbformat.specs.EndFaults.{has_cell, has_rows}
-use Rattle.dbformat.specs.File.{geometry}
-use Rattle.dbformat.specs.Head.{View, is_interior}
-use Rattle.dbformat.specs.Laws.{schema_part}
+use Rattle.dbformat.specs.EndFaults.{has_cell}
 use Rattle.dbformat.specs.PageFaults.{is_leaf_of}
-use Rattle.dbformat.specs.Reference.{Role, root, child, first_overflow, later_overflow, trunk, free_leaf, Reference, role_of, tree_kind, tree_view}
-use Rattle.dbformat.specs.Report.{event_faults}
-use Rattle.dbformat.specs.Rows.{StatRow, row_in, tree_page_row}
-use Rattle.dbformat.specs.Schema.{schema_link, later_starts}
-use Rattle.dbformat.specs.Story.{Event, at_page, at_key, at_refused, own_visit, story_of}
-use Rattle.dbformat.specs.Survey.{Survey, rules_of}
-use Rattle.dbformat.specs.declared.Fault.{Fault}
+use Rattle.dbformat.specs.Reference.{tree_kind}
+use Rattle.dbformat.specs.Rows.{tree_page_row}
+use Rattle.dbformat.specs.Schema.{schema_link}
 use Rattle.dbformat.specs.declared.FaultCode.{FaultCode}
-use Rattle.dbtrace.specs.Causes.{cause_of}
 use Rattle.dbtrace.specs.declared.Cause.{Cause}
 use Rattle.dbformat.proofs.Rising.{starts_rise}
 use Rattle.dbformat.proofs.Theory.{are_rules, is_story, shows_visits, no_tell}
 use Rattle.dbformat.proofs.Visited.{has_address}
-use Rattle.dbtrace.specs.Finding.{told_row, told_by, told_at, told_below}
-use Rattle.dbscan.specs.Findings.{is_schema_leaf, is_schema_row}
+use Rattle.dbscan.specs.Findings.{is_schema_leaf}
+use Rattle.dbsurvey.specs.From as start_words
 
 or_none : (a b : Bool) → b ≡ false → (a || b) ≡ a
 or_none true b e = refl

@@ -1,31 +1,16 @@
 -- What the walk over the schema's tree has found: its rows in the list, and whether there are any.
-use Rattle.std.proofs.Common.{◌≡◌, ◌↔◌, ℕ, Bool, false, List, [], ◌∷◌, length, map, take, Result, Ok, Err, refl, sym, ap, subst, ◌∙◌}
-use Rattle.std.specs.Prelude.{◌||◌, OnOk}
+use Rattle.std.proofs.Common.{◌≡◌, ◌↔◌, ℕ, Bool, false, List, [], ◌∷◌, length, map, take, Result, Ok, Err, refl, sym, ap, subst, ◌∙◌, ◌||◌, OnOk}
+use Rattle.dbscan.proofs.Common.{last_root_start, schema_start, Go, Follow, errands_at, schema_part, schema, rooted_rows, Reference, Survey, Encoding}
+use Rattle.dbscan.proofs.Common.{HeaderBytes, IsHeaderOf, RunError, told_below, AreMarksOf, Mark, Listed, TakesRow, is_schema_row, Notice, IsSchemaOf}
+use Rattle.dbscan.proofs.Common.{at_schema, schema_reference, IsSchemaWalked, IsTreeWalked, IsWalkedOver}
 use Rattle.std.specs.List.{list_any}
-use Rattle.dbformat.specs.Address.{last_root_start, schema_start}
-use Rattle.dbsurvey.specs.Story.{Go, Follow, errands_at}
 use Rattle.dbformat.specs.Header.{encoding as encoding_of}
-use Rattle.dbformat.specs.Laws.{schema_part}
-use Rattle.dbformat.specs.Schema.{schema, rooted_rows}
-use Rattle.dbformat.specs.Reference.{Reference}
-use Rattle.dbformat.specs.Survey.{Survey}
-use Rattle.dbformat.specs.declared.Encoding.{Encoding}
 use Rattle.dbformat.proofs.LookBack.{by_starts}
-use Rattle.dbsource.specs.HeaderBytes.{HeaderBytes}
-use Rattle.dbsource.specs.Headers.{IsHeaderOf}
-use Rattle.dbsource.specs.declared.error.RunError.{RunError}
-use Rattle.dbtrace.specs.Finding.{told_below}
-use Rattle.dbmarks.specs.Marking.{AreMarksOf}
 use Rattle.dbwalk.specs.Taking.{StartsEmpty}
 use Rattle.dbwalk.specs.Roots.{IsRootAfter}
-use Rattle.dbmarks.specs.declared.marks.Mark.{Mark}
 use Rattle.dbwalk.specs.declared.root.Root.{Root}
 use Rattle.dbwalk.specs.declared.root.RootKind.TheVariants.{Schema}
-use Rattle.dbscan.specs.Roots.{Listed, TakesRow}
-use Rattle.dbscan.specs.Findings.{is_schema_row}
-use Rattle.dbscan.specs.Notices.{Notice}
-use Rattle.dbscan.specs.Starts.{IsSchemaOf, at_schema, schema_reference, root_of_schema}
-use Rattle.dbscan.specs.Walks.{IsSchemaWalked, IsTreeWalked, IsWalkedOver}
+use Rattle.dbscan.specs.Starts.{root_of_schema}
 use Rattle.dbscan.specs.declared.teller.Teller.{Teller}
 use Rattle.dbscan.proofs.RootsTaken.{roots_start_empty, schema_roots, starts_listed}
 use Rattle.dbscan.proofs.SchemaTold.{schema_rows_told}

@@ -1,23 +1,19 @@
 -- The rows of the schema have only short names, so that a list of roots keeps them as they are.
 use Rattle.std.proofs.Common.{◌≡◌, ℕ, Bool, true, false, cond, ◌&&◌, List, [], ◌∷◌, ◌++◌, length, map, Option, Some, None, Result, Ok, Err, ℤ, pos, negsuc}
-use Rattle.std.proofs.Common.{refl, sym, ap, ap₂, ◌∙◌}
-use Rattle.std.specs.Prelude.{flat_map, nat_le, ◌==◌}
+use Rattle.std.proofs.Common.{refl, sym, ap, ap₂, ◌∙◌, flat_map, nat_le, ◌==◌}
+use Rattle.dbscan.proofs.Common.{start_of, schema_start, View, is_interior, encoding, Reference, tree_view, SchemaCell, schema_cell, schema, rooted}
+use Rattle.dbscan.proofs.Common.{rooted_rows, SchemaRow, Encoding, kept_row}
 use Rattle.std.specs.List.{cons_option}
 use Rattle.std.proofs.lemmas.List.{map-append}
 use Rattle.std.proofs.lemmas.List.Elements.{filter_map-append}
-use Rattle.dbformat.specs.Address.{start_of, schema_start}
 use Rattle.dbformat.specs.Cell.{Cell, cells}
-use Rattle.dbformat.specs.Head.{View, is_interior}
-use Rattle.dbformat.specs.Header.{encoding}
 use Rattle.dbformat.specs.Record.{Value, null, integer, float, blob, text, record_values}
-use Rattle.dbformat.specs.Reference.{Reference, tree_view}
-use Rattle.dbformat.specs.Schema.{SchemaCell, payload, schema_cell, leaf_rows, rows_at, schema, rooted, rooted_rows}
-use Rattle.dbformat.specs.SchemaRow.{SchemaRow, row_kind, root_number, root_fits, row_name, checked_row, row_of_values, schema_row}
+use Rattle.dbformat.specs.Schema.{payload, leaf_rows, rows_at}
+use Rattle.dbformat.specs.SchemaRow.{row_kind, root_number, root_fits, row_name, checked_row, row_of_values, schema_row}
 use Rattle.dbformat.specs.Text.{is_well_formed}
-use Rattle.dbformat.specs.declared.Encoding.{Encoding}
 use Rattle.dbformat.specs.declared.RowFault.{RowFault}
 use Rattle.dbformat.specs.declared.RowKind.{RowKind}
-use Rattle.dbscan.specs.Roots.{short_name, kept_row}
+use Rattle.dbscan.specs.Roots.{short_name}
 
 -- what is read has a short name
 abbrev HasShortName : Result SchemaRow RowFault → Type 0

@@ -1,13 +1,8 @@
 -- What holds of the notices of the starts after the schema's, one start after another.
 use Rattle.std.proofs.Common.{ℕ, ◌+◌, List, [], ◌∷◌, ◌++◌, map}
+use Rattle.dbscan.proofs.Common.{Errand, Go, Way, Reference, SchemaRow, Event, told_below, visited_below, Notice, found, errands_left, root_reference}
+use Rattle.dbscan.proofs.Common.{tree_notices, later_notices, at_freelist, at_row}
 use Rattle.std.specs.List.{enumerate_from}
-use Rattle.dbsurvey.specs.Story.{Errand, Go}
-use Rattle.dbformat.specs.Reference.{Way, Reference}
-use Rattle.dbformat.specs.SchemaRow.{SchemaRow}
-use Rattle.dbformat.specs.Story.{Event}
-use Rattle.dbtrace.specs.Finding.{told_below, visited_below}
-use Rattle.dbscan.specs.Notices.{Notice, found, errands_left, root_reference, tree_notices, later_notices}
-use Rattle.dbscan.specs.Starts.{at_freelist, at_row}
 
 -- After the visits of W, of the rows from start k on: it holds of what is reported along the freelist. It holds of the tree of
 -- a row and what is reported after it, if it holds of the latter.

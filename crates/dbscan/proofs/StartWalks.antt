@@ -1,24 +1,10 @@
 -- The walks from all starts: over the schema's tree, over the trees of its rows, and along the freelist.
 use Rattle.std.proofs.Common.{◌≡◌, ℕ, Bool, List, [], Result, Ok, Err, refl, sym, ap, subst, ◌∙◌}
+use Rattle.dbscan.proofs.Common.{geometry_of, Reference, Survey, Step, is_read_failed, failures_after, HeaderBytes, IsHeaderOf, SourceState, RunError, marks_of}
+use Rattle.dbscan.proofs.Common.{AsksOver, DeskView, IsFresh, Notice, Listed, IsSchemaOf, AreTold, AreWalked, IsBetweenStarts, IsSchemaWalked, StopsTelling}
 use Rattle.std.specs.List.{enumerate_from}
-use Rattle.dbformat.specs.FixedPages.{geometry_of}
-use Rattle.dbformat.specs.Reference.{Reference}
-use Rattle.dbformat.specs.Survey.{Survey}
-use Rattle.dbsource.specs.Answers.{Step}
-use Rattle.dbsource.specs.Errors.{is_read_failed}
-use Rattle.dbsource.specs.Failures.{failures_after}
-use Rattle.dbsource.specs.HeaderBytes.{HeaderBytes}
-use Rattle.dbsource.specs.Headers.{IsHeaderOf}
-use Rattle.dbsource.specs.Sources.{SourceState}
-use Rattle.dbsource.specs.declared.error.RunError.{RunError}
 use Rattle.dbsource.proofs.Logs.{asks_weaker}
-use Rattle.dbmarks.specs.Marking.{marks_of}
 use Rattle.dbmarks.proofs.Readings.{asks_then}
-use Rattle.dbscan.specs.Desks.{AsksOver, DeskView, IsFresh}
-use Rattle.dbscan.specs.Notices.{Notice}
-use Rattle.dbscan.specs.Roots.{Listed}
-use Rattle.dbscan.specs.Starts.{IsSchemaOf}
-use Rattle.dbscan.specs.Walks.{AreTold, AreWalked, IsBetweenStarts, IsSchemaWalked, StopsTelling}
 use Rattle.dbscan.proofs.TreeWalks.{schema_told, all_walked, later_stopped}
 
 -- whether the schema has rows, if all was done

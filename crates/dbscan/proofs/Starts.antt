@@ -1,26 +1,16 @@
 -- The starts of a run, one after another: what a walk at the next one leaves.
-use Rattle.std.proofs.Common.{◌≡◌, ◌≢◌, ℕ, zero, suc, ◌<◌, ◌≤◌, inl, inr, List, [], ◌∷◌, ◌++◌, drop, length, Some, refl, sym, ap, subst, arith}
-use Rattle.std.specs.Prelude.{slice_get}
-use Rattle.dbsurvey.specs.Address.{Address, IsIn, IsBefore}
-use Rattle.dbsurvey.specs.InOrder.{AreQuiet}
-use Rattle.dbsurvey.specs.Story.{Errand, Go}
+use Rattle.std.proofs.Common.{◌≡◌, ◌≢◌, ℕ, zero, suc, ◌<◌, ◌≤◌, inl, inr, List, [], ◌∷◌, ◌++◌, drop, length, Some, refl, sym, ap, subst, arith, slice_get}
+use Rattle.dbscan.proofs.Common.{Address, IsIn, AreQuiet, Errand, Go, encoding, root, Way, Reference, SchemaRow, Event, own_visit, start_errands, Encoding}
+use Rattle.dbscan.proofs.Common.{visited_below, Mark, root_reference, root_of, AreBelowStarts, IsAtStarts}
+use Rattle.dbsurvey.specs.Address.{IsBefore}
 use Rattle.dbsurvey.proofs.Order.{IsIn-left}
-use Rattle.dbformat.specs.Header.{encoding}
-use Rattle.dbformat.specs.Reference.{root, Way, Reference}
 use Rattle.dbformat.specs.Schema.{root_kind}
-use Rattle.dbformat.specs.SchemaRow.{SchemaRow}
-use Rattle.dbformat.specs.Story.{Event, own_visit, start_errands}
-use Rattle.dbformat.specs.declared.Encoding.{Encoding}
 use Rattle.dbformat.specs.declared.RowKind.{RowKind}
-use Rattle.dbformat.specs.declared.RowKind.TheVariants as row
-use Rattle.dbtrace.specs.Finding.{visited_below}
 use Rattle.dbtrace.specs.Starts.{IsOfEarlierStart}
 use Rattle.dbwalk.specs.Roots.{kind_in, IsRootAfter}
-use Rattle.dbmarks.specs.declared.marks.Mark.{Mark}
 use Rattle.dbwalk.specs.declared.root.RootKind.TheVariants.{Schema}
-use Rattle.dbscan.specs.Notices.{root_reference}
-use Rattle.dbscan.specs.Starts.{kind_by, root_of, AreBelowStarts}
-use Rattle.dbscan.specs.Walks.{IsAtStarts}
+use Rattle.dbscan.specs.Starts.{kind_by}
+use Rattle.dbformat.specs.declared.RowKind.TheVariants as row
 
 pub quiet_go : (c : Reference) → AreQuiet own_visit (Go c ∷ [])
 quiet_go c e (inl h) = cc

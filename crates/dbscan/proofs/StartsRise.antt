@@ -1,21 +1,14 @@
 -- What a reporter hears at starts comes start by start, in their order.
-use Rattle.std.proofs.Common.{◌≡◌, ℕ, ◌+◌, ◌≤◌, inl, inr, List, [], ◌∷◌, ◌++◌, length, map, sym, subst, arith}
-use Rattle.std.specs.Prelude.{filter_map}
+use Rattle.std.proofs.Common.{◌≡◌, ℕ, ◌+◌, ◌≤◌, inl, inr, List, [], ◌∷◌, ◌++◌, length, map, sym, subst, arith, filter_map}
+use Rattle.dbscan.proofs.Common.{IsIn, Go, freelist_start, Reference, schema, rooted_rows, SchemaRow, Finding, told_fault, told_row, told_below, visited_below}
+use Rattle.dbscan.proofs.Common.{Notice, found, ended, errands_left, root_reference, tree_notices, later_notices, start_notices, listed_rows, At, at_freelist}
+use Rattle.dbscan.proofs.Common.{at_row, at_schema, schema_reference}
 use Rattle.std.specs.List.{enumerate_from}
 use Rattle.std.proofs.lemmas.List.Elements.{filter_map-append}
-use Rattle.dbsurvey.specs.Address.{IsIn, EachPair}
-use Rattle.dbsurvey.specs.Story.{Go}
+use Rattle.dbsurvey.specs.Address.{EachPair}
 use Rattle.dbsurvey.proofs.Order.{IsIn-cases, EachPair-append}
-use Rattle.dbformat.specs.Address.{freelist_start}
-use Rattle.dbformat.specs.Reference.{Reference}
-use Rattle.dbformat.specs.Schema.{schema, rooted_rows}
-use Rattle.dbformat.specs.SchemaRow.{SchemaRow}
 use Rattle.dbformat.proofs.Rising.{rows_end}
-use Rattle.dbtrace.specs.Finding.{Finding, told_fault, told_row, told_below, visited_below}
-use Rattle.dbscan.specs.Notices.{Notice, found, ended, errands_left, root_reference, tree_notices, later_notices, start_notices}
 use Rattle.dbscan.specs.Placed.{number_of, AreStarts, StartsRise}
-use Rattle.dbscan.specs.Roots.{listed_rows}
-use Rattle.dbscan.specs.Starts.{At, at_freelist, at_row, at_schema, schema_reference}
 
 abbrev numbers : List Notice → List ℕ
 numbers notices = filter_map number_of notices

@@ -1,18 +1,11 @@
 -- What a teller hands on with its start, and what it notes.
-use Rattle.std.proofs.Common.{◌≡◌, ℕ, Bool, false, inl, inr, List, [], ◌∷◌, map, Result, Ok, Err, refl, sym, ap, subst, ◌∙◌}
-use Rattle.std.specs.Prelude.{◌||◌, IfErr}
+use Rattle.std.proofs.Common.{◌≡◌, ℕ, Bool, false, inl, inr, List, [], ◌∷◌, map, Result, Ok, Err, refl, sym, ap, subst, ◌∙◌, ◌||◌, IfErr}
+use Rattle.dbscan.proofs.Common.{Moves, MovesBySome, is_read_failed, is_write_failed, failures_after, RunError, WriteFailed, Finding, SinkAfter, SinkMoves}
+use Rattle.dbscan.proofs.Common.{SinkState, is_schema_row, Notice, found}
 use Rattle.std.specs.List.{list_any}
 use Rattle.std.proofs.Math.Bool.{or_assoc, or-false}
-use Rattle.dbsurvey.specs.Moves.{Moves, MovesBySome}
-use Rattle.dbsource.specs.Errors.{is_read_failed, is_write_failed}
-use Rattle.dbsource.specs.Failures.{failures_after}
-use Rattle.dbsource.specs.declared.error.RunError.{RunError}
-use Rattle.dbsource.specs.declared.error.RunError.TheVariants.{ReadFailed, WriteFailed, OutOfMemory, Refused}
-use Rattle.dbtrace.specs.Finding.{Finding}
-use Rattle.dbwalk.specs.Telling.{SinkAfter, SinkMoves, SinkState}
+use Rattle.dbsource.specs.declared.error.RunError.TheVariants.{ReadFailed, OutOfMemory, Refused}
 use Rattle.dbwalk.proofs.Telling.Sinks.{asked, asked_both, asked_open, asked_walks, walks_end}
-use Rattle.dbscan.specs.Findings.{is_schema_row}
-use Rattle.dbscan.specs.Notices.{Notice, found}
 use Rattle.dbscan.specs.Tellers.{HandsOn, lent_by}
 use Rattle.dbscan.specs.declared.teller.Teller.{Teller}
 

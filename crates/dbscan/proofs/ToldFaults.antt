@@ -1,12 +1,8 @@
 -- Faults that are reported, one after another.
-use Rattle.std.proofs.Common.{◌≡◌, ℕ, ◌+◌, ◌<◌, List, [], ◌∷◌, ◌++◌, length, take, map, get_or, Option, None, sym, ap, ◌∙◌}
-use Rattle.std.specs.Prelude.{flat_map, option_to_list}
+use Rattle.std.proofs.Common.{◌≡◌, ℕ, ◌+◌, ◌<◌, List, [], ◌∷◌, ◌++◌, length, take, map, get_or, Option, None, sym, ap, ◌∙◌, flat_map, option_to_list}
+use Rattle.dbscan.proofs.Common.{Fault, Part, whole, items_of}
 use Rattle.std.proofs.lemmas.Grind.{flat_map-append}
 use Rattle.std.proofs.lemmas.List.{take_more, map-append}
-use Rattle.dbformat.specs.declared.Fault.{Fault}
-use Rattle.dbtrace.specs.declared.Part.{Part}
-use Rattle.dbscan.specs.Notices.{whole}
-use Rattle.dbscan.specs.Telling.{items_of}
 
 pub items_append : (p : Part) (xs ys : List (Option Fault)) → items_of p (xs ++ ys) ≡ items_of p xs ++ items_of p ys
 items_append p xs ys = ap (map (whole p)) (flat_map-append option_to_list xs ys)

@@ -1,13 +1,7 @@
 -- What there is to do at the starts, by the rows that a list has of the schema.
 use Rattle.std.proofs.Common.{◌≡◌, ℕ, List, ◌∷◌, [], map, ap, ◌∙◌, refl}
+use Rattle.dbscan.proofs.Common.{Go, Follow, errands_at, Reference, start_errands, Survey, errands_left, listed_rows, schema_reference}
 use Rattle.std.specs.List.{enumerate_from}
-use Rattle.dbsurvey.specs.Story.{Go, Follow, errands_at}
-use Rattle.dbformat.specs.Reference.{Reference}
-use Rattle.dbformat.specs.Story.{start_errands}
-use Rattle.dbformat.specs.Survey.{Survey}
-use Rattle.dbscan.specs.Notices.{errands_left}
-use Rattle.dbscan.specs.Roots.{listed_rows}
-use Rattle.dbscan.specs.Starts.{schema_reference}
 use Rattle.dbscan.proofs.RootsTaken.{starts_listed}
 use Rattle.dbscan.proofs.RunItems.{starts_are}
 

@@ -1,29 +1,15 @@
 -- A run over a desk: all is heard, and then the report is ended; or an error stops it before.
 use Rattle.std.proofs.Common.{◌≡◌, ℕ, List, length, None, inl, inr, Result, Ok, Err, refl, sym, ap, subst, ◌∙◌}
-use Rattle.dbformat.specs.File.{refusal_of}
-use Rattle.dbformat.specs.FixedPages.{geometry_of}
-use Rattle.dbformat.specs.Log.{IsPageLog}
-use Rattle.dbformat.specs.Reference.{Reference}
-use Rattle.dbformat.specs.Survey.{Survey}
-use Rattle.dbformat.specs.declared.Geometry.{Geometry}
+use Rattle.dbscan.proofs.Common.{refusal_of, geometry_of, IsPageLog, Reference, Survey, Geometry, Step, is_read_failed, failures_after, HeaderBytes, IsHeaderOf}
+use Rattle.dbscan.proofs.Common.{Asks, SourceState, RunError, SinkState, DeskView, shape_of, IsUnmarked, ReadsMarked, ReadsRising, Notice}
 use Rattle.dbformat.specs.declared.Verdict.{Verdict}
-use Rattle.dbsource.specs.Answers.{Step}
-use Rattle.dbsource.specs.Errors.{is_out_of_memory, is_read_failed}
-use Rattle.dbsource.specs.Failures.{failures_after}
+use Rattle.dbsource.specs.Errors.{is_out_of_memory}
 use Rattle.dbsource.specs.Headed.{HeadedStep, headed}
-use Rattle.dbsource.specs.HeaderBytes.{HeaderBytes}
-use Rattle.dbsource.specs.Headers.{IsHeaderOf}
 use Rattle.dbsource.specs.Snapshots.{HasReadAfterHeader}
-use Rattle.dbsource.specs.Sources.{Asks, SourceState}
-use Rattle.dbsource.specs.declared.error.RunError.{RunError}
 use Rattle.dbsource.specs.declared.source.Source.{Ghosts as SourceWords}
 use Rattle.dbsource.proofs.Logs.{asks_then, asks_weaker}
-use Rattle.dbwalk.specs.Telling.{SinkState}
-use Rattle.dbscan.specs.Desks.{DeskView, shape_of}
 use Rattle.dbscan.specs.Finishes.{HasHeard, HasReported, Leaves}
 use Rattle.dbscan.specs.Kept.{KeepsHeader}
-use Rattle.dbscan.specs.Looks.{IsUnmarked, ReadsMarked, ReadsRising}
-use Rattle.dbscan.specs.Notices.{Notice}
 use Rattle.dbscan.specs.Scans.{IsScanned}
 use Rattle.dbscan.proofs.AfterHeader.{after_headed}
 use Rattle.dbscan.proofs.MapLogs.{looks_log}

@@ -1,28 +1,19 @@
 -- The walks from the starts, one after another: what a walk over the next tree leaves to be reported.
-use Rattle.std.proofs.Common.{◌≡◌, ◌↔◌, ℕ, suc, ◌+◌, ◌-◌, ◌<◌, Bool, false, cond, List, [], ◌∷◌, ◌++◌, drop, length, map, Some, Result, Ok, Err, refl, sym}
-use Rattle.std.proofs.Common.{ap, ap₂, subst, ◌∙◌, arith, append_assoc, append-nil}
-use Rattle.std.specs.Prelude.{OnOk, slice_get, ◌==◌}
+use Rattle.std.proofs.Common.{◌≡◌, ◌↔◌, ℕ, suc, ◌+◌, ◌-◌, ◌<◌, Bool, false, cond, List, [], ◌∷◌, ◌++◌, drop, length, map, Some, Result, Ok, Err, refl, sym, ap}
+use Rattle.std.proofs.Common.{ap₂, subst, ◌∙◌, arith, append_assoc, append-nil, OnOk, slice_get, ◌==◌}
+use Rattle.dbscan.proofs.Common.{Moves, MovesBySome, Errand, Go, Follow, errands_at, freelist_start, schema_start, start_of, encoding, first_trunk, trunk, Way}
+use Rattle.dbscan.proofs.Common.{Reference, SchemaRow, Event, start_errands, Survey, Encoding, RunError, Finding, told_below, visited_below, AreMarksOf, Mark}
+use Rattle.dbscan.proofs.Common.{Notice, found, ended, errands_left, root_reference, tree_notices, later_notices, start_notices, IsSchemaOf, at_freelist}
+use Rattle.dbscan.proofs.Common.{at_row, at_schema, later_errands, root_of, schema_reference, IsAtStarts, IsTreeWalked, IsWalkedOver, IsSchemaWalked}
+use Rattle.dbscan.proofs.Common.{IsBetweenStarts, StopsTelling, AreTold, AreWalked}
 use Rattle.std.specs.List.{enumerate_from}
-use Rattle.dbsurvey.specs.Moves.{Moves, MovesBySome}
-use Rattle.dbsurvey.specs.Story.{Errand, Go, Follow, errands_at}
 use Rattle.dbsurvey.proofs.Moving.{Moves-append, some_first, some_after}
-use Rattle.dbformat.specs.Address.{freelist_start, schema_start, start_of}
-use Rattle.dbformat.specs.Header.{encoding, first_trunk}
-use Rattle.dbformat.specs.Reference.{trunk, Way, Reference}
 use Rattle.dbformat.specs.Schema.{start as start_at}
-use Rattle.dbformat.specs.SchemaRow.{SchemaRow}
-use Rattle.dbformat.specs.Story.{Event, start_errands}
-use Rattle.dbformat.specs.Survey.{Survey}
-use Rattle.dbformat.specs.declared.Encoding.{Encoding}
-use Rattle.dbsource.specs.declared.error.RunError.{RunError}
-use Rattle.dbtrace.specs.Finding.{Finding, told_below, visited_below}
 use Rattle.dbwalk.specs.Done.{IsDone, IsTreeDone}
 use Rattle.dbwalk.specs.Entered.{IsNext}
-use Rattle.dbmarks.specs.Marking.{AreMarksOf}
 use Rattle.dbwalk.specs.Taking.{StartsEmpty, gives, readable_rows}
 use Rattle.dbwalk.specs.Roots.{IsRootAfter}
 use Rattle.dbwalk.specs.Trunks.{IsFirstTrunk, freelist_reference}
-use Rattle.dbmarks.specs.declared.marks.Mark.{Mark}
 use Rattle.dbwalk.specs.declared.root.Root.{Root}
 use Rattle.dbwalk.specs.declared.root.RootKind.TheVariants.{Schema}
 use Rattle.dbwalk.specs.declared.taker.Taken.{Taken}
@@ -31,10 +22,8 @@ use Rattle.dbwalk.proofs.Telling.Belows.{told_none}
 use Rattle.dbwalk.proofs.Telling.Sinks.{moves_some}
 use Rattle.dbwalk.proofs.Telling.Lefts.{left_call, left_none}
 use Rattle.dbwalk.proofs.Trees.Bounds.{root_address}
-use Rattle.dbscan.specs.Notices.{Notice, found, ended, errands_left, root_reference, tree_notices, later_notices, start_notices}
-use Rattle.dbscan.specs.Starts.{IsSchemaOf, at_freelist, at_row, at_schema, later_errands, root_of, schema_reference}
 use Rattle.dbscan.specs.Tellers.{HandsOn}
-use Rattle.dbscan.specs.Walks.{Any, IsAtStarts, IsTreeWalked, IsWalkedOver, IsSchemaWalked, IsBetweenStarts, StopsTelling, AreTold, AreWalked}
+use Rattle.dbscan.specs.Walks.{Any}
 use Rattle.dbscan.specs.declared.teller.Teller.{Teller}
 use Rattle.dbscan.proofs.RunItems.{all_visited, starts_left, survey_below_starts}
 use Rattle.dbscan.proofs.Starts.{drop_more, no_schema_kind, quiet_go, root_next, row_there, some_is}

@@ -1,21 +1,15 @@
 -- The starts of pages, as the rows of a file are heard.
-use Rattle.std.proofs.Common.{◌≡◌, ℕ, ◌<◌, ◌⊎◌, inl, inr, List, [], ◌∷◌, length, Option, Some, refl, sym, ap, subst, ◌∙◌, arith}
-use Rattle.std.specs.Prelude.{fold, filter_map, slice_get, ◌==◌}
+use Rattle.std.proofs.Common.{◌≡◌, ℕ, ◌<◌, ◌⊎◌, inl, inr, List, [], ◌∷◌, length, Option, Some, refl, sym, ap, subst, ◌∙◌, arith, fold, filter_map, slice_get}
+use Rattle.std.proofs.Common.{◌==◌}
+use Rattle.dbscan.proofs.Common.{IsIn, start_of, geometry, Reference, role_of, StatRow, row_in, stat_rows, start_at, Survey, AreTrees}
 use Rattle.std.proofs.lemmas.Bool.{both_ways, cases_Bool, eqb-true, eq-eqb}
 use Rattle.std.proofs.lemmas.Bool.Decides.{nat_tests}
 use Rattle.std.proofs.Math.ListN.{length-set}
-use Rattle.dbsurvey.specs.Address.{IsIn}
 use Rattle.dbsurvey.proofs.Lists.{filter_map-from, filter_map-has}
-use Rattle.dbformat.specs.Address.{start_of}
-use Rattle.dbformat.specs.File.{geometry}
-use Rattle.dbformat.specs.Reference.{Reference, role_of}
-use Rattle.dbformat.specs.Rows.{StatRow, row_in, stat_rows}
-use Rattle.dbformat.specs.Starts.{start_at}
-use Rattle.dbformat.specs.Survey.{Survey}
 use Rattle.dbformat.proofs.BelowStarts.{start_here}
 use Rattle.dbformat.proofs.Visited.{allowed}
 use Rattle.dbsound.proofs.RowCounts.RowPages.{of_row, row_of}
-use Rattle.dbscan.specs.Trees.{AreTrees, row_noted}
+use Rattle.dbscan.specs.Trees.{row_noted}
 use Rattle.dbscan.proofs.Slots.{get_set, get_set_other}
 
 -- where all rows of page p have this start, it is noted, if it is known already or there is such a row

@@ -1,42 +1,24 @@
 -- The leaves of a trunk, one after another.
 use Rattle.std.proofs.Common.{◌≡◌, ℕ, zero, suc, ◌+◌, ◌-◌, ◌*◌, ◌<◌, true, false, inl, inr, Bool, List, [], ◌∷◌, ◌++◌, map, Ok, sym, ap, subst, arith, ◌≤◌}
-use Rattle.std.proofs.Common.{cond, Some, None, Result, refl, ◌∙◌}
-use Rattle.dbsurvey.specs.Story.{Errand, Go, errands_of, Told, Tell}
-use Rattle.dbsurvey.specs.InOrder.{AreQuiet}
-use Rattle.dbformat.specs.Address.{then_step, freelist_start}
+use Rattle.std.proofs.Common.{cond, Some, None, Result, refl, ◌∙◌, option_to_list, nat_le, nat_lt, ◌==◌, pos}
+use Rattle.dbwalk.proofs.Common.{Errand, Go, errands_of, Told, Tell, AreQuiet, then_step, role_faults, page_faults, row_in, Moves, free_leaf, Way, Reference}
+use Rattle.dbwalk.proofs.Common.{role_of, Role, bytes_left, tree_kind, trunk, link, next_trunk, leaf_count, most_leaves, Event, at_page, own_visit, story_of}
+use Rattle.dbwalk.proofs.Common.{Mark, EntersBeside, Turns, IsNext, Enters, cause_of, refusal_cause, Finding, told_row, told_alone, told_by, told_at}
+use Rattle.dbwalk.proofs.Common.{leaves_from, IsFirstTrunk, IsOnTrunks, trunk_step, next_step, IsLeft, IsIn, is_followed, go, leaf_errands, fault, page_bytes}
+use Rattle.dbwalk.proofs.Common.{usable_size, rules_of, is_too_deep, L01, RunError, role_mark, AreMarksOf}
+use Rattle.dbformat.specs.Address.{freelist_start}
 use Rattle.dbformat.specs.Numbers.{u32_at}
-use Rattle.dbformat.specs.PageFaults.{role_faults, page_faults}
-use Rattle.dbformat.specs.Rows.{row_in}
-use Rattle.std.specs.Prelude.{option_to_list, nat_le, nat_lt, ◌==◌, pos}
-use Rattle.dbsurvey.specs.Moves.{Moves}
-use Rattle.dbformat.specs.Reference.{free_leaf, Way, Reference, role_of, Role, bytes_left, tree_kind, trunk, link, next_trunk, leaf_count, most_leaves}
-use Rattle.dbformat.specs.Story.{Event, at_page, own_visit, story_of}
 use Rattle.dbformat.proofs.Looping.{none_at_free_leaf, by_leaf, all_quiet}
-use Rattle.dbmarks.specs.declared.marks.Mark.{Mark}
-use Rattle.dbwalk.specs.Beside.{EntersBeside, Turns}
 use Rattle.dbwalk.proofs.Telling.Besides.{turn_ended, turn_entered, turn_on}
-use Rattle.dbwalk.specs.Entered.{IsNext, Enters}
 use Rattle.dbtrace.specs.declared.Cause.TheVariants.{Itself}
-use Rattle.dbtrace.specs.Causes.{cause_of, refusal_cause}
-use Rattle.dbtrace.specs.Finding.{Finding, told_row, told_alone, told_by, told_at}
-use Rattle.dbwalk.specs.Trunks.{leaves_from, IsFirstTrunk, IsOnTrunks, OpensTrunk, trunk_step, next_step}
-use Rattle.dbwalk.specs.Done.{IsLeft}
+use Rattle.dbwalk.specs.Trunks.{OpensTrunk}
 use Rattle.dbwalk.proofs.Telling.Lefts.{left_refused, left_visit, left_start, left_none, no_chain_refusal}
 use Rattle.std.specs.List.{range_with_len}
 use Rattle.std.proofs.lemmas.Bool.Decides.{nat_tests}
 use Rattle.std.proofs.lemmas.List.{append-nil}
-use Rattle.dbsurvey.specs.Address.{IsIn}
-use Rattle.dbsurvey.specs.Traverse.{is_followed}
 use Rattle.dbsurvey.proofs.Order.{IsIn-cases}
-use Rattle.dbformat.specs.Errands.{go, leaf_errand, leaf_errands}
-use Rattle.dbformat.specs.Faults.{fault}
-use Rattle.dbformat.specs.File.{page_bytes}
-use Rattle.dbformat.specs.Header.{usable_size}
-use Rattle.dbformat.specs.Survey.{rules_of, is_too_deep}
-use Rattle.dbformat.specs.declared.FaultCode.TheVariants.{L01}
-use Rattle.dbsource.specs.declared.error.RunError.{RunError}
+use Rattle.dbformat.specs.Errands.{leaf_errand}
 use Rattle.dbwalk.specs.declared.entering.Step.{Step}
-use Rattle.dbmarks.specs.Marking.{role_mark, AreMarksOf}
 
 -- leaf j of a trunk
 abbrev pub leaf_of : Reference → List ℕ → ℕ → Reference

@@ -1,40 +1,29 @@
 -- What a taker with room for 65536 roots answers, row after row of the schema.
 use Rattle.std.proofs.Common.{zero, suc, map, take, ◌≡◌, ℕ, ◌+◌, ◌≤◌, Bool, true, false, cond, not, ◌&&◌, inl, inr, List, [], ◌∷◌, ◌++◌, length, refl, sym, ap}
-use Rattle.std.proofs.Common.{◌∙◌, arith, Some, None, Result, Ok, Err, subst}
-use Rattle.std.specs.Prelude.{nat_lt, nat_le, ◌==◌, is_none, pos, if◌then◌else◌, OnOk}
+use Rattle.std.proofs.Common.{◌∙◌, arith, Some, None, Result, Ok, Err, subst, nat_lt, nat_le, ◌==◌, is_none, pos, if◌then◌else◌, OnOk}
+use Rattle.dbwalk.proofs.Common.{Moves, Stops, MovesBySome, Go, schema_start, start_of, fault, Reference, SchemaCell, schema, SchemaRow, told_if, RunError}
+use Rattle.dbwalk.proofs.Common.{Refused, WriteFailed, OutOfMemory, Finding, told_alone, visited_below, Item, found, given, given_cells, counted_findings, Mark}
+use Rattle.dbwalk.proofs.Common.{IsDone, IsTreeDone, Tells, tree_walk, watches, fails, row_at, Handed, Taken}
 use Rattle.std.specs.List.{cons_option}
 use Rattle.std.specs.Result.{result_ok}
 use Rattle.std.proofs.lemmas.Bool.{cases_Bool, eq-eqb, eqb-true}
 use Rattle.std.proofs.lemmas.Bool.Decides.{nat_tests}
 use Rattle.std.proofs.lemmas.List.{append-nil, length-append, length-map, length-take-le, map-append, take-append-le}
 use Rattle.std.proofs.lemmas.List.Elements.{filter_map-append}
-use Rattle.dbsurvey.specs.Moves.{Moves, Stops, MovesBySome}
-use Rattle.dbsurvey.specs.Story.{Go}
 use Rattle.dbsurvey.proofs.Moving.{Moves-append, some_none, some_after}
-use Rattle.dbformat.specs.Address.{last_root_start, schema_start, start_of}
-use Rattle.dbformat.specs.Faults.{fault}
+use Rattle.dbformat.specs.Address.{last_root_start}
 use Rattle.dbformat.specs.KeyFaults.{row_faults_if}
-use Rattle.dbformat.specs.Reference.{Reference}
-use Rattle.dbformat.specs.Schema.{SchemaCell, schema, rooted_rows}
-use Rattle.dbformat.specs.SchemaRow.{SchemaRow}
-use Rattle.dbformat.specs.Tests.{told_if}
+use Rattle.dbformat.specs.Schema.{rooted_rows}
 use Rattle.dbformat.specs.declared.FaultCode.TheVariants.{S02, S04}
 use Rattle.dbformat.specs.declared.RowFault.{RowFault}
 use Rattle.dbformat.specs.declared.RowFault.TheVariants.{Malformed, Root}
-use Rattle.dbsource.specs.declared.error.RunError.{RunError}
-use Rattle.dbsource.specs.declared.error.RunError.TheVariants.{Refused, ReadFailed, WriteFailed, OutOfMemory}
-use Rattle.dbtrace.specs.Finding.{Finding, told_alone, visited_below}
-use Rattle.dbtrace.specs.Item.{Item, found, given, given_cells, readable, counted_findings}
+use Rattle.dbsource.specs.declared.error.RunError.TheVariants.{ReadFailed}
+use Rattle.dbtrace.specs.Item.{readable}
 use Rattle.dbtrace.specs.Starts.{AreOfEarlierStarts}
 use Rattle.dbtrace.proofs.Folding.{is_fold}
-use Rattle.dbmarks.specs.declared.marks.Mark.{Mark}
-use Rattle.dbwalk.specs.Done.{IsDone, IsTreeDone}
 use Rattle.dbwalk.specs.Taking.{answer_to, held_after, is_full, HasRootRoom, StartsEmpty, roots_after, ListTakes, first_roots, gives, readable_rows, fault_of}
 use Rattle.dbwalk.specs.Taking.{HandsRow, FailsRow}
-use Rattle.dbwalk.specs.Telling.{Tells, findings}
-use Rattle.dbwalk.specs.Underway.{tree_walk}
-use Rattle.dbwalk.specs.Watching.{watches, fails, row_at, Handed}
-use Rattle.dbwalk.specs.declared.taker.Taken.{Taken}
+use Rattle.dbwalk.specs.Telling.{findings}
 use Rattle.dbwalk.specs.declared.taker.Taken.TheVariants as answer
 
 -- how many roots it holds after this many rows with a root

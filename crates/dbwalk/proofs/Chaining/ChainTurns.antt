@@ -1,34 +1,19 @@
 -- One turn of the walk along a chain.
 use Rattle.std.proofs.Common.{◌≡◌, ℕ, ◌+◌, ◌-◌, ◌≤◌, ◌<◌, true, false, List, [], ◌∷◌, ◌++◌, Bool, Option, Some, None, Ok, refl, sym, ap, subst, ◌∙◌}
-use Rattle.std.proofs.Common.{append_assoc, arith, cond}
-use Rattle.std.specs.Prelude.{◌==◌}
+use Rattle.std.proofs.Common.{append_assoc, arith, cond, ◌==◌, IfSome}
+use Rattle.dbwalk.proofs.Common.{Moves, Go, errands_of, AreQuiet, page_bytes, usable_size, overflow_next, first_overflow, Reference, role_of, from_of}
+use Rattle.dbwalk.proofs.Common.{bytes_left, at_page, own_visit, story_of, RowSieve, Mark, FirstOverflow, LaterOverflow, seen_bytes, seen_from, EntersBeside}
+use Rattle.dbwalk.proofs.Common.{Opens, Turns, is_followed, rules_of, IsChainOf, next_of, FeedsPages, FeedsChain, IsLeft, IsNext, Finding, told_at, role_mark}
+use Rattle.dbwalk.proofs.Common.{AreMarksOf}
 use Rattle.std.proofs.lemmas.Bool.Decides.{nat_tests}
-use Rattle.std.specs.Prelude.{IfSome}
 use Rattle.std.proofs.lemmas.List.{append-nil}
-use Rattle.dbsurvey.specs.Moves.{Moves}
-use Rattle.dbsurvey.specs.Story.{Go, errands_of}
-use Rattle.dbsurvey.specs.InOrder.{AreQuiet}
-use Rattle.dbformat.specs.File.{page_bytes}
-use Rattle.dbformat.specs.Header.{usable_size}
-use Rattle.dbformat.specs.Payload.{overflow_next}
-use Rattle.dbformat.specs.Reference.{first_overflow, Reference, role_of, from_of, bytes_left, overflow_links}
-use Rattle.dbformat.specs.Story.{at_page, own_visit, story_of}
+use Rattle.dbformat.specs.Reference.{overflow_links}
 use Rattle.dbformat.proofs.Looping.{by_chain, all_quiet}
-use Rattle.dbbytes.specs.declared.sieve.RowSieve.{RowSieve}
 use Rattle.dbwalk.specs.declared.chain.Chain.{Chain}
 use Rattle.dbwalk.specs.declared.chain.ChainPlace.{ChainPlace}
-use Rattle.dbmarks.specs.declared.marks.Mark.{Mark}
-use Rattle.dbmarks.specs.declared.marks.Mark.TheVariants.{FirstOverflow, LaterOverflow}
-use Rattle.dbtrace.specs.Causes.{nothing_seen, seen_bytes, seen_from}
-use Rattle.dbwalk.specs.Beside.{EntersBeside, Opens, Turns}
-use Rattle.dbsurvey.specs.Traverse.{is_followed}
-use Rattle.dbformat.specs.Survey.{rules_of}
+use Rattle.dbtrace.specs.Causes.{nothing_seen}
 use Rattle.dbwalk.proofs.Telling.Besides.{turn_ended, turn_entered}
-use Rattle.dbwalk.specs.Chains.{IsChainOf, IsOnWay, IsOverflowVisited, seen_before, next_of, place_cause, FeedsPages, FeedsChain}
-use Rattle.dbwalk.specs.Done.{IsLeft}
-use Rattle.dbwalk.specs.Entered.{IsNext}
-use Rattle.dbtrace.specs.Finding.{Finding, told_at}
-use Rattle.dbmarks.specs.Marking.{role_mark, AreMarksOf}
+use Rattle.dbwalk.specs.Chains.{IsOnWay, IsOverflowVisited, seen_before, place_cause}
 use Rattle.dbwalk.proofs.Chaining.Feedings.{feeds_none, feeds_page, fed_whole, fed_refused}
 use Rattle.dbwalk.proofs.Telling.Lefts.{left_start, left_visit, left_none}
 use Rattle.dbwalk.proofs.Chaining.Heads.{head_next, head_start, head_visited, chain_few, refusal_here}

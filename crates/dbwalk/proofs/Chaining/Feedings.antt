@@ -1,31 +1,19 @@
 -- What a sieve is fed of a payload along its overflow chain.
-use Rattle.std.proofs.Common.{◌≡◌, ℕ, true, inl, inr, List, [], ◌∷◌, ◌++◌, Some, refl, sym, ap, subst, ◌∙◌, arith, false, Option, None}
-use Rattle.std.proofs.Common.{append_assoc, Result, Ok, Err}
-use Rattle.std.specs.Prelude.{flat_map, filter, nat_eq, unwrap_or, OnOk}
+use Rattle.std.proofs.Common.{◌≡◌, ℕ, true, inl, inr, List, [], ◌∷◌, ◌++◌, Some, refl, sym, ap, subst, ◌∙◌, arith, false, Option, None, append_assoc, Result}
+use Rattle.std.proofs.Common.{Ok, Err, flat_map, filter, nat_eq, OnOk}
+use Rattle.dbwalk.proofs.Common.{IsIn, Address, IsBefore, Go, is_followed, then_step, overflow_step, Cell, page_bytes, Reference, role_of, bytes_left}
+use Rattle.dbwalk.proofs.Common.{first_overflow, payload, rules_of, RowSieve, IsNext, FeedsChain, Feeds, FeedsPages, visited_below, usable_size, overflow_bytes}
+use Rattle.dbwalk.proofs.Common.{HasFed, FeedsPayload}
+use Rattle.std.specs.Prelude.{unwrap_or}
 use Rattle.std.specs.List.{starts_with}
 use Rattle.std.proofs.lemmas.Bool.{cases_Bool, and_parts, eqb-true}
 use Rattle.std.proofs.lemmas.List.{append-nil}
 use Rattle.std.proofs.lemmas.List.Elements.{filter-append}
-use Rattle.dbsurvey.specs.Address.{IsIn, Address, IsBefore}
-use Rattle.dbsurvey.specs.Story.{Go}
-use Rattle.dbsurvey.specs.Traverse.{is_followed}
-use Rattle.dbformat.specs.Address.{then_step, overflow_step}
-use Rattle.dbformat.specs.Cell.{Cell}
-use Rattle.dbformat.specs.File.{page_bytes}
-use Rattle.dbformat.specs.Reference.{Reference, role_of, bytes_left, first_overflow}
-use Rattle.dbformat.specs.Schema.{chain, held_bytes, payload}
-use Rattle.dbformat.specs.Survey.{rules_of}
+use Rattle.dbformat.specs.Schema.{chain, held_bytes}
 use Rattle.dbformat.specs.declared.Encoding.{Encoding}
 use Rattle.dbbytes.specs.Sieve.{HasTaken}
-use Rattle.dbbytes.specs.declared.sieve.RowSieve.{RowSieve}
-use Rattle.dbwalk.specs.Entered.{IsNext}
-use Rattle.dbwalk.specs.Chains.{FeedsChain, Feeds, FeedsPages}
-use Rattle.dbtrace.specs.Finding.{visited_below}
 use Rattle.std.proofs.lemmas.Grind.{flat_map-append}
-use Rattle.dbformat.specs.Header.{usable_size}
-use Rattle.dbformat.specs.Payload.{overflow_bytes}
 use Rattle.dbwalk.proofs.Telling.Belows.{below_begins, visited_none, visited_refused}
-use Rattle.dbwalk.specs.Taking.{HasFed, FeedsPayload}
 use Rattle.dbsurvey.proofs.Beginnings.{begins}
 use Rattle.dbsurvey.proofs.Lists.{filter-all, filter-none}
 

@@ -1,29 +1,23 @@
 -- The cell that an overflow chain belongs to, by the visits so far.
-use Rattle.std.proofs.Common.{◌≡◌, ℕ, ◌+◌, ◌-◌, ◌≤◌, Bool, true, false, cond, inl, inr, List, [], ◌∷◌, ◌++◌, length, take, Option, Some, None, refl}
-use Rattle.std.proofs.Common.{sym, ap, ap₂, ◌∙◌, arith}
-use Rattle.std.specs.Prelude.{find, ◌==◌}
+use Rattle.std.proofs.Common.{◌≡◌, ℕ, ◌+◌, ◌-◌, ◌≤◌, Bool, true, false, cond, inl, inr, List, [], ◌∷◌, ◌++◌, length, take, Option, Some, None, refl, sym, ap}
+use Rattle.std.proofs.Common.{ap₂, ◌∙◌, arith, find, ◌==◌}
+use Rattle.dbwalk.proofs.Common.{Address, Go, then_step, chain_place, chain_on, is_child_step, cell_of_step, usable_size, Role, root, first_overflow}
+use Rattle.dbwalk.proofs.Common.{later_overflow, trunk, free_leaf, Reference, role_of, from_of, item_of, bytes_left, tree_kind, cell_rowid, is_same}
+use Rattle.dbwalk.proofs.Common.{chain_cause, seen_from, refusal_cause, refusal_of, rowids_of, Cause, IsChainOf, IsOnChain, next_of, walked_chain, IsNext}
 use Rattle.std.specs.Option.{option_map_or, option_or}
 use Rattle.std.proofs.Math.Seq.{take-length}
 use Rattle.std.proofs.lemmas.Bool.{cases_Bool}
 use Rattle.std.proofs.lemmas.Bool.Decides.{nat_tests}
 use Rattle.std.proofs.lemmas.List.{length-append, take-append-le}
 use Rattle.std.proofs.lemmas.List.Folds.{find-append}
-use Rattle.dbsurvey.specs.Address.{Address}
-use Rattle.dbsurvey.specs.Story.{Go}
-use Rattle.dbformat.specs.Address.{then_step, chain_place, chain_on, is_child_step, cell_of_step}
-use Rattle.dbformat.specs.Header.{usable_size}
-use Rattle.dbformat.specs.Reference.{Role, root, child, first_overflow, later_overflow, trunk, free_leaf, Reference, role_of, from_of, item_of, bytes_left}
-use Rattle.dbformat.specs.Reference.{tree_kind}
-use Rattle.dbtrace.specs.Causes.{cell_rowid, chain_number, head_address, is_same, chain_head, chain_of, chain_cause, seen_from, refusal_cause}
-use Rattle.dbtrace.specs.Causes.{refusal_of, rowids_of, pages_for}
-use Rattle.dbtrace.specs.declared.Cause.{Cause}
+use Rattle.dbformat.specs.Reference.{child}
+use Rattle.dbtrace.specs.Causes.{chain_number, head_address, chain_head, chain_of, pages_for}
 use Rattle.dbtrace.specs.declared.SeenBytes.{SeenBytes}
-use Rattle.dbtrace.specs.declared.Cause.TheVariants as cause
-use Rattle.dbwalk.specs.Chains.{HasHead, IsChainOf, IsOnChain, next_of, walked_chain}
-use Rattle.dbwalk.specs.Entered.{IsNext}
+use Rattle.dbwalk.specs.Chains.{HasHead}
 use Rattle.dbwalk.specs.declared.chain.Chain.{Chain}
 use Rattle.dbwalk.proofs.Chaining.Overflows.{next_on_chain}
 use Rattle.dbwalk.proofs.Trees.Bounds.{first_here}
+use Rattle.dbtrace.specs.declared.Cause.TheVariants as cause
 
 number_is : (chain : Chain) (number : ℕ) (d : Reference) → IsOnChain chain number d → chain_number d.address ≡ number
 number_is chain number d on = ap (λ o. option_map_or (λ p. p.1) o 0) on.place

@@ -1,25 +1,18 @@
 -- What is reported of an overflow page, and what it leads to.
 use Rattle.std.proofs.Common.{◌≡◌, ℕ, ◌+◌, ◌-◌, ◌*◌, ◌≤◌, ◌<◌, Bool, true, false, cond, not, ◌&&◌, List, [], ◌∷◌, ◌++◌, length, map, take, drop, Option, Some}
-use Rattle.std.proofs.Common.{None, refl, sym, ap, ◌∙◌, arith}
-use Rattle.std.specs.Prelude.{option_to_list, nat_le, nat_lt, ◌==◌, pos}
+use Rattle.std.proofs.Common.{None, refl, sym, ap, ◌∙◌, arith, option_to_list, nat_le, nat_lt, ◌==◌, pos}
+use Rattle.dbwalk.proofs.Common.{Go, errands_of, start_of, then_step, is_child_step, cell_of_step, children_on, chain_on, child_path, chain_place, go, fault}
+use Rattle.dbwalk.proofs.Common.{geometry, page_bytes, usable_size, overflow_next, role_faults, page_faults, Role, root, first_overflow, later_overflow, trunk}
+use Rattle.dbwalk.proofs.Common.{free_leaf, Reference, role_of, bytes_left, link, row_in, at_page, story_of, is_too_deep, told_if, IsOnChain, next_of, cause_of}
+use Rattle.dbwalk.proofs.Common.{Cause, told_row, told_fault, told_by, told_at}
 use Rattle.std.proofs.lemmas.Bool.Decides.{nat_tests}
-use Rattle.std.proofs.lemmas.List.{length-append}
-use Rattle.dbsurvey.specs.Story.{Go, errands_of}
-use Rattle.dbformat.specs.Address.{start_of, then_step, is_child_step, cell_of_step, children_on, chain_on, child_path, chain_place}
+use Rattle.std.proofs.lemmas.List.{length-append, append-nil}
 use Rattle.dbformat.specs.Counts.{overflow_counts}
-use Rattle.dbformat.specs.Errands.{go}
-use Rattle.dbformat.specs.Faults.{fault}
-use Rattle.dbformat.specs.File.{geometry, page_bytes}
-use Rattle.dbformat.specs.Header.{usable_size}
-use Rattle.dbformat.specs.Payload.{overflow_next}
-use Rattle.dbformat.specs.PageFaults.{overflow_fault, role_faults, page_faults}
-use Rattle.dbformat.specs.Reference.{Role, root, child, first_overflow, later_overflow, trunk, free_leaf, Reference, role_of, bytes_left, link}
-use Rattle.dbformat.specs.Rows.{StatRow, overflow_page_row, row_in}
-use Rattle.dbformat.specs.Story.{at_page, story_of}
-use Rattle.dbformat.specs.Survey.{is_too_deep}
+use Rattle.dbformat.specs.PageFaults.{overflow_fault}
+use Rattle.dbformat.specs.Reference.{child}
+use Rattle.dbformat.specs.Rows.{StatRow, overflow_page_row}
 use Rattle.dbformat.specs.declared.counts.Counts.{Counts}
 use Rattle.dbformat.specs.declared.Fault.{Fault}
-use Rattle.dbformat.specs.Tests.{told_if}
 use Rattle.dbformat.specs.declared.FaultCode.TheVariants.{O01}
 use Rattle.dbwalk.specs.declared.sink.Row.{Row}
 use Rattle.dbwalk.specs.Rows.{row_of}
@@ -28,11 +21,6 @@ use Rattle.dbformat.specs.declared.PageType.TheVariants.{Overflow}
 use Rattle.dbformat.proofs.Looping.{by_chain}
 use Rattle.dbsource.specs.Answers.{IsRangeOf}
 use Rattle.dbwalk.specs.declared.chain.Chain.{Chain}
-use Rattle.dbwalk.specs.Chains.{IsOnChain, next_of}
-use Rattle.dbtrace.specs.Causes.{cause_of}
-use Rattle.dbtrace.specs.declared.Cause.{Cause}
-use Rattle.dbtrace.specs.Finding.{told_row, told_fault, told_by, told_at}
-use Rattle.std.proofs.lemmas.List.{append-nil}
 
 -- the bytes that a load leaves are those of the page
 pub page_read : (file bytes : List ℕ) (size p : ℕ) → length bytes ≡ size → IsRangeOf file ((p - 1) * size) bytes → (geometry file).page_size ≡ size → bytes

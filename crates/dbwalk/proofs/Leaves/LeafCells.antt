@@ -1,27 +1,18 @@
 -- What is read of the cells of a leaf at a level.
-use Rattle.std.proofs.Common.{◌≡◌, ℕ, ◌+◌, ◌<◌, ◌≤◌, Bool, true, false, cond, ◌&&◌, List, [], Option, Some, None, Ok, Err, ℤ, refl, sym, ap}
-use Rattle.std.proofs.Common.{arith, ◌∙◌, subst, ◌*◌}
-use Rattle.std.specs.Prelude.{option_map, option_and_then, nat_le, nat_lt, slice_get, slice_index_or, IfSome}
+use Rattle.std.proofs.Common.{◌≡◌, ℕ, ◌+◌, ◌<◌, ◌≤◌, Bool, true, false, cond, ◌&&◌, List, [], Option, Some, None, Ok, Err, ℤ, refl, sym, ap, arith, ◌∙◌, subst}
+use Rattle.std.proofs.Common.{◌*◌, option_map, option_and_then, nat_le, nat_lt, slice_get, slice_index_or, IfSome}
+use Rattle.dbwalk.proofs.Common.{most_payload, View, undamaged, Cell, cell, count, overflow_size, InteriorIndex, InteriorTable, LeafIndex, LeafTable, CellFault}
+use Rattle.dbwalk.proofs.Common.{TreeKind, Pages, bytes_at, HasCell, HasCells, RowSieve, HasFed, HoldsCell, IsNextStep, HasNext, Next}
 use Rattle.std.specs.Result.{result_ok}
 use Rattle.std.proofs.lemmas.Bool.Decides.{nat_tests}
 use Rattle.std.proofs.lemmas.Option.{get_or_from_slice_get}
 use Rattle.dbformat.specs.Varint.{varint}
-use Rattle.dbformat.specs.Payload.{most_payload}
-use Rattle.dbformat.specs.Head.{View, undamaged}
-use Rattle.dbformat.specs.Cell.{Cell, bytes_from, payload_cell, cell_at, cell, count, overflow_size}
+use Rattle.dbformat.specs.Cell.{bytes_from, payload_cell, cell_at}
 use Rattle.dbformat.specs.declared.PageKind.{PageKind}
-use Rattle.dbformat.specs.declared.PageKind.TheVariants.{InteriorIndex, InteriorTable, LeafIndex, LeafTable}
 use Rattle.dbformat.specs.declared.PayloadKind.{PayloadKind}
 use Rattle.dbformat.specs.declared.PayloadKind.TheVariants.{TableLeaf, Index}
-use Rattle.dbformat.specs.declared.CellFault.{CellFault}
-use Rattle.dbformat.specs.declared.TreeKind.{TreeKind}
-use Rattle.dbsource.specs.Bench.{Pages, bytes_at}
-use Rattle.dbwalk.specs.LeafCells.{HasCell, HasCells}
 use Rattle.dbformat.specs.declared.Encoding.{Encoding}
-use Rattle.dbbytes.specs.declared.sieve.RowSieve.{RowSieve}
-use Rattle.dbwalk.specs.Taking.{HasFed, HoldsCell, HasSieve}
-use Rattle.dbwalk.specs.Steps.{IsNextStep, HasNext}
-use Rattle.dbwalk.specs.declared.steps.Next.{Next}
+use Rattle.dbwalk.specs.Taking.{HasSieve}
 use Rattle.dbformat.proofs.CellParts.{at_offset, then_some}
 
 -- a payload is at most 2147483647 bytes long

@@ -1,38 +1,22 @@
 -- What a cell of a leaf leads to: its overflow chain, and then its own event.
-use Rattle.std.proofs.Common.{◌≡◌, ℕ, ◌+◌, ◌*◌, ◌%◌, ◌/◌, ◌<◌, Bool, true, false, cond, inl, inr, List, [], ◌∷◌, ◌++◌, length, map, Option, Some, None}
-use Rattle.std.proofs.Common.{Result, Ok, Err, ℤ, refl, sym, ap, ap₂, subst, arith, ◌∙◌}
-use Rattle.std.specs.Prelude.{option_map, option_and_then, option_to_list, slice_get, ◌==◌}
+use Rattle.std.proofs.Common.{◌≡◌, ℕ, ◌+◌, ◌*◌, ◌%◌, ◌/◌, ◌<◌, Bool, true, false, cond, inl, inr, List, [], ◌∷◌, ◌++◌, length, map, Option, Some, None, Result}
+use Rattle.std.proofs.Common.{Ok, Err, ℤ, refl, sym, ap, ap₂, subst, arith, ◌∙◌, option_map, option_and_then, option_to_list, slice_get, ◌==◌}
+use Rattle.dbwalk.proofs.Common.{IsBefore, AreQuiet, IsPast, Moves, Errand, errand_key, errands_of, start_of, then_step, overflow_step, child_step}
+use Rattle.dbwalk.proofs.Common.{is_child_step, cell_of_step, children_on, chain_on, child_path, chain_place, View, if_of_tree, is_interior, is_same_tree}
+use Rattle.dbwalk.proofs.Common.{tree_of, undamaged, view, Cell, cell, count, overflow_size, go, tell_cell, errands_in, cell_errands, errands_before}
+use Rattle.dbwalk.proofs.Common.{page_bytes, usable_size, first_overflow, Way, Reference, link, role_of, tree_kind, tree_view, right_links, Event, own_visit}
+use Rattle.dbwalk.proofs.Common.{story_of, CellFault, InteriorIndex, InteriorTable, LeafIndex, LeafTable, TreeKind, cell_rowid, Finding, IsOnChain, IsChainOf}
+use Rattle.dbwalk.proofs.Common.{IsDone, HasCells, HasCell, overflow_errands, AreBefore, AreMarksOf, IsLeafAt, Mark}
 use Rattle.std.specs.Option.{option_map_or}
 use Rattle.std.specs.Result.{result_ok}
 use Rattle.std.proofs.lemmas.List.{append-nil}
 use Rattle.std.proofs.lemmas.Bool.Decides.{nat_tests}
-use Rattle.dbsurvey.specs.Address.{IsBefore}
-use Rattle.dbsurvey.specs.InOrder.{AreQuiet, IsPast}
-use Rattle.dbsurvey.specs.Moves.{Moves}
-use Rattle.dbsurvey.specs.Story.{Errand, errand_key, errands_of}
-use Rattle.dbformat.specs.Address.{start_of, then_step, overflow_step, child_step, is_child_step, cell_of_step, children_on, chain_on, child_path, chain_place}
-use Rattle.dbformat.specs.Head.{View, if_of_tree, is_interior, is_same_tree, right_number, tree_of, undamaged, view}
-use Rattle.dbformat.specs.Cell.{Cell, cell, count, overflow_size}
-use Rattle.dbformat.specs.Errands.{go, tell_cell, errands_in, cell_errands, errands_before}
-use Rattle.dbformat.specs.File.{page_bytes}
-use Rattle.dbformat.specs.Header.{usable_size}
-use Rattle.dbformat.specs.Reference.{child, first_overflow, Way, Reference, link, role_of, tree_kind, tree_view, right_links}
-use Rattle.dbformat.specs.Story.{Event, own_visit, story_of}
+use Rattle.dbformat.specs.Head.{right_number}
+use Rattle.dbformat.specs.Reference.{child}
 use Rattle.dbformat.proofs.Looping.{by_cell}
-use Rattle.dbformat.specs.declared.CellFault.{CellFault}
 use Rattle.dbformat.specs.declared.HeadFault.{HeadFault}
 use Rattle.dbformat.specs.declared.PageKind.{PageKind}
-use Rattle.dbformat.specs.declared.PageKind.TheVariants.{InteriorIndex, InteriorTable, LeafIndex, LeafTable}
-use Rattle.dbformat.specs.declared.TreeKind.{TreeKind}
-use Rattle.dbtrace.specs.Causes.{cell_rowid}
-use Rattle.dbtrace.specs.Finding.{Finding}
-use Rattle.dbwalk.specs.Chains.{IsOnChain, IsChainOf}
-use Rattle.dbwalk.specs.Done.{IsDone}
-use Rattle.dbwalk.specs.LeafCells.{HasCells, HasCell, overflow_errands, AreBefore}
-use Rattle.dbmarks.specs.Marking.{AreMarksOf}
-use Rattle.dbwalk.specs.Walking.{IsLeafAt}
 use Rattle.dbwalk.specs.declared.chain.Chain.{Chain}
-use Rattle.dbmarks.specs.declared.marks.Mark.{Mark}
 use Rattle.dbwalk.proofs.Pages.PageTellings.{view_is}
 use Rattle.dbwalk.proofs.Telling.Belows.{visited_none, told_none}
 use Rattle.dbformat.proofs.CellParts.{Fits, at_offset, cell_fits}

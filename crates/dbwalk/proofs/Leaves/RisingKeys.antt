@@ -1,17 +1,11 @@
 -- The keys of a leaf whose cells are readable, without overflow pages and in the order of their keys, from the first to the last.
-use Rattle.std.proofs.Common.{◌≡◌, ℕ, zero, suc, ◌+◌, ◌-◌, ◌<◌, ◌≤◌, Bool, true, false, Option, Some, None, Ok, ℤ, ◌<ℤ◌, refl}
-use Rattle.std.proofs.Common.{sym, ap, subst, arith, ◌∙◌}
-use Rattle.std.specs.Prelude.{is_some, option_and_then}
+use Rattle.std.proofs.Common.{◌≡◌, ℕ, zero, suc, ◌+◌, ◌-◌, ◌<◌, ◌≤◌, Bool, true, false, Option, Some, None, Ok, ℤ, ◌<ℤ◌, refl, sym, ap, subst, arith, ◌∙◌}
+use Rattle.std.proofs.Common.{is_some, option_and_then}
+use Rattle.dbwalk.proofs.Common.{View, Cell, cell, count, InteriorIndex, InteriorTable, LeafIndex, LeafTable, IsAboveLast, IsAllLocal, key_at, key_value}
+use Rattle.dbwalk.proofs.Common.{CellKey, HasSpan, AreRisingFrom, placed}
 use Rattle.std.specs.Option.{option_or}
 use Rattle.std.specs.Result.{result_ok}
-use Rattle.dbformat.specs.Head.{View}
-use Rattle.dbformat.specs.Cell.{Cell, cell, count}
 use Rattle.dbformat.specs.declared.PageKind.{PageKind}
-use Rattle.dbformat.specs.declared.PageKind.TheVariants.{InteriorIndex, InteriorTable, LeafIndex, LeafTable}
-use Rattle.dbpage.specs.Packed.{IsAboveLast, IsAllLocal, key_at}
-use Rattle.dbtrace.specs.Progress.{key_value}
-use Rattle.dbtrace.specs.declared.CellKey.{CellKey}
-use Rattle.dbwalk.specs.LeafCells.{HasSpan, AreRisingFrom, placed}
 use Rattle.dbwalk.specs.declared.state.KeySpan.{KeySpan}
 use Rattle.dbformat.proofs.CellParts.{Fits, at_offset, cell_fits}
 

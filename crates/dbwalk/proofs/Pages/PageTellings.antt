@@ -1,31 +1,21 @@
 -- What is reported of a page, as the program reports it.
-use Rattle.std.proofs.Common.{◌≡◌, ℕ, Bool, true, false, List, [], ◌∷◌, ◌++◌, map, Option, Some, None, refl, ap, ◌∙◌, zero, suc, ◌+◌, ◌<◌, ◌&&◌, length}
-use Rattle.std.proofs.Common.{Result, Ok, Err, sym, subst, arith, inl, inr, max, fold, sum_by, cond, append-nil, Less, Equal, Greater, ◌≤◌}
-use Rattle.std.specs.Prelude.{option_to_list, option_and_then, flat_map, ◌==◌, filter_map, option_map, IsSomeAnd, IfSome, IsOk}
-use Rattle.dbformat.specs.Header.{usable_size}
-use Rattle.dbformat.specs.File.{page_bytes}
-use Rattle.dbformat.specs.Address.{start_of, child_path, chain_place}
-use Rattle.dbformat.specs.Head.{View, undamaged}
-use Rattle.dbformat.specs.Reference.{Role, root, child, first_overflow, later_overflow, trunk, free_leaf, Reference, role_of, tree_kind, tree_view, bytes_left}
-use Rattle.dbformat.specs.PageFaults.{tree_page_faults, depth_fault, role_faults, page_faults, fragment_fault, cell_fault, cell_faults, freeblock_fault}
-use Rattle.dbformat.specs.PageFaults.{coverage_fault, empty_fault, inner_faults}
-use Rattle.dbformat.specs.Rows.{tree_page_row, row_in}
+use Rattle.std.proofs.Common.{◌≡◌, ℕ, Bool, true, false, List, [], ◌∷◌, ◌++◌, map, Option, Some, None, refl, ap, ◌∙◌, zero, suc, ◌+◌, ◌<◌, ◌&&◌, length, Result}
+use Rattle.std.proofs.Common.{Ok, Err, sym, subst, arith, inl, inr, max, fold, sum_by, cond, append-nil, Less, Equal, Greater, ◌≤◌, option_to_list}
+use Rattle.std.proofs.Common.{option_and_then, flat_map, ◌==◌, filter_map, option_map, IsSomeAnd, IfSome, IsOk}
+use Rattle.dbwalk.proofs.Common.{usable_size, page_bytes, start_of, child_path, chain_place, View, undamaged, Role, root, first_overflow, later_overflow, trunk}
+use Rattle.dbwalk.proofs.Common.{free_leaf, Reference, role_of, tree_kind, tree_view, bytes_left, tree_page_faults, role_faults, page_faults, cell_fault}
+use Rattle.dbwalk.proofs.Common.{cell_faults, inner_faults, tree_page_row, row_in, TreeKind, chain_cause, seen_bytes, key_up_to, page_cause, visit_cause}
+use Rattle.dbwalk.proofs.Common.{told_row, told_by, Finding, Progress, cause_by, depth_faults, rowids_by, Cause, RowidBounds, FaultCode, at_page, view_row}
+use Rattle.dbwalk.proofs.Common.{damaged_row, inner_cause, view_cause, with_leaf, page_findings, IsReportedTo, SinkState, Cell, cell, cells, count, CellFault}
+use Rattle.dbwalk.proofs.Common.{first_cells, payload_of, greatest_of}
+use Rattle.dbformat.specs.Reference.{child}
+use Rattle.dbformat.specs.PageFaults.{depth_fault, fragment_fault, freeblock_fault, coverage_fault, empty_fault}
 use Rattle.dbformat.specs.declared.Fault.{Fault}
-use Rattle.dbformat.specs.declared.TreeKind.{TreeKind}
-use Rattle.dbtrace.specs.Causes.{chain_cause, seen_bytes, key_up_to, page_cause, page_facts, visit_cause}
+use Rattle.dbtrace.specs.Causes.{page_facts}
 use Rattle.dbformat.specs.Runs.{content_run}
-use Rattle.dbtrace.specs.Finding.{told_row, told_by, Finding}
-use Rattle.dbtrace.specs.Progress.{Progress, cause_by, depth_faults, rowids_by}
-use Rattle.dbtrace.specs.declared.Cause.{Cause}
-use Rattle.dbtrace.specs.declared.Cause.TheVariants as cause
-use Rattle.dbtrace.specs.declared.RowidBounds.{RowidBounds}
 use Rattle.dbtrace.specs.declared.TreeLeaf.{TreeLeaf}
-use Rattle.dbformat.specs.declared.FaultCode.{FaultCode}
-use Rattle.dbformat.specs.Story.{at_page}
 use Rattle.dbtrace.proofs.Causing.{inner_codes, inner_same, told_by-append, tree_same, page_same}
 use Rattle.dbtrace.proofs.Depths.{no_depth, told_same as told_alike}
-use Rattle.dbwalk.specs.Found.{view_row, damaged_row, inner_cause, view_cause, with_leaf, page_findings}
-use Rattle.dbwalk.specs.Telling.{IsReportedTo, SinkState}
 use Rattle.dbwalk.proofs.Telling.Sinks.{moves_then}
 use Rattle.std.specs.List.{range_with_len, cons_option}
 use Rattle.std.specs.Option.{is_none}
@@ -39,10 +29,8 @@ use Rattle.std.specs.Ordering.{is_lt, nat_cmp, ord_max}
 use Rattle.std.specs.Cmp.{nat_cmp_is}
 use Rattle.std.proofs.lemmas.List.Elements.{filter_map-append}
 use Rattle.std.proofs.lemmas.List.Sums.{sum_by-append}
-use Rattle.dbformat.specs.Cell.{Cell, cell, cells, count}
-use Rattle.dbformat.specs.declared.CellFault.{CellFault}
-use Rattle.dbpage.specs.Packed.{first_cells, payload_of, greatest_of}
 use Rattle.dbwalk.specs.declared.state.KeySpan.{KeySpan}
+use Rattle.dbtrace.specs.declared.Cause.TheVariants as cause
 
 -- What is reported of a visited page: its row, the faults within it, and a depth that differs from the first leaf's.
 

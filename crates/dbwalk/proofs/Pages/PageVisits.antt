@@ -1,39 +1,24 @@
 -- What is reported of a page, by what a program finds of it.
 use Rattle.std.proofs.Common.{◌≡◌, ℕ, ◌+◌, true, false, not, ◌&&◌, cond, List, [], ◌∷◌, ◌++◌, length, map, Option, Some, None, refl, sym, ap, ap₂, arith, ◌∙◌}
-use Rattle.std.proofs.Common.{Bool, subst, ◌-◌}
-use Rattle.std.specs.Prelude.{nat_lt, pos, ◌==◌, slice_get}
+use Rattle.std.proofs.Common.{Bool, subst, ◌-◌, nat_lt, pos, ◌==◌, slice_get}
+use Rattle.dbwalk.proofs.Common.{usable_size, page_bytes, start_of, View, undamaged, is_interior, fault, told_if, Reference, role_of, tree_kind, tree_view}
+use Rattle.dbwalk.proofs.Common.{inner_faults, tree_page_faults, tree_page_row, TreeKind, page_cause, visit_cause, told_row, told_fault, told_by, Finding}
+use Rattle.dbwalk.proofs.Common.{Cause, RowidBounds, FaultCode, leaf_after, depth_faults, damaged_row, view_cause, with_leaf, page_findings, HasPageAt}
+use Rattle.dbwalk.proofs.Common.{IsReportedTo, SinkState, IsCandidate, role_at, IsOpen, IsLeafAt, is_followed, rules_of, Walk, IsInterior}
 use Rattle.std.specs.Option.{option_map_or}
 use Rattle.std.proofs.lemmas.List.{append-nil}
 use Rattle.std.proofs.lemmas.Bool.Decides.{nat_tests}
-use Rattle.dbformat.specs.Header.{usable_size}
-use Rattle.dbformat.specs.File.{page_bytes}
-use Rattle.dbformat.specs.Address.{start_of, depth}
-use Rattle.dbformat.specs.Head.{View, undamaged, is_interior}
-use Rattle.dbformat.specs.Faults.{fault}
-use Rattle.dbformat.specs.Tests.{told_if}
-use Rattle.dbformat.specs.Reference.{Reference, role_of, tree_kind, tree_view}
-use Rattle.dbformat.specs.PageFaults.{inner_faults, tree_page_faults, is_leaf_of}
-use Rattle.dbformat.specs.Rows.{tree_page_row}
+use Rattle.dbformat.specs.Address.{depth}
+use Rattle.dbformat.specs.PageFaults.{is_leaf_of}
 use Rattle.dbformat.specs.declared.Fault.{Fault}
 use Rattle.dbformat.specs.declared.FaultCode.TheVariants.{T05}
-use Rattle.dbformat.specs.declared.TreeKind.{TreeKind}
-use Rattle.dbtrace.specs.Causes.{leaf_at, page_cause, visit_cause}
-use Rattle.dbtrace.specs.Finding.{told_row, told_fault, told_by, Finding}
-use Rattle.dbtrace.specs.declared.Cause.{Cause}
-use Rattle.dbtrace.specs.declared.RowidBounds.{RowidBounds}
+use Rattle.dbtrace.specs.Causes.{leaf_at}
 use Rattle.dbtrace.specs.declared.TreeLeaf.{TreeLeaf}
-use Rattle.dbformat.specs.declared.FaultCode.{FaultCode}
-use Rattle.dbtrace.specs.Progress.{leaf_after, depth_faults, depth_of}
+use Rattle.dbtrace.specs.Progress.{depth_of}
 use Rattle.dbwalk.specs.LeafCells.{first_of, depth_told}
-use Rattle.dbwalk.specs.Found.{undamaged_findings, damaged_row, view_cause, with_leaf, page_findings, damaged_findings, HasPageAt, IsDamagedAt, IsOpenLeaf}
-use Rattle.dbwalk.specs.Telling.{IsReportedTo, SinkState}
-use Rattle.dbwalk.specs.Walking.{IsCandidate, role_at, IsOpen, IsLeafAt}
+use Rattle.dbwalk.specs.Found.{undamaged_findings, damaged_findings, IsDamagedAt, IsOpenLeaf}
 use Rattle.dbtrace.proofs.Causing.{inner_codes, inner_same}
 use Rattle.dbwalk.proofs.Pages.PageTellings.{is_child, page_told, view_is, row_of_view, row_of_damage, told_then}
-use Rattle.dbsurvey.specs.Traverse.{is_followed}
-use Rattle.dbformat.specs.Survey.{rules_of}
-use Rattle.dbtrace.specs.Walk.{Walk}
-use Rattle.dbwalk.specs.Underway.{IsInterior}
 
 -- a page that is no leaf has no fault of its depth, and leaves the depth of the first leaf
 no_leaf : (file : List ℕ) (rowids : RowidBounds) (leaf : Option TreeLeaf) (c : Reference) → is_leaf_of file (start_of c.address) c ≡ false

@@ -1,22 +1,17 @@
 -- What is reported and visited below some errands, errand by errand, and call after call.
 use Rattle.std.proofs.Common.{◌≡◌, ℕ, true, false, inl, inr, List, [], ◌∷◌, ◌++◌, refl, sym, ap, ◌∙◌, append_assoc}
+use Rattle.dbwalk.proofs.Common.{Address, IsIn, is_followed, Errand, Go, errands_of, AreQuiet, geometry, Way, Reference, rules_of, Event, at_page, at_refused}
+use Rattle.dbwalk.proofs.Common.{own_visit, story_of, told_at, told_below, visited_below}
 use Rattle.std.proofs.lemmas.List.{append-nil}
-use Rattle.dbsurvey.specs.Address.{Address, IsIn}
 use Rattle.dbsurvey.specs.Survey.{IsPart, children}
-use Rattle.dbsurvey.specs.Traverse.{is_followed, part_of}
-use Rattle.dbsurvey.specs.Story.{Errand, Go, goes, errands_of}
-use Rattle.dbsurvey.specs.InOrder.{AreQuiet}
+use Rattle.dbsurvey.specs.Traverse.{part_of}
+use Rattle.dbsurvey.specs.Story.{goes}
 use Rattle.dbsurvey.proofs.Composing.{part_below}
 use Rattle.dbsurvey.proofs.Traversal.{traverse_part, free_at_most}
 use Rattle.dbsurvey.proofs.Remaining.{rest_none, rest_skip, rest_visit, rest_join}
 use Rattle.dbsurvey.proofs.ReadBack.{below_none, below_refused, below_visit, below_join}
 use Rattle.dbsurvey.proofs.Tellings.{goes-append, goes-of}
-use Rattle.dbformat.specs.File.{geometry}
-use Rattle.dbformat.specs.Reference.{Way, Reference}
-use Rattle.dbformat.specs.Survey.{rules_of}
-use Rattle.dbformat.specs.Story.{Event, at_page, at_refused, own_visit, story_of}
 use Rattle.dbformat.proofs.Theory.{are_rules, is_story, shows_visits}
-use Rattle.dbtrace.specs.Finding.{told_at, told_below, visited_below}
 
 module _ (file : List ℕ) where
   abbrev pages : ℕ

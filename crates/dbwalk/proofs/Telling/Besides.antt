@@ -1,30 +1,16 @@
 -- What a walk beside the pages of a tree leaves, part after part.
-use Rattle.std.proofs.Common.{◌≡◌, ℕ, Bool, true, false, inl, inr, List, [], ◌∷◌, Option, Some, None, Result, Ok, Err, refl, sym, ap, subst, ◌∙◌}
-use Rattle.std.specs.Prelude.{IfErr, IfSome}
-use Rattle.dbsurvey.specs.Story.{Go}
-use Rattle.dbsurvey.specs.Traverse.{is_followed}
-use Rattle.dbformat.specs.File.{geometry}
-use Rattle.dbformat.specs.Reference.{Reference}
-use Rattle.dbformat.specs.Survey.{rules_of}
-use Rattle.dbtrace.specs.Finding.{Finding}
-use Rattle.dbtrace.specs.declared.Cause.{Cause}
-use Rattle.dbmarks.specs.Marking.{KeepsMarks}
-use Rattle.dbmarks.specs.declared.marks.Mark.{Mark}
+use Rattle.std.proofs.Common.{◌≡◌, ℕ, Bool, true, false, inl, inr, List, [], ◌∷◌, Option, Some, None, Result, Ok, Err, refl, sym, ap, subst, ◌∙◌, IfErr, IfSome}
+use Rattle.dbwalk.proofs.Common.{Go, is_followed, geometry, Reference, rules_of, Finding, Cause, KeepsMarks, Mark, Pages, is_read_failed, failures_after}
+use Rattle.dbwalk.proofs.Common.{SourceState, RunError, WriteFailed, EntersBeside, Opens, Turns, WalksBeside, IsDone, IsReadOrWrite, SinkMoves, SinkState}
+use Rattle.dbwalk.proofs.Common.{SinkWalks}
 use Rattle.dbmarks.proofs.Readings.{log_then, reads_none}
-use Rattle.dbsource.specs.Answers as answers
 use Rattle.dbsource.proofs.Logs.{has_none, has_weaker}
-use Rattle.dbsource.specs.Bench.{Pages}
-use Rattle.dbsource.specs.Errors.{is_read_failed}
-use Rattle.dbsource.specs.Failures.{failures_after}
-use Rattle.dbsource.specs.Sources.{SourceState}
-use Rattle.dbsource.specs.declared.error.RunError.{RunError}
-use Rattle.dbsource.specs.declared.error.RunError.TheVariants.{ReadFailed, WriteFailed}
-use Rattle.dbwalk.specs.Beside.{EntersBeside, IsAtStep, LeavesBeside, Opens, Turns, WalksBeside}
-use Rattle.dbwalk.specs.Done.{IsDone}
+use Rattle.dbsource.specs.declared.error.RunError.TheVariants.{ReadFailed}
+use Rattle.dbwalk.specs.Beside.{IsAtStep, LeavesBeside}
 use Rattle.dbwalk.specs.declared.entering.Step.{Step}
 use Rattle.dbwalk.proofs.Telling.Lefts.{left_untold, refused_last}
-use Rattle.dbwalk.specs.Telling.{IsReadOrWrite, SinkMoves, SinkState, SinkWalks}
 use Rattle.dbwalk.proofs.Telling.Sinks.{walks_after, walks_as, walks_err, walks_ok}
+use Rattle.dbsource.specs.Answers as answers
 
 -- nothing was read
 pub beside_told : {A : Type 0} {x : A} {s : SourceState} {a b : SinkState} {p : Pages} → SinkMoves a b → LeavesBeside (Ok x) s s a b p p

@@ -1,36 +1,25 @@
 -- What is left of a walk, step by step.
 use Rattle.std.proofs.Common.{◌≡◌, ℕ, true, false, inl, inr, List, [], ◌∷◌, ◌++◌, Ok, Err, refl, sym, ap, subst, ◌∙◌, append_assoc, ◌-◌, Bool, set, Option}
-use Rattle.std.proofs.Common.{Some, None}
+use Rattle.std.proofs.Common.{Some, None, pos}
+use Rattle.dbwalk.proofs.Common.{IsIn, IsBefore, IsLeftOf, is_followed, Moves, MovesBySome, step_of, Errand, Go, errand_key, errands_of, AreQuiet, IsPast}
+use Rattle.dbwalk.proofs.Common.{geometry, Way, Reference, role_of, bytes_left, tree_kind, from_of, item_of, rules_of, is_too_deep, Event, at_page, at_refused}
+use Rattle.dbwalk.proofs.Common.{own_visit, story_of, RunError, Mark, AreMarksOf, page_mark, chain_cause, seen_from, refusal_cause, refusal_of, rowids_of}
+use Rattle.dbwalk.proofs.Common.{Cause, Finding, told_at, told_below, visited_below, told_fault, IsDone, IsLeft, Enters, IsNext, refused_told, FaultCode}
+use Rattle.dbwalk.proofs.Common.{Unmarked, Trunk, FirstOverflow, LaterOverflow}
 use Rattle.std.proofs.lemmas.List.{append-nil}
-use Rattle.dbsurvey.specs.Address.{IsIn, IsBefore, IsLeftOf}
-use Rattle.dbsurvey.specs.Traverse.{is_followed}
-use Rattle.dbsurvey.specs.Moves.{Moves, MovesBySome}
-use Rattle.dbsurvey.specs.Story.{step_of, Errand, Go, errand_key, errands_of, AreErrandsApart}
-use Rattle.dbsurvey.specs.InOrder.{AreQuiet, IsPast}
+use Rattle.dbsurvey.specs.Story.{AreErrandsApart}
 use Rattle.dbsurvey.proofs.Order.{IsIn-cases, IsIn-right, EachPair-append, EachPair-left, EachPair-right, IsLeftOf-before, IsLeftOf-longer}
 use Rattle.dbsurvey.proofs.Moving.{Moves-append, some_after, some_first}
 use Rattle.dbsurvey.proofs.Past.{past_visit, past_join, errands_apart}
 use Rattle.dbsurvey.proofs.Tellings.{errands_at-step}
-use Rattle.dbformat.specs.File.{geometry}
-use Rattle.dbformat.specs.Reference.{Way, Reference, role_of, bytes_left, tree_kind, from_of, item_of}
-use Rattle.dbformat.specs.Survey.{rules_of, refused, is_too_deep}
-use Rattle.dbformat.specs.Story.{Event, at_page, at_refused, own_visit, story_of}
+use Rattle.dbformat.specs.Survey.{refused}
 use Rattle.dbformat.proofs.Theory.{are_rules, is_story}
-use Rattle.dbsource.specs.declared.error.RunError.{RunError}
-use Rattle.dbmarks.specs.declared.marks.Mark.{Mark}
-use Rattle.dbmarks.specs.Marking.{AreMarksOf, visit_mark, page_mark, refusal_by}
-use Rattle.dbtrace.specs.Causes.{chain_cause, seen_from, refusal_cause, refusal_of, rowids_of}
+use Rattle.dbmarks.specs.Marking.{visit_mark, refusal_by}
 use Rattle.dbtrace.specs.declared.Cause.TheVariants.{Itself}
-use Rattle.dbtrace.specs.declared.Cause.{Cause}
-use Rattle.dbtrace.specs.Finding.{Finding, told_at, told_below, visited_below, told_fault}
-use Rattle.dbwalk.specs.Done.{IsDone, IsLeft}
-use Rattle.dbwalk.specs.Entered.{Enters, IsNext, IsStepOf, refused_told}
-use Rattle.dbwalk.proofs.Telling.Belows.{visited_none, visited_refused, visited_visit, visited_join, told_none, told_join}
-use Rattle.dbwalk.proofs.Telling.Belows.{told_refused, told_visit}
-use Rattle.std.specs.Prelude.{pos}
+use Rattle.dbwalk.specs.Entered.{IsStepOf}
+use Rattle.dbwalk.proofs.Telling.Belows.{visited_none, visited_refused, visited_visit, visited_join, told_none, told_join, told_refused, told_visit}
 use Rattle.dbformat.specs.ReferenceFaults.{refusal_fault}
-use Rattle.dbformat.specs.declared.FaultCode.{FaultCode}
-use Rattle.dbmarks.specs.declared.marks.Mark.TheVariants.{Unmarked, Fixed, Root, Trunk, FreeLeaf, FirstOverflow, LaterOverflow, Child}
+use Rattle.dbmarks.specs.declared.marks.Mark.TheVariants.{Fixed, Root, FreeLeaf, Child}
 use Rattle.dbwalk.specs.declared.entering.Step.{Step}
 use Rattle.dbmarks.proofs.Markings.{refused-by_mark, followed-unrefused, followed-refused, marked-visit}
 

@@ -1,13 +1,10 @@
 -- What calls of a sink leave of its state, call after call.
-use Rattle.std.proofs.Common.{◌≡◌, Bool, true, false, inl, inr, List, [], ◌∷◌, Result, Ok, Err, refl, sym, ap, subst, ◌∙◌}
-use Rattle.std.specs.Prelude.{if◌then◌else◌, IfErr, OnOk, IsErrAnd}
+use Rattle.std.proofs.Common.{◌≡◌, Bool, true, false, inl, inr, List, [], ◌∷◌, Result, Ok, Err, refl, sym, ap, subst, ◌∙◌, if◌then◌else◌, IfErr, OnOk, IsErrAnd}
+use Rattle.dbwalk.proofs.Common.{Moves, MovesBySome, is_write_failed, RunError, Refused, OutOfMemory, WriteFailed, SinkAfter, SinkMoves, SinkState, SinkWalks}
 use Rattle.std.proofs.lemmas.Result.{err_from_is_err_and}
 use Rattle.std.proofs.lemmas.Bool.{false≢true}
-use Rattle.dbsurvey.specs.Moves.{Moves, MovesBySome}
-use Rattle.dbsource.specs.Errors.{is_write_failed}
-use Rattle.dbsource.specs.declared.error.RunError.{RunError}
-use Rattle.dbsource.specs.declared.error.RunError.TheVariants.{Refused, ReadFailed, OutOfMemory, WriteFailed}
-use Rattle.dbwalk.specs.Telling.{SinkAfter, SinkMoves, SinkState, SinkWalks, HasFailed}
+use Rattle.dbsource.specs.declared.error.RunError.TheVariants.{ReadFailed}
+use Rattle.dbwalk.specs.Telling.{HasFailed}
 
 -- what the exit of a `?` answers, where the error is known
 pub err_is : {A : Type 0} {r : Result A RunError} {e : RunError} → IsErrAnd r (λ x. x ≡ e) → r ≡ Err e

@@ -1,29 +1,19 @@
 -- The key of the innermost cell whose left child leads to a page, by the frames above it.
 use Rattle.std.proofs.Common.{◌≡◌, ℕ, ℤ, ◌-◌, Bool, true, false, cond, not, ◌&&◌, inl, inr, List, [], ◌∷◌, ◌++◌, length, map, drop, take, Option, Some, None}
-use Rattle.std.proofs.Common.{refl}
-use Rattle.std.proofs.Common.{Result, Ok, Err, sym, ap, ◌∙◌, append_assoc, arith}
-use Rattle.std.specs.Prelude.{find, option_and_then, unwrap_or}
+use Rattle.std.proofs.Common.{refl, Result, Ok, Err, sym, ap, ◌∙◌, append_assoc, arith, find, option_and_then}
+use Rattle.dbwalk.proofs.Common.{IsIn, Address, IsBefore, Go, cell_of_step, start_of, then_step, child_number, page_bytes, View, if_of_tree, is_same_tree}
+use Rattle.dbwalk.proofs.Common.{tree_of, undamaged, view, usable_size, Reference, role_of, tree_kind, tree_view, TreeKind, is_same, key_from, key_up_to}
+use Rattle.dbwalk.proofs.Common.{left_key, root_of, IsNext, AreOpenFrames, child_at, top_visit, StackFrame}
+use Rattle.std.specs.Prelude.{unwrap_or}
 use Rattle.std.specs.Option.{option_map_or, option_or}
 use Rattle.std.specs.Result.{result_ok}
 use Rattle.std.proofs.lemmas.List.{append-nil}
 use Rattle.std.proofs.lemmas.List.Folds.{find-append}
-use Rattle.dbsurvey.specs.Address.{IsIn, Address, IsBefore}
 use Rattle.dbsurvey.specs.InOrder.{is_before}
-use Rattle.dbsurvey.specs.Story.{Go}
 use Rattle.dbsurvey.proofs.Order.{IsBefore-beginning}
 use Rattle.dbsurvey.proofs.Ordering.{is_before-from, is_before-itself}
-use Rattle.dbformat.specs.Address.{cell_of_step, start_of, then_step}
-use Rattle.dbformat.specs.Cell.{child_number}
-use Rattle.dbformat.specs.File.{page_bytes}
-use Rattle.dbformat.specs.Head.{View, if_of_tree, is_same_tree, tree_of, undamaged, view}
-use Rattle.dbformat.specs.Header.{usable_size}
-use Rattle.dbformat.specs.Reference.{Reference, role_of, tree_kind, tree_view}
 use Rattle.dbformat.specs.declared.HeadFault.{HeadFault}
-use Rattle.dbformat.specs.declared.TreeKind.{TreeKind}
-use Rattle.dbtrace.specs.Causes.{bound_along, is_same, key_from, key_up_to, left_key, root_of, sound_page}
-use Rattle.dbwalk.specs.Entered.{IsNext}
-use Rattle.dbwalk.specs.Walking.{AreOpenFrames, child_at, top_visit}
-use Rattle.dbwalk.specs.declared.steps.StackFrame.{StackFrame}
+use Rattle.dbtrace.specs.Causes.{bound_along, sound_page}
 use Rattle.dbwalk.proofs.Pages.PageTellings.{view_is}
 
 -- an undamaged page has a sound head

@@ -1,23 +1,16 @@
 -- Frames: the pages at their levels, on any source and of a file, a bound on the turns that they still take, the way to the
 -- page after them, and a step of the last.
 use Rattle.std.proofs.Common.{◌≡◌, ℕ, suc, ◌+◌, ◌<◌, List, [], ◌∷◌, ◌++◌, length, Some, refl, ap, arith, ◌∙◌, ◌-◌, ◌*◌, ◌≤◌, Result, Ok, Err, sym, subst, take}
-use Rattle.dbformat.specs.Address.{child_step, cell_of_step}
-use Rattle.dbformat.specs.File.{page_bytes}
-use Rattle.std.specs.Prelude.{slice_get, OnOk}
-use Rattle.dbwalk.specs.Points.{IsAtTurn}
-use Rattle.dbwalk.specs.Walking.{AreCalls, AreRead, IsOpen, IsStepped, AreOpen, frames_cost, cost, path_of}
-use Rattle.dbwalk.specs.declared.steps.StackFrame.{StackFrame}
+use Rattle.std.proofs.Common.{slice_get, OnOk}
+use Rattle.dbwalk.proofs.Common.{child_step, cell_of_step, page_bytes, IsAtTurn, AreCalls, AreRead, IsOpen, IsStepped, AreOpen, cost, path_of, StackFrame}
+use Rattle.dbwalk.proofs.Common.{IsPageNumber, count, undamaged, View, TreeKind, unmarked_pages, Mark, IsEmptyAt, no_chain, no_child, without_key, IsNextStep}
+use Rattle.dbwalk.proofs.Common.{HasNext, Next, End, Nothing, Key}
+use Rattle.dbwalk.specs.Walking.{frames_cost}
 use Rattle.std.proofs.lemmas.Grind.{common_steps}
 use Rattle.std.proofs.lemmas.List.{map-append, length-map, length-append}
-use Rattle.dbformat.specs.FixedPages.{most_pages, IsPageNumber}
-use Rattle.dbformat.specs.Cell.{count}
-use Rattle.dbformat.specs.Head.{undamaged, View}
-use Rattle.dbformat.specs.declared.TreeKind.{TreeKind}
-use Rattle.dbmarks.specs.Marking.{unmarked_pages}
-use Rattle.dbmarks.specs.declared.marks.Mark.{Mark}
-use Rattle.dbwalk.specs.Steps.{IsEmptyAt, no_chain, no_child, unreadable, without_key, IsNextStep, HasNext}
-use Rattle.dbwalk.specs.declared.steps.Next.{Next}
-use Rattle.dbwalk.specs.declared.steps.Next.TheVariants.{End, Nothing, Key, Chain, Child}
+use Rattle.dbformat.specs.FixedPages.{most_pages}
+use Rattle.dbwalk.specs.Steps.{unreadable}
+use Rattle.dbwalk.specs.declared.steps.Next.TheVariants.{Chain, Child}
 
 -- Frames and the pages at their levels, as a turn changes them.
 

@@ -1,30 +1,25 @@
 -- What is left of a walk with a stack, step by step.
-use Rattle.std.proofs.Common.{◌≡◌, ℕ, suc, ◌<◌, ◌≤◌, inl, inr, List, [], ◌∷◌, Option, Some, None, refl, sym, ap, subst, arith, ◌∙◌, ◌-◌, true, false}
-use Rattle.std.proofs.Common.{cond, ◌++◌, map, Result, Ok, Err, append_assoc}
-use Rattle.std.specs.Prelude.{option_map, filter, flat_map, nat_le, option_to_list, option_and_then, unwrap_or, ◌==◌}
+use Rattle.std.proofs.Common.{◌≡◌, ℕ, suc, ◌<◌, ◌≤◌, inl, inr, List, [], ◌∷◌, Option, Some, None, refl, sym, ap, subst, arith, ◌∙◌, ◌-◌, true, false, cond}
+use Rattle.std.proofs.Common.{◌++◌, map, Result, Ok, Err, append_assoc, option_map, filter, flat_map, nat_le, option_to_list, option_and_then, ◌==◌}
+use Rattle.dbwalk.proofs.Common.{IsIn, View, Cell, cell, cells, count, overflow_size, child_number, right_child, CellFault, step_of, Go, errands_of, then_step}
+use Rattle.dbwalk.proofs.Common.{overflow_step, child_step, key_step, cell_of_step, first_overflow, Way, Reference, role_of, tree_kind, tree_view, link}
+use Rattle.dbwalk.proofs.Common.{right_links, Event, at_key, story_of, go, tell_cell, TreeKind, errands_from, child_at, top_visit, left_over, StackFrame}
+use Rattle.std.specs.Prelude.{unwrap_or}
 use Rattle.std.specs.List.{range_with_len}
 use Rattle.std.specs.Result.{result_ok}
 use Rattle.std.proofs.lemmas.Bool.{cases_order, cases_Bool, eqb-true}
-use Rattle.dbsurvey.specs.Address.{IsIn}
-use Rattle.dbformat.specs.Head.{View}
-use Rattle.dbformat.specs.Cell.{Cell, cell, cells, count, overflow_size, child_number, right_child}
-use Rattle.dbformat.specs.declared.CellFault.{CellFault}
 use Rattle.std.specs.Option.{option_map_or}
 use Rattle.std.proofs.lemmas.Bool.Decides.{nat_tests}
 use Rattle.std.proofs.lemmas.List.{append-nil}
-use Rattle.dbsurvey.specs.Story.{PageStep, Follow, Place, step_of, Go, AreRising, errands_at, errands_of}
+use Rattle.dbsurvey.specs.Story.{PageStep, Follow, Place, AreRising, errands_at}
 use Rattle.dbsurvey.proofs.Order.{IsIn-left, IsIn-right, IsIn-cases}
 use Rattle.dbsurvey.proofs.Ordering.{IsIn-map, IsIn-from_map, IsIn-flat_map, IsIn-from_flat_map}
-use Rattle.dbformat.specs.Address.{then_step, overflow_step, child_step, key_step, cell_of_step}
-use Rattle.dbformat.specs.Reference.{child, first_overflow, Way, Reference, role_of, tree_kind, tree_view, link, cell_links, right_links}
-use Rattle.dbformat.specs.Story.{Event, at_key, cell_items, page_items, story_of}
-use Rattle.dbformat.specs.Errands.{go, tell_cell}
-use Rattle.dbformat.specs.declared.TreeKind.{TreeKind}
+use Rattle.dbformat.specs.Reference.{child, cell_links}
+use Rattle.dbformat.specs.Story.{cell_items, page_items}
 use Rattle.dbformat.proofs.LookBack.{listed as is_listed}
 use Rattle.dbformat.proofs.Looping.{tree_items}
 use Rattle.dbformat.proofs.Theory.{is_story}
-use Rattle.dbwalk.specs.Walking.{errands_from, child_page, child_at, top_visit, left_over}
-use Rattle.dbwalk.specs.declared.steps.StackFrame.{StackFrame}
+use Rattle.dbwalk.specs.Walking.{child_page}
 use Rattle.dbsurvey.proofs.Elements.{IsIn-range}
 use Rattle.dbsurvey.proofs.Lists.{filter_map-has}
 use Rattle.dbformat.proofs.CellParts.{from_ok}

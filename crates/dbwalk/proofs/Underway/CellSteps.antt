@@ -2,53 +2,29 @@
 -- cells of a leaf that have nothing but their keys to look at, while the keys rise: they hand out nothing, and change only the
 -- greatest key.
 use Rattle.std.proofs.Common.{◌≡◌, ℕ, ℤ, int_lt, Bool, true, false, cond, not, ◌&&◌, List, [], ◌∷◌, ◌++◌, map, Option, Some, None, refl, sym, ap, ◌∙◌, zero}
-use Rattle.std.proofs.Common.{suc, ◌+◌, ◌<◌, ◌≤◌, ◌<ℤ◌, arith, Ok, Err, Result, subst}
-use Rattle.std.specs.Prelude.{flat_map, int_le, ◌==◌, option_and_then}
+use Rattle.std.proofs.Common.{suc, ◌+◌, ◌<◌, ◌≤◌, ◌<ℤ◌, arith, Ok, Err, Result, subst, flat_map, int_le, ◌==◌, option_and_then}
+use Rattle.dbwalk.proofs.Common.{start_of, schema_start, Cell, cell, count, View, is_interior, Reference, role_of, tree_kind, tree_view, SchemaCell}
+use Rattle.dbwalk.proofs.Common.{schema_cell, at_key, own_visit, story_of, told_if, fault, T06, FaultCode, left_rows, RowidBounds, Finding, told_fault, told_by}
+use Rattle.dbwalk.proofs.Common.{Cause, CellKey, Item, found, given, items_at, Progress, cause_by, rows_of, key_value, Walk, advance, run_below, bare, is_late}
+use Rattle.dbwalk.proofs.Common.{key_cause, order_told, placed, top_after, AreRisingFrom, IsIn, Address, AreQuiet, Tell, errands_of, errands_in, cell_errands}
+use Rattle.dbwalk.proofs.Common.{tell_cell, CellFault, TreeKind, IsAboveLast, IsAllLocal, key_at, IsAt, HasDone, done_below, Mark, Tree}
 use Rattle.std.proofs.lemmas.List.{append-nil}
-use Rattle.dbformat.specs.Address.{start_of, schema_start}
-use Rattle.dbformat.specs.Cell.{Cell, cell, count}
-use Rattle.dbformat.specs.Head.{View, is_interior}
 use Rattle.dbformat.specs.KeyFaults.{key_of}
-use Rattle.dbformat.specs.Reference.{Reference, role_of, tree_kind, tree_view}
-use Rattle.dbformat.specs.Schema.{SchemaCell, schema_cell}
-use Rattle.dbformat.specs.Story.{at_key, own_visit, story_of}
-use Rattle.dbformat.specs.Tests.{told_if}
-use Rattle.dbformat.specs.Faults.{fault}
-use Rattle.dbformat.specs.declared.FaultCode.TheVariants.{T06}
 use Rattle.dbformat.proofs.Places.{cell_key}
-use Rattle.dbformat.specs.declared.FaultCode.{FaultCode}
-use Rattle.dbtrace.specs.Causes.{left_rows}
-use Rattle.dbtrace.specs.declared.RowidBounds.{RowidBounds}
-use Rattle.dbtrace.specs.Finding.{Finding, told_fault, told_by}
-use Rattle.dbtrace.specs.declared.Cause.{Cause}
-use Rattle.dbtrace.specs.declared.CellKey.{CellKey}
-use Rattle.dbtrace.specs.Item.{Item, found, given, items_at}
-use Rattle.dbtrace.specs.Progress.{Progress, cause_by, rows_of, late_faults, greatest_after, key_value}
-use Rattle.dbtrace.specs.Walk.{Walk, advance, run_below, bare}
+use Rattle.dbtrace.specs.Progress.{late_faults, greatest_after}
 use Rattle.dbtrace.proofs.Keys.{le_is}
-use Rattle.dbwalk.specs.LeafCells.{is_late, key_cause, order_told, placed, top_after, AreRisingFrom}
 use Rattle.std.specs.List.{range_with_len}
 use Rattle.std.specs.Option.{option_map_or, option_or}
 use Rattle.std.specs.Result.{result_ok}
 use Rattle.std.proofs.lemmas.Int.{ints}
 use Rattle.std.proofs.lemmas.Grind.{flat_map-append}
-use Rattle.dbsurvey.specs.Address.{IsIn, Address}
-use Rattle.dbsurvey.specs.InOrder.{AreQuiet}
-use Rattle.dbsurvey.specs.Story.{Tell, errands_of}
 use Rattle.dbsurvey.proofs.Ordering.{IsIn-from_flat_map}
-use Rattle.dbformat.specs.Errands.{errands_in, cell_errands, tell_cell}
-use Rattle.dbformat.specs.declared.CellFault.{CellFault}
-use Rattle.dbformat.specs.declared.TreeKind.{TreeKind}
 use Rattle.dbformat.proofs.Cells.{is_of_kind}
 use Rattle.dbformat.proofs.Looping.{range-more, all_quiet}
-use Rattle.dbpage.specs.Packed.{IsAboveLast, IsAllLocal, key_at}
 use Rattle.dbtrace.proofs.Stepping.{has_steps}
 use Rattle.dbwalk.proofs.Pages.PageVisits.{told_once}
 use Rattle.dbwalk.proofs.Trees.Stacking.{cells_in}
 use Rattle.std.proofs.lemmas.Bool.Decides.{nat_tests}
-use Rattle.dbwalk.specs.Underway.{IsAt, HasDone, done_below}
-use Rattle.dbmarks.specs.declared.marks.Mark.{Mark}
-use Rattle.dbwalk.specs.declared.state.Tree.{Tree}
 use Rattle.dbwalk.proofs.Leaves.LeafErrands.{leaf_errands_are}
 
 -- the fault of a cell's key, if it has one, as the program reports it

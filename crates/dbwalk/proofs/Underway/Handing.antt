@@ -1,32 +1,16 @@
 -- Items that are handed to a sink and a taker, one list after another.
-use Rattle.std.proofs.Common.{◌≡◌, Bool, inl, inr, List, [], ◌∷◌, ◌++◌, map, Result, Ok, Err, refl, sym, ap, subst, ℕ, ◌∙◌}
-use Rattle.std.specs.Prelude.{IfErr, OnOk}
-use Rattle.dbsurvey.specs.Moves.{Moves, Stops, MovesBySome}
+use Rattle.std.proofs.Common.{◌≡◌, Bool, inl, inr, List, [], ◌∷◌, ◌++◌, map, Result, Ok, Err, refl, sym, ap, subst, ℕ, ◌∙◌, IfErr, OnOk}
+use Rattle.dbwalk.proofs.Common.{Moves, Stops, MovesBySome, SchemaCell, SchemaRow, RunError, Refused, WriteFailed, OutOfMemory, Finding, Item, found, given}
+use Rattle.dbwalk.proofs.Common.{given_cells, counted_findings, IsReadOrWrite, Tells, TellsRow, watches, fails, row_at, StopsAt, Handed, Taken, AreQuiet}
+use Rattle.dbwalk.proofs.Common.{Errand, geometry, rules_of, Way, Event, own_visit, story_of, Walk, bare, run_below, AreMarksOf, IsAt, HasDone, done_below}
+use Rattle.dbwalk.proofs.Common.{Mark, Tree}
 use Rattle.dbsurvey.proofs.Moving.{Moves-append, some_first, some_after, stops_first, stops_after}
-use Rattle.dbformat.specs.Schema.{SchemaCell}
-use Rattle.dbformat.specs.SchemaRow.{SchemaRow}
-use Rattle.dbsource.specs.declared.error.RunError.{RunError}
-use Rattle.dbsource.specs.declared.error.RunError.TheVariants.{Refused, ReadFailed, WriteFailed, OutOfMemory}
-use Rattle.dbtrace.specs.Finding.{Finding}
-use Rattle.dbtrace.specs.Item.{Item, found, given, given_cells, counted_findings}
-use Rattle.dbwalk.specs.Telling.{IsReadOrWrite, Tells}
-use Rattle.dbwalk.specs.Taking.{TellsRow}
-use Rattle.dbwalk.specs.Watching.{watches, fails, row_at, StopsAt, Handed}
-use Rattle.dbwalk.specs.declared.taker.Taken.{Taken}
-use Rattle.dbsurvey.specs.InOrder.{AreQuiet}
-use Rattle.dbsurvey.specs.Story.{Errand, telling_of}
+use Rattle.dbsource.specs.declared.error.RunError.TheVariants.{ReadFailed}
+use Rattle.dbsurvey.specs.Story.{telling_of}
 use Rattle.dbsurvey.proofs.Advancing.{run_visits}
-use Rattle.dbformat.specs.File.{geometry}
-use Rattle.dbformat.specs.Survey.{rules_of}
-use Rattle.dbformat.specs.Reference.{Way}
-use Rattle.dbformat.specs.Story.{Event, own_visit, story_of}
-use Rattle.dbtrace.specs.Walk.{Walk, machine, bare, run_below}
+use Rattle.dbtrace.specs.Walk.{machine}
 use Rattle.dbtrace.proofs.Stepping.{has_steps}
-use Rattle.dbmarks.specs.Marking.{AreMarksOf}
-use Rattle.dbwalk.specs.Underway.{IsAt, HasDone, done_below}
 use Rattle.dbwalk.proofs.Telling.Sinks.{asked, asked_both, moves_some}
-use Rattle.dbmarks.specs.declared.marks.Mark.{Mark}
-use Rattle.dbwalk.specs.declared.state.Tree.{Tree}
 
 -- items that give no row
 pub only_found : (items : List Item) → given_cells items ≡ [] → items ≡ map found (counted_findings 0 items)

@@ -1,46 +1,21 @@
 -- A cell of a leaf: its overflow chain, its row, where the tree is the schema's, and its key.
-use Rattle.std.proofs.Common.{◌≡◌, ℕ, ℤ, ◌≤◌, arith, true, false, not, inl, inr, List, [], ◌∷◌, ◌++◌, map, Option, Some, None, Result, Ok, Err, refl, sym}
-use Rattle.std.proofs.Common.{ap, cond}
-use Rattle.std.proofs.Common.{subst, ◌∙◌}
-use Rattle.std.specs.Prelude.{OnOk, IfErr, is_some, option_and_then, ◌==◌}
+use Rattle.std.proofs.Common.{◌≡◌, ℕ, ℤ, ◌≤◌, arith, true, false, not, inl, inr, List, [], ◌∷◌, ◌++◌, map, Option, Some, None, Result, Ok, Err, refl, sym, ap}
+use Rattle.std.proofs.Common.{cond, subst, ◌∙◌, OnOk, IfErr, is_some, option_and_then, ◌==◌}
+use Rattle.dbwalk.proofs.Common.{Moves, Errand, start_of, then_step, overflow_step, schema_start, Cell, cell, cell_errands, View, is_interior, encoding, Way}
+use Rattle.dbwalk.proofs.Common.{Reference, SchemaCell, payload, schema_cell, SchemaRow, Event, at_key, TreeKind, RowSieve, RunError, key_before, left_rows}
+use Rattle.dbwalk.proofs.Common.{Finding, told_below, visited_below, CellKey, Item, found, given, rows_of, Walk, bare, advance, IsDone, overflow_errands}
+use Rattle.dbwalk.proofs.Common.{late_told, top_after, AreBefore, AreMarksOf, IsReadOrWrite, TellsRow, HasFed, HoldsCell, FeedsPayload, IsAt, done_below}
+use Rattle.dbwalk.proofs.Common.{watches, fails, StopsAt, Handed, Mark, Tree, Taken}
 use Rattle.std.specs.Result.{result_ok}
 use Rattle.std.proofs.lemmas.Bool.{cases_Bool, eqb-true}
 use Rattle.std.proofs.lemmas.Bool.Decides.{nat_tests}
 use Rattle.std.proofs.lemmas.List.{append-nil}
-use Rattle.dbsurvey.specs.Moves.{Moves}
-use Rattle.dbsurvey.specs.Story.{Errand}
-use Rattle.dbformat.specs.Address.{start_of, then_step, overflow_step, schema_start}
-use Rattle.dbformat.specs.Cell.{Cell, cell}
-use Rattle.dbformat.specs.Errands.{cell_errands}
-use Rattle.dbformat.specs.Head.{View, is_interior}
-use Rattle.dbformat.specs.Header.{encoding}
-use Rattle.dbformat.specs.Reference.{Way, Reference}
-use Rattle.dbformat.specs.Schema.{SchemaCell, payload, schema_cell}
-use Rattle.dbformat.specs.SchemaRow.{SchemaRow, schema_row}
-use Rattle.dbformat.specs.Story.{Event, at_key}
+use Rattle.dbformat.specs.SchemaRow.{schema_row}
 use Rattle.dbformat.specs.declared.Encoding.{Encoding}
-use Rattle.dbformat.specs.declared.TreeKind.{TreeKind}
-use Rattle.dbbytes.specs.declared.sieve.RowSieve.{RowSieve}
-use Rattle.dbsource.specs.declared.error.RunError.{RunError}
-use Rattle.dbtrace.specs.Causes.{key_before, left_rows}
-use Rattle.dbtrace.specs.Finding.{Finding, told_below, visited_below}
-use Rattle.dbtrace.specs.declared.CellKey.{CellKey}
-use Rattle.dbtrace.specs.Item.{Item, found, given}
-use Rattle.dbtrace.specs.Progress.{rows_of}
-use Rattle.dbtrace.specs.Walk.{Walk, bare, advance}
 use Rattle.dbtrace.proofs.Asides.{are_aside}
 use Rattle.dbtrace.proofs.Stepping.{has_steps}
-use Rattle.dbwalk.specs.Done.{IsDone}
-use Rattle.dbwalk.specs.LeafCells.{overflow_errands, late_told, top_after, AreBefore}
-use Rattle.dbmarks.specs.Marking.{AreMarksOf}
-use Rattle.dbwalk.specs.Telling.{IsReadOrWrite}
-use Rattle.dbwalk.specs.Taking.{row_place, TellsRow, HasFed, HoldsCell, FeedsPayload}
-use Rattle.dbwalk.specs.Underway.{IsAt, done_below}
-use Rattle.dbwalk.specs.Watching.{watches, fails, StopsAt, Handed}
-use Rattle.dbmarks.specs.declared.marks.Mark.{Mark}
+use Rattle.dbwalk.specs.Taking.{row_place}
 use Rattle.dbwalk.specs.declared.schema_row.RowPlace.{RowPlace}
-use Rattle.dbwalk.specs.declared.state.Tree.{Tree}
-use Rattle.dbwalk.specs.declared.taker.Taken.{Taken}
 use Rattle.dbwalk.proofs.Leaves.LeafErrands.{own_errands, read_overflow, errands_split, quiet_overflow}
 use Rattle.dbwalk.proofs.Telling.Belows.{told_none}
 use Rattle.dbwalk.proofs.Underway.CellSteps.{order_told_of, cell_items, greatest_behind, no_row_elsewhere}

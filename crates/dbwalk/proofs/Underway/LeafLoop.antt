@@ -1,36 +1,17 @@
 -- The loop over the cells of a leaf: it passes over some cells at once, and a call does one.
 use Rattle.std.proofs.Common.{◌≡◌, ℕ, zero, suc, ◌+◌, ◌-◌, ◌<◌, ◌≤◌, false, inl, inr, List, [], ◌∷◌, ◌++◌, Option, Some, None, Result, Ok, Err, refl, sym, ap}
-use Rattle.std.proofs.Common.{subst, arith, ◌∙◌, append_assoc}
-use Rattle.std.specs.Prelude.{flat_map, option_and_then, ◌==◌}
+use Rattle.std.proofs.Common.{subst, arith, ◌∙◌, append_assoc, flat_map, option_and_then, ◌==◌}
+use Rattle.dbwalk.proofs.Common.{IsIn, IsBefore, AreQuiet, start_of, then_step, overflow_step, schema_start, cell, count, cell_errands, errands_before, View}
+use Rattle.dbwalk.proofs.Common.{is_interior, Reference, SchemaRow, own_visit, TreeKind, RunError, Finding, visited_below, CellKey, Item, Walk, bare}
+use Rattle.dbwalk.proofs.Common.{AreRisingFrom, overflow_errands, AreBefore, IsAt, done_below, IsLeafAt, watches, Mark, Tree, Taken}
 use Rattle.std.specs.List.{range_with_len}
 use Rattle.std.specs.Result.{result_ok}
 use Rattle.std.proofs.lemmas.Bool.{cases_order}
 use Rattle.std.proofs.lemmas.Grind.{flat_map-append}
-use Rattle.dbsurvey.specs.Address.{IsIn, IsBefore}
-use Rattle.dbsurvey.specs.InOrder.{AreQuiet}
 use Rattle.dbsurvey.proofs.Order.{IsIn-cases, IsBefore-trans}
-use Rattle.dbformat.specs.Address.{start_of, then_step, overflow_step, schema_start}
-use Rattle.dbformat.specs.Cell.{cell, count}
-use Rattle.dbformat.specs.Errands.{cell_errands, errands_before}
-use Rattle.dbformat.specs.Head.{View, is_interior}
-use Rattle.dbformat.specs.Reference.{Reference}
-use Rattle.dbformat.specs.SchemaRow.{SchemaRow}
-use Rattle.dbformat.specs.Story.{own_visit}
-use Rattle.dbformat.specs.declared.TreeKind.{TreeKind}
 use Rattle.dbformat.proofs.Looping.{all_quiet, one_cell_more, range-parts}
-use Rattle.dbsource.specs.declared.error.RunError.{RunError}
-use Rattle.dbtrace.specs.Finding.{Finding, visited_below}
-use Rattle.dbtrace.specs.declared.CellKey.{CellKey}
-use Rattle.dbtrace.specs.Item.{Item}
-use Rattle.dbtrace.specs.Walk.{Walk, bare}
 use Rattle.dbtrace.proofs.Stepping.{has_steps}
-use Rattle.dbwalk.specs.LeafCells.{AreRisingFrom, ArePassedAt, overflow_errands, AreBefore}
-use Rattle.dbwalk.specs.Underway.{IsAt, done_below}
-use Rattle.dbwalk.specs.Walking.{IsLeafAt}
-use Rattle.dbwalk.specs.Watching.{watches}
-use Rattle.dbmarks.specs.declared.marks.Mark.{Mark}
-use Rattle.dbwalk.specs.declared.state.Tree.{Tree}
-use Rattle.dbwalk.specs.declared.taker.Taken.{Taken}
+use Rattle.dbwalk.specs.LeafCells.{ArePassedAt}
 use Rattle.dbwalk.proofs.Leaves.LeafErrands.{read_overflow}
 use Rattle.dbwalk.proofs.Underway.Visits.{before_next, before_later}
 use Rattle.dbwalk.proofs.Telling.Belows.{visited_none, below_begins}

@@ -1,16 +1,7 @@
 -- The steps of an interior page at which it has nothing, and which a walk passes over.
 use Rattle.std.proofs.Common.{◌≡◌, ℕ, zero, suc, ◌+◌, ◌-◌, ◌<◌, ◌≤◌, List, [], ◌∷◌, ◌++◌, length, refl, sym, ap, ap₂, subst, arith, ◌∙◌}
-use Rattle.dbformat.specs.Header.{usable_size}
-use Rattle.dbformat.specs.Reference.{Reference}
-use Rattle.dbformat.specs.declared.TreeKind.{TreeKind}
-use Rattle.dbmarks.specs.declared.marks.Mark.{Mark}
-use Rattle.dbtrace.specs.Item.{Item}
-use Rattle.dbwalk.specs.Steps.{AreEmpty, HasNext}
-use Rattle.dbwalk.specs.Underway.{IsWalkingOn}
-use Rattle.dbwalk.specs.Walking.{AreOpen, IsCandidate, IsStepped}
-use Rattle.dbwalk.specs.declared.state.Tree.{Tree}
-use Rattle.dbwalk.specs.declared.steps.StackFrame.{StackFrame}
-use Rattle.dbwalk.specs.declared.steps.Next.TheVariants.{Nothing}
+use Rattle.dbwalk.proofs.Common.{usable_size, Reference, TreeKind, Mark, Item, AreEmpty, HasNext, IsWalkingOn, AreOpen, IsCandidate, IsStepped, Tree}
+use Rattle.dbwalk.proofs.Common.{StackFrame, Nothing}
 use Rattle.dbwalk.proofs.Trees.Frames.{at_step, next_at, step_on}
 use Rattle.dbwalk.proofs.Underway.TreeTurns.{next_here, turned_empty}
 

@@ -1,46 +1,21 @@
 -- One turn of the loop over the interior pages of a tree.
-use Rattle.std.proofs.Common.{◌≡◌, ℕ, suc, ◌+◌, ◌-◌, ◌*◌, ◌<◌, ◌≤◌, true, false, not, inl, inr, List, [], ◌∷◌, ◌++◌, map, length, Some, Ok, Err, refl, sym}
-use Rattle.std.proofs.Common.{ap, cond}
-use Rattle.std.proofs.Common.{subst, arith, ◌∙◌, append_assoc, None, Result}
-use Rattle.std.specs.Prelude.{slice_get, OnOk, IfErr}
+use Rattle.std.proofs.Common.{◌≡◌, ℕ, suc, ◌+◌, ◌-◌, ◌*◌, ◌<◌, ◌≤◌, true, false, not, inl, inr, List, [], ◌∷◌, ◌++◌, map, length, Some, Ok, Err, refl, sym, ap}
+use Rattle.std.proofs.Common.{cond, subst, arith, ◌∙◌, append_assoc, None, Result, slice_get, OnOk, IfErr}
+use Rattle.dbwalk.proofs.Common.{AreQuiet, Moves, Errand, Go, errands_of, child_step, Cell, count, tell_cell, page_bytes, Way, Reference, role_of, tree_kind}
+use Rattle.dbwalk.proofs.Common.{Event, at_page, at_key, own_visit, story_of, TreeKind, RunError, key_from, root_of, key_before, RowidBounds, Item, found, Walk}
+use Rattle.dbwalk.proofs.Common.{advance, run_below, bare, IsNext, top_after, AreMarksOf, errands_from, child_at, top_visit, left_over, IsStepped}
+use Rattle.dbwalk.proofs.Common.{AreOpenFrames, AreRead, IsReadOrWrite, IsUnderway, HasDone, IsInterior, done_below, entered, IsAt, IsWalkingOn, tree_walk}
+use Rattle.dbwalk.proofs.Common.{StopsAt, watches, fails, Handed, StackFrame, Mark, Tree, SchemaRow, Finding, told_below, visited_below, IsDone, Taken}
 use Rattle.std.proofs.lemmas.List.{append-nil}
-use Rattle.dbsurvey.specs.InOrder.{AreQuiet}
-use Rattle.dbsurvey.specs.Moves.{Moves}
-use Rattle.dbsurvey.specs.Story.{Errand, Go, errands_of}
-use Rattle.dbformat.specs.Address.{child_step}
-use Rattle.dbformat.specs.Cell.{Cell, count}
-use Rattle.dbformat.specs.Errands.{tell_cell}
-use Rattle.dbformat.specs.File.{page_bytes}
-use Rattle.dbformat.specs.Reference.{Way, Reference, role_of, tree_kind}
-use Rattle.dbformat.specs.Story.{Event, at_page, at_key, own_visit, story_of}
-use Rattle.dbformat.specs.declared.TreeKind.{TreeKind}
-use Rattle.dbsource.specs.declared.error.RunError.{RunError}
-use Rattle.dbtrace.specs.Causes.{key_from, root_of, key_before}
-use Rattle.dbtrace.specs.declared.RowidBounds.{RowidBounds}
-use Rattle.dbtrace.specs.Item.{Item, found}
 use Rattle.dbtrace.specs.Steps.{IsAside}
-use Rattle.dbtrace.specs.Walk.{Walk, advance, run_below, bare}
 use Rattle.dbtrace.proofs.Stepping.{has_steps}
-use Rattle.dbwalk.specs.Entered.{IsNext}
-use Rattle.dbwalk.specs.LeafCells.{top_after}
-use Rattle.dbmarks.specs.Marking.{AreMarksOf}
-use Rattle.dbwalk.specs.Walking.{errands_from, child_at, top_visit, left_over, IsOpenFrame, IsStepped, AreOpenFrames, AreRead}
-use Rattle.dbwalk.specs.Telling.{IsReadOrWrite}
-use Rattle.dbwalk.specs.Underway.{IsUnderway, HasDone, IsInterior, done_below, entered, IsAt, IsWalkingOn, tree_walk}
-use Rattle.dbwalk.specs.Watching.{StopsAt, watches, fails, Handed}
-use Rattle.dbwalk.specs.declared.steps.StackFrame.{StackFrame}
-use Rattle.dbmarks.specs.declared.marks.Mark.{Mark}
-use Rattle.dbwalk.specs.declared.state.Tree.{Tree}
+use Rattle.dbwalk.specs.Walking.{IsOpenFrame}
 use Rattle.dbwalk.proofs.Trees.Bounds.{root_stays}
 use Rattle.dbwalk.proofs.Trees.Stacking.{left-push, top-push, from_first}
 use Rattle.dbwalk.proofs.Trees.Frames.{read_front, read_push, read_kept, calls_front, calls_on, calls_push}
 use Rattle.dbwalk.proofs.Underway.CellSteps.{order_told_of, cell_items, no_row_inside, greatest_behind}
 use Rattle.dbwalk.proofs.Underway.Underways.{items_of, under_event, under_visit, under_call, stop_call}
-use Rattle.dbformat.specs.SchemaRow.{SchemaRow}
-use Rattle.dbtrace.specs.Finding.{Finding, told_below, visited_below}
 use Rattle.dbtrace.proofs.Asides.{are_aside}
-use Rattle.dbwalk.specs.Done.{IsDone}
-use Rattle.dbwalk.specs.declared.taker.Taken.{Taken}
 use Rattle.dbwalk.proofs.Underway.Handing.{found_handed, no_memory}
 
 -- frames

@@ -1,42 +1,19 @@
 -- One turn of the loop over the interior pages of a tree, by what the last frame's page has at its step.
 use Rattle.std.proofs.Common.{◌≡◌, ℕ, suc, ◌+◌, ◌-◌, ◌*◌, ◌/◌, ◌<◌, ◌≤◌, false, true, List, [], ◌∷◌, ◌++◌, map, length, Option, Some, Ok, Err, Result, ℤ, refl}
-use Rattle.std.proofs.Common.{sym, ap, ap₂, subst, arith, ◌∙◌, Bool}
-use Rattle.std.specs.Prelude.{option_and_then, slice_get, unwrap_or, OnOk, IfErr}
+use Rattle.std.proofs.Common.{sym, ap, ap₂, subst, arith, ◌∙◌, Bool, option_and_then, slice_get, OnOk, IfErr}
+use Rattle.dbwalk.proofs.Common.{Moves, Go, then_step, overflow_step, child_step, cell_of_step, count, overflow_size, child_number, tell_cell, page_bytes, View}
+use Rattle.dbwalk.proofs.Common.{undamaged, usable_size, first_overflow, Reference, role_of, tree_kind, tree_view, RunError, fault, told_if, T06, key_before}
+use Rattle.dbwalk.proofs.Common.{key_from, key_up_to, left_key, Finding, told_fault, key_value, RowidBounds, Item, found, IsChainOf, IsNext, is_late, key_cause}
+use Rattle.dbwalk.proofs.Common.{order_told, top_after, errands_from, child_at, top_visit, IsCandidate, IsLeafAt, IsStepped, path_of, IsEmptyAt, no_chain}
+use Rattle.dbwalk.proofs.Common.{no_child, without_key, HasLeft, IsNextStep, HasNext, HasDone, IsInterior, done_below, entered, IsWalkingOn, tree_walk, StopsAt}
+use Rattle.dbwalk.proofs.Common.{StackFrame, Mark, Tree, Next, End, Nothing}
+use Rattle.std.specs.Prelude.{unwrap_or}
 use Rattle.std.specs.Option.{option_map_or, option_or}
 use Rattle.std.specs.Result.{result_ok}
 use Rattle.std.proofs.lemmas.List.{length-append}
-use Rattle.dbsurvey.specs.Moves.{Moves}
-use Rattle.dbsurvey.specs.Story.{Go}
-use Rattle.dbformat.specs.Address.{then_step, overflow_step, child_step, cell_of_step}
-use Rattle.dbformat.specs.Cell.{count, overflow_size, child_number}
-use Rattle.dbformat.specs.Errands.{tell_cell}
-use Rattle.dbformat.specs.File.{page_bytes}
-use Rattle.dbformat.specs.Head.{View, undamaged}
-use Rattle.dbformat.specs.Header.{usable_size}
-use Rattle.dbformat.specs.Reference.{first_overflow, Reference, role_of, tree_kind, tree_view}
-use Rattle.dbsource.specs.declared.error.RunError.{RunError}
-use Rattle.dbformat.specs.Faults.{fault}
-use Rattle.dbformat.specs.Tests.{told_if}
-use Rattle.dbformat.specs.declared.FaultCode.TheVariants.{T06}
-use Rattle.dbtrace.specs.Causes.{key_before, key_from, key_up_to, left_key}
-use Rattle.dbtrace.specs.Finding.{Finding, told_fault}
-use Rattle.dbtrace.specs.Progress.{key_value}
-use Rattle.dbtrace.specs.declared.RowidBounds.{RowidBounds}
-use Rattle.dbtrace.specs.Item.{Item, found}
-use Rattle.dbwalk.specs.Chains.{IsChainOf}
-use Rattle.dbwalk.specs.Entered.{IsNext}
-use Rattle.dbwalk.specs.LeafCells.{is_late, key_cause, order_told, top_after}
-use Rattle.dbwalk.specs.Walking.{errands_from, child_at, top_visit, IsCandidate, IsLeafAt, IsStepped, path_of}
-use Rattle.dbwalk.specs.Steps.{IsChainAt, IsChildAt, IsKeyAt, IsEmptyAt, no_chain, no_child, unreadable, without_key, HasLeft, IsNextStep, HasNext}
-use Rattle.dbwalk.specs.Underway.{HasDone, IsInterior, done_below, entered, IsWalkingOn, HasTurned, tree_walk}
-use Rattle.dbwalk.specs.Watching.{StopsAt}
+use Rattle.dbwalk.specs.Steps.{IsChainAt, IsChildAt, IsKeyAt, unreadable}
+use Rattle.dbwalk.specs.Underway.{HasTurned}
 use Rattle.dbwalk.specs.declared.chain.Chain.{Chain}
-use Rattle.dbwalk.specs.declared.steps.StackFrame.{StackFrame}
-use Rattle.dbmarks.specs.declared.marks.Mark.{Mark}
-use Rattle.dbwalk.specs.declared.state.Tree.{Tree}
-use Rattle.dbwalk.specs.declared.steps.Next.{Next}
-use Rattle.dbwalk.specs.declared.steps.Next.TheVariants.{End, Nothing}
-use Rattle.dbwalk.specs.declared.steps.Next.TheVariants as step
 use Rattle.dbwalk.proofs.Leaves.LeafErrands.{chain_start, rowid_in}
 use Rattle.dbwalk.proofs.Pages.PageTellings.{view_is}
 use Rattle.dbwalk.proofs.Pages.PageVisits.{kind_is}
@@ -45,8 +22,9 @@ use Rattle.dbwalk.proofs.Trees.Frames.{path_length, read_last, step_within}
 use Rattle.dbwalk.proofs.Trees.Stacking.{top_kind, step_no_chain, step_no_child, step_key, step_no_key, step_chain, step_child, step_end}
 use Rattle.dbwalk.proofs.Trees.TreeWays.{IsOnWay, child_candidate, top_candidate}
 use Rattle.dbwalk.proofs.Underway.CellSteps.{order_told_of}
-use Rattle.dbwalk.proofs.Underway.TreeSteps as steps
 use Rattle.dbwalk.proofs.Underway.TreeSteps.{turned}
+use Rattle.dbwalk.specs.declared.steps.Next.TheVariants as step
+use Rattle.dbwalk.proofs.Underway.TreeSteps as steps
 
 module _ {P : Type 0} {moves : P → Item → P → Type 0} {file : List ℕ} {W : List Reference} {c : Reference} {before : P} {levels : List (List ℕ)}
     (fs : List StackFrame) (f : StackFrame) {marks : List Mark} {tree : Tree} {w : P}

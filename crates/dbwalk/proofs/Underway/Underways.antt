@@ -1,29 +1,14 @@
 -- A walk under way, step by step.
-use Rattle.std.proofs.Common.{◌≡◌, ℕ, inr, List, [], ◌∷◌, ◌++◌, None, Ok, Err, sym, ap, subst, ◌∙◌, append_assoc, true}
-use Rattle.std.specs.Prelude.{option_to_list}
+use Rattle.std.proofs.Common.{◌≡◌, ℕ, inr, List, [], ◌∷◌, ◌++◌, None, Ok, Err, sym, ap, subst, ◌∙◌, append_assoc, true, option_to_list}
+use Rattle.dbwalk.proofs.Common.{IsLeftOf, AreQuiet, IsPast, Moves, Told, Errand, Go, Tell, errand_key, errands_of, is_followed, geometry, Way, Reference}
+use Rattle.dbwalk.proofs.Common.{Event, at_page, own_visit, story_of, rules_of, RunError, Item, items_at, Walk, bare, advance, run_below, AreMarksOf, IsAt}
+use Rattle.dbwalk.proofs.Common.{IsUnderway, HasDone, done_below, StopsAt, Mark, Tree}
 use Rattle.std.proofs.lemmas.List.{append-nil}
-use Rattle.dbsurvey.specs.Address.{IsLeftOf}
-use Rattle.dbsurvey.specs.InOrder.{AreQuiet, IsPast}
-use Rattle.dbsurvey.specs.Moves.{Moves}
-use Rattle.dbsurvey.specs.Story.{Told, Errand, Go, Tell, errand_key, errands_of}
-use Rattle.dbsurvey.specs.Traverse.{is_followed}
 use Rattle.dbsurvey.proofs.Moving.{Moves-append}
 use Rattle.dbsurvey.proofs.Order.{IsIn-right, EachPair-left, EachPair-right}
 use Rattle.dbsurvey.proofs.Past.{past_join}
-use Rattle.dbformat.specs.File.{geometry}
-use Rattle.dbformat.specs.Reference.{Way, Reference}
-use Rattle.dbformat.specs.Story.{Event, at_page, own_visit, story_of}
-use Rattle.dbformat.specs.Survey.{rules_of}
 use Rattle.dbformat.proofs.Theory.{are_rules}
-use Rattle.dbsource.specs.declared.error.RunError.{RunError}
-use Rattle.dbtrace.specs.Item.{Item, items_at}
-use Rattle.dbtrace.specs.Walk.{Walk, bare, advance, run_below}
 use Rattle.dbtrace.proofs.Stepping.{has_steps}
-use Rattle.dbmarks.specs.Marking.{AreMarksOf}
-use Rattle.dbwalk.specs.Underway.{IsAt, IsUnderway, HasDone, done_below}
-use Rattle.dbwalk.specs.Watching.{StopsAt}
-use Rattle.dbmarks.specs.declared.marks.Mark.{Mark}
-use Rattle.dbwalk.specs.declared.state.Tree.{Tree}
 use Rattle.dbwalk.proofs.Telling.Lefts.{visit_apart, past_visit_all}
 use Rattle.dbwalk.proofs.Underway.Handing.{stop_first, stop_after}
 

@@ -1,48 +1,23 @@
 -- A reference that is looked at: refused, or visited, where what its page leads to is done next.
 use Rattle.std.proofs.Common.{ℕ, ℤ, ◌<◌, inl, inr, List, [], ◌∷◌, ◌++◌, refl, sym, subst, ◌≡◌, Bool, true, false, map, Option, Some, Result, Ok, Err, ap, ap₂}
-use Rattle.std.proofs.Common.{◌∙◌}
-use Rattle.dbsurvey.specs.Address.{Address, IsBefore}
+use Rattle.std.proofs.Common.{◌∙◌, OnOk, option_to_list}
+use Rattle.dbwalk.proofs.Common.{Address, IsBefore, Reference, role_of, tree_kind, TreeKind, CellKey, AreBefore, Moves, Go, errands_of, is_followed, then_step}
+use Rattle.dbwalk.proofs.Common.{SchemaRow, at_page, at_refused, story_of, rules_of, RunError, WriteFailed, OutOfMemory, Finding, told_by, told_row, Item}
+use Rattle.dbwalk.proofs.Common.{found, key_up_to, refusal_of, key_value, leaf_after, rowids_by, Cause, FaultCode, Walk, bare, advance, run_below, IsNext}
+use Rattle.dbwalk.proofs.Common.{refused_told, AreMarksOf, Tells, page_findings, IsAt, HasDone, done_below, entered, IsEntered, watches, fails, Handed, Mark}
+use Rattle.dbwalk.proofs.Common.{Tree, Taken}
 use Rattle.dbsurvey.proofs.Order.{IsIn-cases, IsBefore-trans, IsBefore-beginning}
 use Rattle.dbformat.specs.Laws.{event_row}
-use Rattle.dbformat.specs.Reference.{Reference, role_of, tree_kind}
-use Rattle.dbformat.specs.declared.TreeKind.{TreeKind}
-use Rattle.dbtrace.specs.declared.CellKey.{CellKey}
 use Rattle.dbtrace.specs.declared.TreeLeaf.{TreeLeaf}
-use Rattle.dbwalk.specs.LeafCells.{AreBefore}
-use Rattle.std.specs.Prelude.{OnOk, option_to_list}
 use Rattle.std.proofs.lemmas.List.{append-nil}
-use Rattle.dbsurvey.specs.Moves.{Moves}
-use Rattle.dbsurvey.specs.Story.{Go, errands_of}
-use Rattle.dbsurvey.specs.Traverse.{is_followed}
 use Rattle.dbsurvey.proofs.Moving.{some_none}
-use Rattle.dbformat.specs.Address.{then_step}
-use Rattle.dbformat.specs.SchemaRow.{SchemaRow}
-use Rattle.dbformat.specs.Story.{at_page, at_refused, story_of}
-use Rattle.dbformat.specs.Survey.{rules_of}
-use Rattle.dbsource.specs.declared.error.RunError.{RunError}
-use Rattle.dbsource.specs.declared.error.RunError.TheVariants.{ReadFailed, WriteFailed, OutOfMemory}
-use Rattle.dbtrace.specs.Finding.{Finding, told_by, told_row}
-use Rattle.dbtrace.specs.Item.{Item, found}
-use Rattle.dbtrace.specs.Causes.{key_up_to, refusal_of}
-use Rattle.dbtrace.specs.Progress.{key_value, leaf_after, rowids_by}
-use Rattle.dbtrace.specs.declared.Cause.{Cause}
-use Rattle.dbtrace.specs.declared.Cause.TheVariants as cause
+use Rattle.dbsource.specs.declared.error.RunError.TheVariants.{ReadFailed}
 use Rattle.dbformat.specs.ReferenceFaults.{reference_faults}
-use Rattle.dbformat.specs.declared.FaultCode.{FaultCode}
 use Rattle.dbwalk.proofs.Trees.Bounds.{key_up_to_itself}
-use Rattle.dbtrace.specs.Walk.{Walk, bare, advance, run_below}
 use Rattle.dbtrace.proofs.Stepping.{has_steps}
-use Rattle.dbwalk.specs.Entered.{IsNext, refused_told}
-use Rattle.dbmarks.specs.Marking.{AreMarksOf}
-use Rattle.dbwalk.specs.Telling.{Tells}
-use Rattle.dbwalk.specs.Found.{page_findings}
-use Rattle.dbwalk.specs.Underway.{IsAt, HasDone, done_below, entered, IsEntered}
-use Rattle.dbwalk.specs.Watching.{watches, fails, Handed}
-use Rattle.dbmarks.specs.declared.marks.Mark.{Mark}
-use Rattle.dbwalk.specs.declared.state.Tree.{Tree}
-use Rattle.dbwalk.specs.declared.taker.Taken.{Taken}
 use Rattle.dbwalk.proofs.Pages.PageTellings.{page_causes}
 use Rattle.dbwalk.proofs.Underway.Handing.{done_none, done_on, found_moves, found_handed}
+use Rattle.dbtrace.specs.declared.Cause.TheVariants as cause
 
 -- Places between the steps of a page.
 

@@ -1,47 +1,25 @@
 -- The walk over a whole tree: its root, and the end of the loop.
 use Rattle.std.proofs.Common.{◌≡◌, ℕ, [], ◌∷◌, length, ap, arith, ◌<◌, ◌≤◌, true, false, inl, inr, List, Option, Some, None, refl, sym, subst, ◌↔◌, ◌-◌, cond}
-use Rattle.std.proofs.Common.{◌++◌, map, Result, Ok, Err, ◌∙◌}
-use Rattle.dbsurvey.specs.Address.{Address, IsIn, IsBefore}
-use Rattle.dbformat.specs.Address.{start_of, schema_start}
-use Rattle.std.specs.Prelude.{Bool, ◌==◌, IsSome, OnOk, IfErr, slice_get}
-use Rattle.dbsurvey.specs.Story.{errand_key, Go, errands_of}
-use Rattle.dbformat.specs.Reference.{Reference, role_of, tree_kind}
-use Rattle.dbformat.specs.declared.TreeKind.{TreeKind}
+use Rattle.std.proofs.Common.{◌++◌, map, Result, Ok, Err, ◌∙◌, Bool, ◌==◌, IsSome, OnOk, IfErr, slice_get}
+use Rattle.dbwalk.proofs.Common.{Address, IsIn, IsBefore, start_of, schema_start, errand_key, Go, errands_of, Reference, role_of, tree_kind, TreeKind, IsNext}
+use Rattle.dbwalk.proofs.Common.{refused_told, IsCandidate, left_over, is_followed, geometry, page_bytes, schema, SchemaRow, at_page, at_refused, story_of}
+use Rattle.dbwalk.proofs.Common.{rules_of, RunError, WriteFailed, Finding, told_below, visited_below, Item, found, given_cells, no_rowids, begin, advance}
+use Rattle.dbwalk.proofs.Common.{AreMarksOf, Tells, IsReadOrWrite, IsAt, HasDone, IsUnderway, IsEntered, entered, IsWalkingOn, tree_walk, IsTreeDone, watches}
+use Rattle.dbwalk.proofs.Common.{fails, Handed, StackFrame, Mark, Tree, Taken}
 use Rattle.dbtrace.specs.Starts.{IsOfEarlierStart, AreOfEarlierStarts}
-use Rattle.dbwalk.specs.Entered.{IsNext, refused_told}
-use Rattle.dbwalk.specs.Walking.{IsCandidate, left_over}
 use Rattle.std.proofs.lemmas.Bool.Decides.{nat_tests}
 use Rattle.std.proofs.lemmas.List.{append-nil}
-use Rattle.dbsurvey.specs.Traverse.{is_followed}
 use Rattle.dbsurvey.proofs.Moving.{some_none}
-use Rattle.dbformat.specs.File.{geometry, page_bytes}
-use Rattle.dbformat.specs.Schema.{schema}
-use Rattle.dbformat.specs.SchemaRow.{SchemaRow}
-use Rattle.dbformat.specs.Story.{at_page, at_refused, story_of}
-use Rattle.dbformat.specs.Survey.{rules_of}
-use Rattle.dbsource.specs.declared.error.RunError.{RunError}
-use Rattle.dbsource.specs.declared.error.RunError.TheVariants.{ReadFailed, WriteFailed}
-use Rattle.dbtrace.specs.Finding.{Finding, told_below, visited_below}
-use Rattle.dbtrace.specs.Item.{Item, found, given_cells}
-use Rattle.dbtrace.specs.Causes.{no_rowids}
-use Rattle.dbtrace.specs.declared.Cause.TheVariants as cause
+use Rattle.dbsource.specs.declared.error.RunError.TheVariants.{ReadFailed}
 use Rattle.dbwalk.proofs.Underway.Visits.{refused_items}
-use Rattle.dbtrace.specs.Walk.{begin, advance}
 use Rattle.dbtrace.proofs.Folding.{is_fold}
 use Rattle.dbtrace.proofs.Stepping.{has_steps}
-use Rattle.dbmarks.specs.Marking.{AreMarksOf, marks_of}
-use Rattle.dbwalk.specs.Telling.{Tells, IsReadOrWrite}
-use Rattle.dbwalk.specs.Underway.{IsAt, HasDone, IsUnderway, IsEntered, entered, IsWalkingOn, tree_walk}
-use Rattle.dbwalk.specs.Done.{IsTreeDone}
-use Rattle.dbwalk.specs.Watching.{watches, fails, Handed}
-use Rattle.dbwalk.specs.declared.steps.StackFrame.{StackFrame}
-use Rattle.dbmarks.specs.declared.marks.Mark.{Mark}
-use Rattle.dbwalk.specs.declared.state.Tree.{Tree}
-use Rattle.dbwalk.specs.declared.taker.Taken.{Taken}
+use Rattle.dbmarks.specs.Marking.{marks_of}
 use Rattle.dbwalk.proofs.Trees.Bounds.{no_key_from, root_address, root_first, no_key_up_to}
 use Rattle.dbwalk.proofs.Trees.Stacking.{from_first}
 use Rattle.dbwalk.proofs.Underway.Handing.{found_handed, handed_found, no_memory, only_found}
 use Rattle.dbwalk.proofs.Underway.Underways.{under_visit, under_end}
+use Rattle.dbtrace.specs.declared.Cause.TheVariants as cause
 
 -- The root of a tree, and the end of the loop.
 

@@ -1,15 +1,11 @@
 -- What a call of the walk over a tree keeps, call after call.
-use Rattle.std.proofs.Common.{◌≡◌, ℕ, zero, suc, ◌≤◌, inl, inr, Result, Ok, Err, refl, sym, ap, subst, ◌∙◌, arith}
-use Rattle.std.specs.Prelude.{IfErr}
+use Rattle.std.proofs.Common.{◌≡◌, ℕ, zero, suc, ◌≤◌, inl, inr, Result, Ok, Err, refl, sym, ap, subst, ◌∙◌, arith, IfErr}
+use Rattle.dbwalk.proofs.Common.{is_read_failed, failures_after, SourceState, RunError, IsReadOrWrite, IsWriteOrMemory, SinkWalks, SinkState, IsTreeError}
+use Rattle.dbwalk.proofs.Common.{Walked, Tree}
 use Rattle.dbformat.specs.declared.Geometry.{Geometry}
-use Rattle.dbsource.specs.Errors.{is_out_of_memory, is_read_failed}
-use Rattle.dbsource.specs.Failures.{failures_after}
-use Rattle.dbsource.specs.Sources.{SourceState}
-use Rattle.dbsource.specs.declared.error.RunError.{RunError}
-use Rattle.dbwalk.specs.Telling.{IsReadOrWrite, IsReadWriteOrMemory, IsWriteOrMemory, SinkWalks, SinkState}
-use Rattle.dbwalk.specs.Walked.{IsTreeError, Walked}
+use Rattle.dbsource.specs.Errors.{is_out_of_memory}
+use Rattle.dbwalk.specs.Telling.{IsReadWriteOrMemory}
 use Rattle.dbwalk.proofs.Telling.Sinks.{asked, asked_both, asked_walks, walks_after, walks_as, walks_ok}
-use Rattle.dbwalk.specs.declared.state.Tree.{Tree}
 use Rattle.dbwalk.specs.declared.tree_walk.TreeWalk.{TreeWalk}
 
 -- what is no error of memory is one of the walk over any tree

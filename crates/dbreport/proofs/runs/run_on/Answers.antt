@@ -1,9 +1,6 @@
 use Rattle.std.proofs.Common.{rules, ◌≡◌, ap, ◌∙◌}
+use Rattle.dbreport.proofs.Common.{Check, Stat, is_write_failed, failures_after, HeaderBytes}
 use Rattle.dbformat.specs.Header.{encoding as encoding_of}
-use Rattle.dbformat.specs.declared.Command.TheVariants.{Check, Stat}
-use Rattle.dbsource.specs.Errors.{is_write_failed}
-use Rattle.dbsource.specs.Failures.{failures_after}
-use Rattle.dbsource.specs.HeaderBytes.{HeaderBytes}
 use Rattle.dbsource.proofs.Runs.{of_told_after}
 use Rattle.dbscan.proofs.AfterHeader.{after_weaker}
 use Rattle.dbscan.proofs.Tellers.{first}

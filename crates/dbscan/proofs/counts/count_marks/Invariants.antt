@@ -1,8 +1,6 @@
-use Rattle.std.proofs.Common.{◌≡◌, ◌≤◌, take, filter}
-use Rattle.std.specs.Prelude.{count_by, fold, max, find}
+use Rattle.std.proofs.Common.{◌≡◌, ◌≤◌, take, filter, count_by, fold, max, find}
+use Rattle.dbscan.proofs.Common.{is_free_mark, is_root_mark, is_other_mark, is_marked, SinkMoves}
 use Rattle.std.specs.List.{range_with_len}
-use Rattle.dbmarks.specs.EndMarks.{is_free_mark, is_root_mark, is_other_mark, is_marked}
-use Rattle.dbwalk.specs.Telling.{SinkMoves}
 use Rattle.dbscan.proofs.PagesHeard.{HasHeardPages}
 use Rattle.dbscan.proofs.counts.count_marks.Given as goal
 

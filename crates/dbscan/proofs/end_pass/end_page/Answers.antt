@@ -1,19 +1,12 @@
-use Rattle.std.proofs.Common.{◌≡◌, true, false, Some, Ok, Err, refl, sym, ap, ◌∙◌, subst, inl, inr}
-use Rattle.std.specs.Prelude.{option_map}
+use Rattle.std.proofs.Common.{◌≡◌, true, false, Some, Ok, Err, refl, sym, ap, ◌∙◌, subst, inl, inr, option_map}
+use Rattle.dbscan.proofs.Common.{Moves, geometry, fixed_use, is_fixed, Geometry, mark_fault, late_fault, Tells, is_fixed_mark, page_notices, HasMapFor}
+use Rattle.dbscan.proofs.Common.{IsMapInUse}
 use Rattle.std.proofs.lemmas.Bool.{both_ways, not-true}
-use Rattle.dbsurvey.specs.Moves.{Moves}
-use Rattle.dbformat.specs.File.{geometry}
-use Rattle.dbformat.specs.FixedPages.{fixed_use, is_fixed}
 use Rattle.dbformat.specs.declared.Fixed.TheVariants.{Map}
-use Rattle.dbformat.specs.declared.Geometry.{Geometry}
 use Rattle.dbsource.specs.Bench.{Pages}
 use Rattle.dbsource.proofs.Logs.{has_weaker}
-use Rattle.dbmarks.specs.EndMarks.{mark_fault, late_fault}
 use Rattle.dbmarks.specs.Marking.{is_none}
-use Rattle.dbwalk.specs.Telling.{Tells}
-use Rattle.dbscan.specs.EndPass.{is_fixed_mark, page_notices}
 use Rattle.dbmarks.specs.EndMarks.{entry_value}
-use Rattle.dbscan.specs.MapReads.{HasMapFor, IsMapInUse}
 use Rattle.dbscan.proofs.EndItems.{fixed_items, other_items, used_items}
 use Rattle.dbscan.proofs.MapLogs.{asks_nothing}
 use Rattle.dbsurvey.proofs.Moving.{some_none}

@@ -1,14 +1,10 @@
 use Rattle.std.proofs.Common.{◌≡◌, ◌+◌, length, Ok, Err, refl, sym, ap, ◌∙◌, subst, arith}
-use Rattle.dbsurvey.specs.Moves.{Moves, MovesBySome}
+use Rattle.dbscan.proofs.Common.{Moves, MovesBySome, geometry, Geometry, mark_of, page_mark, page_notices, pages_items, IsMapInUse, MapReadsBefore}
 use Rattle.dbsurvey.proofs.Moving.{Moves-append, some_first, some_after}
-use Rattle.dbformat.specs.File.{geometry}
-use Rattle.dbformat.specs.declared.Geometry.{Geometry}
 use Rattle.dbsource.specs.Bench.{Pages}
 use Rattle.dbsource.proofs.Logs.{asks_then, asks_weaker, has_none}
-use Rattle.dbmarks.specs.Marking.{mark_of, page_mark}
 use Rattle.dbmarks.proofs.Markings.{page_mark-in, marks_of-length}
-use Rattle.dbscan.specs.EndPass.{page_notices, pages_items}
-use Rattle.dbscan.specs.MapReads.{IsMapInUse, IsMapTurn, MapReadsBefore}
+use Rattle.dbscan.specs.MapReads.{IsMapTurn}
 use Rattle.dbscan.proofs.EndItems.{items_one_more, items_begin, fixed_by_mark}
 use Rattle.dbscan.proofs.MapLogs.{reads_none, reads_more}
 use Rattle.dbwalk.proofs.Telling.Sinks.{err_is}

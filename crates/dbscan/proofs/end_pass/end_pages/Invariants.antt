@@ -1,12 +1,5 @@
 use Rattle.std.proofs.Common.{◌≡◌, ◌+◌, List, None, Ok}
-use Rattle.dbsurvey.specs.Moves.{Moves}
-use Rattle.dbformat.specs.File.{geometry, refusal}
-use Rattle.dbformat.specs.Reference.{Reference}
-use Rattle.dbsource.specs.Errors.{is_read_failed}
-use Rattle.dbsource.specs.Sources.{Asks}
-use Rattle.dbmarks.specs.Marking.{AreMarksOf}
-use Rattle.dbscan.specs.EndPass.{pages_items}
-use Rattle.dbscan.specs.MapReads.{HasMapFor, MapReadsBefore}
+use Rattle.dbscan.proofs.Common.{Moves, geometry, refusal, Reference, is_read_failed, Asks, AreMarksOf, pages_items, HasMapFor, MapReadsBefore}
 use Rattle.dbscan.proofs.end_pass.end_pages.Given as goal
 
 abbrev pub invariant-loop-index : goal.invariant-loop-index

@@ -1,7 +1,5 @@
 use Rattle.std.proofs.Common.{sym, ap, ◌∙◌, subst, arith}
-use Rattle.dbformat.specs.FixedPages.{map_page_of}
-use Rattle.dbformat.specs.declared.Geometry.{Geometry}
-use Rattle.dbscan.specs.MapReads.{HasMapFor}
+use Rattle.dbscan.proofs.Common.{map_page_of, Geometry, HasMapFor}
 use Rattle.dbscan.proofs.MapPlaces.{place_of, no_entry, entry_read}
 use Rattle.dbscan.proofs.end_pass.entry_of.Goals as goal
 

@@ -1,28 +1,14 @@
 use Rattle.std.proofs.Common.{rules, ◌≡◌, List, Err, map, refl, sym, ap, ◌∙◌, subst}
-use Rattle.dbformat.specs.EndFaults.{end_faults, has_rows}
-use Rattle.dbformat.specs.File.{geometry}
-use Rattle.dbformat.specs.FixedPages.{geometry_of}
-use Rattle.dbformat.specs.Reference.{Reference}
-use Rattle.dbformat.specs.Survey.{Survey}
-use Rattle.dbsource.specs.Errors.{is_read_failed, is_write_failed}
-use Rattle.dbsource.specs.Headers.{IsHeaderOf}
-use Rattle.dbsource.specs.Sources.{Asks}
+use Rattle.dbscan.proofs.Common.{end_faults, has_rows, geometry, geometry_of, Reference, Survey, is_read_failed, is_write_failed, IsHeaderOf, Asks}
+use Rattle.dbscan.proofs.Common.{least_other_marked, AreMarksOf, marks_of, SinkAfter, SinkState, Tells, MovesBySome, DeskView, pages_items, IsMapInUse}
+use Rattle.dbscan.proofs.Common.{MapReads, end_notices, whole, items_of}
 use Rattle.dbsource.proofs.Logs.{asks_weaker}
-use Rattle.dbmarks.specs.EndMarks.{least_other_marked}
-use Rattle.dbmarks.specs.Marking.{AreMarksOf, marks_of}
-use Rattle.dbwalk.specs.Telling.{SinkAfter, SinkState, Tells}
 use Rattle.dbwalk.proofs.Telling.Sinks.{err_is, moves_open}
-use Rattle.dbsurvey.specs.Moves.{MovesBySome}
 use Rattle.dbsurvey.proofs.Moving.{some_first, some_none}
-use Rattle.dbscan.specs.Desks.{DeskView}
-use Rattle.dbscan.specs.EndPass.{pages_items}
-use Rattle.dbscan.specs.MapReads.{IsMapInUse, MapReads}
-use Rattle.dbscan.specs.Notices.{end_notices, whole}
-use Rattle.dbtrace.specs.declared.Part.TheVariants as part
-use Rattle.dbscan.specs.Telling.{items_of}
 use Rattle.dbscan.proofs.EndItems.{all_items, tells_then, pages_then}
 use Rattle.dbscan.proofs.MapLogs.{asks_nothing, reads_none}
 use Rattle.dbscan.proofs.Tellers.{asked_after, asked_error, asked_ok}
+use Rattle.dbtrace.specs.declared.Part.TheVariants as part
 use Rattle.dbscan.proofs.end_pass.tell_end.Goals as goal
 
 pub returns-in_err-ask-clause-asks : goal.returns-in_err-ask-clause-asks

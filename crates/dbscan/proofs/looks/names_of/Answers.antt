@@ -1,13 +1,11 @@
-use Rattle.std.proofs.Common.{rules, ◌≡◌, ℕ, ◌+◌, ◌≤◌, Bool, true, false, cond, Option, Some, None, refl, sym, ap, ◌∙◌, arith}
-use Rattle.std.specs.Prelude.{count_by, is_some}
+use Rattle.std.proofs.Common.{rules, ◌≡◌, ℕ, ◌+◌, ◌≤◌, Bool, true, false, cond, Option, Some, None, refl, sym, ap, ◌∙◌, arith, count_by, is_some}
+use Rattle.dbscan.proofs.Common.{View, is_unmarked}
 use Rattle.std.specs.List.{range_with_len}
 use Rattle.std.specs.Option.{option_map_or}
 use Rattle.dbsurvey.proofs.Ranges.{count_push}
-use Rattle.dbformat.specs.Head.{View}
 use Rattle.dbformat.specs.NamedPages.{named_page}
-use Rattle.dbmarks.specs.Marking.{is_unmarked}
-use Rattle.dbscan.proofs.looks.names_of.Goals as goal
 use Rattle.dbscan.proofs.looks.names_of.Goals.{in-Some+then-is_lost, in-Some+else-is_lost, in_default}
+use Rattle.dbscan.proofs.looks.names_of.Goals as goal
 
 -- how many of the first i numbers on a page name a page, and how many of these pages are lost
 abbrev IsOf : View → (ℕ → Bool) → ℕ → ℕ → ℕ → Type 0

@@ -1,6 +1,5 @@
 use Rattle.std.proofs.Common.{ap, ◌∙◌}
-use Rattle.dbmarks.specs.Marking.{page_mark}
-use Rattle.dbscan.specs.Trees.{place_by}
+use Rattle.dbscan.proofs.Common.{page_mark, place_by}
 use Rattle.dbscan.proofs.PageMarks.{place_is}
 use Rattle.dbscan.proofs.place.place_of.Goals as goal
 

@@ -1,27 +1,16 @@
 use Rattle.std.proofs.Common.{rules, ◌≡◌, ◌++◌, map, Ok, Err, refl, sym, ap, subst, ◌∙◌}
-use Rattle.dbsurvey.specs.Moves.{Moves}
-use Rattle.dbformat.specs.FixedPages.{geometry_of}
-use Rattle.dbformat.specs.HeaderFaults.{header_faults}
-use Rattle.dbsource.specs.HeaderBytes.{HeaderBytes}
-use Rattle.dbsource.specs.Headers.{IsHeaderOf}
+use Rattle.dbscan.proofs.Common.{Moves, geometry_of, header_faults, HeaderBytes, IsHeaderOf, Reads, is_write_failed, SinkAfter, Tells, DeskView, ReadsMarked}
+use Rattle.dbscan.proofs.Common.{MapReads, Notice, end_notices, whole, AreWalked}
 use Rattle.dbsource.proofs.Logs.{asks_then, asks_weaker}
-use Rattle.dbmarks.specs.Reads.{Reads}
 use Rattle.dbmarks.proofs.FirstMarks.{fresh_marks}
-use Rattle.dbsource.specs.Errors.{is_write_failed}
-use Rattle.dbtrace.specs.declared.Part.TheVariants as part
-use Rattle.dbwalk.specs.Telling.{SinkAfter, Tells}
-use Rattle.dbscan.specs.Desks.{DeskView}
-use Rattle.dbscan.specs.Looks.{ReadsMarked}
-use Rattle.dbscan.specs.MapReads.{MapReads}
-use Rattle.dbscan.specs.Notices.{Notice, end_notices, whole}
 use Rattle.dbscan.proofs.MapLogs.{asks_nothing, no_log, walk_then_map_log}
 use Rattle.dbscan.proofs.Scanned.{header_stopped, scan_ended, scan_stopped}
 use Rattle.dbscan.proofs.StartWalks.{later_asks, reporter_first, roots_stopped, starts_asks}
 use Rattle.dbscan.proofs.TreeWalks.{schema_stopped}
 use Rattle.dbscan.specs.Kept.{KeepsHeader, KeepsRoots}
-use Rattle.dbscan.specs.Walks.{AreWalked}
 use Rattle.dbscan.proofs.Keeping.{keeps_then}
 use Rattle.dbwalk.proofs.Telling.Sinks.{err_is}
+use Rattle.dbtrace.specs.declared.Part.TheVariants as part
 use Rattle.dbscan.proofs.scans.scan.Goals as goal
 
 pub returns-in_err-tell_header-clause-asks : goal.returns-in_err-tell_header-clause-asks

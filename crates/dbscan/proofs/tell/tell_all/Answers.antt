@@ -1,13 +1,8 @@
-use Rattle.std.proofs.Common.{arith, ◌≡◌, [], ◌∷◌, ◌++◌, take, Some, None, refl, sym, subst, ◌∙◌}
-use Rattle.std.specs.Prelude.{IfErr}
+use Rattle.std.proofs.Common.{arith, ◌≡◌, [], ◌∷◌, ◌++◌, take, Some, None, refl, sym, subst, ◌∙◌, IfErr}
+use Rattle.dbscan.proofs.Common.{WriteFailed, Moves, SinkMoves, Tells, whole, items_of}
 use Rattle.std.proofs.lemmas.List.{append-nil, take_all}
-use Rattle.dbsource.specs.declared.error.RunError.TheVariants.{WriteFailed}
-use Rattle.dbsurvey.specs.Moves.{Moves}
 use Rattle.dbsurvey.proofs.Moving.{Moves-append, Moves-one}
-use Rattle.dbwalk.specs.Telling.{SinkMoves, Tells}
 use Rattle.dbwalk.proofs.Telling.Sinks.{asked_both, moves_some, moves_then}
-use Rattle.dbscan.specs.Notices.{whole}
-use Rattle.dbscan.specs.Telling.{items_of}
 use Rattle.dbscan.proofs.Tellers.{asked_after}
 use Rattle.dbscan.proofs.ToldFaults.{items_more}
 use Rattle.dbscan.proofs.tell.tell_all.Goals.{in-Some, in_default}

@@ -1,7 +1,5 @@
 use Rattle.std.proofs.Common.{take}
-use Rattle.dbsurvey.specs.Moves.{Moves}
-use Rattle.dbwalk.specs.Telling.{SinkMoves}
-use Rattle.dbscan.specs.Telling.{items_of}
+use Rattle.dbscan.proofs.Common.{Moves, SinkMoves, items_of}
 use Rattle.dbscan.proofs.tell.tell_all.Given as goal
 
 abbrev pub invariant-loop-fault : goal.invariant-loop-fault

@@ -1,19 +1,11 @@
-use Rattle.std.proofs.Common.{rules, ◌≡◌, ◌+◌, ◌-◌, ℕ, List, [], drop, length, Err, Ok, refl, sym, ap, subst, ◌∙◌, arith}
-use Rattle.std.specs.Prelude.{option_map, slice_get}
+use Rattle.std.proofs.Common.{rules, ◌≡◌, ◌+◌, ◌-◌, ℕ, List, [], drop, length, Err, Ok, refl, sym, ap, subst, ◌∙◌, arith, option_map, slice_get}
+use Rattle.dbscan.proofs.Common.{geometry, encoding, Reference, Survey, Geometry, DeskView, desk_view, Listed, IsBetweenStarts, StopsTelling}
 use Rattle.std.specs.List.{enumerate_from}
 use Rattle.std.proofs.lemmas.Option.{none-some}
-use Rattle.dbformat.specs.File.{geometry}
-use Rattle.dbformat.specs.Header.{encoding}
-use Rattle.dbformat.specs.Reference.{Reference}
-use Rattle.dbformat.specs.Survey.{Survey}
-use Rattle.dbformat.specs.declared.Geometry.{Geometry}
 use Rattle.dbformat.proofs.HeaderPrefix.{encoding_within}
 use Rattle.dbsource.proofs.Logs.{asks_weaker}
 use Rattle.dbmarks.proofs.Readings.{asks_then, log_none}
-use Rattle.dbscan.specs.Desks.{DeskView, desk_view}
-use Rattle.dbscan.specs.Roots.{Listed}
 use Rattle.dbwalk.specs.Rows.{schema_row_of}
-use Rattle.dbscan.specs.Walks.{IsBetweenStarts, StopsTelling}
 use Rattle.dbscan.proofs.DeskWalks.{desk_asks}
 use Rattle.dbscan.proofs.Starts.{drop_none, row_there}
 use Rattle.dbscan.proofs.Tellers.{unread}

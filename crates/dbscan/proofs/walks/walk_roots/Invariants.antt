@@ -1,14 +1,6 @@
 use Rattle.std.proofs.Common.{◌≡◌, ◌+◌, List, drop, Ok}
+use Rattle.dbscan.proofs.Common.{geometry, encoding, Reference, Survey, is_read_failed, Asks, AreMarksFor, Reads, IsBetweenStarts}
 use Rattle.std.specs.List.{enumerate_from}
-use Rattle.dbformat.specs.File.{geometry}
-use Rattle.dbformat.specs.Header.{encoding}
-use Rattle.dbformat.specs.Reference.{Reference}
-use Rattle.dbformat.specs.Survey.{Survey}
-use Rattle.dbsource.specs.Errors.{is_read_failed}
-use Rattle.dbsource.specs.Sources.{Asks}
-use Rattle.dbmarks.specs.Marking.{AreMarksFor}
-use Rattle.dbmarks.specs.Reads.{Reads}
-use Rattle.dbscan.specs.Walks.{IsBetweenStarts}
 use Rattle.dbscan.proofs.walks.walk_roots.Given as goal
 
 abbrev pub invariant-loop-index : goal.invariant-loop-index

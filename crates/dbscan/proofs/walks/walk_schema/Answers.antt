@@ -1,10 +1,7 @@
 use Rattle.std.proofs.Common.{rules, [], Err, Ok, refl, ap, ◌∙◌, subst}
+use Rattle.dbscan.proofs.Common.{IsHeaderOf, marks_of, DeskView, IsSchemaWalked}
 use Rattle.std.proofs.lemmas.Result.{err_from_is_err_and}
-use Rattle.dbsource.specs.Headers.{IsHeaderOf}
 use Rattle.dbsource.proofs.Logs.{asks_weaker}
-use Rattle.dbmarks.specs.Marking.{marks_of}
-use Rattle.dbscan.specs.Desks.{DeskView}
-use Rattle.dbscan.specs.Walks.{IsSchemaWalked}
 use Rattle.dbscan.proofs.DeskWalks.{desk_asks}
 use Rattle.dbscan.proofs.SchemaWalks.{schema_own, schema_stopped, schema_walked}
 use Rattle.dbscan.proofs.Tellers.{unread}

@@ -1,15 +1,8 @@
-use Rattle.std.specs.Prelude.{◌==◌}
+use Rattle.std.proofs.Common.{◌==◌, ◌≡◌, false, List, [], refl, sym, ap, ◌∙◌, arith}
+use Rattle.dbscan.proofs.Common.{geometry_of, first_trunk, Reference, Survey, HeaderBytes, DeskView, AreTold, IsBetweenStarts}
 use Rattle.std.proofs.lemmas.Bool.Decides.{nat_tests}
-use Rattle.std.proofs.Common.{◌≡◌, false, List, [], refl, sym, ap, ◌∙◌, arith}
-use Rattle.dbformat.specs.FixedPages.{geometry_of}
-use Rattle.dbformat.specs.Header.{first_trunk}
-use Rattle.dbformat.specs.Reference.{Reference}
-use Rattle.dbformat.specs.Survey.{Survey}
 use Rattle.dbformat.proofs.HeaderPrefix.{first_trunk_within}
-use Rattle.dbsource.specs.HeaderBytes.{HeaderBytes}
 use Rattle.dbmarks.proofs.Readings.{log_none}
-use Rattle.dbscan.specs.Desks.{DeskView}
-use Rattle.dbscan.specs.Walks.{AreTold, IsBetweenStarts}
 use Rattle.dbscan.proofs.DeskWalks.{desk_asks}
 use Rattle.dbscan.proofs.Tellers.{reporter_after}
 use Rattle.dbscan.proofs.TreeWalks.{freelist_told, no_freelist_told}

@@ -1,9 +1,6 @@
 use Rattle.std.proofs.Common.{rules, arith, ◌≡◌, ℕ, ◌+◌, ◌-◌, List, Option, set, Ok, Err, sym, ap, ap₂, ◌∙◌}
-use Rattle.dbformat.specs.File.{page_bytes}
-use Rattle.dbmarks.specs.Marking.{unmarked_pages}
+use Rattle.dbwalk.proofs.Common.{page_bytes, unmarked_pages, refusal_cause, Cause}
 use Rattle.dbmarks.proofs.Readings.{log_load, log_none, log_page, put_count}
-use Rattle.dbtrace.specs.Causes.{refusal_cause}
-use Rattle.dbtrace.specs.declared.Cause.{Cause}
 use Rattle.dbwalk.specs.Chains.{known_cause}
 use Rattle.dbwalk.specs.declared.chain.ChainPage.{ChainPage}
 use Rattle.dbwalk.proofs.Chaining.Overflows.{page_read}

@@ -1,7 +1,5 @@
-use Rattle.std.proofs.Common.{◌≡◌, ◌≤◌, Some, None, sym, ap, ◌∙◌, arith}
-use Rattle.std.specs.Prelude.{option_map}
-use Rattle.dbformat.specs.Payload.{most_payload}
-use Rattle.dbformat.specs.Cell.{Cell, count, overflow_size}
+use Rattle.std.proofs.Common.{◌≡◌, ◌≤◌, Some, None, sym, ap, ◌∙◌, arith, option_map}
+use Rattle.dbwalk.proofs.Common.{most_payload, Cell, count, overflow_size}
 use Rattle.dbwalk.proofs.Leaves.LeafCells.{has_cell, none_seen, same_view, readable, unreadable, cell_size}
 use Rattle.dbwalk.proofs.Pages.Levels.{usable_page}
 use Rattle.dbwalk.proofs.cells.leaf_cell.Goals as goal

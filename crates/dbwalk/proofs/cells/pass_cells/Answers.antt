@@ -1,7 +1,5 @@
 use Rattle.std.proofs.Common.{◌-◌, ◌≤◌, length, Some, ap, subst, ◌∙◌}
-use Rattle.dbformat.specs.Cell.{count}
-use Rattle.dbsource.specs.Bench.{bytes_at}
-use Rattle.dbwalk.specs.LeafCells.{AreRisingFrom}
+use Rattle.dbwalk.proofs.Common.{count, bytes_at, AreRisingFrom}
 use Rattle.dbwalk.proofs.Leaves.LeafCells.{seen, same_view}
 use Rattle.dbwalk.proofs.Pages.Levels.{usable_page}
 use Rattle.dbwalk.proofs.cells.pass_cells.Goals as goal

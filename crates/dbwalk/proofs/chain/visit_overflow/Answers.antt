@@ -1,14 +1,9 @@
 use Rattle.std.proofs.Common.{◌+◌, sym, ap, ap₂, subst, ◌∙◌}
-use Rattle.dbsurvey.specs.Moves.{Moves}
-use Rattle.dbformat.specs.File.{page_bytes}
-use Rattle.dbformat.specs.Header.{usable_size}
-use Rattle.dbformat.specs.Payload.{overflow_bytes, overflow_next}
-use Rattle.dbtrace.specs.Causes.{seen_bytes}
-use Rattle.dbtrace.specs.declared.Cause.TheVariants as cause
-use Rattle.dbwalk.specs.Chains.{Feeds, walked_chain}
+use Rattle.dbwalk.proofs.Common.{Moves, page_bytes, usable_size, overflow_bytes, overflow_next, seen_bytes, Feeds, walked_chain}
 use Rattle.dbwalk.proofs.Chaining.Feedings.{held_is}
 use Rattle.dbwalk.proofs.Chaining.Heads.{head_cause}
 use Rattle.dbwalk.proofs.Chaining.Overflows.{told_is}
+use Rattle.dbtrace.specs.declared.Cause.TheVariants as cause
 use Rattle.dbwalk.proofs.chain.visit_overflow.Goals as goal
 
 pub returns-clause-visited : goal.returns-clause-visited

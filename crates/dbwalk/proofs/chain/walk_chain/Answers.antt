@@ -1,7 +1,6 @@
-use Rattle.std.proofs.Common.{rules, ◌<◌, inl, refl, subst, ◌∙◌, arith}
-use Rattle.std.specs.Prelude.{IfSome}
+use Rattle.std.proofs.Common.{rules, ◌<◌, inl, refl, subst, ◌∙◌, arith, IfSome}
+use Rattle.dbwalk.proofs.Common.{IsPlace}
 use Rattle.dbmarks.proofs.Readings.{keeps_same}
-use Rattle.dbwalk.specs.Chains.{IsPlace}
 use Rattle.dbwalk.proofs.Chaining.ChainTurns.{way_start}
 use Rattle.dbwalk.proofs.Telling.Besides.{beside_as, beside_ok, beside_then, beside_told, turned_on, walk_then, walk_told, walk_unread}
 use Rattle.dbwalk.proofs.Telling.Sinks.{err_is}

@@ -1,10 +1,6 @@
-use Rattle.std.proofs.Common.{◌≡◌, List, Ok}
-use Rattle.std.specs.Prelude.{is_some}
-use Rattle.dbformat.specs.Reference.{Reference}
-use Rattle.dbwalk.specs.Chains.{IsChainOf, IsOnWay, IsPlace}
-use Rattle.dbwalk.specs.Entered.{IsNext}
-use Rattle.dbwalk.specs.Beside.{WalksBeside}
-use Rattle.dbmarks.specs.Marking.{AreMarksOf}
+use Rattle.std.proofs.Common.{◌≡◌, List, Ok, is_some}
+use Rattle.dbwalk.proofs.Common.{Reference, IsChainOf, IsPlace, IsNext, WalksBeside, AreMarksOf}
+use Rattle.dbwalk.specs.Chains.{IsOnWay}
 use Rattle.dbwalk.proofs.chain.walk_chain.Given as goal
 
 abbrev pub decreases-loop-next : goal.decreases-loop-next

@@ -1,7 +1,6 @@
 use Rattle.std.proofs.Common.{rules, [], ◌∷◌, ◌++◌, refl, sym, ap, subst, ◌∙◌}
-use Rattle.dbsurvey.specs.Moves.{Moves}
-use Rattle.dbmarks.specs.Marking.{AreMarksOf, followed}
-use Rattle.dbtrace.specs.Finding.{told_fault}
+use Rattle.dbwalk.proofs.Common.{Moves, AreMarksOf, told_fault}
+use Rattle.dbmarks.specs.Marking.{followed}
 use Rattle.dbwalk.proofs.Telling.Lefts.{refusal_none, entered_yes, entered_no}
 use Rattle.dbwalk.proofs.Telling.Sinks.{err_is}
 use Rattle.dbwalk.proofs.entering.enter.Goals as goal

@@ -1,15 +1,6 @@
-use Rattle.std.proofs.Common.{rules, ◌-◌, ◌/◌, ◌<◌, ◌≤◌, [], ◌∷◌, ◌++◌, map, refl, sym, ap, subst, ◌∙◌}
-use Rattle.dbsurvey.specs.Story.{Go}
-use Rattle.dbformat.specs.Errands.{go}
-use Rattle.dbformat.specs.Faults.{fault}
-use Rattle.dbformat.specs.File.{page_bytes}
-use Rattle.dbformat.specs.Header.{usable_size}
+use Rattle.std.proofs.Common.{rules, ◌-◌, ◌/◌, ◌<◌, ◌≤◌, [], ◌∷◌, ◌++◌, map, refl, sym, ap, subst, ◌∙◌, pos}
+use Rattle.dbwalk.proofs.Common.{Go, go, fault, page_bytes, usable_size, next_trunk, leaf_count, most_leaves, L01, told_alone, IsLeft}
 use Rattle.dbformat.specs.Numbers.{u32_at}
-use Rattle.dbformat.specs.Reference.{next_trunk, leaf_count, most_leaves}
-use Rattle.dbformat.specs.declared.FaultCode.TheVariants.{L01}
-use Rattle.std.specs.Prelude.{pos}
-use Rattle.dbtrace.specs.Finding.{told_alone}
-use Rattle.dbwalk.specs.Done.{IsLeft}
 use Rattle.dbwalk.proofs.FreeTrunks.{opened_fitting, opened_crowded}
 use Rattle.dbwalk.proofs.Telling.Sinks.{err_is, walks_as, walks_ok}
 use Rattle.dbwalk.proofs.freelist.open_trunk.Goals as goal

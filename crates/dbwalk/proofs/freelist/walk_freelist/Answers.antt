@@ -1,14 +1,7 @@
-use Rattle.std.proofs.Common.{◌≡◌, ◌<◌, inl, [], ◌∷◌, refl, subst}
-use Rattle.std.specs.Prelude.{IfSome}
-use Rattle.dbsurvey.specs.Story.{Go}
-use Rattle.dbsource.specs.Errors.{is_read_failed}
-use Rattle.dbsource.specs.Failures.{failures_after}
-use Rattle.dbwalk.specs.Done.{IsDone}
-use Rattle.dbmarks.specs.Marking.{unmarked_pages}
-use Rattle.dbmarks.specs.declared.marks.Mark.TheVariants.{Trunk}
+use Rattle.std.proofs.Common.{◌≡◌, ◌<◌, inl, [], ◌∷◌, refl, subst, IfSome}
+use Rattle.dbwalk.proofs.Common.{Go, is_read_failed, failures_after, IsDone, unmarked_pages, Trunk, told_below}
 use Rattle.dbmarks.proofs.Readings.{keeps_same}
 use Rattle.dbwalk.proofs.FreeTrunks.{trunks_start}
-use Rattle.dbtrace.specs.Finding.{told_below}
 use Rattle.dbwalk.proofs.Telling.Sinks.{err_is, asked_both, asked_open, asked_walks, moves_some, walks_as, walks_end}
 use Rattle.dbwalk.proofs.Telling.Besides.{beside_as, beside_then, beside_told, turned_on, walk_then, walk_told, walk_unread}
 use Rattle.dbwalk.proofs.freelist.walk_freelist.Goals as goal

@@ -1,10 +1,5 @@
 use Rattle.std.proofs.Common.{◌≡◌, List, Ok}
-use Rattle.dbformat.specs.Reference.{Reference}
-use Rattle.dbwalk.specs.Entered.{IsNext}
-use Rattle.dbwalk.specs.Beside.{WalksBeside}
-use Rattle.dbmarks.specs.Marking.{AreMarksOf, unmarked_pages}
-use Rattle.dbwalk.specs.Trunks.{IsFirstTrunk, IsOnTrunks}
-use Rattle.dbmarks.specs.declared.marks.Mark.TheVariants.{Trunk}
+use Rattle.dbwalk.proofs.Common.{Reference, IsNext, WalksBeside, AreMarksOf, unmarked_pages, IsFirstTrunk, IsOnTrunks, Trunk}
 use Rattle.dbwalk.proofs.freelist.walk_freelist.Given as goal
 
 abbrev pub decreases-loop-next : goal.decreases-loop-next

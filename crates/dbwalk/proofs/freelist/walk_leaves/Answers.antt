@@ -1,13 +1,9 @@
 use Rattle.std.proofs.Common.{◌≡◌, ◌+◌, ◌-◌, ◌<◌, inl, inr, ◌++◌, ◌∷◌, refl, sym, subst, arith}
+use Rattle.dbwalk.proofs.Common.{refusal_cause, IsLeft, leaves_from, KeepsMarks, Go}
 use Rattle.std.proofs.lemmas.Bool.{cases_Bool}
-use Rattle.dbtrace.specs.Causes.{refusal_cause}
-use Rattle.dbwalk.specs.Done.{IsLeft}
-use Rattle.dbwalk.specs.Trunks.{leaves_from}
-use Rattle.dbmarks.specs.Marking.{KeepsMarks}
 use Rattle.dbwalk.proofs.FreeTrunks.{leaf_of, leaves_more, next_of_left, leaf_entered}
 use Rattle.dbwalk.proofs.Telling.Lefts.{left_untold}
 use Rattle.dbmarks.proofs.Readings.{keeps_same, keeps_then, keeps_put}
-use Rattle.dbsurvey.specs.Story.{Go}
 use Rattle.dbwalk.proofs.Telling.Sinks.{err_is, moves_then, walks_after, walks_as, walks_ok}
 use Rattle.dbwalk.proofs.freelist.walk_leaves.Goals as goal
 

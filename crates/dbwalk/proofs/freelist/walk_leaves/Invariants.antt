@@ -1,12 +1,5 @@
 use Rattle.std.proofs.Common.{◌≡◌, ◌-◌, ℕ, List, ◌++◌}
-use Rattle.dbsurvey.specs.Story.{Errand}
-use Rattle.dbformat.specs.Errands.{leaf_errands}
-use Rattle.dbformat.specs.Reference.{Way, Reference}
-use Rattle.dbformat.specs.Story.{Event}
-use Rattle.dbwalk.specs.Trunks.{leaves_from}
-use Rattle.dbwalk.specs.Done.{IsLeft}
-use Rattle.dbwalk.specs.Telling.{SinkMoves}
-use Rattle.dbmarks.specs.Marking.{KeepsMarks}
+use Rattle.dbwalk.proofs.Common.{Errand, leaf_errands, Way, Reference, Event, leaves_from, IsLeft, SinkMoves, KeepsMarks}
 use Rattle.dbwalk.proofs.freelist.walk_leaves.Given as goal
 
 abbrev pub invariant-loop-index : goal.invariant-loop-index

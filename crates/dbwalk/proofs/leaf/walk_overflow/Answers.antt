@@ -1,6 +1,5 @@
-use Rattle.std.proofs.Common.{rules, ◌≤◌, inl, refl, subst}
-use Rattle.std.specs.Prelude.{IfSome}
-use Rattle.dbformat.specs.Payload.{most_payload}
+use Rattle.std.proofs.Common.{rules, ◌≤◌, inl, refl, subst, IfSome}
+use Rattle.dbwalk.proofs.Common.{most_payload}
 use Rattle.dbsource.proofs.Logs.{has_weaker}
 use Rattle.dbmarks.proofs.Readings.{log_none}
 use Rattle.dbwalk.proofs.Leaves.LeafErrands.{none_done, chain_start}

@@ -1,8 +1,6 @@
-use Rattle.std.proofs.Common.{◌==◌, ◌&&◌, length, sym, ap, ◌∙◌}
-use Rattle.std.specs.Prelude.{flat_map}
+use Rattle.std.proofs.Common.{◌==◌, ◌&&◌, length, sym, ap, ◌∙◌, flat_map}
+use Rattle.dbwalk.proofs.Common.{cell_fault, inner_cause}
 use Rattle.std.specs.List.{range_with_len}
-use Rattle.dbformat.specs.PageFaults.{cell_fault}
-use Rattle.dbwalk.specs.Found.{inner_cause}
 use Rattle.dbwalk.proofs.Pages.PageTellings.{faults_then, faults_more, none_more}
 use Rattle.dbwalk.proofs.page.tell_cells.Goals as goal
 

@@ -1,9 +1,6 @@
 use Rattle.std.proofs.Common.{◌≡◌, ◌==◌, length, flat_map}
+use Rattle.dbwalk.proofs.Common.{cell_fault, told_by, inner_cause, IsReportedTo}
 use Rattle.std.specs.List.{range_with_len}
-use Rattle.dbformat.specs.PageFaults.{cell_fault}
-use Rattle.dbtrace.specs.Finding.{told_by}
-use Rattle.dbwalk.specs.Found.{inner_cause}
-use Rattle.dbwalk.specs.Telling.{IsReportedTo}
 use Rattle.dbwalk.proofs.page.tell_cells.Given as goal
 
 abbrev pub invariant-loop-i : goal.invariant-loop-i

@@ -1,9 +1,7 @@
 use Rattle.std.proofs.Common.{take}
+use Rattle.dbwalk.proofs.Common.{told_by, inner_cause, IsReportedTo}
 use Rattle.std.specs.List.{flat_map}
 use Rattle.std.specs.Option.{option_to_list}
-use Rattle.dbtrace.specs.Finding.{told_by}
-use Rattle.dbwalk.specs.Found.{inner_cause}
-use Rattle.dbwalk.specs.Telling.{IsReportedTo}
 use Rattle.dbwalk.proofs.page.tell_each.Given as goal
 
 abbrev pub invariant-loop-found : goal.invariant-loop-found

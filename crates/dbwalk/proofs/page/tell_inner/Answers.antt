@@ -1,9 +1,6 @@
 use Rattle.std.proofs.Common.{rules, ◌≡◌, ◌&&◌, ◌==◌, length, ap, ◌∙◌, refl, subst}
+use Rattle.dbwalk.proofs.Common.{cell_faults, told_by, inner_cause, IsReportedTo}
 use Rattle.std.specs.Option.{is_none}
-use Rattle.dbformat.specs.PageFaults.{cell_faults}
-use Rattle.dbtrace.specs.Finding.{told_by}
-use Rattle.dbwalk.specs.Found.{inner_cause}
-use Rattle.dbwalk.specs.Telling.{IsReportedTo}
 use Rattle.dbwalk.proofs.Pages.PageTellings.{inner_found, inner_told, faults_then}
 use Rattle.dbwalk.proofs.page.tell_inner.Goals as goal
 

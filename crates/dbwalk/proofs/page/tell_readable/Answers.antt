@@ -1,8 +1,6 @@
 use Rattle.std.proofs.Common.{◌≡◌, [], rules, subst, ap, sym, ◌∙◌, refl}
+use Rattle.dbwalk.proofs.Common.{told_by, inner_cause, view_cause, IsReportedTo}
 use Rattle.std.specs.Option.{is_none}
-use Rattle.dbtrace.specs.Finding.{told_by}
-use Rattle.dbwalk.specs.Found.{inner_cause, view_cause}
-use Rattle.dbwalk.specs.Telling.{IsReportedTo}
 use Rattle.dbwalk.proofs.Pages.PageTellings.{inner_found, inner_told, no_cell_faults, told_nothing}
 use Rattle.dbwalk.proofs.page.tell_readable.Goals as goal
 

@@ -1,8 +1,5 @@
-use Rattle.std.proofs.Common.{rules, ℤ, Option, ◌+◌, arith, sym, ap, ◌∙◌}
-use Rattle.std.specs.Prelude.{slice_get}
-use Rattle.dbformat.specs.Head.{undamaged}
-use Rattle.dbtrace.specs.Progress.{key_value}
-use Rattle.dbtrace.specs.declared.RowidBounds.{RowidBounds}
+use Rattle.std.proofs.Common.{rules, ℤ, Option, ◌+◌, arith, sym, ap, ◌∙◌, slice_get}
+use Rattle.dbwalk.proofs.Common.{undamaged, key_value, RowidBounds}
 use Rattle.dbwalk.specs.Found.{damage_fault}
 use Rattle.dbwalk.proofs.Pages.Levels.{usable_page, whole_page}
 use Rattle.dbwalk.proofs.Pages.PageVisits.{exit_damaged, exit_interior, exit_leaf}

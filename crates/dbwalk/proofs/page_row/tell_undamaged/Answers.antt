@@ -1,9 +1,6 @@
-use Rattle.std.proofs.Common.{rules, sym, subst}
-use Rattle.std.specs.Prelude.{ℕ, ◌<◌, MatchOption, MatchBool}
-use Rattle.dbformat.specs.Cell.{count}
-use Rattle.dbpage.specs.Packed.{IsPacked, IsUnpacked, IsAllLocal, HasOverflow}
-use Rattle.dbtrace.specs.Finding.{told_row}
-use Rattle.dbwalk.specs.Found.{view_row}
+use Rattle.std.proofs.Common.{rules, sym, subst, ℕ, ◌<◌, MatchOption, MatchBool}
+use Rattle.dbwalk.proofs.Common.{count, IsAllLocal, told_row, view_row}
+use Rattle.dbpage.specs.Packed.{IsPacked, IsUnpacked, HasOverflow}
 use Rattle.dbwalk.proofs.Telling.Sinks.{moves_then}
 use Rattle.dbwalk.proofs.page_row.tell_undamaged.Given.{Over}
 use Rattle.dbwalk.proofs.page_row.tell_undamaged.Goals.{After-row, in-Some, in-None}

@@ -1,5 +1,4 @@
-use Rattle.std.proofs.Common.{◌≡◌, ◌≤◌, ℕ, List, [], ◌∷◌, length, get_or, Some, refl, ap, arith}
-use Rattle.std.specs.Prelude.{slice_get}
+use Rattle.std.proofs.Common.{◌≡◌, ◌≤◌, ℕ, List, [], ◌∷◌, length, get_or, Some, refl, ap, arith, slice_get}
 use Rattle.dbwalk.proofs.root.root_kind.Goals as goal
 
 pub tree_kind-requires : goal.tree_kind-requires

@@ -1,7 +1,6 @@
 use Rattle.std.proofs.Common.{[], length, Some, None, refl, sym, ap, ◌∙◌, subst, arith}
-use Rattle.dbformat.specs.Cell.{Cell, count}
+use Rattle.dbwalk.proofs.Common.{Cell, count, bytes_at}
 use Rattle.dbbytes.specs.Sieve.{HasTaken}
-use Rattle.dbsource.specs.Bench.{bytes_at}
 use Rattle.dbwalk.proofs.Leaves.LeafCells.{none_seen, same_view, has_sieve, holds_cell, holds_none}
 use Rattle.dbwalk.proofs.Pages.Levels.{usable_page}
 use Rattle.dbwalk.proofs.schema_row.row_sieve.Goals as goal

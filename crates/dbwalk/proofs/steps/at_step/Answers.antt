@@ -1,6 +1,5 @@
 use Rattle.std.proofs.Common.{◌≡◌, ◌/◌, subst, arith}
-use Rattle.dbformat.specs.Address.{overflow_step, child_step, key_step}
-use Rattle.dbwalk.specs.Steps.{IsNextStep}
+use Rattle.dbwalk.proofs.Common.{overflow_step, child_step, key_step, IsNextStep}
 use Rattle.dbwalk.proofs.steps.at_step.Goals as goal
 
 pub returns-in-0 : goal.returns-in-0

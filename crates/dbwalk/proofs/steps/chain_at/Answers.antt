@@ -1,9 +1,6 @@
 use Rattle.std.proofs.Common.{◌≡◌, ℕ, ◌<◌, ◌≤◌, None, Ok, refl, sym, subst, arith, ◌∙◌, ap}
+use Rattle.dbwalk.proofs.Common.{Cell, cell, count, View, InteriorTable, no_chain}
 use Rattle.dbformat.proofs.CellParts.{Fits, at_offset, cell_fits}
-use Rattle.dbformat.specs.Cell.{Cell, cell, count}
-use Rattle.dbformat.specs.Head.{View}
-use Rattle.dbformat.specs.declared.PageKind.TheVariants.{InteriorTable}
-use Rattle.dbwalk.specs.Steps.{no_chain}
 use Rattle.dbwalk.proofs.Leaves.LeafCells.{no_overflow, bad_cell}
 use Rattle.dbwalk.proofs.steps.chain_at.Goals as goal
 

@@ -1,14 +1,9 @@
-use Rattle.std.proofs.Common.{◌≡◌, ◌<◌, ◌≤◌, ℕ, ℤ, false, cond, Option, Some, None, Result, Ok, Err, refl, sym, ap, subst, arith, ◌∙◌}
-use Rattle.std.specs.Prelude.{option_and_then, ◌==◌}
+use Rattle.std.proofs.Common.{◌≡◌, ◌<◌, ◌≤◌, ℕ, ℤ, false, cond, Option, Some, None, Result, Ok, Err, refl, sym, ap, subst, arith, ◌∙◌, option_and_then, ◌==◌}
+use Rattle.dbwalk.proofs.Common.{child_step, Cell, cell, child_number, count, right_child, View, CellFault, left_key, IsNextStep, no_child}
 use Rattle.std.specs.Result.{result_ok}
 use Rattle.std.proofs.lemmas.Bool.{eq-eqb}
 use Rattle.std.proofs.lemmas.Bool.Decides.{nat_tests}
-use Rattle.dbformat.specs.Address.{child_step}
-use Rattle.dbformat.specs.Cell.{Cell, cell, child_number, count, right_child}
-use Rattle.dbformat.specs.Head.{View}
-use Rattle.dbformat.specs.declared.CellFault.{CellFault}
-use Rattle.dbtrace.specs.Causes.{left_key}
-use Rattle.dbwalk.specs.Steps.{IsNextStep, child_of, no_child}
+use Rattle.dbwalk.specs.Steps.{child_of}
 use Rattle.dbwalk.proofs.steps.child_at.Goals as goal
 
 -- the child and its key are those of the page

@@ -1,11 +1,7 @@
 use Rattle.std.proofs.Common.{◌≡◌, ℕ, ◌<◌, Result, Ok, Err, refl, sym, subst, arith, ◌∙◌, ap}
+use Rattle.dbwalk.proofs.Common.{key_step, Cell, cell, count, View, CellFault, InteriorIndex, IsEmptyAt, without_key}
 use Rattle.dbformat.proofs.CellParts.{Fits, at_offset, cell_fits}
-use Rattle.dbformat.specs.Address.{key_step}
-use Rattle.dbformat.specs.Cell.{Cell, cell, count}
-use Rattle.dbformat.specs.Head.{View}
-use Rattle.dbformat.specs.declared.CellFault.{CellFault}
-use Rattle.dbformat.specs.declared.PageKind.TheVariants.{InteriorIndex}
-use Rattle.dbwalk.specs.Steps.{IsEmptyAt, without_key, unreadable}
+use Rattle.dbwalk.specs.Steps.{unreadable}
 use Rattle.dbwalk.proofs.steps.key_at.Goals as goal
 
 -- a cell of an interior page of an index has no key

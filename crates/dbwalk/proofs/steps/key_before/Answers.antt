@@ -1,7 +1,5 @@
 use Rattle.std.proofs.Common.{◌≡◌, ℕ, suc, ◌-◌, ◌<◌, None, sym, ap, arith, ◌∙◌}
-use Rattle.dbformat.specs.Cell.{count}
-use Rattle.dbformat.specs.Head.{View}
-use Rattle.dbtrace.specs.Causes.{key_before}
+use Rattle.dbwalk.proofs.Common.{count, View, key_before}
 use Rattle.dbwalk.proofs.steps.key_before.Goals as goal
 
 -- no cell is before the first

@@ -1,9 +1,7 @@
-use Rattle.std.proofs.Common.{◌≡◌, ℕ, ◌+◌, ◌<◌, ◌≤◌, inl, inr, subst, arith}
-use Rattle.std.specs.Prelude.{◌==◌}
+use Rattle.std.proofs.Common.{◌≡◌, ℕ, ◌+◌, ◌<◌, ◌≤◌, inl, inr, subst, arith, ◌==◌}
+use Rattle.dbwalk.proofs.Common.{View, IsEmptyAt, IsNextStep}
 use Rattle.std.proofs.lemmas.Bool.{cases_Bool}
 use Rattle.std.proofs.lemmas.Bool.Decides.{nat_tests}
-use Rattle.dbformat.specs.Head.{View}
-use Rattle.dbwalk.specs.Steps.{IsEmptyAt, IsNextStep}
 use Rattle.dbwalk.proofs.steps.next_from.Goals as goal
 
 -- one more step at which there is nothing

@@ -1,8 +1,5 @@
-use Rattle.std.proofs.Common.{◌≤◌, None, Some, refl, ap, arith}
-use Rattle.std.specs.Prelude.{ℕ, List}
-use Rattle.dbformat.specs.declared.TreeKind.{TreeKind}
-use Rattle.dbwalk.specs.Steps.{AreEmpty}
-use Rattle.dbwalk.specs.declared.steps.Next.TheVariants.{End, Nothing}
+use Rattle.std.proofs.Common.{◌≤◌, None, Some, refl, ap, arith, ℕ, List}
+use Rattle.dbwalk.proofs.Common.{TreeKind, AreEmpty, End, Nothing}
 use Rattle.dbwalk.proofs.Leaves.LeafCells.{none_seen, has_next, at_step}
 use Rattle.dbwalk.proofs.Pages.Levels.{usable_page}
 use Rattle.dbwalk.proofs.steps.step_of.Goals as goal

@@ -1,22 +1,11 @@
-use Rattle.std.proofs.Common.{rules, ◌≡◌, ◌<◌, ◌≤◌, [], false, Ok, Err, inl, inr, refl, sym, ap, subst, arith, ◌∙◌}
-use Rattle.std.specs.Prelude.{List, IfErr, OnOk}
+use Rattle.std.proofs.Common.{rules, ◌≡◌, ◌<◌, ◌≤◌, [], false, Ok, Err, inl, inr, refl, sym, ap, subst, arith, ◌∙◌, List, IfErr, OnOk}
+use Rattle.dbwalk.proofs.Common.{geometry, page_bytes, IsPageNumber, encoding, Reference, bytes_at, is_read_failed, is_write_failed, failures_after}
+use Rattle.dbwalk.proofs.Common.{WriteFailed, Enters, refused_told, HasPageAt, IsReadOrWrite, SinkAfter, Tells, IsTreeDone, Mark, no_rowids}
 use Rattle.std.proofs.lemmas.Result.{err_from_is_err_and}
-use Rattle.dbformat.specs.File.{geometry, page_bytes}
-use Rattle.dbformat.specs.FixedPages.{IsPageNumber}
-use Rattle.dbformat.specs.Header.{encoding}
-use Rattle.dbformat.specs.Reference.{Reference}
-use Rattle.dbsource.specs.Bench.{bytes_at}
-use Rattle.dbsource.specs.Errors.{is_read_failed, is_write_failed}
-use Rattle.dbsource.specs.Failures.{failures_after}
 use Rattle.dbsource.specs.Sources.{Asks}
-use Rattle.dbsource.specs.declared.error.RunError.TheVariants.{ReadFailed, WriteFailed}
-use Rattle.dbwalk.specs.Entered.{Enters, refused_told}
-use Rattle.dbwalk.specs.Found.{HasPageAt}
-use Rattle.dbwalk.specs.Telling.{IsReadOrWrite, SinkAfter, Tells}
+use Rattle.dbsource.specs.declared.error.RunError.TheVariants.{ReadFailed}
 use Rattle.dbmarks.specs.Reads.{Reads}
 use Rattle.dbwalk.specs.Roots.{IsRootAfter, kind_of, kind_in}
-use Rattle.dbwalk.specs.Done.{IsTreeDone}
-use Rattle.dbmarks.specs.declared.marks.Mark.{Mark}
 use Rattle.dbwalk.proofs.Pages.PageVisits.{kind_is}
 use Rattle.dbwalk.proofs.Chaining.Overflows.{page_read}
 use Rattle.dbmarks.proofs.Readings.{log_none, log_then}
@@ -25,9 +14,8 @@ use Rattle.dbwalk.proofs.Pages.Levels.{geometry_kept, log_entered, read_there}
 use Rattle.dbwalk.proofs.Trees.Bounds.{root_address}
 use Rattle.dbwalk.proofs.Underway.WalkedTrees.{candidate_as, root_next, tree_done, tree_refused, tree_unasked, tree_unread}
 use Rattle.dbwalk.proofs.Underway.Walks.{with_memory, without_memory}
-use Rattle.dbtrace.specs.Causes.{no_rowids}
-use Rattle.dbtrace.specs.declared.Cause.TheVariants as cause
 use Rattle.dbwalk.proofs.Telling.Sinks.{asked_both, asked_open, asked_walks, moves_open, moves_some, walks_after, walks_as, walks_end}
+use Rattle.dbtrace.specs.declared.Cause.TheVariants as cause
 use Rattle.dbwalk.proofs.tree.walk_tree.Goals as goal
 
 pub returns-in_err-enter-clause-asks : goal.returns-in_err-enter-clause-asks

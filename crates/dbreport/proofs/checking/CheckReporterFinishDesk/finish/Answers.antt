@@ -1,8 +1,6 @@
 use Rattle.std.proofs.Common.{false, Ok, Err, [], ◌∷◌, ap, inl, refl, sym, ◌∙◌, subst}
+use Rattle.dbreport.proofs.Common.{WriteFailed, one_out, HearsFaults}
 use Rattle.std.proofs.lemmas.Result.{err_from_is_err_and}
-use Rattle.dbsource.specs.declared.error.RunError.TheVariants.{WriteFailed}
-use Rattle.dbwalk.specs.Telling.{one_out}
-use Rattle.dbscan.specs.Notices.{HearsFaults}
 use Rattle.dbscan.proofs.Finished.{finished}
 use Rattle.dbreport.specs.CheckReporter.{LeavesCheck, ShowsFault, check_held}
 use Rattle.dbreport.proofs.Checked.{check_cut, check_ended}

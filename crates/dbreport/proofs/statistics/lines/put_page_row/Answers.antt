@@ -1,11 +1,9 @@
-use Rattle.std.proofs.Common.{◌++◌}
-use Rattle.std.specs.Prelude.{codes}
+use Rattle.std.proofs.Common.{◌++◌, codes}
+use Rattle.dbreport.proofs.Common.{child_text, page_end, tree_label_text}
 use Rattle.std.specs.List.{flat_map}
 use Rattle.std.proofs.lemmas.Result.{err_from_is_err_and}
 use Rattle.dbsource.proofs.Puts.{puts_then, puts_stop}
 use Rattle.dbwalk.specs.Rows.{row_of}
-use Rattle.dbreport.specs.Columns.{child_text, page_end}
-use Rattle.dbreport.specs.TreeNames.{tree_label_text}
 use Rattle.dbreport.proofs.StatPieces.{page_pieces}
 use Rattle.dbreport.proofs.statistics.lines.put_page_row.Goals as goal
 

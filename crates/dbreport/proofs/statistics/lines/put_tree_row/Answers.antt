@@ -1,7 +1,6 @@
+use Rattle.dbreport.proofs.Common.{tree_end, tree_label_text}
 use Rattle.std.proofs.lemmas.Result.{err_from_is_err_and}
 use Rattle.dbsource.proofs.Puts.{puts_then, puts_stop}
-use Rattle.dbreport.specs.Columns.{tree_end}
-use Rattle.dbreport.specs.TreeNames.{tree_label_text}
 use Rattle.dbreport.proofs.StatPieces.{tree_pieces}
 use Rattle.dbreport.proofs.statistics.lines.put_tree_row.Goals as goal
 

@@ -1,14 +1,7 @@
-use Rattle.std.proofs.Common.{◌≡◌, [], ◌∷◌, refl, ap, subst, ◌∙◌}
-use Rattle.std.specs.Prelude.{IfOk}
-use Rattle.dbformat.specs.Log.{page_range}
-use Rattle.dbformat.specs.declared.Geometry.{Geometry}
-use Rattle.dbtrace.specs.Causes.{lost_cause_at}
+use Rattle.std.proofs.Common.{◌≡◌, [], ◌∷◌, refl, ap, subst, ◌∙◌, IfOk}
+use Rattle.dbscan.proofs.Common.{page_range, Geometry, lost_cause_at, IsHeaderOf, Asks, is_unmarked, DeskView, shape_of}
 use Rattle.dbsource.specs.Failures.{is_any}
-use Rattle.dbsource.specs.Headers.{IsHeaderOf}
-use Rattle.dbsource.specs.Sources.{Asks}
 use Rattle.dbsource.proofs.Logs.{asks_weaker}
-use Rattle.dbmarks.specs.Marking.{is_unmarked}
-use Rattle.dbscan.specs.Desks.{DeskView, shape_of}
 use Rattle.dbscan.proofs.desk.Desk.look_at.Goals as goal
 
 pub returns-clause-asks : goal.returns-clause-asks

@@ -1,7 +1,5 @@
-use Rattle.std.proofs.Common.{ap, ◌∙◌}
-use Rattle.std.specs.Prelude.{slice_get}
-use Rattle.dbmarks.specs.Marking.{page_mark}
-use Rattle.dbscan.specs.Trees.{start_by}
+use Rattle.std.proofs.Common.{ap, ◌∙◌, slice_get}
+use Rattle.dbscan.proofs.Common.{page_mark, start_by}
 use Rattle.dbscan.proofs.PageMarks.{start_is}
 use Rattle.dbscan.proofs.page_trees.PageTrees.start_of.Goals as goal
 

@@ -1,9 +1,8 @@
-use Rattle.std.proofs.Common.{◌≡◌, ◌+◌, ◌≤◌, length, sym, ap, ap₂, ◌∙◌, arith}
-use Rattle.std.specs.Prelude.{slice_set, vec_len, vec_capacity}
-use Rattle.dbformat.specs.Address.{freelist_start}
+use Rattle.std.proofs.Common.{◌≡◌, ◌+◌, ◌≤◌, length, sym, ap, ap₂, ◌∙◌, arith, slice_set, vec_len, vec_capacity}
+use Rattle.dbscan.proofs.Common.{freelist_start}
 use Rattle.dbscan.proofs.StartTables.{freelist_set, grown, tree_set}
-use Rattle.dbscan.proofs.start_table.StartTable.set.Goals as goal
 use Rattle.dbscan.proofs.start_table.StartTable.set.Goals.{then-index-len, else-index-len}
+use Rattle.dbscan.proofs.start_table.StartTable.set.Goals as goal
 
 pub returns-then-start-eq-FREELIST_START : goal.returns-then-start-eq-FREELIST_START
 returns-then-start-eq-FREELIST_START g c =

@@ -1,39 +1,22 @@
 use Rattle.std.proofs.Common.{rules, ◌≡◌, ℕ, ℤ, Option, ◌+◌, ◌-◌, ◌<◌, ◌≤◌, ◌/◌, ◌++◌, [], ◌∷◌, List, length, false, inl, inr, set, Ok, Err, refl, sym, ap}
-use Rattle.std.proofs.Common.{subst, arith, ◌∙◌}
-use Rattle.std.specs.Prelude.{Bool, Some, slice_get}
+use Rattle.std.proofs.Common.{subst, arith, ◌∙◌, Bool, Some, slice_get}
+use Rattle.dbwalk.proofs.Common.{cell_of_step, page_bytes, IsPageNumber, TreeKind, Go, Changes, Pages, IsUse, KeepsMarks, page_mark, unmarked_pages, Mark}
+use Rattle.dbwalk.proofs.Common.{Unmarked, Cause, HasPageAt, IsAtTurn, IsOpen, AreOpen, path_of, done_below, watches, fails, Next, StackFrame}
 use Rattle.std.proofs.lemmas.Result.{err_from_is_err_and}
-use Rattle.dbformat.specs.Address.{cell_of_step}
-use Rattle.dbformat.specs.File.{page_bytes}
-use Rattle.dbformat.specs.FixedPages.{IsPageNumber}
-use Rattle.dbformat.specs.declared.TreeKind.{TreeKind}
-use Rattle.dbsurvey.specs.Story.{Go}
-use Rattle.dbsource.specs.Bench.{Changes, Pages}
 use Rattle.dbsource.specs.declared.error.RunError.TheVariants.{ReadFailed}
 use Rattle.dbsource.proofs.Logs.{has_weaker}
-use Rattle.dbmarks.specs.Marking.{IsUse, KeepsMarks, page_mark, unmarked_pages}
-use Rattle.dbmarks.specs.declared.marks.Mark.{Mark}
-use Rattle.dbmarks.specs.declared.marks.Mark.TheVariants.{Unmarked}
 use Rattle.dbmarks.proofs.Readings.{log_none, log_then, put_count}
-use Rattle.dbtrace.specs.declared.Cause.{Cause}
-use Rattle.dbtrace.specs.declared.Cause.TheVariants as cause
-use Rattle.dbwalk.specs.Found.{HasPageAt}
-use Rattle.dbwalk.specs.Points.{IsAtTurn}
-use Rattle.dbwalk.specs.Walking.{IsOpen, AreOpen, path_of}
-use Rattle.dbwalk.specs.Underway.{done_below}
-use Rattle.dbwalk.specs.Watching.{watches, fails}
-use Rattle.dbwalk.specs.declared.steps.Next.{Next}
 use Rattle.dbwalk.specs.declared.steps.Next.TheVariants.{Child}
-use Rattle.dbwalk.specs.declared.steps.StackFrame.{StackFrame}
 use Rattle.dbwalk.proofs.Chaining.Overflows.{page_read}
 use Rattle.dbwalk.proofs.Pages.Levels.{log_entered, geometry_kept, read_there, below_kept, keeps_fewer}
 use Rattle.dbwalk.proofs.Pages.PageVisits.{kind_is}
-use Rattle.dbwalk.proofs.Trees.Frames.{open_push, ends_on, ends_enter, path_last, at_turn, step_on, as_deep, way_on, goes_on, path_length}
-use Rattle.dbwalk.proofs.Trees.Frames.{path_popped}
+use Rattle.dbwalk.proofs.Trees.Frames.{open_push, ends_on, ends_enter, path_last, at_turn, step_on, as_deep, way_on, goes_on, path_length, path_popped}
 use Rattle.dbwalk.proofs.Underway.TreeSteps.{turned}
 use Rattle.dbwalk.proofs.Underway.TreeTurns.{next_here, child, child_asked, child_passed, child_stopped, child_entered}
 use Rattle.dbwalk.proofs.Underway.Visits.{done_from, done_refused, entered_done, rows_below, refused_handed, unasked, unread}
 use Rattle.dbwalk.proofs.Underway.Walks.{walked_as, walked_as_ok, walked_behind, walked_by, walked_err, walked_tree}
 use Rattle.dbwalk.proofs.Telling.Sinks.{walks_as, walks_err, walks_ok}
+use Rattle.dbtrace.specs.declared.Cause.TheVariants as cause
 use Rattle.dbwalk.proofs.tree_walk.TreeWalk.enter_child.Goals as goal
 
 -- the frame of a page at its first step

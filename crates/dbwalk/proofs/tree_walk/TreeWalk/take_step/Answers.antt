@@ -1,21 +1,12 @@
-use Rattle.std.proofs.Common.{rules, ◌≡◌, Some, ◌/◌, ◌≤◌, false, true, inl, refl, ap, subst, arith, ◌∙◌, w64}
-use Rattle.std.specs.Prelude.{slice_get}
+use Rattle.std.proofs.Common.{rules, ◌≡◌, Some, ◌/◌, ◌≤◌, false, true, inl, refl, ap, subst, arith, ◌∙◌, w64, slice_get}
+use Rattle.dbwalk.proofs.Common.{most_payload, IsPageNumber, Moves, key_value, is_late, order_told, top_after, Pages, path_of, HasLeft, Key, Nothing, fails}
 use Rattle.std.proofs.lemmas.Int.{to_z-of_z}
-use Rattle.dbformat.specs.Payload.{most_payload}
-use Rattle.dbformat.specs.FixedPages.{IsPageNumber}
-use Rattle.dbsurvey.specs.Moves.{Moves}
-use Rattle.dbtrace.specs.Progress.{key_value}
-use Rattle.dbwalk.specs.LeafCells.{is_late, order_told, top_after}
-use Rattle.dbsource.specs.Bench.{Pages}
 use Rattle.dbsource.proofs.Logs.{has_weaker}
 use Rattle.dbmarks.proofs.Readings.{log_none}
 use Rattle.dbwalk.proofs.Trees.Frames.{ends_behind, ends_on, on_ok_all, next_at, at_turn, goes_on, path_last, path_popped, path_push, step_on}
 use Rattle.dbwalk.proofs.Leaves.LeafCells.{cell_size}
 use Rattle.dbwalk.proofs.Pages.Levels.{keeps_fewer}
-use Rattle.dbwalk.specs.Walking.{path_of}
-use Rattle.dbwalk.specs.Steps.{HasLeft}
-use Rattle.dbwalk.specs.declared.steps.Next.TheVariants.{Chain, Key, Nothing}
-use Rattle.dbwalk.specs.Watching.{fails}
+use Rattle.dbwalk.specs.declared.steps.Next.TheVariants.{Chain}
 use Rattle.dbwalk.proofs.Underway.TreeSteps.{aside_done, turned}
 use Rattle.dbwalk.proofs.Underway.Handing.{found_moves}
 use Rattle.dbwalk.proofs.Underway.TreeTurns.{next_here, turned_behind, turned_empty, left_here, turned_key, chained, chain_is, chain_next, turned_chain}

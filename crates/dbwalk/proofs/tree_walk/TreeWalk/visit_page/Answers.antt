@@ -1,19 +1,18 @@
 use Rattle.std.proofs.Common.{rules, ◌<◌, length, false, Ok, Err, refl, sym, ap, subst, ◌∙◌}
+use Rattle.dbwalk.proofs.Common.{count, HasSpan, AreRisingFrom}
 use Rattle.std.proofs.lemmas.Bool.{false≢true}
 use Rattle.std.proofs.lemmas.Result.{err_from_is_err_and}
-use Rattle.dbformat.specs.Cell.{count}
 use Rattle.dbformat.proofs.Looping.{none_at_damage}
 use Rattle.dbsource.proofs.Logs.{has_weaker}
 use Rattle.dbmarks.proofs.Readings.{log_none}
 use Rattle.dbwalk.specs.Found.{IsFound}
-use Rattle.dbwalk.specs.LeafCells.{HasSpan, ArePassed, AreRisingFrom}
+use Rattle.dbwalk.specs.LeafCells.{ArePassed}
 use Rattle.dbmarks.specs.Reads.{Reads}
 use Rattle.dbwalk.proofs.Leaves.RisingKeys.{rising_all}
 use Rattle.dbwalk.proofs.Pages.PageTellings.{with_span}
 use Rattle.dbwalk.proofs.Pages.PageVisits.{found_interior, found_damage, found_leaf, found_view, kind_is}
 use Rattle.dbwalk.proofs.Underway.CellSteps.{other_start, leaf_passed}
-use Rattle.dbwalk.proofs.Underway.Visits.{visited, visit_then, visit_alone, entered_past, entered_err, visited_before, page_moves}
-use Rattle.dbwalk.proofs.Underway.Visits.{visited_at}
+use Rattle.dbwalk.proofs.Underway.Visits.{visited, visit_then, visit_alone, entered_past, entered_err, visited_before, page_moves, visited_at}
 use Rattle.dbwalk.proofs.Underway.Walks.{walked_as, walked_as_ok, walked_behind, walked_by}
 use Rattle.dbwalk.proofs.Telling.Sinks.{walks_ok}
 use Rattle.dbwalk.proofs.tree_walk.TreeWalk.visit_page.Goals as goal

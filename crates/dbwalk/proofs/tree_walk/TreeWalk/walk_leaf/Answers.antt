@@ -1,8 +1,6 @@
 use Rattle.std.proofs.Common.{rules, ◌≡◌, ◌+◌, ◌-◌, ◌<◌, ◌≤◌, length, inl, None, refl, sym, ap, subst, ◌∙◌, arith}
-use Rattle.dbformat.specs.Cell.{count}
-use Rattle.dbformat.specs.File.{page_bytes}
+use Rattle.dbwalk.proofs.Common.{count, page_bytes, fails}
 use Rattle.dbsource.proofs.Logs.{has_weaker}
-use Rattle.dbwalk.specs.Watching.{fails}
 use Rattle.dbwalk.proofs.Leaves.LeafErrands.{seen_here, cells_here, leaf_errands_are}
 use Rattle.dbmarks.proofs.Readings.{log_none, log_then}
 use Rattle.dbwalk.proofs.Underway.Handing.{stopped_as}

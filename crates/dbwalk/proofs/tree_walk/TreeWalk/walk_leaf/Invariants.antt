@@ -1,15 +1,8 @@
 use Rattle.std.proofs.Common.{◌≡◌, ◌-◌, ◌≤◌, false, Some, None, Ok}
-use Rattle.dbformat.specs.Address.{then_step, overflow_step}
-use Rattle.dbformat.specs.Cell.{count}
-use Rattle.dbformat.specs.Head.{View, is_interior}
-use Rattle.dbformat.specs.Reference.{Reference, tree_view}
-use Rattle.dbtrace.specs.Walk.{Walk}
-use Rattle.dbwalk.specs.LeafCells.{AreBefore}
+use Rattle.dbwalk.proofs.Common.{then_step, overflow_step, count, View, is_interior, Reference, tree_view, Walk, AreBefore, IsAt, SaysOfFiles, Walked, IsLeafAt}
+use Rattle.dbwalk.proofs.Common.{fails, watches}
 use Rattle.dbwalk.specs.Points.{IsSameButGreatest}
-use Rattle.dbwalk.specs.Underway.{IsAt}
-use Rattle.dbwalk.specs.Walked.{Does, SaysOfFiles, Walked}
-use Rattle.dbwalk.specs.Walking.{IsLeafAt}
-use Rattle.dbwalk.specs.Watching.{fails, watches}
+use Rattle.dbwalk.specs.Walked.{Does}
 use Rattle.dbwalk.proofs.Underway.LeafLoop.{cells_done}
 use Rattle.dbwalk.proofs.tree_walk.TreeWalk.walk_leaf.Given as goal
 

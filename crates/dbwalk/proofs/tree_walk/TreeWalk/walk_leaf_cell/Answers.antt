@@ -1,18 +1,11 @@
-use Rattle.std.proofs.Common.{rules, ℕ, ◌≡◌, ◌≤◌, Result, Ok, Err, refl, sym, ap, subst, ◌∙◌}
-use Rattle.std.specs.Prelude.{is_some}
-use Rattle.dbsource.specs.declared.error.RunError.{RunError}
-use Rattle.dbformat.specs.File.{page_bytes}
+use Rattle.std.proofs.Common.{rules, ℕ, ◌≡◌, ◌≤◌, Result, Ok, Err, refl, sym, ap, subst, ◌∙◌, is_some}
+use Rattle.dbwalk.proofs.Common.{RunError, page_bytes, Moves, late_told, top_after, IsWriteOrMemory, IsTreeError, Pages}
 use Rattle.dbsource.proofs.Logs.{has_weaker}
-use Rattle.dbsurvey.specs.Moves.{Moves}
-use Rattle.dbwalk.specs.LeafCells.{late_told, top_after}
-use Rattle.dbwalk.specs.Telling.{IsWriteOrMemory}
-use Rattle.dbwalk.specs.Walked.{IsTreeError}
 use Rattle.dbwalk.proofs.Leaves.LeafErrands.{past_cell, seen_here, rowid_here, cell_here}
 use Rattle.dbwalk.proofs.Underway.Handing.{stopped_as, found_moves}
 use Rattle.dbwalk.proofs.Underway.LeafCellRuns.{gone, chain_stops, row_told, row_stops, key_done}
 use Rattle.dbwalk.proofs.Underway.Walks.{tree_error, unread, walked_as, walked_by, walked_err}
 use Rattle.dbwalk.proofs.Telling.Sinks.{err_is, moves_then, walks_after, walks_ok}
-use Rattle.dbsource.specs.Bench.{Pages}
 use Rattle.dbwalk.proofs.tree_walk.TreeWalk.walk_leaf_cell.Goals as goal
 
 pub returns-in_err-walk_overflow-clause-log : goal.returns-in_err-walk_overflow-clause-log

@@ -1,16 +1,10 @@
-use Rattle.std.proofs.Common.{rules, ◌<◌, ◌++◌, [], ◌∷◌, length, Some, None, Err, refl, sym, ap, subst, arith, ◌∙◌}
-use Rattle.std.specs.Prelude.{option_to_list}
+use Rattle.std.proofs.Common.{rules, ◌<◌, ◌++◌, [], ◌∷◌, length, Some, None, Err, refl, sym, ap, subst, arith, ◌∙◌, option_to_list}
+use Rattle.dbwalk.proofs.Common.{page_bytes, HasPageAt, IsCandidate, IsOpen, AreOpen, cost, IsAtTurn, HasNext, begin}
 use Rattle.std.proofs.lemmas.Result.{err_from_is_err_and}
-use Rattle.dbformat.specs.File.{page_bytes}
-use Rattle.dbwalk.specs.Found.{HasPageAt}
-use Rattle.dbwalk.specs.Walking.{IsCandidate, IsOpen, AreOpen, cost}
 use Rattle.dbsource.proofs.Logs.{has_weaker}
 use Rattle.dbmarks.proofs.Readings.{log_then}
-use Rattle.dbwalk.specs.Points.{IsAtTurn}
-use Rattle.dbwalk.specs.Steps.{HasNext}
 use Rattle.dbwalk.proofs.Trees.Bounds.{no_key_up_to}
 use Rattle.dbwalk.proofs.Trees.Frames.{ends_past, next_at, path_last}
-use Rattle.dbtrace.specs.Walk.{begin}
 use Rattle.dbwalk.proofs.Pages.PageVisits.{kind_is}
 use Rattle.dbwalk.proofs.Underway.WalkedTrees.{candidate_as, none_left, tree_started, tree_ended}
 use Rattle.dbwalk.proofs.Underway.Handing.{asked_done, stopped_as}

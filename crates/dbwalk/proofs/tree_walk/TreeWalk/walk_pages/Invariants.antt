@@ -1,10 +1,6 @@
 use Rattle.std.proofs.Common.{◌≡◌, ◌≤◌, Ok, ◌++◌, [], ◌∷◌, List, length}
+use Rattle.dbwalk.proofs.Common.{SaysOfFiles, Walked, IsWalkingOn, watches, AreOpen, path_of, cost, StackFrame}
 use Rattle.dbwalk.specs.Points.{AtRoot}
-use Rattle.dbwalk.specs.Walked.{SaysOfFiles, Walked}
-use Rattle.dbwalk.specs.Underway.{IsWalkingOn}
-use Rattle.dbwalk.specs.Watching.{watches}
-use Rattle.dbwalk.specs.Walking.{AreOpen, path_of, cost}
-use Rattle.dbwalk.specs.declared.steps.StackFrame.{StackFrame}
 use Rattle.dbwalk.proofs.tree_walk.TreeWalk.walk_pages.Given as goal
 
 abbrev pub invariant-loop-frame : goal.invariant-loop-frame

@@ -1,0 +1,64 @@
+-- The names of the definitions that the proofs of this crate cite most, passed on from one place. Declares nothing.
+pub use Rattle.dbformat.specs.Address.{freelist_start, last_root_start, schema_start, start_of}
+pub use Rattle.dbformat.specs.EndFaults.{end_faults, has_rows, visit_of}
+pub use Rattle.dbformat.specs.File.{MapEntry, entry_in, geometry, page_bytes, refusal}
+unfoldable pub use Rattle.dbformat.specs.File.{map_entry, refusal_of}
+pub use Rattle.dbformat.specs.FixedPages.{entries_per_map, geometry_of, is_fixed, is_map_position, is_page, lock_page}
+unfoldable pub use Rattle.dbformat.specs.FixedPages.{fixed_use, map_page_of}
+pub use Rattle.dbformat.specs.Head.{View, is_interior}
+pub use Rattle.dbformat.specs.Header.{encoding, first_trunk, usable_size}
+unfoldable pub use Rattle.dbformat.specs.HeaderFaults.{header_faults}
+pub use Rattle.dbformat.specs.Laws.{schema_part}
+pub use Rattle.dbformat.specs.Log.{IsPageLog, page_range}
+pub use Rattle.dbformat.specs.Reference.{Reference, Role, Way, child, first_overflow, free_leaf, from_of, later_overflow, role_of, root, trunk}
+unfoldable pub use Rattle.dbformat.specs.Reference.{tree_view}
+pub use Rattle.dbformat.specs.Report.{event_faults}
+unfoldable pub use Rattle.dbformat.specs.Report.{faults}
+pub use Rattle.dbformat.specs.Rows.{StatRow, row_in}
+unfoldable pub use Rattle.dbformat.specs.Rows.{stat_rows}
+pub use Rattle.dbformat.specs.Schema.{SchemaCell, freelist_starts, root_start, rooted, rooted_rows, schema_cell, start, starts}
+unfoldable pub use Rattle.dbformat.specs.Schema.{later_starts, schema}
+pub use Rattle.dbformat.specs.SchemaRow.{SchemaRow}
+pub use Rattle.dbformat.specs.Starts.{start_at}
+pub use Rattle.dbformat.specs.Story.{Event, at_key, at_page, at_refused, own_visit, start_errands, telling}
+unfoldable pub use Rattle.dbformat.specs.Story.{story_of}
+pub use Rattle.dbformat.specs.Survey.{Survey}
+unfoldable pub use Rattle.dbformat.specs.Survey.{rules_of}
+pub use Rattle.dbformat.specs.declared.Encoding.{Encoding}
+pub use Rattle.dbformat.specs.declared.Fault.{Fault}
+pub use Rattle.dbformat.specs.declared.Geometry.{Geometry}
+pub use Rattle.dbmarks.specs.EndMarks.{is_free_mark, is_marked, is_other_mark, is_root_mark, late_fault, least_other_marked, mark_fault}
+pub use Rattle.dbmarks.specs.Marking.{AreMarksFor, AreMarksOf, is_unmarked, marks_of, page_mark, role_mark, visit_mark}
+unfoldable pub use Rattle.dbmarks.specs.Marking.{mark_of}
+pub use Rattle.dbmarks.specs.Reads.{Reads}
+pub use Rattle.dbmarks.specs.declared.marks.Mark.{Mark}
+pub use Rattle.dbmarks.specs.declared.marks.Mark.TheVariants.{Fixed, Unmarked}
+pub use Rattle.dbscan.specs.Desks.{AsksOver, DeskView, IsFresh, desk_view, shape_of}
+pub use Rattle.dbscan.specs.EndPass.{is_fixed_mark, page_notices, pages_items}
+pub use Rattle.dbscan.specs.Findings.{found_rows, is_schema_row}
+pub use Rattle.dbscan.specs.Looks.{IsUnmarked, ReadsMarked, ReadsRising}
+pub use Rattle.dbscan.specs.MapReads.{HasMapFor, IsMapInUse, MapReads, MapReadsBefore}
+pub use Rattle.dbscan.specs.Notices.{Notice, at_start, end_notices, ended, errands_left, faults_heard, found, heard_fault, heard_row, later_notices, marked}
+pub use Rattle.dbscan.specs.Notices.{of_file, pages_from, root_reference, run_notices, start_notices, tree_notices, whole}
+pub use Rattle.dbscan.specs.Placed.{faults_of, reported_in, reported_of, told_faults, walk_told}
+pub use Rattle.dbscan.specs.Roots.{AreListed, IsWithin, Listed, TakesRow, kept_row, listed_rows}
+pub use Rattle.dbscan.specs.Starts.{AreBelowStarts, At, IsSchemaOf, at_freelist, at_row, at_schema, later_errands, root_of, schema_reference}
+pub use Rattle.dbscan.specs.Telling.{items_of}
+pub use Rattle.dbscan.specs.Trees.{AreTrees, place_by, start_by}
+pub use Rattle.dbscan.specs.Walks.{AreTold, AreWalked, IsAtStarts, IsBetweenStarts, IsSchemaWalked, IsTreeWalked, IsWalkedOver, StopsTelling}
+pub use Rattle.dbsource.specs.Answers.{Step}
+pub use Rattle.dbsource.specs.Errors.{is_read_failed, is_write_failed}
+pub use Rattle.dbsource.specs.Failures.{failures_after}
+pub use Rattle.dbsource.specs.HeaderBytes.{HeaderBytes}
+pub use Rattle.dbsource.specs.Headers.{IsHeaderOf}
+pub use Rattle.dbsource.specs.Sources.{Asks, SourceState}
+pub use Rattle.dbsource.specs.declared.error.RunError.{RunError}
+pub use Rattle.dbsource.specs.declared.error.RunError.TheVariants.{WriteFailed}
+pub use Rattle.dbsurvey.specs.Address.{Address, IsIn}
+pub use Rattle.dbsurvey.specs.InOrder.{AreQuiet, read_back, visits_in}
+pub use Rattle.dbsurvey.specs.Moves.{Moves, MovesBySome}
+pub use Rattle.dbsurvey.specs.Story.{Errand, Follow, Go, Told, errands_at, goes, telling_of}
+pub use Rattle.dbtrace.specs.Causes.{cause_of, lost_cause_at}
+pub use Rattle.dbtrace.specs.Finding.{Finding, told_at, told_below, told_by, told_fault, told_row, visited_below}
+pub use Rattle.dbtrace.specs.declared.Part.{Part}
+pub use Rattle.dbwalk.specs.Telling.{IsReadOrWrite, SinkAfter, SinkMoves, SinkState, Tells}
