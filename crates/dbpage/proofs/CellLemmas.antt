@@ -38,6 +38,11 @@ pub cell_found : (found at : Option Cell) (read : Result Cell CellFault) (P : Ce
 cell_found None at read P h is = h
 cell_found (Some c) at read P h is = (is ∙ ap (λ (o : Option Cell). ok_or o Unreadable) h.0, h.1)
 
+pub cell_read : (found at : Option Cell) (read : Result Cell CellFault) → IfSome found (λ c. at ≡ Some c) → read ≡ ok_or at Unreadable
+    → IfSome found (λ c. read ≡ Ok c)
+cell_read None at read h is = h
+cell_read (Some c) at read h is = is ∙ ap (λ (o : Option Cell). ok_or o Unreadable) h
+
 then_some : {A B : Type 0} (f : A → Option B) (o : Option A) (b : B) → option_and_then f o ≡ Some b → (a : A) × (f a ≡ Some b) × (o ≡ Some a)
 then_some f None b h = cc
 then_some f (Some a) b h = (a, h, refl)

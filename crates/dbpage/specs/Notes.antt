@@ -1,8 +1,11 @@
 -- A table of notes says where items end, by where they begin.
 use Rattle.std.specs.Prelude.{◌≡◌, ℕ, zero, suc, ◌+◌, ◌-◌, ◌*◌, ◌/◌, ◌%◌, ◌<◌, ◌≤◌, true, false, ◌&&◌, ◌==◌, List, length, slice_index, nat_le, if◌then◌else◌}
 use Rattle.dbformat.specs.Head.{View, content_start}
+use Rattle.dbformat.specs.Cell.{count}
 use Rattle.dbformat.specs.Coverage.{Span, is_held, is_overlapping}
-use Rattle.dbpage.specs.Marking.{ShareNoByte}
+use Rattle.dbpage.specs.Marking.{ShareNoByte, cells_upto}
+use Rattle.dbpage.specs.Packed.{AddUpTo}
+use Rattle.dbpage.specs.declared.common_cells.MarkedCells.{MarkedCells}
 
 -- what is noted for four bytes: the length of the item that begins in them, and in which of them
 abbrev pub note_of : List ℕ → ℕ → ℕ
@@ -68,3 +71,10 @@ pub record Walked (ends : ℕ → ℕ) (end at seen : ℕ) : Type 0 where
 -- the same of the spans of a page
 abbrev pub AreNotedIn : View → List Span → List ℕ → ℕ → Type 0
 AreNotedIn v spans table held = AreNoted spans (content_start v.number v.bytes) v.usable (end_at table (content_start v.number v.bytes) v.usable) held
+
+-- These are the first cells, their sums, and how many bytes they hold, which are noted.
+pub record HaveNotes (v : View) (table : List ℕ) (m : MarkedCells) : Type 0 where
+  pub few : m.cells ≤ count v
+  pub read : AddUpTo v m.cells m.sums
+  pub noted : AreNotedIn v (cells_upto v m.cells) table m.held
+  pub small : m.held ≤ m.cells * 16384

@@ -8,7 +8,7 @@ ghost use Rattle.dbpage.specs.Beginning.{EndsAt, IsShort};
 ghost use Rattle.dbformat.specs.declared.PageKind.TheVariants.{InteriorIndex, InteriorTable, LeafIndex, LeafTable};
 
 use crate::view::PageView;
-use dbbytes::{local_len, most_local, short_varint, varint, varint_of_four};
+use dbbytes::{local_len, most_local, short_varint, varint, varint_of_four, varint_of_nine};
 use dbformat::{CellFault, PageKind, PayloadKind, u16_at, u32_at};
 use std::marker::Model;
 
@@ -211,6 +211,44 @@ impl<'a> PageView<'a> {
         Some(self.whole_cell(PayloadKind::TableLeaf, start, size, None, key))
     }
 
+    // `cell` of a leaf of a table, if all of it is on the page, its size has at most four bytes, and it does not begin right before
+    // the end of the page. Rowids that come in no order are often long: so all of one is read in the caller.
+    #[inline(always)]
+    pub(crate) fn whole_leaf_cell(&self, i: u32) -> Option<Cell<'a>>
+        requires within { i < count self.now }
+        requires kind { self.now.kind ≡ LeafTable }
+        ensures { IfSome result (λ c. cell self.now i ≡ Ok c) }
+    {
+        let offset = self.pointer(i);
+        // A size of four bytes and a rowid of nine are before the end.
+        if offset < self.start || offset > self.usable - 13 {
+            return None;
+        }
+        self.whole_table_leaf_cell(offset)
+    }
+
+    // `table_leaf_cell`, as `whole_leaf_cell` has it.
+    #[inline(always)]
+    fn whole_table_leaf_cell(&self, offset: u32) -> Option<Cell<'a>>
+        requires room { offset + 13 ≤ self.now.usable }
+        requires most { self.now.usable ≤ 65536 }
+        ensures { IfSome result (λ c. cell_at LeafTable self.now offset ≡ Some c) }
+    {
+        let (size, size_len) = self.short_varint_at(offset)?;
+        let (rowid, rowid_len) = self.near_varint_at(offset + size_len);
+        let before = size_len + rowid_len;
+        if size > u64::from(most_local(PayloadKind::TableLeaf, self.usable)) {
+            return None;
+        }
+        let size = size as u32;
+        if offset + before + size > self.usable {
+            return None;
+        }
+        let start = CellStart { offset, before };
+        let key = Some(rowid.cast_signed());
+        Some(self.whole_cell(PayloadKind::TableLeaf, start, size, None, key))
+    }
+
     // `cell` of a leaf of an index, if all of it is on the page and it has 4 to 56 bytes, by the short way as well.
     #[inline(always)]
     pub(crate) fn short_index_cell(&self, i: u32) -> Option<Cell<'a>>
@@ -334,6 +372,17 @@ impl<'a> PageView<'a> {
             Ok((value, len)) => Some((value, len as u32)),
             Err(_) => None,
         }
+    }
+
+    // The number at `offset` and its length, where nine bytes or more are left.
+    #[inline(always)]
+    fn near_varint_at(&self, offset: u32) -> (u64, u32)
+        requires { offset + 9 ≤ self.now.usable }
+        ensures value { varint (bytes_from self.now offset) ≡ Some result }
+        ensures within { result.1 ≤ 9 }
+    {
+        let (value, len) = varint_of_nine(&self.bytes[offset as usize..self.usable as usize]);
+        (value, len as u32)
     }
 
     // The cell that begins so, and has a payload of `size` bytes.

@@ -14,7 +14,7 @@ use crate::view::PageView;
 use dbformat::PageKind;
 use std::sync::ledger::Ledger;
 
-// The first cells, their sums, and how many bytes they hold, which are marked.
+// The first cells, their sums, and how many bytes they hold, which are marked or noted.
 #[derive(Clone, Copy)]
 pub(crate) struct MarkedCells {
     pub(crate) cells: u32,

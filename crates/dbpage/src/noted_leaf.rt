@@ -1,14 +1,15 @@
 // Leaves of tables whose cells come in no order, as rows that were not inserted by rising rowids: each item is noted, and a walk from
 // each to the next says whether two share a byte.
-ghost use Rattle.std.specs.Prelude.{◌≡◌, ℕ, None, ◌<◌, ◌≤◌, ◌^◌, length, MatchOption};
+ghost use Rattle.std.specs.Prelude.{◌≡◌, ℕ, None, ◌+◌, ◌<◌, ◌≤◌, ◌^◌, length, MatchBool, MatchOption};
 ghost use Rattle.dbformat.specs.Head.{content_start};
 ghost use Rattle.dbformat.specs.Cell.{count};
 ghost use Rattle.dbformat.specs.Coverage.{items};
 ghost use Rattle.dbformat.specs.declared.PageKind.TheVariants.{LeafTable};
 ghost use Rattle.dbpage.specs.Marking.{cell_spans};
-ghost use Rattle.dbpage.specs.Notes.{AreNotedIn, end_at};
+ghost use Rattle.dbpage.specs.Notes.{AreNotedIn, HaveNotes, end_at};
 ghost use Rattle.dbpage.specs.Packed.{AddUpTo, IsPacked, IsUnpacked, key_at};
 
+use crate::common_cells::MarkedCells;
 use crate::notes::{clear_notes, held_in_order, note};
 use crate::packed::{CellSums, Packed};
 use crate::view::PageView;
@@ -59,9 +60,10 @@ impl<'a> PageView<'a> {
         ensures { MatchOption result (IsUnpacked self.now)
             (λ r. AddUpTo self.now (count self.now) r.0 × AreNotedIn self.now (cell_spans self.now) table.new r.1 × (r.1 < 2 ^ 28)) }
     {
-        let mut sums = CellSums::new(first);
-        let mut held = 0;
-        for i in 0..self.cells {
+        let noted = self.note_whole_cells(first, table)?;
+        let mut sums = noted.sums;
+        let mut held = noted.held;
+        for i in noted.cells..self.cells {
             let (offset, len) = self.add_cell(PageKind::LeafTable, i, &mut sums)?;
             if !note(table, self.start, offset, len) {
                 return None;
@@ -69,6 +71,66 @@ impl<'a> PageView<'a> {
             held += len;
         }
         Some((sums, held))
+    }
+
+    // `note_cells` of the first cells, while they are whole.
+    #[inline(always)]
+    fn note_whole_cells(&self, first: Option<i64>, table: &mut [u8]) -> Option<MarkedCells>
+        requires kind { self.now.kind ≡ LeafTable }
+        requires room { self.now.usable ≤ length table.old }
+        requires short { self.now.usable < 16384 }
+        requires some { 0 < count self.now → key_at self.now 0 ≡ first }
+        requires none { count self.now ≡ 0 → first ≡ None }
+        requires free { (at : ℕ) → end_at table.old (content_start self.now.number self.now.bytes) self.now.usable at ≡ 0 }
+        ensures { MatchOption result (IsUnpacked self.now) (HaveNotes self.now table.new) }
+    {
+        let mut noted = MarkedCells {
+            cells: 0,
+            sums: CellSums::new(first),
+            held: 0,
+        };
+        // The first has a turn of its own: after it, each cell has one before it.
+        if self.cells == 0 {
+            return Some(noted);
+        }
+        if !self.note_whole_cell(0, &mut noted, table)? {
+            return Some(noted);
+        }
+        for i in 1..self.cells {
+            if !self.note_whole_cell(i, &mut noted, table)? {
+                break;
+            }
+        }
+        Some(noted)
+    }
+
+    // Notes cell `i`, after those before it, if it is whole: and answers whether it is.
+    #[inline(always)]
+    fn note_whole_cell(&self, i: u32, noted: &mut MarkedCells, table: &mut [u8]) -> Option<bool>
+        requires kind { self.now.kind ≡ LeafTable }
+        requires room { self.now.usable ≤ length table.old }
+        requires short { self.now.usable < 16384 }
+        requires within { i < count self.now }
+        requires next { noted.old.cells ≡ i }
+        requires before { HaveNotes self.now table.old noted.old }
+        ensures { MatchOption result (IsUnpacked self.now) (λ is_whole. HaveNotes self.now table.new noted.new
+            × MatchBool is_whole (noted.new.cells ≡ i + 1) (noted.new.cells ≡ i)) }
+    {
+        // This gives the proof what is known of the view.
+        let _ = &self.usable;
+        let Some(cell) = self.whole_leaf_cell(i) else {
+            return Some(false);
+        };
+        if !self.add_read(i, &cell, &mut noted.sums) {
+            return None;
+        }
+        let len = cell.len.max(4);
+        if !note(table, self.start, cell.offset, len) {
+            return None;
+        }
+        noted.held += len;
+        noted.cells = i + 1;
+        Some(true)
     }
 
     // Notes what the good freeblocks hold, after the `held` bytes of the cells.

@@ -1,21 +1,16 @@
-use Rattle.std.proofs.Common.{◌≡◌, ℕ, ◌+◌, ◌<◌, ◌≤◌, sym, subst, ap, arith}
+use Rattle.std.proofs.Common.{◌≡◌, ℕ, ◌+◌, ◌<◌, ◌≤◌, subst, ap, arith}
 use Rattle.dbformat.specs.Head.{View, cell_count, content_start}
 use Rattle.dbformat.specs.Cell.{count}
 use Rattle.dbpage.specs.Marking.{cells_upto}
 use Rattle.dbpage.specs.Notes.{AreNotedIn, HasNear, Notes, end_at}
 use Rattle.dbpage.specs.Packed.{AddUpTo}
-use Rattle.dbpage.proofs.NotedLeaf.{AreNoted_none, Holds-four, cell_near, cell_noted}
-use Rattle.dbpage.proofs.PackedLemmas.{none_read}
+use Rattle.dbpage.proofs.NotedLeaf.{Holds-four, cell_near, cell_noted}
 use Rattle.dbpage.proofs.view.PageView.note_cells.Goals as goal
 
 pub loop-i-init : goal.loop-i-init
 loop-i-init c =
-    let v = c.args.self.now in
-    record {
-      read = subst (AddUpTo v 0) (sym c.new-sums.ensures) (none_read v c.args.first c.requires.some c.requires.none);
-      noted = AreNoted_none v c.args.table.now c.requires.free;
-      few = omega arith;
-    }
+    let noted = c.in_ok-noted.ensures in
+    record { read = noted.read; noted = noted.noted; few = noted.small }
 
 pub returns-then-not-note : goal.returns-then-not-note
 returns-then-not-note c =
@@ -73,7 +68,7 @@ pub returns : goal.returns
 returns c =
     let v = c.args.self.now in
     let cells = ap (λ (w : View). cell_count w.number w.bytes) c.self.view_is in
-    let all : c.loop-i.i ≡ count v = omega (arith, c.loop-i-test.false, c.loop-i.auto.i-end, c.self.invariant.cells_is, cells) in (
+    let all : c.loop-i.i ≡ count v = omega (arith, c.loop-i-test.false, c.loop-i.auto.i-end, c.in_ok-noted.ensures.few, c.self.invariant.cells_is, cells) in (
       subst (λ (n : ℕ). AddUpTo v n c.loop-i.sums) all c.loop-i.invariant.read,
       subst (λ (n : ℕ). AreNotedIn v (cells_upto v n) c.loop-i.table c.loop-i.held) all c.loop-i.invariant.noted,
       omega (
