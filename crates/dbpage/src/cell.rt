@@ -4,11 +4,10 @@ ghost use Rattle.dbformat.specs.Cell.{bytes_from, cell, cell_at, cell_pointer, c
 ghost use Rattle.dbformat.specs.NamedPages.{named_page};
 ghost use Rattle.dbformat.specs.Varint.{varint};
 ghost use Rattle.dbformat.specs.Payload.{most_local};
-ghost use Rattle.dbpage.specs.Beginning.{EndsAt, IsShort};
 ghost use Rattle.dbformat.specs.declared.PageKind.TheVariants.{InteriorIndex, InteriorTable, LeafIndex, LeafTable};
 
 use crate::view::PageView;
-use dbbytes::{local_len, most_local, short_varint, varint, varint_of_four, varint_of_nine};
+use dbbytes::{local_len, most_local, varint, varint_of_four};
 use dbformat::{CellFault, PageKind, PayloadKind, u16_at, u32_at};
 use std::marker::Model;
 
@@ -41,9 +40,9 @@ impl<'a> Model for Cell<'a> {
 
 // Where a cell with a payload begins, and how many of its bytes are before the payload.
 #[derive(Clone, Copy)]
-struct CellStart {
-    offset: u32,
-    before: u32,
+pub(crate) struct CellStart {
+    pub(crate) offset: u32,
+    pub(crate) before: u32,
 }
 
 impl<'a> Cell<'a> {
@@ -171,122 +170,6 @@ impl<'a> PageView<'a> {
         )
     }
 
-    // `cell` of a leaf of a table, if all of it is on the page and it ends at `end`, in the shortest way: `None` also where
-    // another way is needed.
-    #[inline(always)]
-    pub(crate) fn cell_up_to(&self, i: u32, end: u32) -> Option<Cell<'a>>
-        requires within { i < count self.now }
-        requires kind { self.now.kind ≡ LeafTable }
-        requires end { end ≤ self.now.usable }
-        ensures { IfSome result (λ c. (cell self.now i ≡ Ok c) × EndsAt c end) }
-    {
-        let offset = self.pointer(i);
-        // A size and a rowid of four bytes each are before the end.
-        if offset < self.start || u64::from(offset) + 8 > u64::from(end) {
-            return None;
-        }
-        self.table_leaf_cell_up_to(offset, end)
-    }
-
-    // `table_leaf_cell`, as `cell_up_to` has it.
-    #[inline(always)]
-    fn table_leaf_cell_up_to(&self, offset: u32, end: u32) -> Option<Cell<'a>>
-        requires room { offset + 8 ≤ end }
-        requires end { end ≤ self.now.usable }
-        requires most { self.now.usable ≤ 65536 }
-        ensures { IfSome result (λ c. (cell_at LeafTable self.now offset ≡ Some c) × EndsAt c end) }
-    {
-        let (size, size_len) = self.short_varint_at(offset)?;
-        let (rowid, rowid_len) = self.short_varint_at(offset + size_len)?;
-        let before = size_len + rowid_len;
-        if size > u64::from(most_local(PayloadKind::TableLeaf, self.usable)) {
-            return None;
-        }
-        let size = size as u32;
-        if offset + before + size != end {
-            return None;
-        }
-        let key = Some(rowid.cast_signed());
-        let start = CellStart { offset, before };
-        Some(self.whole_cell(PayloadKind::TableLeaf, start, size, None, key))
-    }
-
-    // `cell` of a leaf of a table, if all of it is on the page, its size has at most four bytes, and it does not begin right before
-    // the end of the page. Rowids that come in no order are often long: so all of one is read in the caller.
-    #[inline(always)]
-    pub(crate) fn whole_leaf_cell(&self, i: u32) -> Option<Cell<'a>>
-        requires within { i < count self.now }
-        requires kind { self.now.kind ≡ LeafTable }
-        ensures { IfSome result (λ c. cell self.now i ≡ Ok c) }
-    {
-        let offset = self.pointer(i);
-        // A size of four bytes and a rowid of nine are before the end.
-        if offset < self.start || offset > self.usable - 13 {
-            return None;
-        }
-        self.whole_table_leaf_cell(offset)
-    }
-
-    // `table_leaf_cell`, as `whole_leaf_cell` has it.
-    #[inline(always)]
-    fn whole_table_leaf_cell(&self, offset: u32) -> Option<Cell<'a>>
-        requires room { offset + 13 ≤ self.now.usable }
-        requires most { self.now.usable ≤ 65536 }
-        ensures { IfSome result (λ c. cell_at LeafTable self.now offset ≡ Some c) }
-    {
-        let (size, size_len) = self.short_varint_at(offset)?;
-        let (rowid, rowid_len) = self.near_varint_at(offset + size_len);
-        let before = size_len + rowid_len;
-        if size > u64::from(most_local(PayloadKind::TableLeaf, self.usable)) {
-            return None;
-        }
-        let size = size as u32;
-        if offset + before + size > self.usable {
-            return None;
-        }
-        let start = CellStart { offset, before };
-        let key = Some(rowid.cast_signed());
-        Some(self.whole_cell(PayloadKind::TableLeaf, start, size, None, key))
-    }
-
-    // `cell` of a leaf of an index, if all of it is on the page and it has 4 to 56 bytes, by the short way as well.
-    #[inline(always)]
-    pub(crate) fn short_index_cell(&self, i: u32) -> Option<Cell<'a>>
-        requires within { i < count self.now }
-        requires kind { self.now.kind ≡ LeafIndex }
-        ensures { IfSome result (λ c. (cell self.now i ≡ Ok c) × IsShort c) }
-    {
-        let offset = self.pointer(i);
-        if offset < self.start || offset > self.usable - 4 {
-            return None;
-        }
-        self.short_index_leaf_cell(offset)
-    }
-
-    // `index_leaf_cell`, as `short_index_cell` has it.
-    #[inline(always)]
-    fn short_index_leaf_cell(&self, offset: u32) -> Option<Cell<'a>>
-        requires room { offset + 4 ≤ self.now.usable }
-        requires most { self.now.usable ≤ 65536 }
-        ensures { IfSome result (λ c. (cell_at LeafIndex self.now offset ≡ Some c) × IsShort c) }
-    {
-        // Each page has room for as much. By its first byte, the size has no other.
-        let first = self.bytes[offset as usize];
-        if first < 3 || first > 52 {
-            return None;
-        }
-        let (size, before) = self.short_varint_at(offset)?;
-        if size < 3 || size > 52 {
-            return None;
-        }
-        let size = size as u32;
-        if offset + before + size > self.usable {
-            return None;
-        }
-        let start = CellStart { offset, before };
-        Some(self.whole_cell(PayloadKind::Index, start, size, None, None))
-    }
-
     #[inline(always)]
     fn table_interior_cell(&self, offset: u32) -> Option<Cell<'a>>
         requires room { offset + 4 ≤ self.now.usable }
@@ -361,30 +244,6 @@ impl<'a> PageView<'a> {
         Some((value, len as u32))
     }
 
-    // `first_varint_at`, where the number has at most four bytes.
-    #[inline(always)]
-    fn short_varint_at(&self, offset: u32) -> Option<(u64, u32)>
-        requires { offset + 4 ≤ self.now.usable }
-        ensures value { IfSome result (λ r. varint (bytes_from self.now offset) ≡ Some r) }
-        ensures within { IfSome result (λ r. (0 < r.1) × (r.1 ≤ 4)) }
-    {
-        match short_varint(&self.bytes[offset as usize..self.usable as usize]) {
-            Ok((value, len)) => Some((value, len as u32)),
-            Err(_) => None,
-        }
-    }
-
-    // The number at `offset` and its length, where nine bytes or more are left.
-    #[inline(always)]
-    fn near_varint_at(&self, offset: u32) -> (u64, u32)
-        requires { offset + 9 ≤ self.now.usable }
-        ensures value { varint (bytes_from self.now offset) ≡ Some result }
-        ensures within { result.1 ≤ 9 }
-    {
-        let (value, len) = varint_of_nine(&self.bytes[offset as usize..self.usable as usize]);
-        (value, len as u32)
-    }
-
     // The cell that begins so, and has a payload of `size` bytes.
     #[inline(always)]
     #[tactic(auto, unfolding(dbformat::specs::Payload::local_len))]
@@ -437,7 +296,7 @@ impl<'a> PageView<'a> {
     // The cell that begins so, and has a payload of `size` bytes, which is wholly in it.
     #[inline(always)]
     #[tactic(auto, unfolding(dbformat::specs::Payload::local_len))]
-    fn whole_cell(
+    pub(crate) fn whole_cell(
         &self,
         kind: PayloadKind,
         start: CellStart,

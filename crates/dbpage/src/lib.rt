@@ -30,6 +30,7 @@ mod notes;
 mod packed;
 mod run;
 mod view;
+mod whole_cells;
 
 pub use byte_runs::usable_run;
 pub use cell::Cell;
