@@ -175,15 +175,6 @@ pub log_load : {step : Step} {old new : SourceState} (size p : ℕ) (bytes : Lis
     → HasLog step (λ log. log ≡ page_range size p ∷ []) (λ file. OnOk r (IsRangeOf file ((p - 1) * size) bytes)) old new
 log_load size p bytes r told e h = logs.has_one r ((p - 1) * size) bytes told h.0 h.1 (ap (λ n. range ((p - 1) * size) n ∷ []) e) (λ file f. f)
 
--- a page was marked, and then read, and then more pages were marked
-pub log_opened : {step : Step} (Q : List ℕ → Type 0) {T : List ℕ → Type 0} (size : ℕ) (a b c : List Mark) (p : ℕ) (m : Mark) {old new : SourceState}
-    → page_mark a p ≡ Some Unmarked → b ≡ set a (p - 1) m → IsUse m → KeepsMarks b c → HasLog step (λ log. log ≡ page_range size p ∷ []) Q old new
-    → ((file : List ℕ) → Q file → T file)
-    → HasLog step (Reads size a c) T old new
-log_opened Q size a b c p m h e used kept k q = logs.has_weaker (λ log. log ≡ page_range size p ∷ []) Q k
-    (λ log l. subst (Reads size a c) (sym l) (reads_then size a b c (page_range size p ∷ []) []
-    (subst (λ l. Reads size a l (page_range size p ∷ [])) (sym e) (reads_page size a p m h used.cleared used.some)) (reads_none size b c kept))) q
-
 -- one log after another
 pub log_then : {step : Step} (Q Q' : List ℕ → Type 0) {T : List ℕ → Type 0} {size size' : ℕ} {a b c : List Mark} {old mid new : SourceState} → size' ≡ size
     → HasLog step (Reads size a b) Q old mid → HasLog step (Reads size' b c) Q' mid new → ((file : List ℕ) → Q file → Q' file → T file)

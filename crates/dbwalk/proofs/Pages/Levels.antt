@@ -1,6 +1,6 @@
 -- The bytes at the levels of a bench after a page was read, and the number of pages that are left without a mark.
-use Rattle.std.proofs.Common.{◌≡◌, ℕ, zero, suc, ◌-◌, ◌*◌, ◌<◌, ◌≤◌, Bool, true, false, cond, List, [], ◌∷◌, length, set, Some, None, Result, Ok, Err, refl}
-use Rattle.std.proofs.Common.{sym, ap, subst, arith, ◌∙◌, slice_get, nat_lt, count_by, ◌==◌, IfOk, IfSome, OnOk}
+use Rattle.std.proofs.Common.{◌≡◌, ℕ, zero, suc, ◌-◌, ◌*◌, ◌<◌, ◌≤◌, Bool, true, false, cond, List, [], ◌∷◌, length, set, Some, None, Result, refl}
+use Rattle.std.proofs.Common.{sym, ap, subst, arith, ◌∙◌, slice_get, nat_lt, count_by, ◌==◌, IfSome, OnOk}
 use Rattle.dbwalk.proofs.Common.{Changes, Pages, SourceState, IsUse, page_mark, unmarked_pages, KeepsMarks, Mark, Unmarked, HasPageAt}
 use Rattle.std.specs.Option.{option_map_or}
 use Rattle.std.proofs.lemmas.Bool.Decides.{nat_tests}
@@ -103,7 +103,3 @@ keeps_fewer old new k = fewer_by old new (sym (length-map new cleared) ∙ ap le
 
     at : (marks : List Mark) (i : ℕ) → page_mark marks (suc i) ≡ slice_get marks i
     at marks i = ap (λ b. cond b None (slice_get marks (suc i - 1))) (some i) ∙ ap (slice_get marks) (let e : suc i - 1 ≡ i = omega arith in e)
-
-pub if_ok_all : {A E : Type 0} (r : Result A E) (Q : A → Type 0) → ((x : A) → Q x) → IfOk r Q
-if_ok_all (Ok x) Q h = h x
-if_ok_all (Err e) Q h = tt
