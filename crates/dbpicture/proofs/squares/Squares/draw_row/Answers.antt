@@ -43,20 +43,20 @@ loop-index-preserved g c =
     let f = shown c.of_square-faults.result.bits in
     elim c.if-grid-eq1.branch [
       | then-grid-eq1 w ↦ rw (w.writer-is, w.tree-is) (record {
-          drawn = of_range_more (λ file V. square_text (drawn_by s V)) first _ index c.loop-index.invariant.drawn
-              (of_as (λ file V of. page_is (drawn_by s V) index f c.of_square-faults.ensures w.page_square-square.result w.page_square-square.new.tree.name
-              w.if-grid-eq1.true (w.page_square-square.ensures.square file V of) (ap (λ t. t.name) (w.page_square-square.ensures.named file V of)))
-              (of_all w.draw.ensures))
-              (omega (arith, c.loop-index.auto.index)) (omega (arith, c.loop-index.auto.index));
-          tree = w.page_square-square.ensures.tree;
-        })
+        drawn = of_range_more (λ file V. square_text (drawn_by s V)) first _ index c.loop-index.invariant.drawn
+            (of_as (λ file V of. page_is (drawn_by s V) index f c.of_square-faults.ensures w.page_square-square.result w.page_square-square.new.tree.name
+            w.if-grid-eq1.true (w.page_square-square.ensures.square file V of) (ap (λ t. t.name) (w.page_square-square.ensures.named file V of)))
+            (of_all w.draw.ensures))
+            (omega (arith, c.loop-index.auto.index)) (omega (arith, c.loop-index.auto.index));
+        tree = w.page_square-square.ensures.tree;
+      })
       | else-grid-eq1 w ↦ rw (w.writer-is, w.tree-is) (record {
-          drawn = of_range_more (λ file V. square_text (drawn_by s V)) first _ index c.loop-index.invariant.drawn
-              (of_as (λ file V of. group_is (drawn_by s V) index f c.of_square-faults.ensures w.group_square-square.result w.if-grid-eq1.false
-              (w.group_square-square.ensures file V of)) (of_all w.draw-else-grid-eq1.ensures))
-              (omega (arith, c.loop-index.auto.index)) (omega (arith, c.loop-index.auto.index));
-          tree = c.loop-index.invariant.tree;
-        })
+        drawn = of_range_more (λ file V. square_text (drawn_by s V)) first _ index c.loop-index.invariant.drawn
+            (of_as (λ file V of. group_is (drawn_by s V) index f c.of_square-faults.ensures w.group_square-square.result w.if-grid-eq1.false
+            (w.group_square-square.ensures file V of)) (of_all w.draw-else-grid-eq1.ensures))
+            (omega (arith, c.loop-index.auto.index)) (omega (arith, c.loop-index.auto.index));
+        tree = c.loop-index.invariant.tree;
+      })
     ]
 
 pub returns : goal.returns
