@@ -18,7 +18,6 @@ use crate::rest::put_rest;
 use crate::shown::Shown;
 use crate::stamp::Stamp;
 use crate::task::Task;
-use crate::unread::{FailedReads, put_failed};
 use crate::unwritten::FailedWrites;
 use crate::watched::Watch;
 use dblog::{Index, JournalError, LogError, Rollback};
@@ -30,14 +29,13 @@ use std::str;
 // What is said of a file, or of a log of it, that somebody writes to.
 const CHANGED: &str = " was changed while it was read; the report may be of no state that it had";
 
-/// Puts notes on the file at a path; `watch` has what the run has seen of it, `writes` of its outputs, and `reads` which read failed.
+/// Puts notes on the file at a path; `watch` has what the run has seen of it, and `writes` of its outputs.
 #[derive(Drop)]
 pub struct FileNotes<'a, R, N> {
     rt: &'a R,
     file: &'a str,
     watch: &'a Watch,
     writes: &'a FailedWrites,
-    reads: &'a FailedReads,
     notes: NoteOut<'a, N>,
     before: Option<Stamp>,
     // The same of its logs, where these are read.
@@ -61,7 +59,6 @@ impl<'a, R: Lookup + AllocGlobal, N: Out> FileNotes<'a, R, N> {
         file: &'a str,
         watch: &'a Watch,
         writes: &'a FailedWrites,
-        reads: &'a FailedReads,
         notes: &'a mut N,
     ) -> FileNotes<'a, R, N>
         ensures out { result.notes.out.now ≡ notes.old }
@@ -72,7 +69,6 @@ impl<'a, R: Lookup + AllocGlobal, N: Out> FileNotes<'a, R, N> {
             file,
             watch,
             writes,
-            reads,
             notes: NoteOut::new(rt.alloc(), notes),
             before: Stamp::at(rt, file),
             journal_before: None,
@@ -121,7 +117,9 @@ impl<'a, R: Lookup + AllocGlobal, N: Out> FileNotes<'a, R, N> {
 
     /// Takes what was found in the write-ahead log, with the length of the file, and puts a note on it.
     pub fn log_read(&mut self, found: &Result<(Index, u64), LogError>) {
-        if let Some(name) = self.shown_name(WAL) {
+        if let Some(name) = self.name_of(WAL)
+            && let Ok(name) = Shown::of(self.rt.alloc(), name.as_str())
+        {
             put_found(&mut self.notes, &name, found);
         }
         self.is_read = found.is_ok();
@@ -147,7 +145,9 @@ impl<'a, R: Lookup + AllocGlobal, N: Out> FileNotes<'a, R, N> {
 
     /// Says why the rollback journal, or the file before it, was not read: a note is put on it.
     pub fn journal_unread(&mut self, error: JournalError) {
-        if let Some(name) = self.shown_name(JOURNAL) {
+        if let Some(name) = self.name_of(JOURNAL)
+            && let Ok(name) = Shown::of(self.rt.alloc(), name.as_str())
+        {
             put_unread(&mut self.notes, &name, error);
         }
         self.is_read = false;
@@ -166,6 +166,11 @@ impl<'a, R: Lookup + AllocGlobal, N: Out> FileNotes<'a, R, N> {
         }
     }
 
+    /// Says that the header of the file and a log of it, as one, could not be read.
+    pub fn header_unread(&mut self) {
+        self.watch.header_failed();
+    }
+
     // The name of the file, or of a log of it, by what that has after the name of the database.
     fn name_of(&self, suffix: &str) -> Option<String> {
         let alloc = self.rt.alloc();
@@ -174,12 +179,6 @@ impl<'a, R: Lookup + AllocGlobal, N: Out> FileNotes<'a, R, N> {
         }
         let name = log_name(self.rt, self.file, suffix).ok()?;
         String::from_str(alloc, str::from_utf8(name.as_slice()).ok()?).ok()
-    }
-
-    // The same, as it is shown.
-    fn shown_name(&self, suffix: &str) -> Option<Shown> {
-        let name = self.name_of(suffix)?;
-        Shown::of(self.rt.alloc(), name.as_str()).ok()
     }
 
     // What the system knows of a log of the file.
@@ -231,7 +230,7 @@ impl<'a, R: Lookup + AllocGlobal, N: Out> FileNotes<'a, R, N> {
         }
     }
 
-    // The note on a file that cannot be read: why it could not be opened, or which read of it or of a log of it failed.
+    // The note on a file that cannot be read: why it could not be opened, or which read of it failed.
     fn put_unread(&mut self) {
         if !self.is_open {
             if let Some(reason) = &self.reason {
@@ -242,12 +241,14 @@ impl<'a, R: Lookup + AllocGlobal, N: Out> FileNotes<'a, R, N> {
         if !self.is_read {
             return;
         }
-        match self.reads.last() {
-            Some(failed) => {
-                if let Some(name) = self.shown_name(failed.suffix) {
-                    put_failed(&mut self.notes, &name, failed.range);
-                }
-            }
+        match self.watch.failed() {
+            Some(range) => self.put_of_file(&[
+                Piece::Words(": the "),
+                Piece::Number(range.len),
+                Piece::Words(" bytes at "),
+                Piece::Number(range.offset),
+                Piece::Words(" cannot be read"),
+            ]),
             None => self.put_of_file(&[Piece::Words(": its length is not known")]),
         }
     }

@@ -1,6 +1,5 @@
 // Who opens a file, and gets it back.
 use crate::lookup::{Lookup, is_something};
-use crate::unread::{FailedReads, Traced};
 use crate::unwritten::system_text;
 use dbsource::{FileSource, ReadFailed, RunError, Source, memory};
 use std::alloc::AllocError;
@@ -9,7 +8,7 @@ use std::os::unix::fs::FileTypeExt;
 use std::rt::{Clock, Files};
 use std::{io, str};
 
-// As many bytes as the longest path has, with the zero after it.
+// As many bytes as the longest path has.
 const LONGEST_PATH: usize = 4096;
 
 /// Opens files by their paths, and gets each back when it was read.
@@ -38,7 +37,7 @@ pub trait Opener {
         ensures { opens self.old path.now result self.new };
 
     /// Opens a log of the database at `path`, for reading. Its name is that of the database with `suffix` after it; if `path` is a link, the
-    /// database is what it leads to. `None` where there is no log of this name, or there can be none, or it has no bytes.
+    /// database is what it leads to. `None` where there is no log of this name, or it has no bytes.
     ///
     /// # Errors
     ///
@@ -54,44 +53,21 @@ pub trait Opener {
     fn reason(&self) -> Option<(&str, &str)>;
 }
 
-/// The files of the system, as [`FileSource`] opens them. Which read of one failed is kept for the notes.
+/// The files of the system, as [`FileSource`] opens them.
 #[derive(Drop)]
 pub struct SystemFiles<'a, R> {
     rt: &'a R,
-    reads: &'a FailedReads,
     suffix: &'static str,
     reason: Option<String>,
 }
 
 impl<'a, R: Files<File = File> + Clock + AllocGlobal> SystemFiles<'a, R> {
-    ghost use Rattle.std.specs.Prelude.{◌≡◌, IfOk};
-    ghost use Rattle.dbsource.specs.Sources.{untold_source};
-
     /// The files of the system that `rt` reaches.
-    pub fn new(rt: &'a R, reads: &'a FailedReads) -> SystemFiles<'a, R> {
+    pub fn new(rt: &'a R) -> SystemFiles<'a, R> {
         SystemFiles {
             rt,
-            reads,
             suffix: "",
             reason: None,
-        }
-    }
-
-    // Opens a file whose name is that of the database with `suffix` after it.
-    fn open_named(
-        &mut self,
-        name: &str,
-        suffix: &'static str,
-    ) -> Result<Traced<'a, FileSource<'a, R>>, ReadFailed>
-        ensures { IfOk result (λ file. file.source ≡ untold_source) }
-    {
-        match FileSource::open(self.rt, name) {
-            Ok(file) => Ok(Traced::new(file, suffix, self.reads)),
-            Err(error) => {
-                self.suffix = suffix;
-                self.reason = reason_of(self.rt, name).unwrap_or(None);
-                Err(error)
-            }
         }
     }
 }
@@ -100,37 +76,44 @@ impl<'a, R: Files<File = File> + Clock + AllocGlobal> Opener for SystemFiles<'a,
     ghost use Rattle.std.specs.Prelude.{◌≡◌, IfOk, IfSome, ⊤};
     ghost use Rattle.dbsource.specs.Sources.{untold_source};
 
-    type File = Traced<'a, FileSource<'a, R>>;
+    type File = FileSource<'a, R>;
 
     // No contract knows the bytes of a file.
-    ghost opens = { λ old path opened new. IfOk opened (λ file. file.source ≡ untold_source) };
+    ghost opens = { λ old path opened new. IfOk opened (λ source. source ≡ untold_source) };
 
-    ghost opens_log = { λ old path suffix opened new. IfOk opened (λ log. IfSome log (λ file. file.source ≡ untold_source)) };
+    ghost opens_log = { λ old path suffix opened new. IfOk opened (λ log. IfSome log (λ source. source ≡ untold_source)) };
 
     ghost closes = { λ old file new. ⊤ };
 
-    fn open(&mut self, path: &str) -> Result<Traced<'a, FileSource<'a, R>>, ReadFailed> {
-        self.open_named(path, "")
+    fn open(&mut self, path: &str) -> Result<FileSource<'a, R>, ReadFailed> {
+        let opened = FileSource::open(self.rt, path);
+        if opened.is_err() {
+            self.reason = reason_of(self.rt, path).unwrap_or(None);
+        }
+        opened
     }
 
     fn open_log(
         &mut self,
         path: &str,
         suffix: &'static str,
-    ) -> Result<Option<Traced<'a, FileSource<'a, R>>>, RunError> {
+    ) -> Result<Option<FileSource<'a, R>>, RunError> {
         let name = log_name(self.rt, path, suffix)?;
         // Both parts are UTF-8.
         let name = str::from_utf8(name.as_slice()).unwrap_or("");
         if !has_log(self.rt, name) {
             return Ok(None);
         }
-        match self.open_named(name, suffix) {
+        match self.open(name) {
             Ok(log) => Ok(Some(log)),
-            Err(error) => Err(RunError::from(error)),
+            Err(error) => {
+                self.suffix = suffix;
+                Err(RunError::from(error))
+            }
         }
     }
 
-    fn close(&mut self, _file: Traced<'a, FileSource<'a, R>>) {}
+    fn close(&mut self, _file: FileSource<'a, R>) {}
 
     fn reason(&self) -> Option<(&str, &str)> {
         let reason = self.reason.as_deref()?;
@@ -168,16 +151,11 @@ pub(crate) fn log_name<R: Lookup + AllocGlobal>(
     Ok(name)
 }
 
-// Whether there is something at this path, or that cannot be seen. Nothing has a name that is longer than its folder takes; but a path that is
-// longer than a call takes may lead to something.
+// Whether there is something at this path, or that cannot be seen.
 fn has_log<R: Files + AllocGlobal>(rt: &R, path: &str) -> bool {
     match rt.metadata(path) {
         Ok(metadata) => is_something(&metadata),
-        Err(error) => match error.kind() {
-            io::ErrorKind::NotFound => false,
-            io::ErrorKind::InvalidFilename => path.len() >= LONGEST_PATH,
-            _ => true,
-        },
+        Err(error) => error.kind() != io::ErrorKind::NotFound,
     }
 }
 
