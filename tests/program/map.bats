@@ -52,6 +52,20 @@ END
     row 'a title for each of 10000 squares, and one for the picture' [ "$(grep -o '</title>' "$work/out" | wc -l)" = 10001 ]
 }
 
+# Pages 3 to 9 are leaves below page 2. The last rowid of page 3 becomes one above all others, so that each key after it is out of order:
+# those of a leaf, then that of the cell of page 2 after it, in turn. They are one injury.
+@test 'each page of an injury has its wide frame, however many faults each page has' {
+    needs sqlite3
+    sqlite3 "$work/x.db" 'PRAGMA page_size = 512; CREATE TABLE t (id INTEGER PRIMARY KEY);
+        WITH RECURSIVE n (i) AS (SELECT 0 UNION ALL SELECT i + 1 FROM n WHERE i < 399) INSERT INTO t SELECT 100000 + 2 * i FROM n;'
+    put_at "$work/x.db" 1159 '\0377\0377\0177'
+    dbck check --limit 1000 "$work/x.db"
+    row 'faults on seven pages' [ "$(grep -c '^T06 page [24-9] item ' "$work/out")" = 343 ]
+    dbck map "$work/x.db"
+    row 'wide frames on pages 2 to 9' [ "$(grep -c ' stroke-width="4"><title>page [2-9]: ' "$work/out")" = 8 ]
+    row 'no narrow frame' [ "$(grep -c ' stroke-width="2" paint-order' "$work/out")" = 0 ]
+}
+
 # Three squares of two pages each after one another, by half in the freelist and in no tree: each has three bands of either. In the last of
 # them, and in the square after it, the pages of no tree are zeros.
 @test 'a square whose pages are of two kinds is in bands' {

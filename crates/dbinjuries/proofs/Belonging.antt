@@ -1,8 +1,9 @@
 -- The line of the faults that belong to an injury, by what is kept of them.
-use Rattle.std.proofs.Common.{◌≡◌, ℕ, zero, suc, ◌+◌, ◌-◌, ◌<◌, ◌≤◌, Bool, true, false, cond, ◌&&◌, List, [], ◌∷◌, ◌++◌, length, map, take, get_or, set}
+use Rattle.std.proofs.Common.{◌≡◌, ℕ, zero, suc, ◌+◌, ◌-◌, ◌<◌, ◌≤◌, Bool, true, false, cond, ◌&&◌, ◌||◌, List, [], ◌∷◌, ◌++◌, length, map, take, get_or, set}
 use Rattle.std.proofs.Common.{Some, None, refl, sym, ap, ap₂, subst, ◌∙◌, arith, append_assoc, append-nil, take-suc}
+use Rattle.std.proofs.Math.Path.{subst₂}
 use Rattle.std.specs.Prelude.{codes, fold, nat_le, nat_lt, ◌==◌}
-use Rattle.std.specs.List.{join_by, last_or, flat_map, sum_by}
+use Rattle.std.specs.List.{join_by, last_or, list_any, flat_map, sum_by}
 use Rattle.std.specs.Option.{option_map_or}
 use Rattle.std.proofs.lemmas.Bool.Decides.{nat_tests}
 use Rattle.std.proofs.lemmas.Grind.{flat_map-append}
@@ -12,12 +13,13 @@ use Rattle.dbformat.specs.Lines.{counted}
 use Rattle.dbtrace.specs.declared.Cause.{Cause}
 use Rattle.dbtrace.specs.declared.Cause.TheVariants as cause
 use Rattle.dbtrace.specs.declared.TracedFault.{TracedFault}
-use Rattle.dbinjuries.specs.Kept.{look_cells, injury_added, lone_injury, is_next, kept_of, no_run, no_runs, others_added, run_added, run_begun, run_grown}
+use Rattle.dbinjuries.specs.Kept.{look_cells, has_page, injury_added, lone_injury, is_last, is_next, kept_of, no_run, no_runs, others_added}
+use Rattle.dbinjuries.specs.Kept.{run_added, run_begun, run_grown}
 use Rattle.dbinjuries.specs.Lines.{indented}
 use Rattle.dbinjuries.specs.Listing as listing
 use Rattle.dbinjuries.specs.Listing.{changed_at}
 use Rattle.dbinjuries.specs.Others.{alike_text, belonging_text, last_text, kept_faults_line, kept_text, next_run_text, others_text, run_after, run_text, runs}
-use Rattle.dbinjuries.specs.Others.{shown_runs_text}
+use Rattle.dbinjuries.specs.Others.{shown_runs_text, with_page}
 use Rattle.dbinjuries.specs.declared.injury.Injury.{Injury}
 use Rattle.dbinjuries.specs.declared.injury.Others.{Others}
 use Rattle.dbinjuries.specs.declared.page_runs.PageRun.{PageRun}
@@ -77,23 +79,37 @@ last_page d (r ∷ rs) = last_page r.last rs
 
 last-after : (d p : ℕ) (rs : List PageRun) → last_page d (run_after rs p) ≡ p
 last-after d p [] = refl
-last-after d p (r ∷ []) = by_case (p == r.last + 1)
+last-after d p (r ∷ []) = by_same (p == r.last) refl
   where
-    by_case : (b : Bool) → last_page d (cond b (to p r ∷ []) (r ∷ alone p ∷ [])) ≡ p
-    by_case true = refl
-    by_case false = refl
+    by_next : (b : Bool) → last_page d (cond b (to p r ∷ []) (r ∷ alone p ∷ [])) ≡ p
+    by_next true = refl
+    by_next false = refl
+
+    by_same : (b : Bool) → (p == r.last) ≡ b → last_page d (cond b (r ∷ []) (cond (p == r.last + 1) (to p r ∷ []) (r ∷ alone p ∷ []))) ≡ p
+    by_same true e = grind (arith, nat_tests, e)
+    by_same false e = by_next (p == r.last + 1)
 last-after d p (r ∷ s ∷ rs) = last-after r.last p (s ∷ rs)
 
+-- the runs after a page, by how it stands to the last run
+abbrev run_by : Bool → Bool → ℕ → PageRun → List PageRun
+run_by same next p r = cond same (r ∷ []) (cond next (to p r ∷ []) (r ∷ alone p ∷ []))
+
+-- where it is the last page, nothing changes
+after-same : (d p : ℕ) (r : PageRun) (rs : List PageRun) → (p == last_page d (r ∷ rs)) ≡ true → run_after (r ∷ rs) p ≡ r ∷ rs
+after-same d p r [] e = ap (λ b. run_by b (p == r.last + 1) p r) e
+after-same d p r (s ∷ rs) e = ap (λ l. r ∷ l) (after-same r.last p s rs e)
+
 -- where it comes next, the last run changes
-after-next : (d p : ℕ) (r : PageRun) (rs : List PageRun) → (p == last_page d (r ∷ rs) + 1) ≡ true → run_after (r ∷ rs) p
-    ≡ changed_at (to p) (length rs) (r ∷ rs)
-after-next d p r [] e = ap (λ b. cond b (to p r ∷ []) (r ∷ alone p ∷ [])) e
-after-next d p r (s ∷ rs) e = ap (λ l. r ∷ l) (after-next r.last p s rs e)
+after-next : (d p : ℕ) (r : PageRun) (rs : List PageRun) → (p == last_page d (r ∷ rs)) ≡ false → (p == last_page d (r ∷ rs) + 1) ≡ true
+    → run_after (r ∷ rs) p ≡ changed_at (to p) (length rs) (r ∷ rs)
+after-next d p r [] other e = ap₂ (λ b c. run_by b c p r) other e
+after-next d p r (s ∷ rs) other e = ap (λ l. r ∷ l) (after-next r.last p s rs other e)
 
 -- else there is one more
-after-other : (d p : ℕ) (r : PageRun) (rs : List PageRun) → (p == last_page d (r ∷ rs) + 1) ≡ false → run_after (r ∷ rs) p ≡ (r ∷ rs) ++ alone p ∷ []
-after-other d p r [] e = ap (λ b. cond b (to p r ∷ []) (r ∷ alone p ∷ [])) e
-after-other d p r (s ∷ rs) e = ap (λ l. r ∷ l) (after-other r.last p s rs e)
+after-other : (d p : ℕ) (r : PageRun) (rs : List PageRun) → (p == last_page d (r ∷ rs)) ≡ false → (p == last_page d (r ∷ rs) + 1) ≡ false
+    → run_after (r ∷ rs) p ≡ (r ∷ rs) ++ alone p ∷ []
+after-other d p r [] other e = ap₂ (λ b c. run_by b c p r) other e
+after-other d p r (s ∷ rs) other e = ap (λ l. r ∷ l) (after-other r.last p s rs other e)
 
 -- ---- runs that are kept
 
@@ -181,38 +197,65 @@ module _ (rs : List PageRun) (r : PageRuns) (p : ℕ) (is : AreKept rs r) where
           ∙ sym (changed-past (to p) n (take 10 rs) (omega (arith, many, c, s, l)))
           ∙ sym (take-changed (to p) 10 n rs)
 
-kept_more : (rs : List PageRun) (r : PageRuns) (p : ℕ) → AreKept rs r → AreKept (run_after rs p) (run_added r p)
-kept_more [] r p is = by_case (is_next r p) first
+-- runs with a page more, by whether it is the last one, one of those that are kept has it, and it comes next
+abbrev with_more : Bool → Bool → Bool → PageRuns → ℕ → PageRuns
+with_more last known next r p = cond (last || known) r (cond next (with_grown r p) (with_begun r p))
+
+-- a page more that none of those that are kept has
+kept_after : (rs : List PageRun) (r : PageRuns) (p : ℕ) → AreKept rs r → AreKept (run_after rs p) (with_more (is_last r p) false (is_next r p) r p)
+kept_after [] r p is = by_case (is_last r p) (is_next r p) none first
   where
+    none : is_last r p ≡ false
+    none = ap (λ n. nat_lt 0 n && (p == r.last)) is.count
+
     first : is_next r p ≡ false
     first = ap (λ n. nat_lt 0 n && (p == r.last + 1)) is.count
 
-    by_case : (b : Bool) → b ≡ false
-        → AreKept (run_after [] p) (cond b (with_grown r p) (with_begun r p))
-    by_case true e = absurd (let no : ⊥ = cc in no)
-    by_case false e = begun [] r p is refl
-kept_more (s ∷ rs) r p is = by_case (p == last_page 0 (s ∷ rs) + 1) refl
+    by_case : (last next : Bool) → last ≡ false → next ≡ false → AreKept (run_after [] p) (with_more last false next r p)
+    by_case true next l e = absurd (let no : ⊥ = cc in no)
+    by_case false true l e = absurd (let no : ⊥ = cc in no)
+    by_case false false l e = begun [] r p is refl
+kept_after (s ∷ rs) r p is = by_case (p == last_page 0 (s ∷ rs)) (p == last_page 0 (s ∷ rs) + 1) refl refl
   where
     some : nat_lt 0 r.count ≡ true
     some = let c = is.count in grind (arith, nat_tests, c)
 
+    last : (b : Bool) → (p == last_page 0 (s ∷ rs)) ≡ b → is_last r p ≡ b
+    last b e = ap₂ (λ c l. c && (p == l)) some is.last ∙ e
+
     next : (b : Bool) → (p == last_page 0 (s ∷ rs) + 1) ≡ b → is_next r p ≡ b
     next b e = ap₂ (λ c l. c && (p == l + 1)) some is.last ∙ e
 
-    by_next : (b c : Bool) → c ≡ b
-        → AreKept (run_after (s ∷ rs) p) (cond b (with_grown r p) (with_begun r p))
-        → AreKept (run_after (s ∷ rs) p) (cond c (with_grown r p) (with_begun r p))
-    by_next b c e k =
-        subst (λ c. AreKept (run_after (s ∷ rs) p) (cond c (with_grown r p) (with_begun r p))) (sym e) k
+    by_tests : (b c : Bool) → is_last r p ≡ b → is_next r p ≡ c → AreKept (run_after (s ∷ rs) p) (with_more b false c r p)
+        → AreKept (run_after (s ∷ rs) p) (with_more (is_last r p) false (is_next r p) r p)
+    by_tests b c e f k = subst₂ (λ b c. AreKept (run_after (s ∷ rs) p) (with_more b false c r p)) (sym e) (sym f) k
 
-    by_case : (b : Bool) → (p == last_page 0 (s ∷ rs) + 1) ≡ b → AreKept (run_after (s ∷ rs) p) (run_added r p)
-    by_case true e = by_next true (is_next r p) (next true e) (grown (s ∷ rs) r p is (length rs) refl (after-next 0 p s rs e))
-    by_case false e = by_next false (is_next r p) (next false e) (begun (s ∷ rs) r p is (after-other 0 p s rs e))
+    by_case : (b c : Bool) → (p == last_page 0 (s ∷ rs)) ≡ b → (p == last_page 0 (s ∷ rs) + 1) ≡ c
+        → AreKept (run_after (s ∷ rs) p) (with_more (is_last r p) false (is_next r p) r p)
+    by_case true c e f = by_tests true c (last true e) (next c f) (subst (λ l. AreKept l r) (sym (after-same 0 p s rs e)) is)
+    by_case false true e f =
+        by_tests false true (last false e) (next true f) (grown (s ∷ rs) r p is (length rs) refl (after-next 0 p s rs e f))
+    by_case false false e f = by_tests false false (last false e) (next false f) (begun (s ∷ rs) r p is (after-other 0 p s rs e f))
+
+kept_more : (rs : List PageRun) (r : PageRuns) (p : ℕ) → AreKept rs r → AreKept (with_page rs p) (run_added r p)
+kept_more rs r p is =
+    subst (λ b. AreKept (with_page rs p) (with_more (is_last r p) b (is_next r p) r p)) (sym (ap known is.kept)) (by_known (known (take 10 rs)))
+  where
+    known : List PageRun → Bool
+    known rs = list_any (has_page p) rs
+
+    by_last : (b : Bool) → AreKept rs (with_more b true (is_next r p) r p)
+    by_last true = is
+    by_last false = is
+
+    by_known : (b : Bool) → AreKept (cond b rs (run_after rs p)) (with_more (is_last r p) b (is_next r p) r p)
+    by_known true = by_last (is_last r p)
+    by_known false = kept_after rs r p is
 
 -- page after page
-runs_from : (pages : List ℕ) (rs : List PageRun) (r : PageRuns) → AreKept rs r → AreKept (fold run_after rs pages) (fold run_added r pages)
+runs_from : (pages : List ℕ) (rs : List PageRun) (r : PageRuns) → AreKept rs r → AreKept (fold with_page rs pages) (fold run_added r pages)
 runs_from [] rs r is = is
-runs_from (p ∷ pages) rs r is = runs_from pages (run_after rs p) (run_added r p) (kept_more rs r p is)
+runs_from (p ∷ pages) rs r is = runs_from pages (with_page rs p) (run_added r p) (kept_more rs r p is)
 
 pub runs_kept : (pages : List ℕ) → AreKept (runs pages) (fold run_added no_runs pages)
 runs_kept pages = runs_from pages [] no_runs none_kept

@@ -1,5 +1,6 @@
 -- What is kept of an injury.
-use Rattle.std.specs.Prelude.{ℕ, ◌+◌, ◌-◌, Bool, ◌&&◌, List, replicate, fold, nat_lt, nat_le, slice_index_or, slice_set, ◌==◌, if◌then◌else◌}
+use Rattle.std.specs.Prelude.{ℕ, ◌+◌, ◌-◌, Bool, ◌&&◌, ◌||◌, List, replicate, fold, take, nat_lt, nat_le, slice_index_or, slice_set, ◌==◌, if◌then◌else◌}
+use Rattle.std.specs.List.{list_any}
 use Rattle.dbformat.specs.Lines.{counted}
 use Rattle.dbformat.specs.declared.Look.TheVariants as look
 use Rattle.dbtrace.specs.declared.Cause.{Cause}
@@ -19,6 +20,18 @@ no_run = record { first = 0; last = 0 }
 abbrev pub no_runs : PageRuns
 no_runs = record { kept = replicate 10 no_run; count = 0; last = 0 }
 
+-- whether a run has a page
+abbrev pub has_page : ℕ → PageRun → Bool
+has_page page r = nat_le r.first page && nat_le page r.last
+
+-- whether a page is the last one
+abbrev pub is_last : PageRuns → ℕ → Bool
+is_last r page = nat_lt 0 r.count && (page == r.last)
+
+-- whether it is, or a run that is kept has it
+abbrev pub is_known : PageRuns → ℕ → Bool
+is_known r page = is_last r page || list_any (has_page page) (take r.count r.kept)
+
 -- whether a page follows the last one
 abbrev pub is_next : PageRuns → ℕ → Bool
 is_next r page = nat_lt 0 r.count && (page == r.last + 1)
@@ -35,7 +48,9 @@ run_begun r page = if nat_lt r.count 10 then slice_set r.kept r.count (record { 
 -- a page more
 abbrev pub run_added : PageRuns → ℕ → PageRuns
 run_added r page =
-    if is_next r page
+    if is_known r page
+    then r
+    else if is_next r page
     then record { kept = run_grown r page; count = r.count; last = page }
     else record { kept = run_begun r page; count = counted (r.count + 1); last = page }
 

@@ -1,6 +1,6 @@
 -- The line of the faults that belong to an injury (own): how many there are, and the last of them, or the pages that look alike.
 use Rattle.std.specs.Prelude.{ℕ, ◌+◌, ◌-◌, List, [], ◌∷◌, ◌++◌, length, take, map, fold, None, sum_by, codes, decimal, ◌==◌, if◌then◌else◌}
-use Rattle.std.specs.List.{join_by, last_or}
+use Rattle.std.specs.List.{join_by, last_or, list_any}
 use Rattle.std.specs.Option.{option_map_or}
 use Rattle.dbformat.specs.Lines.{counted}
 use Rattle.dbformat.specs.declared.Look.{Look}
@@ -8,7 +8,7 @@ use Rattle.dbformat.specs.declared.Look.TheVariants as look
 use Rattle.dbtrace.specs.declared.Cause.{Cause}
 use Rattle.dbtrace.specs.declared.Cause.TheVariants as cause
 use Rattle.dbtrace.specs.declared.TracedFault.{TracedFault}
-use Rattle.dbinjuries.specs.Kept.{look_cells}
+use Rattle.dbinjuries.specs.Kept.{has_page, look_cells}
 use Rattle.dbinjuries.specs.Lines.{cells_text, indented, number_text}
 use Rattle.dbinjuries.specs.Listing.{Injury}
 use Rattle.dbinjuries.specs.declared.injury.Injury as kept
@@ -17,15 +17,22 @@ use Rattle.dbinjuries.specs.declared.page_runs.PageRun.{PageRun}
 
 -- ---- pages in runs
 
--- a page after some runs: part of the last, where it comes next, and else a run of its own
+-- a page after some runs: the last page of the last one, or the next of it, or the first of a run of its own
 abbrev pub run_after : List PageRun → ℕ → List PageRun
 run_after [] page = record { first = page; last = page } ∷ []
-run_after (r ∷ []) page = if page == r.last + 1 then record r { last = page } ∷ [] else r ∷ record { first = page; last = page } ∷ []
+run_after (r ∷ []) page =
+    if page == r.last
+    then r ∷ []
+    else if page == r.last + 1 then record r { last = page } ∷ [] else r ∷ record { first = page; last = page } ∷ []
 run_after (r ∷ s ∷ rs) page = r ∷ run_after (s ∷ rs) page
 
--- the runs of some pages, in their order: pages that follow one another are one
+-- a page more: nothing changes where one of the first ten runs has it
+abbrev pub with_page : List PageRun → ℕ → List PageRun
+with_page rs page = if list_any (has_page page) (take 10 rs) then rs else run_after rs page
+
+-- the runs of some pages, in their order
 abbrev pub runs : List ℕ → List PageRun
-runs pages = fold run_after [] pages
+runs pages = fold with_page [] pages
 
 -- a run: a page, or from the first page to the last
 abbrev pub run_text : PageRun → List ℕ

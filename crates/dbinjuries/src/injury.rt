@@ -48,6 +48,7 @@ impl Injury {
     }
 
     /// Adds a fault that belongs to it.
+    #[inline(always)]
     pub(crate) fn add(&mut self, told: &TracedFault)
         ensures { self.new ≡ injury_added self.old told.now }
     {

@@ -241,7 +241,9 @@ impl<A: Allocator> Listing<A> {
         self.injuries[slot].add(told);
     }
 
-    // Adds an injury, where there is room.
+    // Adds an injury, where there is room. Most faults belong to one that is kept, and do not reach this call.
+    #[cold]
+    #[inline(never)]
     fn put_new(&mut self, told: &TracedFault)
         ensures { self.new ≡ record self.old { injuries = put_new told.now self.old.injuries } }
     {

@@ -1,7 +1,8 @@
 // Pages in runs.
-ghost use Rattle.std.specs.Prelude.{◌≡◌, ◌+◌, ◌<◌, replicate};
+ghost use Rattle.std.specs.Prelude.{◌≡◌, ◌+◌, ◌<◌, replicate, take};
+ghost use Rattle.std.specs.List.{list_any};
 ghost use Rattle.dbformat.specs.Lines.{counted};
-ghost use Rattle.dbinjuries.specs.Kept.{no_run, run_added, run_begun, run_grown};
+ghost use Rattle.dbinjuries.specs.Kept.{has_page, is_last, no_run, run_added, run_begun, run_grown};
 
 /// The most runs that are kept.
 pub const MAX_RUNS: usize = 10;
@@ -29,17 +30,53 @@ pub(crate) const NO_RUNS: PageRuns = PageRuns {
     last: 0,
 };
 
+// Whether one of these runs has a page.
+fn have_page(runs: &[PageRun], page: u32) -> bool
+    ensures { result ≡ list_any (has_page page) runs.now }
+{
+    runs.iter().any(|run| run.first <= page && page <= run.last)
+}
+
 impl PageRuns {
-    /// Adds a page.
+    /// Adds a page. If it is the last one, or a run that is kept has it, nothing changes.
+    #[inline(always)]
     pub(crate) fn add(&mut self, page: u32)
         ensures { self.new ≡ run_added self.old page }
     {
+        if !self.has_last(page) {
+            self.add_other(page);
+        }
+    }
+
+    // Adds a page. Most faults are on the page of the one before, and do not reach this call.
+    #[inline(never)]
+    fn add_other(&mut self, page: u32)
+        ensures { self.new ≡ run_added self.old page }
+    {
+        if self.has_last(page) || self.keeps(page) {
+            return;
+        }
         if self.count > 0 && u64::from(page) == u64::from(self.last) + 1 {
             self.extend(page);
         } else {
             self.begin(page);
         }
         self.last = page;
+    }
+
+    // Whether a page is the last one.
+    fn has_last(&self, page: u32) -> bool
+        ensures { result ≡ is_last self.now page }
+    {
+        self.count > 0 && page == self.last
+    }
+
+    // Whether a run that is kept has a page.
+    fn keeps(&self, page: u32) -> bool
+        ensures { result ≡ list_any (has_page page) (take self.now.count self.now.kept) }
+    {
+        let shown = self.count.min(10) as usize;
+        have_page(&self.kept[..shown], page)
     }
 
     // Lets the last run, if it is kept, end at this page.
