@@ -84,7 +84,7 @@ same_key None None = true
 same_key _ _ = false
 
 abbrev pub same_bounds : RowidBounds → RowidBounds → Bool
-same_bounds one other = same_key one.above other.above && same_key one.up_to other.up_to
+same_bounds one other = same_key one.up_to other.up_to && same_key one.above other.above
 
 -- whether a range goes on where another ends
 abbrev pub touches : RowidBounds → RowidBounds → Bool

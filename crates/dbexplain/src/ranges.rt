@@ -178,7 +178,7 @@ fn same_key(one: Option<i64>, other: Option<i64>) -> bool
 fn same_bounds(one: &RowidBounds, other: &RowidBounds) -> bool
     ensures { result ≡ same_bounds one.now other.now }
 {
-    same_key(one.above, other.above) && same_key(one.up_to, other.up_to)
+    same_key(one.up_to, other.up_to) && same_key(one.above, other.above)
 }
 
 /// Whether a range is of a start, and this is said of its rows.
@@ -309,8 +309,10 @@ impl<A: Allocator> RowRanges<A> {
     pub fn hear(&mut self, told: &TracedFault)
         ensures { self.new ≡ range_told self.old told.now }
     {
-        // Where a file has many faults, most are rowids out of order.
-        if let (Part::Start(start), Cause::Key(_, None)) = (told.part, &told.cause) {
+        // Where a file has many faults, most are rowids out of order. There is a rowid below each, but for the least one.
+        if let (Part::Start(start), Cause::Key(_, None)) = (told.part, &told.cause)
+            && i64::MIN < told.fault.value
+        {
             self.add_if(row_at(start, RowsKind::OnFaulty, told.fault.value));
         } else {
             self.add_any(told);
