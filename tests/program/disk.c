@@ -1,5 +1,6 @@
 // A disk, for tests: it is loaded before the C library. Each read takes SLOW microseconds. Where BAD is given, 4096 bytes from that
 // offset on of the file whose name ends with NAME cannot be read: a read that begins there fails, and one that comes to them ends there.
+// Where AT is given, a read of that file that begins there fails, and no other read that comes to these bytes.
 #define _GNU_SOURCE
 #include <dlfcn.h>
 #include <errno.h>
@@ -33,6 +34,10 @@ ssize_t pread(int file, void *bytes, size_t count, off_t from) {
             return -1;
         }
         count = bad - from;
+    }
+    if (from == number("AT", -1) && is_named(file)) {
+        errno = EIO;
+        return -1;
     }
     return real(file, bytes, count, from);
 }

@@ -208,6 +208,25 @@ altered() {
     cold 'has fewer than 512 bytes, and is not rolled back: ask for all of it'
 }
 
+# name_super NAME: puts the name of a super-journal to the end of then.db-journal.
+name_super() {
+    python3 - "$work/then.db-journal" "$1" << 'END'
+import sys
+with open(sys.argv[1], "ab") as journal:
+    name = sys.argv[2].encode()
+    journal.write(name + len(name).to_bytes(4, "big") + sum(name).to_bytes(4, "big") + bytes.fromhex("d9d505f920a163d7"))
+END
+}
+
+@test 'the name of a super-journal is shown in its note' {
+    needs python3
+    journaled
+    dbck check "$work/then.db"
+    cp "$work/out" "$work/alone"
+    name_super "$work/"$'main\e[2J\n.db-mj1'
+    cold "names the super-journal $work/main\\x1b[2J\\x0a.db-mj1, which is not here, and is not rolled back (see the manual)"
+}
+
 @test 'a journal that names a super-journal is rolled back where that is there' {
     local name=$work/main.db-mj1
     needs python3
@@ -216,12 +235,7 @@ altered() {
     cp "$work/out" "$work/alone"
     dbck check "$work/before.db"
     cp "$work/out" "$work/wanted"
-    python3 - "$work/then.db-journal" "$name" << 'END'
-import sys
-with open(sys.argv[1], "ab") as journal:
-    name = sys.argv[2].encode()
-    journal.write(name + len(name).to_bytes(4, "big") + sum(name).to_bytes(4, "big") + bytes.fromhex("d9d505f920a163d7"))
-END
+    name_super "$name"
     cold "names the super-journal $name, which is not here, and is not rolled back (see the manual)"
     # One of the same name in another folder, which is the one that the program runs in, is not it.
     mkdir "$work/here"
@@ -275,6 +289,125 @@ END
         exactly 4 '' "dbck: note: $work/x.db-$suffix: Permission denied"$'\n'"$unread" check --recovered "$work/x.db"
         rm -f "$work/x.db-$suffix"
     done
+    # Nothing is known of what this leads to.
+    mkdir -m 000 "$work/closed"
+    ln -s closed/log "$work/x.db-wal"
+    exactly 4 '' "dbck: note: $work/x.db-wal: Permission denied"$'\n'"$unread" check --recovered "$work/x.db"
+}
+
+# The first table is in the file alone, and the pages of the second one in the log alone. Page 1 is in both.
+@test 'of a read that fails once a -wal was looked through a note names the file, and the place in it' {
+    local at name read pages='10 pages of 1 transaction are read from it'
+    needs python3
+    python3 - "$work" << 'END'
+import shutil, sqlite3, sys
+made = sys.argv[1] + "/made.db"
+db = sqlite3.connect(made, isolation_level=None)
+db.execute("PRAGMA page_size = 65536")
+db.execute("PRAGMA journal_mode = WAL")
+db.execute("PRAGMA wal_autocheckpoint = 0")
+for table in "tu":
+    db.execute("CREATE TABLE %s(a)" % table)
+db.execute("INSERT INTO t VALUES (zeroblob(4 * 65532))")
+db.execute("PRAGMA wal_checkpoint(TRUNCATE)")
+db.execute("INSERT INTO u VALUES (zeroblob(8 * 65532))")
+for suffix in ("", "-wal"):
+    shutil.copy(made + suffix, sys.argv[1] + "/x.db" + suffix)
+END
+    exactly 0 $'ok\n' "dbck: note: $work/x.db-wal: $pages"$'\n' check --recovered "$work/x.db"
+    # A head of 32 bytes, and ten frames of 24 + 65536: the first page of the log, of which the header is read first, one in its middle, and
+    # its last; and three pages of the file.
+    while read -r name at read; do
+        on_disk "AT=$at" "NAME=/$name"
+        exactly 4 '' "dbck: note: $work/x.db-wal: $pages"$'\n'"dbck: note: $work/$name: the $read bytes at $at cannot be read"$'\n'"$unread" \
+            check --recovered "$work/x.db"
+    done << 'END'
+x.db-wal 56 100
+x.db-wal 262296 65536
+x.db-wal 590096 65536
+x.db 65536 65536
+x.db 262144 65536
+x.db 393216 65536
+END
+}
+
+@test 'of a read that fails once a -journal was looked through a note names the file, and the place in it' {
+    local at name read pages
+    row_of 12 32768 "$work/x.db"
+    journal_of "$work/x.db" <<< '1 5 7 12'
+    pages='4 pages are read from it; the database had 12 pages'
+    exactly 0 $'ok\n' "dbck: note: $work/x.db-journal: $pages"$'\n' check --recovered "$work/x.db"
+    # A head of 512 bytes, and four records of 4 + 32768 + 4.
+    while read -r name at read; do
+        on_disk "AT=$at" "NAME=/$name"
+        exactly 4 '' "dbck: note: $work/x.db-journal: $pages"$'\n'"dbck: note: $work/$name: the $read bytes at $at cannot be read"$'\n'"$unread" \
+            check --recovered "$work/x.db"
+    done << 'END'
+x.db-journal 516 100
+x.db-journal 33292 32768
+x.db-journal 98844 32768
+x.db 32768 32768
+x.db 163840 32768
+x.db 327680 32768
+END
+}
+
+# long_name COUNT: a name of so many letters.
+long_name() {
+    printf '%*s' "$1" '' | tr ' ' n
+}
+
+# The longest name in a folder has 255 bytes mostly: a log has no name of which the file's is so near.
+@test 'a file whose log could have no name is reported as without the option' {
+    local count name
+    for count in 247 248 250 251 252 255; do
+        name=$(long_name "$count")
+        cp "$data/two-tables.db" "$work/$name" 2> "$work/why" || skip "no name of $count bytes here: $(cat "$work/why")"
+        dbck check "$work/$name"
+        cp "$work/out" "$work/wanted"
+        dbck check --recovered "$work/$name"
+        row "what is reported of a name of $count bytes" ended_exactly 1 "$(cat "$work/wanted")"$'\n' ''
+        cp "$data/whole.db" "$work/$name"
+        exactly 0 $'ok\n' '' check --recovered "$work/$name"
+        ln -s "$name" "$work/link.db"
+        exactly 0 $'ok\n' '' check --recovered "$work/link.db"
+        rm "$work/link.db" "$work/$name"
+    done
+    # The name of a -wal fits where that of a -journal does not, and then it is read.
+    name=$(long_name 250)
+    cp "$data/whole.db" "$work/$name"
+    echo log > "$work/$name-wal"
+    dbck check --recovered "$work/$name"
+    row 'a log beside a long name' ended 0 $'ok\n' '*-wal holds nothing that SQLite would read'$'\n'
+}
+
+# long_path BYTES: makes folders, and answers a path in the last of them that has so many bytes.
+long_path() {
+    python3 - "$work" "$1" << 'END'
+import os, sys
+path, size = sys.argv[1], int(sys.argv[2])
+os.chdir(path)
+while len(path) < size - 5:
+    name = "d" * min(200, size - len(path) - 6)
+    os.mkdir(name)
+    os.chdir(name)
+    path += "/" + name
+print(path + "/x.db")
+END
+}
+
+# A call takes a path of 4095 bytes. Past that there may be a log, which a path from another folder leads to.
+@test 'a log whose path is too long for the system is E8, and is not passed over' {
+    local path
+    needs python3
+    path=$(long_path 4087) || skip 'no long path here'
+    cp "$data/whole.db" "$path"
+    exactly 0 $'ok\n' '' check --recovered "$path"
+    rm -r "${work:?}"/ddd*
+    path=$(long_path 4088)
+    cp "$data/whole.db" "$path"
+    exactly 0 $'ok\n' '' check "$path"
+    expect 4 '' "dbck: note: *x.db-journal: File name too long"$'\n'"$unread" check --recovered "$path"
 }
 
 @test 'a log that is a named pipe is E8, and is not waited for' {

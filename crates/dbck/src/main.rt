@@ -2,8 +2,8 @@
 #![tactic(auto)]
 
 use dbcli::{
-    FailedWrites, LineError, LineOut, Progress, Stream, StreamName, System, SystemFiles,
-    answer_words, tell, texts_of, words_of,
+    FailedReads, FailedWrites, LineError, LineOut, Progress, Stream, StreamName, System,
+    SystemFiles, answer_words, tell, texts_of, words_of,
 };
 use dbsource::{BufferedOut, StreamOut};
 use std::io::IsTerminal;
@@ -23,7 +23,9 @@ fn run(rt: &HostRuntime) -> Result<u8, LineError> {
     let mut out = LineOut::new(out, rt.stdout().is_terminal(), &progress);
     let mut err = LineOut::new(err, is_terminal, &progress);
     let mut notes = LineOut::new(StreamOut::new(rt.stderr()), is_terminal, &progress);
-    let mut system = System::new(rt, &*writes, SystemFiles::new(rt));
+    let reads = FailedReads::new();
+    let files = SystemFiles::new(rt, &reads);
+    let mut system = System::new(rt, &*writes, &reads, files);
     Ok(answer_words(
         &mut system,
         texts.as_slice(),

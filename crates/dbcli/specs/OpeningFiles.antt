@@ -1,18 +1,18 @@
 -- A file and its logs: how they are opened, and given back.
 use Rattle.std.specs.Prelude.{◌≡◌, Bool, true, false, List, ℕ, codes, Option, Some, None, Result, Ok, Err}
+use Rattle.dbcli.specs.declared.log.Log.{Log}
+use Rattle.dbcli.specs.declared.log.Log.TheVariants.{Journal, Wal}
 use Rattle.dbsource.specs.declared.error.RunError.{RunError}
 use Rattle.dbsource.specs.declared.error.RunError.TheVariants.{ReadFailed}
 use Rattle.dbsource.specs.declared.source.ReadFailed.{ReadFailed as Unread}
 
--- what the names of a rollback journal and of a write-ahead log have after that of their database
-abbrev pub journal_suffix : List ℕ
-journal_suffix = codes "-journal"
-
-abbrev pub wal_suffix : List ℕ
-wal_suffix = codes "-wal"
+-- what the name of a log has after that of its database
+abbrev pub suffix_of : Log → List ℕ
+suffix_of Journal = codes "-journal"
+suffix_of Wal = codes "-wal"
 
 module _ {F S : Type 0} (opens : F → List ℕ → Result S Unread → F → Type 0)
-    (opens_log : F → List ℕ → List ℕ → Result (Option S) RunError → F → Type 0) (closes : F → S → F → Type 0) where
+    (opens_log : F → List ℕ → Log → Result (Option S) RunError → F → Type 0) (closes : F → S → F → Type 0) where
   -- A log is given back, if there is one.
   abbrev pub ClosesLog : Option S → F → F → Type 0
   ClosesLog None old new = new ≡ old
@@ -27,13 +27,13 @@ module _ {F S : Type 0} (opens : F → List ℕ → Result S Unread → F → Ty
   abbrev pub OpensWal : List ℕ → Result (Option S) RunError → Result (Option S × Option S) RunError → F → F → Type 0
   OpensWal path (Err e) r old new = (r ≡ Err e) × (new ≡ old)
   OpensWal path (Ok journal) r old new =
-      (wal : Result (Option S) RunError) × (mid : F) × opens_log old path wal_suffix wal mid × KeepsLogs journal wal r mid new
+      (wal : Result (Option S) RunError) × (mid : F) × opens_log old path Wal wal mid × KeepsLogs journal wal r mid new
 
   -- Both logs were opened, once each: the journal, and then the write-ahead log.
   pub record OpensLogs (path : List ℕ) (r : Result (Option S × Option S) RunError) (old new : F) : Type 0 where
     pub journal : Result (Option S) RunError
     pub between : F
-    pub opened : opens_log old path journal_suffix journal between
+    pub opened : opens_log old path Journal journal between
     pub wal : OpensWal path journal r between new
 
   -- What became of a file that was opened, after its logs were opened too: where that failed, it was given back.

@@ -12,6 +12,7 @@ use Rattle.dbcli.specs.ErrorLines.{error_line}
 use Rattle.dbcli.specs.OpeningFiles.{ClosesFiles, OpensFiles}
 use Rattle.dbcli.specs.Status.{exit_status, line_status}
 use Rattle.dbcli.specs.declared.command_line.LineError.{LineError}
+use Rattle.dbcli.specs.declared.log.Log.{Log}
 use Rattle.dbcli.specs.declared.task.Task.{Task}
 
 -- the status of an error of the words, or 6 where they ask for help or the version, which could not be printed
@@ -19,7 +20,7 @@ abbrev pub IsErrorStatus : ℕ → LineError → Type 0
 IsErrorStatus status error = (status ≡ line_status error) ⊎ ((line_status error ≡ 0) × (status ≡ 6))
 
 module _ {F S O E : Type 0} (opens : F → List ℕ → Result S Unread → F → Type 0)
-    (opens_log : F → List ℕ → List ℕ → Result (Option S) RunError → F → Type 0) (closes : F → S → F → Type 0)
+    (opens_log : F → List ℕ → Log → Result (Option S) RunError → F → Type 0) (closes : F → S → F → Type 0)
     (source : SourceWords S) (out : OutWords O) (err : OutWords E) (finds : List ℕ → Bool → Type 0) where
   -- What was opened was run with these changes, and was given back as that left it: nothing else was asked of it. Or nothing is open.
   abbrev pub RunsOpened : List Change → Task → ℕ → Result (S × Option S × Option S) RunError → F × O × E → F × O × E → Type 0

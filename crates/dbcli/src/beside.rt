@@ -118,10 +118,7 @@ fn run_logged<
             put_unrun(err, Unrun::PageSize, notes);
             (3, both)
         }
-        Err(error) => {
-            notes.header_unread();
-            (end(err, Err(RunError::from(error)), notes), both)
-        }
+        Err(error) => (end(err, Err(RunError::from(error)), notes), both),
     }
 }
 

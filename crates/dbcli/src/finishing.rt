@@ -23,7 +23,7 @@ pub trait Notes {
     /// The run begins, over the file with these changes.
     fn begin(&mut self, changes: &Changes);
 
-    /// The number of references that lead to pages after the stated end; called before the outcome is told.
+    /// Called with the number of references that lead to pages after the stated end, before the outcome is reported.
     fn tell_references(&mut self, count: u64);
 
     /// The run has this outcome. The line of an error is not yet put.

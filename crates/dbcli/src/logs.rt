@@ -1,19 +1,19 @@
 // The logs of SQLite beside a database that are not read.
+use crate::log::Log;
 use crate::lookup::Lookup;
 use crate::note::{NoteOut, Piece};
-use crate::opened_files::{JOURNAL, WAL};
 use crate::shown::Shown;
 use dbsource::Out;
 use std::alloc::AllocError;
 
-// What a log's name has after that of its database, and what is said of it: a -wal has changes, and a -journal what undoes some.
-const LOGS: [(&str, &str); 2] = [
+// The logs, and what is said of each: a -wal has changes, and a -journal what undoes some.
+const LOGS: [(Log, &str); 2] = [
     (
-        WAL,
+        Log::Wal,
         " is not read, and may hold changes; --recovered reads it",
     ),
     (
-        JOURNAL,
+        Log::Journal,
         " is not read, and may undo changes; --recovered reads it",
     ),
 ];
@@ -30,10 +30,11 @@ fn has_bytes<R: Lookup>(rt: &R, path: &str) -> bool {
 fn put_note<R: Lookup + AllocGlobal, N: Out>(
     rt: &R,
     database: &str,
-    log: (&str, &'static str),
+    log: (Log, &'static str),
     notes: &mut NoteOut<'_, N>,
 ) -> Result<(), AllocError> {
-    let (suffix, said) = log;
+    let (log, said) = log;
+    let suffix = log.suffix();
     let path = format!(in rt.alloc(); "{database}{suffix}")?;
     if has_bytes(rt, path.as_str()) {
         let name = Shown::of(rt.alloc(), path.as_str())?;

@@ -8,16 +8,17 @@ use crate::error_lines::Unrun;
 use crate::finishing::Notes;
 use crate::format::Format;
 use crate::journal_notes::{put_journal, put_unread};
+use crate::log::Log;
 use crate::log_notes::put_found;
 use crate::logs::put_log_notes;
 use crate::lookup::Lookup;
 use crate::note::{NoteOut, Piece};
-use crate::opened_files::{JOURNAL, WAL};
 use crate::opening::log_name;
 use crate::rest::put_rest;
 use crate::shown::Shown;
 use crate::stamp::Stamp;
 use crate::task::Task;
+use crate::unread::{FailedReads, put_failed};
 use crate::unwritten::FailedWrites;
 use crate::watched::Watch;
 use dblog::{Index, JournalError, LogError, Rollback};
@@ -29,13 +30,14 @@ use std::str;
 // What is said of a file, or of a log of it, that somebody writes to.
 const CHANGED: &str = " was changed while it was read; the report may be of no state that it had";
 
-/// Puts notes on the file at a path; `watch` has what the run has seen of it, and `writes` of its outputs.
+/// Puts notes on the file at a path; `watch` has what the run has seen of it, `writes` of its outputs, and `reads` which read failed.
 #[derive(Drop)]
 pub struct FileNotes<'a, R, N> {
     rt: &'a R,
     file: &'a str,
     watch: &'a Watch,
     writes: &'a FailedWrites,
+    reads: &'a FailedReads,
     notes: NoteOut<'a, N>,
     before: Option<Stamp>,
     // The same of its logs, where these are read.
@@ -59,6 +61,7 @@ impl<'a, R: Lookup + AllocGlobal, N: Out> FileNotes<'a, R, N> {
         file: &'a str,
         watch: &'a Watch,
         writes: &'a FailedWrites,
+        reads: &'a FailedReads,
         notes: &'a mut N,
     ) -> FileNotes<'a, R, N>
         ensures out { result.notes.out.now ≡ notes.old }
@@ -69,6 +72,7 @@ impl<'a, R: Lookup + AllocGlobal, N: Out> FileNotes<'a, R, N> {
             file,
             watch,
             writes,
+            reads,
             notes: NoteOut::new(rt.alloc(), notes),
             before: Stamp::at(rt, file),
             journal_before: None,
@@ -97,18 +101,18 @@ impl<'a, R: Lookup + AllocGlobal, N: Out> FileNotes<'a, R, N> {
     {
         self.is_open = true;
         if recovered {
-            self.journal_before = self.stamp_of(JOURNAL);
-            self.wal_before = self.stamp_of(WAL);
+            self.journal_before = self.stamp_of(Log::Journal);
+            self.wal_before = self.stamp_of(Log::Wal);
         } else {
             put_log_notes(self.rt, self.file, &mut self.notes);
         }
     }
 
     /// Says that the file could not be opened, or a log of it, and why, if that is known.
-    pub fn unopened(&mut self, reason: Option<(&str, &str)>) {
+    pub fn unopened(&mut self, reason: Option<(Option<Log>, &str)>) {
         let alloc = self.rt.alloc();
-        if let Some((suffix, reason)) = reason
-            && let Some(name) = self.name_of(suffix)
+        if let Some((log, reason)) = reason
+            && let Some(name) = self.name_of(log)
             && let Ok(said) = format!(in alloc; "{name}: {reason}")
         {
             self.reason = Shown::of(alloc, said.as_str()).ok();
@@ -117,9 +121,7 @@ impl<'a, R: Lookup + AllocGlobal, N: Out> FileNotes<'a, R, N> {
 
     /// Takes what was found in the write-ahead log, with the length of the file, and puts a note on it.
     pub fn log_read(&mut self, found: &Result<(Index, u64), LogError>) {
-        if let Some(name) = self.name_of(WAL)
-            && let Ok(name) = Shown::of(self.rt.alloc(), name.as_str())
-        {
+        if let Some(name) = self.shown_name(Some(Log::Wal)) {
             put_found(&mut self.notes, &name, found);
         }
         self.is_read = found.is_ok();
@@ -137,7 +139,7 @@ impl<'a, R: Lookup + AllocGlobal, N: Out> FileNotes<'a, R, N> {
 
     /// Says what was found in the rollback journal, and whether the super-journal is there that it names: a note is put on it.
     pub fn journal_read(&mut self, found: &Rollback, is_there: bool) {
-        if let Some(name) = self.name_of(JOURNAL) {
+        if let Some(name) = self.name_of(Some(Log::Journal)) {
             let alloc = self.rt.alloc();
             put_journal(alloc, &mut self.notes, name.as_str(), found, is_there);
         }
@@ -145,9 +147,7 @@ impl<'a, R: Lookup + AllocGlobal, N: Out> FileNotes<'a, R, N> {
 
     /// Says why the rollback journal, or the file before it, was not read: a note is put on it.
     pub fn journal_unread(&mut self, error: JournalError) {
-        if let Some(name) = self.name_of(JOURNAL)
-            && let Ok(name) = Shown::of(self.rt.alloc(), name.as_str())
-        {
+        if let Some(name) = self.shown_name(Some(Log::Journal)) {
             put_unread(&mut self.notes, &name, error);
         }
         self.is_read = false;
@@ -166,31 +166,32 @@ impl<'a, R: Lookup + AllocGlobal, N: Out> FileNotes<'a, R, N> {
         }
     }
 
-    /// Says that the header of the file and a log of it, as one, could not be read.
-    pub fn header_unread(&mut self) {
-        self.watch.header_failed();
-    }
-
-    // The name of the file, or of a log of it, by what that has after the name of the database.
-    fn name_of(&self, suffix: &str) -> Option<String> {
+    // The name of the file, or of a log of it.
+    fn name_of(&self, log: Option<Log>) -> Option<String> {
         let alloc = self.rt.alloc();
-        if suffix.is_empty() {
+        let Some(log) = log else {
             return String::from_str(alloc, self.file).ok();
-        }
-        let name = log_name(self.rt, self.file, suffix).ok()?;
+        };
+        let name = log_name(self.rt, self.file, log).ok()?;
         String::from_str(alloc, str::from_utf8(name.as_slice()).ok()?).ok()
     }
 
+    // The same, as it is shown.
+    fn shown_name(&self, log: Option<Log>) -> Option<Shown> {
+        let name = self.name_of(log)?;
+        Shown::of(self.rt.alloc(), name.as_str()).ok()
+    }
+
     // What the system knows of a log of the file.
-    fn stamp_of(&self, suffix: &str) -> Option<Stamp> {
-        let name = self.name_of(suffix)?;
+    fn stamp_of(&self, log: Log) -> Option<Stamp> {
+        let name = self.name_of(Some(log))?;
         Stamp::at(self.rt, name.as_str())
     }
 
     // The note on a log that was changed since it had this stamp.
-    fn put_changed(&mut self, suffix: &str, before: Option<Stamp>) {
+    fn put_changed(&mut self, log: Log, before: Option<Stamp>) {
         if let Some(before) = before
-            && let Some(name) = self.name_of(suffix)
+            && let Some(name) = self.name_of(Some(log))
             && let Some(after) = Stamp::at(self.rt, name.as_str())
             && before.is_changed(after)
             && let Ok(name) = Shown::of(self.rt.alloc(), name.as_str())
@@ -230,7 +231,7 @@ impl<'a, R: Lookup + AllocGlobal, N: Out> FileNotes<'a, R, N> {
         }
     }
 
-    // The note on a file that cannot be read: why it could not be opened, or which read of it failed.
+    // The note on a file that cannot be read: why it could not be opened, or which read of it or of a log of it failed.
     fn put_unread(&mut self) {
         if !self.is_open {
             if let Some(reason) = &self.reason {
@@ -241,14 +242,12 @@ impl<'a, R: Lookup + AllocGlobal, N: Out> FileNotes<'a, R, N> {
         if !self.is_read {
             return;
         }
-        match self.watch.failed() {
-            Some(range) => self.put_of_file(&[
-                Piece::Words(": the "),
-                Piece::Number(range.len),
-                Piece::Words(" bytes at "),
-                Piece::Number(range.offset),
-                Piece::Words(" cannot be read"),
-            ]),
+        match self.reads.last() {
+            Some(failed) => {
+                if let Some(name) = self.shown_name(failed.log) {
+                    put_failed(&mut self.notes, &name, failed.range);
+                }
+            }
             None => self.put_of_file(&[Piece::Words(": its length is not known")]),
         }
     }
@@ -356,8 +355,8 @@ impl<R: Lookup + AllocGlobal, N: Out> Notes for FileNotes<'_, R, N> {
         if self.is_open && self.has_changed() {
             self.put_of_file(&[Piece::Words(CHANGED)]);
         }
-        self.put_changed(JOURNAL, self.journal_before);
-        self.put_changed(WAL, self.wal_before);
+        self.put_changed(Log::Journal, self.journal_before);
+        self.put_changed(Log::Wal, self.wal_before);
     }
 }
 

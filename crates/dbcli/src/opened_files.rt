@@ -3,14 +3,9 @@ ghost use Rattle.std.specs.Prelude.{◌≡◌};
 ghost use Rattle.dbcli.specs.OpeningFiles.{ClosesFiles, ClosesLog, OpensFiles, OpensLogs};
 
 use crate::command_line::Line;
+use crate::log::Log;
 use crate::opening::Opener;
 use dbsource::RunError;
-
-/// What a rollback journal's name has after that of its database.
-pub(crate) const JOURNAL: &str = "-journal";
-
-/// What a write-ahead log's name has after that of its database.
-pub(crate) const WAL: &str = "-wal";
 
 // Gives a log back, if there is one.
 fn close_log<F: Opener>(files: &mut F, log: Option<F::File>)
@@ -28,11 +23,11 @@ fn open_logs<F: Opener>(
 ) -> Result<(Option<F::File>, Option<F::File>), RunError>
     ensures { OpensLogs F.opens F.opens_log F.closes path.now result files.old files.new }
 {
-    let journal = match files.open_log(path, JOURNAL) {
+    let journal = match files.open_log(path, Log::Journal) {
         Ok(journal) => journal,
         Err(error) => return Err(error),
     };
-    match files.open_log(path, WAL) {
+    match files.open_log(path, Log::Wal) {
         Ok(wal) => Ok((journal, wal)),
         Err(error) => {
             close_log(files, journal);

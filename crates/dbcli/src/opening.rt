@@ -1,5 +1,7 @@
 // Who opens a file, and gets it back.
+use crate::log::Log;
 use crate::lookup::{Lookup, is_something};
+use crate::unread::{FailedReads, Traced};
 use crate::unwritten::system_text;
 use dbsource::{FileSource, ReadFailed, RunError, Source, memory};
 use std::alloc::AllocError;
@@ -8,7 +10,7 @@ use std::os::unix::fs::FileTypeExt;
 use std::rt::{Clock, Files};
 use std::{io, str};
 
-// As many bytes as the longest path has.
+// As many bytes as the longest path has, with the zero after it.
 const LONGEST_PATH: usize = 4096;
 
 /// Opens files by their paths, and gets each back when it was read.
@@ -16,15 +18,15 @@ pub trait Opener {
     ghost use Rattle.std.specs.Prelude.{ℕ, List, Option, Result};
     ghost use Rattle.dbsource.specs.declared.error.RunError.{RunError as Why};
     ghost use Rattle.dbsource.specs.declared.source.ReadFailed.{ReadFailed as Unread};
+    ghost use Rattle.dbcli.specs.declared.log.Log.{Log as Beside};
 
     /// What the bytes of an opened file are read from.
     type File: Source + Drop;
 
     // What opening a path makes of the opener, and which file the answer is.
     ghost opens: { Self → List ℕ → Result Self.File Unread → Self → Type 0 };
-    // What opening the log of a path makes of the opener, by what the log's name has after that of its database: the answer is the log,
-    // or that there is none.
-    ghost opens_log: { Self → List ℕ → List ℕ → Result (Option Self.File) Why → Self → Type 0 };
+    // What opening a log of a path makes of the opener: the answer is the log, or that there is none.
+    ghost opens_log: { Self → List ℕ → Beside → Result (Option Self.File) Why → Self → Type 0 };
     // What a file that is given back makes of the opener, by the state in which it is.
     ghost closes: { Self → Self.File → Self → Type 0 };
 
@@ -36,38 +38,62 @@ pub trait Opener {
     fn open(&mut self, path: &str) -> Result<Self::File, ReadFailed>
         ensures { opens self.old path.now result self.new };
 
-    /// Opens a log of the database at `path`, for reading. Its name is that of the database with `suffix` after it; if `path` is a link, the
-    /// database is what it leads to. `None` where there is no log of this name, or it has no bytes.
+    /// Opens a log of the database at `path`, for reading. Its name is that of the database with `-journal` or `-wal` after it; if `path` is
+    /// a link, the database is what it leads to. `None` where there is no log of this name, or there can be none, or it has no bytes.
     ///
     /// # Errors
     ///
     /// [`RunError::ReadFailed`] where it cannot be opened, and [`RunError::OutOfMemory`] where memory for its name was refused.
-    fn open_log(&mut self, path: &str, suffix: &'static str) -> Result<Option<Self::File>, RunError>
-        ensures { opens_log self.old path.now suffix.now result self.new };
+    fn open_log(&mut self, path: &str, log: Log) -> Result<Option<Self::File>, RunError>
+        ensures { opens_log self.old path.now log result self.new };
 
     /// Takes back a file that it opened.
     fn close(&mut self, file: Self::File)
         ensures { closes self.old file self.new };
 
-    /// What the name of the last file that could not be opened has after that of the database, and then why; if that is known.
-    fn reason(&self) -> Option<(&str, &str)>;
+    /// Why the last file that could not be opened could not, if that is known, and which file it was: the database, or a log of it.
+    fn reason(&self) -> Option<(Option<Log>, &str)>;
 }
 
-/// The files of the system, as [`FileSource`] opens them.
+/// The files of the system, as [`FileSource`] opens them. Which read of one failed is kept for the notes.
 #[derive(Drop)]
 pub struct SystemFiles<'a, R> {
     rt: &'a R,
-    suffix: &'static str,
+    reads: &'a FailedReads,
+    // The last file that could not be opened, the database or a log of it, and why.
+    log: Option<Log>,
     reason: Option<String>,
 }
 
 impl<'a, R: Files<File = File> + Clock + AllocGlobal> SystemFiles<'a, R> {
+    ghost use Rattle.std.specs.Prelude.{◌≡◌, IfOk};
+    ghost use Rattle.dbsource.specs.Sources.{untold_source};
+
     /// The files of the system that `rt` reaches.
-    pub fn new(rt: &'a R) -> SystemFiles<'a, R> {
+    pub fn new(rt: &'a R, reads: &'a FailedReads) -> SystemFiles<'a, R> {
         SystemFiles {
             rt,
-            suffix: "",
+            reads,
+            log: None,
             reason: None,
+        }
+    }
+
+    // Opens the file of this name: the database, or a log of it.
+    fn open_named(
+        &mut self,
+        name: &str,
+        log: Option<Log>,
+    ) -> Result<Traced<'a, FileSource<'a, R>>, ReadFailed>
+        ensures { IfOk result (λ file. file.source ≡ untold_source) }
+    {
+        match FileSource::open(self.rt, name) {
+            Ok(file) => Ok(Traced::new(file, log, self.reads)),
+            Err(error) => {
+                self.log = log;
+                self.reason = reason_of(self.rt, name).unwrap_or(None);
+                Err(error)
+            }
         }
     }
 }
@@ -76,48 +102,41 @@ impl<'a, R: Files<File = File> + Clock + AllocGlobal> Opener for SystemFiles<'a,
     ghost use Rattle.std.specs.Prelude.{◌≡◌, IfOk, IfSome, ⊤};
     ghost use Rattle.dbsource.specs.Sources.{untold_source};
 
-    type File = FileSource<'a, R>;
+    type File = Traced<'a, FileSource<'a, R>>;
 
     // No contract knows the bytes of a file.
-    ghost opens = { λ old path opened new. IfOk opened (λ source. source ≡ untold_source) };
+    ghost opens = { λ old path opened new. IfOk opened (λ file. file.source ≡ untold_source) };
 
-    ghost opens_log = { λ old path suffix opened new. IfOk opened (λ log. IfSome log (λ source. source ≡ untold_source)) };
+    ghost opens_log = { λ old path log opened new. IfOk opened (λ found. IfSome found (λ file. file.source ≡ untold_source)) };
 
     ghost closes = { λ old file new. ⊤ };
 
-    fn open(&mut self, path: &str) -> Result<FileSource<'a, R>, ReadFailed> {
-        let opened = FileSource::open(self.rt, path);
-        if opened.is_err() {
-            self.reason = reason_of(self.rt, path).unwrap_or(None);
-        }
-        opened
+    fn open(&mut self, path: &str) -> Result<Traced<'a, FileSource<'a, R>>, ReadFailed> {
+        self.open_named(path, None)
     }
 
     fn open_log(
         &mut self,
         path: &str,
-        suffix: &'static str,
-    ) -> Result<Option<FileSource<'a, R>>, RunError> {
-        let name = log_name(self.rt, path, suffix)?;
+        log: Log,
+    ) -> Result<Option<Traced<'a, FileSource<'a, R>>>, RunError> {
+        let name = log_name(self.rt, path, log)?;
         // Both parts are UTF-8.
         let name = str::from_utf8(name.as_slice()).unwrap_or("");
         if !has_log(self.rt, name) {
             return Ok(None);
         }
-        match self.open(name) {
+        match self.open_named(name, Some(log)) {
             Ok(log) => Ok(Some(log)),
-            Err(error) => {
-                self.suffix = suffix;
-                Err(RunError::from(error))
-            }
+            Err(error) => Err(RunError::from(error)),
         }
     }
 
-    fn close(&mut self, _file: FileSource<'a, R>) {}
+    fn close(&mut self, _file: Traced<'a, FileSource<'a, R>>) {}
 
-    fn reason(&self) -> Option<(&str, &str)> {
+    fn reason(&self) -> Option<(Option<Log>, &str)> {
         let reason = self.reason.as_deref()?;
-        Some((self.suffix, reason))
+        Some((self.log, reason))
     }
 }
 
@@ -141,21 +160,26 @@ fn target_of<R: Lookup + AllocGlobal>(rt: &R, path: &str) -> Result<Option<Strin
 pub(crate) fn log_name<R: Lookup + AllocGlobal>(
     rt: &R,
     path: &str,
-    suffix: &str,
+    log: Log,
 ) -> Result<Vec<u8>, RunError> {
     let target = target_of(rt, path)?;
     let database = target.as_deref().unwrap_or(path);
     let mut name = Vec::new(rt.alloc());
     memory::extend(&mut name, database.as_bytes())?;
-    memory::extend(&mut name, suffix.as_bytes())?;
+    memory::extend(&mut name, log.suffix().as_bytes())?;
     Ok(name)
 }
 
-// Whether there is something at this path, or that cannot be seen.
+// Whether there is something at this path, or that cannot be seen. Nothing has a name that is longer than its folder takes; but a path that is
+// longer than a call takes may lead to something.
 fn has_log<R: Files + AllocGlobal>(rt: &R, path: &str) -> bool {
     match rt.metadata(path) {
         Ok(metadata) => is_something(&metadata),
-        Err(error) => error.kind() != io::ErrorKind::NotFound,
+        Err(error) => match error.kind() {
+            io::ErrorKind::NotFound => false,
+            io::ErrorKind::InvalidFilename => path.len() >= LONGEST_PATH,
+            _ => true,
+        },
     }
 }
 

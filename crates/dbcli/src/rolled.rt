@@ -44,10 +44,7 @@ fn run_rolled<R: Lookup + AllocGlobal, S: Source + Drop, O: Out, E: Out, N: Out,
             put_unrun(err, Unrun::PageSize, notes);
             (3, (rolled, wal))
         }
-        Err(error) => {
-            notes.header_unread();
-            (end(err, Err(RunError::from(error)), notes), (rolled, wal))
-        }
+        Err(error) => (end(err, Err(RunError::from(error)), notes), (rolled, wal)),
     }
 }
 

@@ -12,6 +12,7 @@ use crate::opening::Opener;
 use crate::progress::Progress;
 use crate::rolled::run_files;
 use crate::status::line_status;
+use crate::unread::FailedReads;
 use crate::unwritten::{FailedWrite, FailedWrites, StreamName};
 use crate::watched::Watch;
 use crate::words_error::WordsError;
@@ -26,16 +27,28 @@ pub struct System<'a, R, F> {
     pub rt: &'a R,
     /// What failed of the streams that are written to, for the notes.
     pub writes: &'a FailedWrites,
+    /// Which read of a file failed, for the notes.
+    pub reads: &'a FailedReads,
     /// Opens the file of the run.
     pub files: F,
 }
 
 impl<'a, R, F> System<'a, R, F> {
-    /// A system of these three.
-    pub fn new(rt: &'a R, writes: &'a FailedWrites, files: F) -> System<'a, R, F>
+    /// A system of these four.
+    pub fn new(
+        rt: &'a R,
+        writes: &'a FailedWrites,
+        reads: &'a FailedReads,
+        files: F,
+    ) -> System<'a, R, F>
         ensures { result.files ≡ files }
     {
-        System { rt, writes, files }
+        System {
+            rt,
+            writes,
+            reads,
+            files,
+        }
     }
 }
 
@@ -53,7 +66,8 @@ pub fn run_line<R: Lookup + AllocGlobal, F: Opener, O: Out, E: Out, N: Out, W: P
         line.entry.task line.entry.file.now result (system.old.files, out.old, err.old) (system.new.files, out.new, err.new) }
 {
     let watch = Watch::new();
-    let mut notes = FileNotes::new(system.rt, line.file, &watch, system.writes, notes);
+    let (writes, reads) = (system.writes, system.reads);
+    let mut notes = FileNotes::new(system.rt, line.file, &watch, writes, reads, notes);
     if !line.progress {
         progress.turn_off();
     }

@@ -3,11 +3,8 @@ ghost use Rattle.std.specs.Prelude.{◌≡◌, ◌-◌, ◌++◌, length, replic
 
 use crate::copied::Copied;
 use crate::progress::Progress;
-use dbsource::{ByteRange, Geometry, ReadFailed, Source, shape_of};
+use dbsource::{Geometry, ReadFailed, Source, shape_of};
 use std::cell::Cell;
-
-// The bytes of a header.
-const HEADER_LEN: u64 = 100;
 
 /// What was seen of a source.
 #[derive(Drop)]
@@ -18,7 +15,6 @@ pub struct Watch {
     // How many runs there were, and how many reads in the last of them.
     runs: Cell<u64>,
     reads: Cell<u64>,
-    failed: Cell<Option<ByteRange>>,
     copied: Cell<Option<Copied>>,
 }
 
@@ -31,7 +27,6 @@ impl Watch {
             geometry: Cell::new(None),
             runs: Cell::new(0),
             reads: Cell::new(0),
-            failed: Cell::new(None),
             copied: Cell::new(None),
         }
     }
@@ -51,23 +46,9 @@ impl Watch {
         self.geometry.get()
     }
 
-    /// The range that could not be read.
-    pub fn failed(&self) -> Option<ByteRange> {
-        self.failed.get()
-    }
-
     /// How the file was copied as text, by its first page or, where that was not read, by its header.
     pub fn copied(&self) -> Option<Copied> {
         self.copied.get()
-    }
-
-    /// The header could not be read, before a run.
-    pub fn header_failed(&self) {
-        let range = ByteRange {
-            offset: 0,
-            len: HEADER_LEN,
-        };
-        self.failed.set(Some(range));
     }
 
     // A run asks for the length first, and then reads the header.
@@ -85,22 +66,18 @@ impl Watch {
     fn see_read(&self, offset: u64, bytes: &[u8], is_read: bool) {
         let before = self.reads.get();
         self.reads.set(before.saturating_add(1));
-        if !is_read || before == 0 || offset == 0 {
+        if before == 0 || offset == 0 {
             self.keep_read(offset, bytes, is_read, before == 0);
         }
     }
 
-    // Keeps what is asked for later of the first read, of one from the start of the file, and of one that failed. Most reads do not
-    // reach this call.
+    // Keeps what is asked for later of the first read, and of one from the start of the file. Most reads do not reach this call.
     #[inline(never)]
     fn keep_read(&self, offset: u64, bytes: &[u8], is_read: bool, is_first: bool) {
         if is_first {
             self.runs.set(self.runs.get().saturating_add(1));
         }
-        if !is_read {
-            let len = bytes.len() as u64;
-            self.failed.set(Some(ByteRange { offset, len }));
-        } else if is_first {
+        if is_read && is_first {
             self.first.set(first_of(bytes));
             self.geometry.set(shape_of(bytes, self.len()));
         }

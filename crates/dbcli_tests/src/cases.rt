@@ -1,7 +1,7 @@
 // Runs of the program over files, and what is wanted of each.
 use crate::fake_system::FakeSystem;
 use crate::stops::holds;
-use dbcli::{FailedWrites, Progress, System, SystemFiles, answer_words};
+use dbcli::{FailedReads, FailedWrites, Progress, System, SystemFiles, answer_words};
 use dbsource::MemOut;
 use std::alloc::{AllocError, Global};
 use std::fs;
@@ -51,7 +51,9 @@ struct Outs {
 fn status_of<'w>(system: &FakeSystem<'_>, words: &'w [&'w str], outs: &mut Outs) -> u8 {
     let progress = Progress::new(system, false);
     let writes = FailedWrites::new();
-    let mut runner = System::new(system, &writes, SystemFiles::new(system));
+    let reads = FailedReads::new();
+    let files = SystemFiles::new(system, &reads);
+    let mut runner = System::new(system, &writes, &reads, files);
     answer_words(
         &mut runner,
         words,

@@ -1,0 +1,24 @@
+// The logs of a database.
+ghost use Rattle.std.specs.Prelude.{◌≡◌};
+ghost use Rattle.dbcli.specs.OpeningFiles.{suffix_of};
+
+/// A log that SQLite keeps beside a database.
+#[derive(Clone, Copy)]
+pub enum Log {
+    /// A rollback journal.
+    Journal,
+    /// A write-ahead log.
+    Wal,
+}
+
+impl Log {
+    /// What its name has after that of its database.
+    pub(crate) fn suffix(self) -> &'static str
+        ensures { result.now ≡ suffix_of self }
+    {
+        match self {
+            Log::Journal => "-journal",
+            Log::Wal => "-wal",
+        }
+    }
+}
