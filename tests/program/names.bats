@@ -121,6 +121,19 @@ noted() {
     each_name logged
 }
 
+@test 'the names of logs that are read are shown in their notes' {
+    needs python3
+    read_logs() {
+        cp "$data/empty.db" "$file"
+        echo log > "$file-wal"
+        journal_of "$file" <<< 1
+        exactly 0 $'ok\n' "dbck: note: $work/here/$shown-journal: 1 page is read from it; the database had 1 page"$'\n'\
+"dbck: note: $work/here/$shown-wal holds nothing that SQLite would read"$'\n' check --recovered -- "$file" || return
+        harmless "$work/err"
+    }
+    each_name read_logs
+}
+
 @test 'the name of a file that is written while it is read is shown in its note' {
     changing() {
         cp "$data/empty.db" "$file"

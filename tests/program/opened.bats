@@ -50,6 +50,9 @@ state() {
     exactly 1 "$twice$unused" '' check --recovered "$work/a/to/../x.db"
     cd "$work/a"
     exactly 1 "$twice$unused" '' check to/../x.db
+    cd "$root"
+    echo log > "$work/b/x.db-wal"
+    exactly 1 "$twice$unused" "dbck: note: $work/a/to/../x.db-wal holds nothing that SQLite would read"$'\n' check --recovered "$work/a/to/../x.db"
 }
 
 @test 'the file and its folder are left as they are' {

@@ -64,6 +64,25 @@ to_full_disk() {
     done
 }
 
+# A file may have 2048 bytes here, and the picture has more.
+@test 'a report whose end does not fit ends with 6' {
+    status=0
+    (trap '' XFSZ && ulimit -f 2 && exec "$DBCK" map tests/sqlite/pages-of-65536.db > "$work/cut" 2> "$work/err" < /dev/null 3>&-) || status=$?
+    : > "$work/out"
+    row 'the end of a picture' ended 6 '' $'dbck: note: standard output: File too large\n'"$unwritten"
+    row 'its beginning' [ "$(wc -c < "$work/cut")" = 2048 ]
+}
+
+@test 'faults of stat that cannot be written end it with 6' {
+    for faults in /dev/full '&-'; do
+        status=0
+        eval '"$DBCK" stat "$data/two-owners.db" 2>'"$faults"' > "$work/rows" < /dev/null 3>&-' || status=$?
+        : > "$work/out"
+        : > "$work/err"
+        row "faults to $faults" ended 6 '' ''
+    done
+}
+
 # to_closed WORDS..: runs the program with an output that is closed.
 to_closed() {
     status=0

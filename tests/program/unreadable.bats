@@ -77,6 +77,16 @@ load common
 END
 }
 
+# Pages of 4096 bytes are read several at a time.
+@test 'a bad block within a read of several pages is E8, with the bytes of its page' {
+    row_of 2002 4096 "$work/x.db"
+    exactly 0 $'ok\n' '' check "$work/x.db"
+    for page in 4194304 4198400 4202496; do
+        on_disk "BAD=$page" NAME=/x.db
+        exactly 4 '' "dbck: note: $work/x.db: the 4096 bytes at $page cannot be read"$'\n'"$unread" check "$work/x.db"
+    done
+}
+
 # Page 33, the first of the third MiB, is in the freelist, and pages after it are used.
 @test 'a bad block of a page that is not read is passed over' {
     needs sqlite3
