@@ -39,11 +39,11 @@ def groups_of(explained):
 
 def wrong_roots(explained):
     """The tables whose root page may be wrong, in groups of which one is: that of each `start`, with the other one of an R03; and, where a
-    page that nothing refers to looks like an interior page of a table, each root that a P01, P02 or R03 names."""
+    page that nothing refers to looks like an interior page of a table, each root that a P01 or R03 names."""
     lost = "    looks like an interior page of a table " in explained
     for head, lines in groups_of(explained):
         start = re.search("^    start [0-9]+: root of table ", lines, re.M)
-        if start or (lost and head[:3] in ("P01", "P02", "R03")):
+        if start or (lost and head[:3] in ("P01", "R03")):
             names = re.findall("^    (?:start|page) [0-9]+.*?: root of (?:table|index) (.*)$", lines, re.M)
             if names and (start or ": root of table " in lines):
                 yield names
