@@ -195,3 +195,15 @@ pages_of() {
     # Pages 1 and 2 and the trunk, each perhaps with what comes after it.
     [ "$bytes" -lt $((100 + 8 * 65536)) ] || fail "$bytes bytes of $size"
 }
+
+@test 'pages of each size that a slow disk gives in any order are what the file has' {
+    needs sqlite3
+    for size in 4096 8192 16384 32768; do
+        rm -f "$work/x.db"
+        sqlite3 "$work/x.db" "PRAGMA page_size = $size; CREATE TABLE t (a INTEGER PRIMARY KEY, b);
+            WITH RECURSIVE k(n) AS (SELECT 1 UNION ALL SELECT n + 1 FROM k WHERE n < 8000) INSERT INTO t SELECT 7919 * n % 8009, randomblob(3000) FROM k;"
+        on_disk SLOW=100
+        exactly 0 $'ok\n' '' check "$work/x.db"
+        as=()
+    done
+}

@@ -279,6 +279,15 @@ END
     exactly 4 '' "dbck: note: $work/x.db-journal: a directory"$'\n'"$unread" check --recovered "$work/x.db"
 }
 
+@test 'of a link whose target is not UTF-8 no log is passed over' {
+    local folder=$work/$'caf\xe9'
+    mkdir "$folder" 2> "$work/why" || skip "no such name here: $(cat "$work/why")"
+    cp "$data/whole.db" "$folder/x.db"
+    echo log > "$folder/x.db-wal"
+    ln -s "$folder/x.db" "$work/link.db"
+    expect 4 '' "*$unread" check --recovered "$work/link.db"
+}
+
 @test 'a log that the caller may not read is E8, and is not passed over' {
     local suffix
     cp "$data/whole.db" "$work/x.db"

@@ -269,3 +269,10 @@ in_room() {
     long=$(printf '%0100000d' 0)
     exactly 4 '' "dbck: note: $long: File name too long"$'\n'"$unread" check "$long"
 }
+
+# Where pages of 4096 bytes follow one another, several are read at once, and those of pages 32 to 63 have all but the last of the chain. Page
+# 262145 is the lock-byte page.
+@test 'a page above 4 GiB is not taken for one of those that were read at once below it' {
+    made far "$work/x.db"
+    exactly 1 $'N01 page 41 item 0 value 0: page is not in use\nmore 1048597\n' '' check --limit 1 "$work/x.db"
+}
