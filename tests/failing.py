@@ -49,20 +49,22 @@ static void tell(const char *text, int count) {
     if (write(told, text, count) != count) abort();
 }
 
+static int is_refused(void) {
+    if (!fails(0)) return 0;
+    tell("growth", 6);
+    return 1;
+}
+
 #define CALL(type, name, ...) static type (*real)(__VA_ARGS__); if (!real) real = (type (*)(__VA_ARGS__))dlsym(RTLD_NEXT, name)
 
 void *malloc(size_t count) {
     CALL(void *, "malloc", size_t);
-    if (!fails(0)) return real(count);
-    tell("growth", 6);
-    return NULL;
+    return is_refused() ? NULL : real(count);
 }
 
 void *realloc(void *old, size_t count) {
     CALL(void *, "realloc", void *, size_t);
-    if (!fails(0)) return real(old, count);
-    tell("growth", 6);
-    return NULL;
+    return is_refused() ? NULL : real(old, count);
 }
 
 ssize_t pread(int file, void *bytes, size_t count, off_t from) {

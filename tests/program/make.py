@@ -122,7 +122,7 @@ def long(gib, path):
 
 
 def far(path):
-    beyond = 1 << 32 - 12
+    beyond = (1 << 32) // 4096
     db = Sparse(path, beyond + 64, 4096)
     db.tree_page(1, LEAF_TABLE, [row(1, "t", 2)])
     chain = [*range(3, 41), beyond + 36]

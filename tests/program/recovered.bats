@@ -304,9 +304,18 @@ END
     exactly 4 '' "dbck: note: $work/x.db-wal: Permission denied"$'\n'"$unread" check --recovered "$work/x.db"
 }
 
+# unread_at NOTE: for each line with the name of a file, an offset and a length, that read of that file fails. A note says so after this one.
+unread_at() {
+    local name at read
+    while read -r name at read; do
+        on_disk "AT=$at" "NAME=/$name"
+        exactly 4 '' "$1"$'\n'"dbck: note: $work/$name: the $read bytes at $at cannot be read"$'\n'"$unread" check --recovered "$work/x.db"
+    done
+}
+
 # The first table is in the file alone, and the pages of the second one in the log alone. Page 1 is in both.
 @test 'of a read that fails once a -wal was looked through a note names the file, and the place in it' {
-    local at name read pages='10 pages of 1 transaction are read from it'
+    local note="dbck: note: $work/x.db-wal: 10 pages of 1 transaction are read from it"
     needs python3
     python3 - "$work" << 'END'
 import shutil, sqlite3, sys
@@ -323,14 +332,10 @@ db.execute("INSERT INTO u VALUES (zeroblob(8 * 65532))")
 for suffix in ("", "-wal"):
     shutil.copy(made + suffix, sys.argv[1] + "/x.db" + suffix)
 END
-    exactly 0 $'ok\n' "dbck: note: $work/x.db-wal: $pages"$'\n' check --recovered "$work/x.db"
+    exactly 0 $'ok\n' "$note"$'\n' check --recovered "$work/x.db"
     # A head of 32 bytes, and ten frames of 24 + 65536: the first page of the log, of which the header is read first, one in its middle, and
     # its last; and three pages of the file.
-    while read -r name at read; do
-        on_disk "AT=$at" "NAME=/$name"
-        exactly 4 '' "dbck: note: $work/x.db-wal: $pages"$'\n'"dbck: note: $work/$name: the $read bytes at $at cannot be read"$'\n'"$unread" \
-            check --recovered "$work/x.db"
-    done << 'END'
+    unread_at "$note" << 'END'
 x.db-wal 56 100
 x.db-wal 262296 65536
 x.db-wal 590096 65536
@@ -341,17 +346,12 @@ END
 }
 
 @test 'of a read that fails once a -journal was looked through a note names the file, and the place in it' {
-    local at name read pages
+    local note="dbck: note: $work/x.db-journal: 4 pages are read from it; the database had 12 pages"
     row_of 12 32768 "$work/x.db"
     journal_of "$work/x.db" <<< '1 5 7 12'
-    pages='4 pages are read from it; the database had 12 pages'
-    exactly 0 $'ok\n' "dbck: note: $work/x.db-journal: $pages"$'\n' check --recovered "$work/x.db"
+    exactly 0 $'ok\n' "$note"$'\n' check --recovered "$work/x.db"
     # A head of 512 bytes, and four records of 4 + 32768 + 4.
-    while read -r name at read; do
-        on_disk "AT=$at" "NAME=/$name"
-        exactly 4 '' "dbck: note: $work/x.db-journal: $pages"$'\n'"dbck: note: $work/$name: the $read bytes at $at cannot be read"$'\n'"$unread" \
-            check --recovered "$work/x.db"
-    done << 'END'
+    unread_at "$note" << 'END'
 x.db-journal 516 100
 x.db-journal 33292 32768
 x.db-journal 98844 32768
@@ -366,7 +366,7 @@ long_name() {
     printf '%*s' "$1" '' | tr ' ' n
 }
 
-# The longest name in a folder has 255 bytes mostly: a log has no name of which the file's is so near.
+# A name in a folder has at most 255 bytes mostly, so a name that is nearly as long leaves no room for that of a log.
 @test 'a file whose log could have no name is reported as without the option' {
     local count name
     for count in 247 248 250 251 252 255; do
@@ -405,7 +405,7 @@ print(path + "/x.db")
 END
 }
 
-# A call takes a path of 4095 bytes. Past that there may be a log, which a path from another folder leads to.
+# A call takes a path of at most 4095 bytes. A log with a longer one may be there: a path from another folder can lead to it.
 @test 'a log whose path is too long for the system is E8, and is not passed over' {
     local path
     needs python3

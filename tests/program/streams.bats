@@ -74,13 +74,12 @@ to_full_disk() {
 }
 
 @test 'faults of stat that cannot be written end it with 6' {
-    for faults in /dev/full '&-'; do
-        status=0
-        eval '"$DBCK" stat "$data/two-owners.db" 2>'"$faults"' > "$work/rows" < /dev/null 3>&-' || status=$?
-        : > "$work/out"
-        : > "$work/err"
-        row "faults to $faults" ended 6 '' ''
-    done
+    status=0
+    "$DBCK" stat "$data/two-owners.db" > "$work/rows" 2> /dev/full < /dev/null 3>&- || status=$?
+    row 'faults to a full disk' [ "$status" = 6 ]
+    status=0
+    "$DBCK" stat "$data/two-owners.db" > "$work/rows" 2>&- < /dev/null 3>&- || status=$?
+    row 'faults to a closed output' [ "$status" = 6 ]
 }
 
 # to_closed WORDS..: runs the program with an output that is closed.
