@@ -1,9 +1,10 @@
 #!/usr/bin/env python3
 """Runs a program, and writes how it ended and how much it read: io.py COUNTS [--forget FILE] [--cut FILE] PROGRAM WORDS..
 
-The file COUNTS gets its status, the bytes that it read, and the calls that read them, as the system counted them: they are looked up when
-the program has ended and is still in the table of processes. Before it starts, --forget lets the system forget what it keeps of FILE in
-memory; --cut cuts FILE to 65536 bytes while the program waits for the reader of its first output, which it has to fill.
+The file COUNTS gets its status, the bytes that it read, the calls that read them, and the most KiB of memory that it had, as the system
+counted them: what it read is looked up when it has ended and is still in the table of processes. Before it starts, --forget lets the system
+forget what it keeps of FILE in memory; --cut cuts FILE to 65536 bytes while the program waits for the reader of its first output, which it
+has to fill.
 """
 
 import os
@@ -49,8 +50,9 @@ def main(words):
     ended = os.waitid(os.P_PID, pid, os.WEXITED | os.WNOWAIT)
     found = counts(pid)
     status = ended.si_status if ended.si_code == os.CLD_EXITED else 128 + ended.si_status
+    memory = os.wait4(pid, 0)[2].ru_maxrss
     with open(counted, "w") as out:
-        print(status, found["rchar"].strip(), found["syscr"].strip(), file=out)
+        print(status, found["rchar"].strip(), found["syscr"].strip(), memory, file=out)
 
 
 main(sys.argv[1:])

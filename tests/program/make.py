@@ -1,5 +1,5 @@
 #!/usr/bin/env python3
-"""Makes large databases: make.py tables COUNT LENGTH FILE, make.py long GIB FILE, make.py far FILE. The first two are sound.
+"""Makes large databases: make.py tables COUNT LENGTH FILE, long GIB FILE, far FILE, back COUNT FILE. The first two are sound.
 
 A `tables` file has as many tables as COUNT, each with a name of LENGTH bytes and an empty page of 512 bytes. First comes its schema, a tree
 in levels, and then the roots, in the order of their rows.
@@ -9,6 +9,8 @@ of the freelist, whose trunks lie all over the file.
 
 A `far` file has pages of 4096 bytes, and little more than 4 GiB. A row's overflow pages follow one another up to page 40; the last is 2^32
 bytes after page 36. No other page above 2 is in use.
+
+A `back` file has pages of 16384 bytes, and a row of as many overflow pages as COUNT, each 2^29 bytes before the page that it follows.
 
 What lies where is printed, in lines that a shell reads: for `tables` the first root, and the leaf and cell of the last row; for `long` the
 pages of the table, and of the last trunk its page, how many leaves it has, and the last of them.
@@ -121,15 +123,23 @@ def long(gib, path):
     tell(pages=pages, root=root, left=left, right=right, first=first, last=last, trunk=trunks[-1], leaves=len(piece) // 4, lost=end)
 
 
-def far(path):
-    beyond = (1 << 32) // 4096
-    db = Sparse(path, beyond + 64, 4096)
+def chained(path, size, local, pages, chain):
+    db = Sparse(path, pages, size)
     db.tree_page(1, LEAF_TABLE, [row(1, "t", 2)])
-    chain = [*range(3, 41), beyond + 36]
-    db.long_rows(2, (489 + 4092 * len(chain), 489, chain[0]))
+    db.long_rows(2, (local + (size - 4) * len(chain), local, chain[0]))
     for page, after in zip(chain, [*chain[1:], 0]):
         db.put(page, 0, be(after))
     db.file.close()
+
+
+def far(path):
+    beyond = (1 << 32) // 4096
+    chained(path, 4096, 489, beyond + 64, [*range(3, 41), beyond + 36])
+
+
+def back(count, path):
+    apart = (1 << 29) // 16384
+    chained(path, 16384, 2031, apart * (count + 1), [3 + apart * k for k in range(count, 0, -1)])
 
 
 if __name__ == "__main__":
@@ -137,5 +147,7 @@ if __name__ == "__main__":
         tables(int(sys.argv[2]), int(sys.argv[3]), sys.argv[4])
     elif sys.argv[1] == "far":
         far(sys.argv[2])
+    elif sys.argv[1] == "back":
+        back(int(sys.argv[2]), sys.argv[3])
     else:
         long(int(sys.argv[2]), sys.argv[3])

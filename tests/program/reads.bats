@@ -5,16 +5,17 @@ setup_file() {
     command -v python3 > /dev/null && [ -r /proc/self/io ] || export CANNOT_COUNT=1
 }
 
-# counted WORDS..: runs the program, whose $bytes and $calls are those that it read; `options` go to io.py.
+# counted WORDS..: runs the program, whose $bytes and $calls are those that it read, and $memory the most KiB that it had; `options` go to
+# io.py.
 options=()
 counted() {
     [ ! "${CANNOT_COUNT:-}" ] || skip 'there is no python3, or no /proc/self/io'
     if [ ! "${none:-}" ]; then
         python3 tests/program/io.py "$work/counts" "$DBCK" check "$work/none" 2> "$work/err"
-        read -r _ none zero < "$work/counts"
+        read -r _ none zero _ < "$work/counts"
     fi
     python3 tests/program/io.py "$work/counts" "${options[@]}" "$DBCK" "$@" > "$work/out" 2> "$work/err" < /dev/null
-    read -r status bytes calls < "$work/counts"
+    read -r status bytes calls memory < "$work/counts"
     bytes=$((bytes - none))
     calls=$((calls - zero))
 }
@@ -194,6 +195,20 @@ pages_of() {
     [ "$status" = 0 ]
     # Pages 1 and 2 and the trunk, each perhaps with what comes after it.
     [ "$bytes" -lt $((100 + 8 * 65536)) ] || fail "$bytes bytes of $size"
+}
+
+# After three reads that go back a slow one takes 16 MiB, after six 256, and never more, here of 5.5 GiB.
+@test 'where a disk reads a file from its end on, it takes 256 MiB at once at most, and no memory for them' {
+    needs python3
+    python3 tests/program/make.py back 10 "$work/x.db"
+    on_disk SLOW=1000
+    options=("${as[@]}")
+    counted check --limit 1 "$work/x.db"
+    [ "$(cat "$work/out")" = $'N01 page 3 item 0 value 0: page is not in use\nmore 360434' ] # of 360448 pages 13 are in use
+    # Four pages with their MiB, three with their 16 MiB, and four with 256.
+    [ "$bytes" -gt $((1024 * 1048576)) ] || fail "$bytes bytes"
+    [ "$bytes" -lt $((1100 * 1048576)) ] || fail "$bytes bytes"
+    [ "$memory" -lt 65536 ] || fail "$memory KiB"
 }
 
 @test 'pages of each size that a slow disk gives in any order are what the file has' {
