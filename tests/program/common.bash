@@ -266,6 +266,7 @@ import sys
 path, numbers = sys.argv[1], [int(word) for word in sys.stdin.read().split()]
 data = open(path, "rb").read()
 size = int.from_bytes(data[16:18], "big")
+size = 65536 if size == 1 else size
 words = (len(numbers), 7, len(data) // size, 512, size)
 out = bytearray.fromhex("d9d505f920a163d7") + b"".join(word.to_bytes(4, "big") for word in words)
 out = out.ljust(512, b"\0")

@@ -258,6 +258,31 @@ END
     cmp "$work/then.db" "$work/before.db"
 }
 
+# recovering NOTES WORDS..: a check with --recovered and these words ends so; in NOTES @ is x.db.
+recovering() {
+    exactly 3 '' "dbck: note: ${1//@/$work/x.db}"$'\n' check --recovered "${@:2}" "$work/x.db"
+}
+
+@test 'a note on bytes that the recovered database has says that they are its own' {
+    local database='@, as SQLite would recover it,' none='@-journal: 0 pages are read from it; the database had 0 pages'
+    local past=$'\ndbck: E11 a byte of --with is past the end of the file'
+    needs python3
+    cp "$data/two-tables.db" "$work/x.db"
+    journal_of "$work/x.db" <<< 1
+    # The database had three pages of 512 bytes. The file has eight, so that byte 2000 is in it.
+    put_at "$work/x.db-journal" 16 '\0\0\0\3'
+    recovering "@-journal: 1 page is read from it; the database had 3 pages"$'\n'"dbck: note: $database has 1536 bytes$past" --with 2000=00
+    put_at "$work/x.db-journal" 16 '\0\0\0\0'
+    recovering "$none"$'\n'"dbck: note: $database has no bytes$past" --with 0=00
+    recovering "$none"$'\n'"dbck: note: @ is not checked"$'\n'"dbck: note: $database has no bytes; to SQLite it is an empty database"$'\n'"dbck: E1 file is shorter than 100 bytes"
+    # The first bytes of a page 1 that the journal gives.
+    cp "$data/two-tables.db" "$work/kept.db"
+    put_at "$work/x.db" 0 '\0\0\0\0\0\0\0\0\0\0\0\0\0\0\0\0'
+    journal_of "$work/x.db" <<< 1
+    cp "$work/kept.db" "$work/x.db"
+    recovering "@-journal: 1 page is read from it; the database had 8 pages"$'\n'"dbck: note: @ is not checked"$'\n'"dbck: note: $database begins with zeros"$'\n'"dbck: E2 file is not a SQLite 3 database"
+}
+
 @test 'no log is taken but those of the file by their names' {
     local name
     paired

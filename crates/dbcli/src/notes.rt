@@ -48,7 +48,7 @@ pub struct FileNotes<'a, R, N> {
     is_read: bool,
     // How many references lead to pages after the stated end, where they were counted.
     references: u64,
-    // Whether the note on the changes of a mend was put.
+    // Whether the file and a log of it are run as one.
     is_joined: bool,
     // The file's name, and why it cannot be opened, if that is known.
     reason: Option<Shown>,
@@ -159,11 +159,11 @@ impl<'a, R: Lookup + AllocGlobal, N: Out> FileNotes<'a, R, N> {
         if let Task::Mend { .. } = task
             && !self.is_joined
         {
-            self.is_joined = true;
             self.put_of_file(&[Piece::Words(
                 ": the changes are of the database that SQLite would recover, not of this file",
             )]);
         }
+        self.is_joined = true;
     }
 
     // The name of the file, or of a log of it.
@@ -205,6 +205,15 @@ impl<'a, R: Lookup + AllocGlobal, N: Out> FileNotes<'a, R, N> {
         if let Ok(name) = Shown::of(self.rt.alloc(), self.file) {
             self.notes.put(&name, said);
         }
+    }
+
+    // What follows the file's name where a note is about the bytes of the run, which may not be those of the file.
+    fn as_run(&self) -> Piece {
+        Piece::Words(if self.is_joined {
+            ", as SQLite would recover it,"
+        } else {
+            ""
+        })
     }
 
     // The note on a copy that was made as of a text, if the file has no whole pages or it may have them.
@@ -266,24 +275,26 @@ impl<'a, R: Lookup + AllocGlobal, N: Out> FileNotes<'a, R, N> {
     fn put_known(&mut self, refusal: Refusal) {
         match refusal {
             Refusal::Short if self.watch.len() == 0 => {
-                self.put_of_file(&[Piece::Words(
-                    " has no bytes; to SQLite it is an empty database",
-                )]);
+                let said = " has no bytes; to SQLite it is an empty database";
+                self.put_of_file(&[self.as_run(), Piece::Words(said)]);
             }
-            Refusal::Magic => self.put_of_file(&[beginning(self.watch.first())]),
+            Refusal::Magic => {
+                self.put_of_file(&[self.as_run(), beginning(self.watch.first())]);
+            }
             _ => {}
         }
     }
 
-    // How many bytes the file has.
+    // How many bytes there are.
     fn put_length(&mut self) {
+        let what = self.as_run();
         let noun = match self.watch.len() {
-            0 => return self.put_of_file(&[Piece::Words(" has no bytes")]),
+            0 => return self.put_of_file(&[what, Piece::Words(" has no bytes")]),
             1 => " byte",
             _ => " bytes",
         };
         let len = Piece::Number(self.watch.len());
-        self.put_of_file(&[Piece::Words(" has "), len, Piece::Words(noun)]);
+        self.put_of_file(&[what, Piece::Words(" has "), len, Piece::Words(noun)]);
     }
 
     // Whether the last page that the file has bytes of is not whole.
