@@ -61,8 +61,7 @@ pub struct SystemFiles<'a, R> {
     rt: &'a R,
     reads: &'a FailedReads,
     // The last file that could not be opened, the database or a log of it, and why.
-    log: Option<Log>,
-    reason: Option<String>,
+    reason: Option<(Option<Log>, String)>,
 }
 
 impl<'a, R: Files<File = File> + Clock + AllocGlobal> SystemFiles<'a, R> {
@@ -74,7 +73,6 @@ impl<'a, R: Files<File = File> + Clock + AllocGlobal> SystemFiles<'a, R> {
         SystemFiles {
             rt,
             reads,
-            log: None,
             reason: None,
         }
     }
@@ -90,8 +88,8 @@ impl<'a, R: Files<File = File> + Clock + AllocGlobal> SystemFiles<'a, R> {
         match FileSource::open(self.rt, name) {
             Ok(file) => Ok(Traced::new(file, log, self.reads)),
             Err(error) => {
-                self.log = log;
-                self.reason = reason_of(self.rt, name).unwrap_or(None);
+                let reason = reason_of(self.rt, name).unwrap_or(None);
+                self.reason = reason.map(|reason| (log, reason));
                 Err(error)
             }
         }
@@ -135,8 +133,8 @@ impl<'a, R: Files<File = File> + Clock + AllocGlobal> Opener for SystemFiles<'a,
     fn close(&mut self, _file: Traced<'a, FileSource<'a, R>>) {}
 
     fn reason(&self) -> Option<(Option<Log>, &str)> {
-        let reason = self.reason.as_deref()?;
-        Some((self.log, reason))
+        let (log, reason) = self.reason.as_ref()?;
+        Some((*log, reason.as_str()))
     }
 }
 
