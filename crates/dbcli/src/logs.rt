@@ -1,10 +1,11 @@
 // The logs of SQLite beside a database that are not read.
 use crate::log::Log;
-use crate::lookup::Lookup;
+use crate::lookup::{LOGS_UNKNOWN, Lookup, is_nothing};
 use crate::note::{NoteOut, Piece};
 use crate::shown::Shown;
 use dbsource::Out;
 use std::alloc::AllocError;
+use std::io;
 
 // The logs, and what is said of each: a -wal has changes, and a -journal what undoes some.
 const LOGS: [(Log, &str); 2] = [
@@ -18,11 +19,11 @@ const LOGS: [(Log, &str); 2] = [
     ),
 ];
 
-// Whether there is a file at this path that is not empty.
+// Whether there is a file at this path that is not empty, or something that cannot be seen.
 fn has_bytes<R: Lookup>(rt: &R, path: &str) -> bool {
     match rt.metadata(path) {
         Ok(metadata) => metadata.is_file() && metadata.len() > 0,
-        Err(_) => false,
+        Err(error) => !is_nothing(path, &error) && error.kind() != io::ErrorKind::OutOfMemory,
     }
 }
 
@@ -43,18 +44,24 @@ fn put_note<R: Lookup + AllocGlobal, N: Out>(
     Ok(())
 }
 
-/// Puts a note for each log of the database at `file` that is not empty. Where `file` is a link, the logs are those beside what it leads
-/// to. An error in looking for one is ignored, and so is a line that cannot be put.
+/// Puts a note for each log of the database at `file` that is not empty, or cannot be looked at. If `file` is a link, the logs are those
+/// beside what it leads to; if that is not known, a note says so. A line that cannot be put is left out.
 pub(crate) fn put_log_notes<R: Lookup + AllocGlobal, N: Out>(
     rt: &R,
     file: &str,
     notes: &mut NoteOut<'_, N>,
 ) {
-    let Ok(target) = rt.link_target(file) else {
-        return;
-    };
-    let database = target.as_deref().unwrap_or(file);
-    for log in LOGS {
-        let _ = put_note(rt, database, log, notes);
+    match rt.link_target(file) {
+        Ok(target) => {
+            let database = target.as_deref().unwrap_or(file);
+            for log in LOGS {
+                let _ = put_note(rt, database, log, notes);
+            }
+        }
+        Err(_) => {
+            if let Ok(name) = Shown::of(rt.alloc(), file) {
+                notes.put(&name, &[Piece::Words(": "), Piece::Words(LOGS_UNKNOWN)]);
+            }
+        }
     }
 }

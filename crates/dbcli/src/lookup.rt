@@ -29,9 +29,25 @@ pub trait Lookup {
         ensures { finds self.now name.now result };
 }
 
+// As many bytes as the longest path has, with the zero after it.
+pub(crate) const LONGEST_PATH: usize = 4096;
+
+// Said of a file where it is not known whether it is a link, or what that leads to.
+pub(crate) const LOGS_UNKNOWN: &str = "whether a log is beside it is not known";
+
 // Whether there is something at a path, by its metadata: anything but a file without bytes.
 pub(crate) fn is_something(metadata: &Metadata) -> bool {
     !metadata.is_file() || metadata.len() > 0
+}
+
+// Whether a path that cannot be looked up, for this reason, leads to nothing. Nothing has a name that is longer than its folder takes; but a
+// path that is longer than a call takes may lead to something.
+pub(crate) fn is_nothing(path: &str, error: &io::Error) -> bool {
+    match error.kind() {
+        io::ErrorKind::NotFound => true,
+        io::ErrorKind::InvalidFilename => path.len() < LONGEST_PATH,
+        _ => false,
+    }
 }
 
 impl<R: Files + AllocGlobal> Lookup for R {

@@ -200,6 +200,15 @@ impl<'a, R: Lookup + AllocGlobal, N: Out> FileNotes<'a, R, N> {
         }
     }
 
+    // The notes on the file and its logs, if they were changed since they were opened.
+    fn put_changes(&mut self) {
+        if self.is_open && self.has_changed() {
+            self.put_of_file(&[Piece::Words(CHANGED)]);
+        }
+        self.put_changed(Log::Journal, self.journal_before);
+        self.put_changed(Log::Wal, self.wal_before);
+    }
+
     // Puts a note of the file's name, and of what is said of it.
     fn put_of_file(&mut self, said: &[Piece]) {
         if let Ok(name) = Shown::of(self.rt.alloc(), self.file) {
@@ -344,6 +353,7 @@ impl<R: Lookup + AllocGlobal, N: Out> Notes for FileNotes<'_, R, N> {
                 " and its log have pages of different sizes",
             )]),
         }
+        self.put_changes();
     }
 
     fn tell(&mut self, outcome: &Result<Verdict, RunError>) {
@@ -363,11 +373,7 @@ impl<R: Lookup + AllocGlobal, N: Out> Notes for FileNotes<'_, R, N> {
             Err(RunError::WriteFailed) => self.put_unwritten(),
             Err(RunError::OutOfMemory { .. }) => {}
         }
-        if self.is_open && self.has_changed() {
-            self.put_of_file(&[Piece::Words(CHANGED)]);
-        }
-        self.put_changed(Log::Journal, self.journal_before);
-        self.put_changed(Log::Wal, self.wal_before);
+        self.put_changes();
     }
 }
 

@@ -1,6 +1,6 @@
 // Who opens a file, and gets it back.
 use crate::log::Log;
-use crate::lookup::{Lookup, is_something};
+use crate::lookup::{LOGS_UNKNOWN, LONGEST_PATH, Lookup, is_nothing, is_something};
 use crate::unread::{FailedReads, Traced};
 use crate::unwritten::system_text;
 use dbsource::{FileSource, ReadFailed, RunError, Source, memory};
@@ -9,9 +9,6 @@ use std::fs::{self, File};
 use std::os::unix::fs::FileTypeExt;
 use std::rt::{Clock, Files};
 use std::{io, str};
-
-// As many bytes as the longest path has, with the zero after it.
-const LONGEST_PATH: usize = 4096;
 
 /// Opens files by their paths, and gets each back when it was read.
 pub trait Opener {
@@ -118,7 +115,14 @@ impl<'a, R: Files<File = File> + Clock + AllocGlobal> Opener for SystemFiles<'a,
         path: &str,
         log: Log,
     ) -> Result<Option<Traced<'a, FileSource<'a, R>>>, RunError> {
-        let name = log_name(self.rt, path, log)?;
+        let name = match log_name(self.rt, path, log) {
+            Ok(name) => name,
+            Err(error) => {
+                let reason = String::from_str(self.rt.alloc(), LOGS_UNKNOWN).ok();
+                self.reason = reason.map(|reason| (None, reason));
+                return Err(error);
+            }
+        };
         // Both parts are UTF-8.
         let name = str::from_utf8(name.as_slice()).unwrap_or("");
         if !has_log(self.rt, name) {
@@ -168,16 +172,11 @@ pub(crate) fn log_name<R: Lookup + AllocGlobal>(
     Ok(name)
 }
 
-// Whether there is something at this path, or that cannot be seen. Nothing has a name that is longer than its folder takes; but a path that is
-// longer than a call takes may lead to something.
+// Whether there is something at this path, or that cannot be seen.
 fn has_log<R: Files + AllocGlobal>(rt: &R, path: &str) -> bool {
     match rt.metadata(path) {
         Ok(metadata) => is_something(&metadata),
-        Err(error) => match error.kind() {
-            io::ErrorKind::NotFound => false,
-            io::ErrorKind::InvalidFilename => path.len() >= LONGEST_PATH,
-            _ => true,
-        },
+        Err(error) => !is_nothing(path, &error),
     }
 }
 
