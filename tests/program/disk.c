@@ -1,12 +1,17 @@
 // A disk, for tests: it is loaded before the C library. Each read takes SLOW microseconds. Where BAD is given, 4096 bytes from that
 // offset on of the file whose name ends with NAME cannot be read: a read that begins there fails, and one that comes to them ends there.
-// Where AT is given, a read of that file that begins there fails, and no other read that comes to these bytes.
+// Where AT is given, a read of that file that begins there fails, and no other read that comes to these bytes. A read gives SHORT bytes at
+// most, and every second one is interrupted where INTERRUPTED is given. What is at a path that ends with HIDDEN cannot be looked at, or what
+// that link is with HIDDEN_LINK. The file OPENED gets a line for each file that is opened: how, and its path.
 #define _GNU_SOURCE
 #include <dlfcn.h>
 #include <errno.h>
+#include <fcntl.h>
+#include <stdarg.h>
 #include <stdio.h>
 #include <stdlib.h>
 #include <string.h>
+#include <sys/stat.h>
 #include <unistd.h>
 
 static long number(const char *name, long otherwise) {
@@ -14,20 +19,32 @@ static long number(const char *name, long otherwise) {
     return text ? atol(text) : otherwise;
 }
 
+// Whether a path ends with what a variable has.
+static int ends_with(const char *path, const char *variable) {
+    const char *name = getenv(variable);
+    size_t len = strlen(path), end = name ? strlen(name) : 0;
+    return name && len >= end && memcmp(path + len - end, name, end) == 0;
+}
+
 static int is_named(int file) {
     char link[64], path[4096];
-    const char *name = getenv("NAME");
     snprintf(link, sizeof link, "/proc/self/fd/%d", file);
-    ssize_t len = readlink(link, path, sizeof path);
-    size_t end = name ? strlen(name) : 0;
-    return name && len >= (ssize_t)end && memcmp(path + len - end, name, end) == 0;
+    ssize_t len = readlink(link, path, sizeof path - 1);
+    path[len < 0 ? 0 : len] = 0;
+    return ends_with(path, "NAME");
 }
 
 ssize_t pread(int file, void *bytes, size_t count, off_t from) {
     static ssize_t (*real)(int, void *, size_t, off_t);
+    static int reads;
     if (!real) real = (ssize_t (*)(int, void *, size_t, off_t))dlsym(RTLD_NEXT, "pread");
     off_t bad = number("BAD", -1);
+    size_t most = number("SHORT", count);
     usleep(number("SLOW", 0));
+    if (getenv("INTERRUPTED") && ++reads % 2) {
+        errno = EINTR;
+        return -1;
+    }
     if (bad >= 0 && from < bad + 4096 && from + (off_t)count > bad && is_named(file)) {
         if (from >= bad) {
             errno = EIO;
@@ -39,5 +56,31 @@ ssize_t pread(int file, void *bytes, size_t count, off_t from) {
         errno = EIO;
         return -1;
     }
-    return real(file, bytes, count, from);
+    return real(file, bytes, count < most ? count : most, from);
+}
+
+int statx(int folder, const char *path, int flags, unsigned mask, struct statx *known) {
+    static int (*real)(int, const char *, int, unsigned, struct statx *);
+    if (!real) real = (int (*)(int, const char *, int, unsigned, struct statx *))dlsym(RTLD_NEXT, "statx");
+    if (ends_with(path, flags & AT_SYMLINK_NOFOLLOW ? "HIDDEN_LINK" : "HIDDEN")) {
+        errno = EIO;
+        return -1;
+    }
+    return real(folder, path, flags, mask, known);
+}
+
+int open(const char *path, int flags, ...) {
+    static int (*real)(const char *, int, ...);
+    if (!real) real = (int (*)(const char *, int, ...))dlsym(RTLD_NEXT, "open");
+    va_list rest;
+    va_start(rest, flags);
+    int mode = flags & O_CREAT ? va_arg(rest, int) : 0;
+    va_end(rest);
+    const char *opened = getenv("OPENED");
+    if (opened) {
+        int kept = real(opened, O_WRONLY | O_APPEND | O_CREAT, 0600);
+        dprintf(kept, "%s %s\n", (flags & (O_ACCMODE | O_CREAT | O_TRUNC)) == O_RDONLY ? "reading" : "writing", path);
+        close(kept);
+    }
+    return real(path, flags, mode);
 }

@@ -62,3 +62,14 @@ noted() {
     done
     exactly 0 $'ok\n' "$wal$journal" check "$work/x.db"
 }
+
+@test 'a log that the system cannot look at has a note' {
+    cp "$data/whole.db" "$work/x.db"
+    log_notes "$work/x.db"
+    on_disk HIDDEN=x.db-wal
+    exactly 0 $'ok\n' "$wal" check "$work/x.db"
+    on_disk HIDDEN=x.db-journal
+    exactly 0 $'ok\n' "$journal" check "$work/x.db"
+    on_disk HIDDEN_LINK=x.db
+    exactly 0 $'ok\n' "dbck: note: $work/x.db: whether a log is beside it is not known"$'\n' check "$work/x.db"
+}

@@ -7,8 +7,8 @@ in levels, and then the roots, in the order of their rows.
 A `long` file has pages of 65536 bytes and takes little room, and each page is in use: of a table t, whose pages lie in its second half, or
 of the freelist, whose trunks lie all over the file.
 
-A `far` file has pages of 4096 bytes, and little more than 4 GiB. A row's overflow pages follow one another up to page 40; the last is 2^32
-bytes after page 36. No other page above 2 is in use.
+A `far` file has pages of 4096 bytes, and little more than 4 GiB. A row's overflow pages follow one another up to page 40; the others do from
+2^32 bytes after page 36 on, to the end of the file. No other page above 2 is in use.
 
 A `back` file has pages of 16384 bytes, and a row of as many overflow pages as COUNT, each 2^29 bytes before the page that it follows.
 
@@ -134,7 +134,7 @@ def chained(path, size, local, pages, chain):
 
 def far(path):
     beyond = (1 << 32) // 4096
-    chained(path, 4096, 489, beyond + 64, [*range(3, 41), beyond + 36])
+    chained(path, 4096, 489, beyond + 64, [*range(3, 41), *range(beyond + 36, beyond + 65)])
 
 
 def back(count, path):

@@ -135,6 +135,22 @@ END
     row 'a journal that is too long' ended 4 '' "dbck: note: $work/x.db-journal has 32 GiB or more, and is not read"$'\n'"$unread"
 }
 
+# Each transaction writes page 2. Page 1, with its fault, is not in the log.
+@test 'a log takes no memory for pages that it has anew' {
+    local name few many
+    logged few <<< 'INSERT INTO t VALUES (1)'
+    rm "$work"/made.db*
+    {
+        echo 'PRAGMA synchronous = OFF'
+        echo 'INSERT INTO t VALUES (1)'
+        seq -f 'UPDATE t SET a = %.0f' 100000
+    } | logged many
+    for name in few many; do put_at "$work/$name.db" 72 '\01'; done
+    few=$(least_memory check --recovered "$work/few.db")
+    many=$(least_memory check --recovered "$work/many.db")
+    [ $((many - few)) -lt 512 ] || fail "$few KiB and $many KiB"
+}
+
 @test 'a log that gives 300000 pages takes little time' {
     logged x <<< 'INSERT INTO t VALUES (zeroblob(300000 * 508))'
     most=30

@@ -295,8 +295,8 @@ END
     # A reserved byte of the header: one fault, and a run without it.
     put_at "$work/large.db" 72 '\01'
     on_terminal "'$DBCK' mend '$work/large.db' > '$work/report'"
-    wiped="dbck: 65536 of $pages pages, 97%"$'\r'
-    row 'progress of two runs' ended 1 "$wiped"*"dbck: run 2, 65536 of $pages pages, 97%"$'\r'* ''
+    wiped="dbck: 65536 of $pages pages, 97%"$'\r\r'"$(printf '%40s' '')"$'\r'
+    row 'progress of two runs' ended 1 "${wiped}dbck: run 2, 65536 of $pages pages, 97%"$'\r\r'"$(printf '%49s' '')"$'\r' ''
     row 'a report beside progress' grep -qx ok "$work/report"
 }
 

@@ -119,6 +119,39 @@ state() {
     done
 }
 
+@test 'no lock is held while its pages are read' {
+    [ -r /proc/locks ] || skip 'there is no /proc/locks'
+    row_of 20000 512 "$work/x.db"
+    locks() { grep -F ":$(stat -c %i "$work/x.db") " /proc/locks > "$work/locks" || true; }
+    meanwhile "$work/x.db" locks
+    [ "$status" = 0 ]
+    [ ! -s "$work/locks" ] || fail "locks: $(show "$work/locks")"
+}
+
+@test 'the file is opened once, for reading, and its logs with --recovered, and nothing else' {
+    local command
+    needs python3
+    paired
+    mkdir -p "$work/here/.cache" "$work/here/.config" "$work/here/.local/share" "$work/here/.local/state"
+    export HOME=$work/here
+    on_disk "OPENED=$work/opened"
+    for command in "${five[@]}"; do
+        rm -f "$work/opened"
+        dbck "$command" "$work/pair.db"
+        row "what $command opens" diff "$work/opened" - <<< "reading $work/pair.db"
+        rm -f "$work/opened"
+        dbck "$command" --recovered "$work/pair.db"
+        row "what $command opens with --recovered" diff "$work/opened" - <<< "reading $work/pair.db"$'\n'"reading $work/pair.db-wal"
+    done
+    [ -z "$(find "$work/here" -type f)" ]
+}
+
+@test 'nothing is read from standard input' {
+    for command in "${five[@]}"; do
+        [ "$(printf 'one\ntwo\n' | { "$DBCK" "$command" "$data/whole.db" > "$work/out"; cat; })" = $'one\ntwo' ]
+    done
+}
+
 @test 'SQLite may write to the file while it is read' {
     needs sqlite3
     sqlite3 "$work/x.db" 'CREATE TABLE t (a); INSERT INTO t VALUES (1);'

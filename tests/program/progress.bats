@@ -62,3 +62,14 @@ progress_of_large() {
     on_terminal "'$DBCK' explain --limit 1 '$work/twice.db' > '$work/report'"
     row 'progress twice' ended 1 $'dbck: 65536 of 131072 pages, 50%\rdbck: 131072 of 131072 pages, 100%\r'"$blank" ''
 }
+
+@test 'progress of pages above 4096 bytes is shown after each 256 MiB' {
+    needs script
+    on_terminal true
+    [ "$status" = 0 ] || skip 'script makes no terminal here'
+    cp tests/sqlite/pages-of-65536.db "$work/x.db"
+    put_at "$work/x.db" 28 '\0\0\0\0'
+    sparse "$work/x.db" $((65536 * 4097))
+    on_terminal "'$DBCK' explain --limit 1 '$work/x.db' > '$work/report'"
+    row 'progress of 4097 pages' ended 1 $'dbck: 4096 of 4097 pages, 99%\r'"$blank" ''
+}

@@ -258,6 +258,32 @@ END
     cmp "$work/then.db" "$work/before.db"
 }
 
+@test 'a super-journal that cannot be is not here' {
+    local name
+    needs python3
+    journaled
+    dbck check "$work/then.db"
+    cp "$work/out" "$work/alone"
+    cp "$work/then.db-journal" "$work/kept-journal"
+    ln -s itself "$work/itself"
+    for name in "$work/then.db/main.db-mj1" "$work/itself"; do
+        cp "$work/kept-journal" "$work/then.db-journal"
+        name_super "$name"
+        cold "names the super-journal $name, which is not here, and is not rolled back (see the manual)"
+    done
+}
+
+@test 'nothing that a journal names is opened' {
+    needs python3
+    journaled
+    name_super "$work/named"
+    mkfifo "$work/named"
+    as=(timeout 60)
+    dbck check --recovered "$work/then.db"
+    [ "$status" = 0 ]
+    grep -q "then.db-journal: [0-9]* pages are read from it" "$work/err"
+}
+
 # recovering NOTES WORDS..: a check with --recovered and these words ends so; in NOTES @ is x.db.
 recovering() {
     exactly 3 '' "dbck: note: ${1//@/$work/x.db}"$'\n' check --recovered "${@:2}" "$work/x.db"
@@ -304,13 +330,31 @@ recovering() {
     exactly 4 '' "dbck: note: $work/x.db-journal: a directory"$'\n'"$unread" check --recovered "$work/x.db"
 }
 
+@test 'a log that the system cannot look at is E8, and is not passed over' {
+    local suffix
+    cp "$data/whole.db" "$work/x.db"
+    for suffix in journal wal; do
+        on_disk "HIDDEN=x.db-$suffix"
+        exactly 4 '' "dbck: note: $work/x.db-$suffix: Input/output error"$'\n'"$unread" check --recovered "$work/x.db"
+    done
+}
+
+@test 'a link that the system cannot look at is E8, and its logs are not passed over' {
+    cp "$data/whole.db" "$work/x.db"
+    echo log > "$work/x.db-wal"
+    ln -s x.db "$work/link.db"
+    on_disk HIDDEN_LINK=/link.db
+    exactly 4 '' "dbck: note: $work/link.db: whether a log is beside it is not known"$'\n'"$unread" check --recovered "$work/link.db"
+}
+
 @test 'of a link whose target is not UTF-8 no log is passed over' {
     local folder=$work/$'caf\xe9'
     mkdir "$folder" 2> "$work/why" || skip "no such name here: $(cat "$work/why")"
     cp "$data/whole.db" "$folder/x.db"
     echo log > "$folder/x.db-wal"
     ln -s "$folder/x.db" "$work/link.db"
-    expect 4 '' "*$unread" check --recovered "$work/link.db"
+    exactly 4 '' "dbck: note: $work/link.db: whether a log is beside it is not known"$'\n'"$unread" check --recovered "$work/link.db"
+    exactly 0 $'ok\n' "dbck: note: $work/link.db: whether a log is beside it is not known"$'\n' check "$work/link.db"
 }
 
 @test 'a log that the caller may not read is E8, and is not passed over' {
@@ -500,6 +544,16 @@ END
         row "the note on a -$suffix" ended 0 '*' "dbck: note: $work/large.db-$suffix *"$'\n'"dbck: note: $work/large.db-$suffix was changed while it was read; the report may be of no state that it had"$'\n'
         rm "$work/large.db-$suffix"
     done
+}
+
+# It waits with its first note, which is of the journal: then the -wal is not yet read.
+@test 'a -wal that is written before it is read, and after it was opened, has a note' {
+    local wal="dbck: note: $work/x.db-wal"
+    needs python3
+    cp "$data/empty.db" "$work/x.db"
+    journal_of "$work/x.db" <<< 1
+    at_first_note "echo more >> '$work/x.db-wal'" check --recovered "$work/x.db"
+    ended_exactly 0 $'ok\n' "dbck: note: $work/x.db-journal: 1 page is read from it; the database had 1 page"$'\n'"$wal holds nothing that SQLite would read"$'\n'"$wal was changed while it was read; the report may be of no state that it had"$'\n'
 }
 
 @test 'a log of pages of another size does not fit' {

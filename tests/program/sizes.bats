@@ -274,5 +274,23 @@ in_room() {
 # 262145 is the lock-byte page.
 @test 'a page above 4 GiB is not taken for one of those that were read at once below it' {
     made far "$work/x.db"
-    exactly 1 $'N01 page 41 item 0 value 0: page is not in use\nmore 1048597\n' '' check --limit 1 "$work/x.db"
+    # Of 1048640 pages these are in use: 1 to 40, the lock-byte page, and 1048612 to 1048640, of which the last ends the chain.
+    exactly 1 $'N01 page 41 item 0 value 0: page is not in use\nmore 1048569\n' '' check --limit 1 "$work/x.db"
+}
+
+# Where the file system has such lengths.
+@test 'a file of a PiB takes no memory for its length' {
+    local folder memory
+    needs python3
+    folder=$(mktemp -d /dev/shm/dbck.XXXXXX) || skip 'there is no /dev/shm'
+    cp "$data/empty.db" "$folder/x.db"
+    if ! truncate -s 1P "$folder/x.db"; then
+        rm -r "$folder"
+        skip 'no file of a PiB here'
+    fi
+    python3 tests/program/io.py "$work/counts" "$DBCK" check "$folder/x.db" > "$work/out" 2> "$work/err"
+    rm -r "$folder"
+    read -r status _ _ memory < "$work/counts"
+    [ "$status" = 3 ]
+    [ "$memory" -lt 65536 ] || fail "$memory KiB"
 }

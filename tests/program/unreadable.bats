@@ -50,6 +50,21 @@ load common
     expect 4 '' "dbck: note: $lying: the 100 bytes at 0 cannot be read"$'\n'"$unread" check "$lying"
 }
 
+@test 'a read that gives a part of what is asked for, or is interrupted, is gone on with' {
+    local name setting
+    for name in tests/sqlite/*.db; do
+        as=()
+        dbck stat --all "$name"
+        cp "$work/out" "$work/wanted"
+        for setting in SHORT=100 SHORT=1000 INTERRUPTED=1; do
+            on_disk "$setting"
+            dbck stat --all "$name"
+            row "$name where $setting" cmp "$work/out" "$work/wanted"
+            row "the end of $name where $setting" ended 0 '*' ''
+        done
+    done
+}
+
 # The file is cut to its first page while its rows are read: the page that cannot be read is the one after that of the last row.
 @test 'a page that cannot be read ends a run, and a note says which bytes they are' {
     local pages at version='H01 page 1 item 18 value 3: file version is not 1 or 2'
@@ -95,4 +110,13 @@ END
         DELETE FROM u;'
     on_disk BAD=2097152 NAME=/x.db SLOW=1000
     exactly 0 $'ok\n' '' check "$work/x.db"
+}
+
+@test 'the bytes above 4 GiB that cannot be read are named' {
+    local first at
+    needs python3
+    first=$(python3 tests/program/make.py long 8 "$work/x.db" | sed -n 's/^first=//p')
+    at=$((65536 * (first - 1)))
+    on_disk "BAD=$at" NAME=/x.db
+    exactly 4 '' "dbck: note: $work/x.db: the 65536 bytes at $at cannot be read"$'\n'"$unread" check "$work/x.db"
 }

@@ -29,6 +29,21 @@ past() {
     done
 }
 
+@test 'E11 of a file above 4 GiB says how many bytes it has' {
+    cp "$data/empty.db" "$work/x.db"
+    sparse "$work/x.db" 5000000000
+    past "$work/x.db" '5000000000 bytes' --with 5000000000=00
+}
+
+@test 'a file that is changed before E11 has the note on that, too' {
+    local note
+    cp "$data/whole.db" "$work/x.db"
+    log_notes "$work/x.db"
+    at_first_note "truncate -s 512 '$work/x.db'" check --with 1526=00 "$work/x.db"
+    note=$(changed_note "$work/x.db")
+    ended_exactly 3 '' "${wal}dbck: note: $work/x.db has 512 bytes"$'\n'"${note%.}"$'dbck: E11 a byte of --with is past the end of the file\n'
+}
+
 @test 'a table whose root names a wrong page is sound with the right one' {
     cp "$data/two-tables.db" "$work/x.db"
     noted "$work/x.db" 4
