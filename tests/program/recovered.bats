@@ -484,7 +484,7 @@ END
     rm -r "${work:?}"/ddd*
     path=$(long_path 4088)
     cp "$data/whole.db" "$path"
-    exactly 0 $'ok\n' '' check "$path"
+    expect 0 $'ok\n' "dbck: note: *x.db-journal is not read, and may undo changes; --recovered reads it"$'\n' check "$path"
     expect 4 '' "dbck: note: *x.db-journal: File name too long"$'\n'"$unread" check --recovered "$path"
 }
 
