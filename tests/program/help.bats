@@ -29,7 +29,9 @@ stat help stat
 END
 }
 
-@test 'the version is one line' {
-    expect 0 $'dbck +([0-9.])\n' '' --version
-    expect 0 $'dbck +([0-9.])\n' '' -V
+@test 'the version is one line, and that of the newest changes' {
+    local line
+    line=$(sed -n 's/^## \([0-9.]*\).*/dbck \1/p' CHANGELOG.md | head -n 1)
+    exactly 0 "$line"$'\n' '' --version
+    exactly 0 "$line"$'\n' '' -V
 }

@@ -151,6 +151,14 @@ END
     [ $((many - few)) -lt 512 ] || fail "$few KiB and $many KiB"
 }
 
+@test 'a log of 1.2 GB takes little of the stack' {
+    paired
+    sparse "$work/pair.db-wal" 1200000000
+    status=0
+    (ulimit -s 256 && exec "$DBCK" check --recovered "$work/pair.db" > "$work/out" 2> "$work/err" < /dev/null 3>&-) || status=$?
+    row 'a stack of 256 KiB' ended 0 $'ok\n' "dbck: note: $work/pair.db-wal: 1 page of 1 transaction is read from it"$'\n*'
+}
+
 @test 'a log that gives 300000 pages takes little time' {
     logged x <<< 'INSERT INTO t VALUES (zeroblob(300000 * 508))'
     most=30

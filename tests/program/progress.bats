@@ -30,6 +30,10 @@ progress_of_large() {
     progress_of_large
     on_terminal "'$DBCK' check --no-progress '$work/large.db'"
     row '--no-progress' ended 0 $'ok\r\n' ''
+    for command in "${five[@]}"; do
+        on_terminal "'$DBCK' $command --no-progress '$work/large.db' > '$work/report'"
+        row "$command --no-progress" ended 0 '' ''
+    done
 }
 
 @test 'there is no progress where standard error is no terminal' {
@@ -50,6 +54,22 @@ progress_of_large() {
     chain="O01 page $pages item 0 value 1: last overflow page names a next page"
     row 'progress between faults and notes' ended 1 "dbck: note: $work/large.db-wal is not read, and may hold changes; *$version"$'\r\n'"$wiped$chain"$'\r\n'\
 "dbck: note: 7 bytes after page $pages are not read"$'\r\n' ''
+}
+
+@test 'progress is wiped before a fault where both outputs lead to one terminal' {
+    progress_of_large
+    put_at "$work/large.db" $((512 * pages - 512)) '\0\0\0\01'
+    on_terminal "'$DBCK' stat --aggregate '$work/large.db'"
+    row 'progress and a fault' ended 1 "*${wiped}O01 page $pages item 0 value 1: *" ''
+}
+
+@test 'progress of a database with its log is shown' {
+    needs script
+    on_terminal true
+    [ "$status" = 0 ] || skip 'script makes no terminal here'
+    logged x <<< 'INSERT INTO t VALUES (zeroblob(66000 * 508))'
+    on_terminal "'$DBCK' check --recovered '$work/x.db' > '$work/report'"
+    row 'progress beside a log' ended 0 $'dbck: note: *\r\n'"dbck: 65536 of 660* pages, 99%"$'\r'"$blank" ''
 }
 
 # `explain` reads each page that is not in use.

@@ -347,6 +347,12 @@ recovering() {
     exactly 4 '' "dbck: note: $work/link.db: whether a log is beside it is not known"$'\n'"$unread" check --recovered "$work/link.db"
 }
 
+@test 'a log that cannot be opened for want of a descriptor is E8' {
+    paired
+    as=(python3 -c 'import os, resource, sys; resource.setrlimit(resource.RLIMIT_NOFILE, (4, 4)); os.execvp(sys.argv[1], sys.argv[1:])')
+    exactly 4 '' "dbck: note: $work/pair.db-wal: Too many open files"$'\n'"$unread" check --recovered "$work/pair.db"
+}
+
 @test 'of a link whose target is not UTF-8 no log is passed over' {
     local folder=$work/$'caf\xe9'
     mkdir "$folder" 2> "$work/why" || skip "no such name here: $(cat "$work/why")"
@@ -554,6 +560,47 @@ END
     journal_of "$work/x.db" <<< 1
     at_first_note "echo more >> '$work/x.db-wal'" check --recovered "$work/x.db"
     ended_exactly 0 $'ok\n' "dbck: note: $work/x.db-journal: 1 page is read from it; the database had 1 page"$'\n'"$wal holds nothing that SQLite would read"$'\n'"$wal was changed while it was read; the report may be of no state that it had"$'\n'
+}
+
+@test 'a database or a journal that is written while both are read as one has a note' {
+    local name note notes="dbck: note: $work/x.db-journal: 1 page is read from it; the database had 1 page"
+    needs python3
+    notes+=$'\n'"dbck: note: $work/x.db-wal holds nothing that SQLite would read"$'\n'
+    for name in x.db x.db-journal; do
+        cp "$data/empty.db" "$work/x.db"
+        journal_of "$work/x.db" <<< 1
+        note=$(changed_note "$work/$name")
+        at_first_note "touch -d '2001-01-01 00:00:00.1' '$work/$name'" check --recovered "$work/x.db"
+        row "$name that is written" ended_exactly 0 $'ok\n' "$notes${note%.}"
+    done
+}
+
+@test 'a file that is written before it is found that its log does not fit has a note' {
+    local note
+    needs python3
+    cp "$data/two-tables.db" "$work/x.db"
+    # A journal of pages of 1024 bytes.
+    journal_of "$work/x.db" <<< 2
+    put_at "$work/x.db-journal" 24 '\0\0\04\0'
+    note=$(changed_note "$work/x.db")
+    at_first_note "touch -d '2001-01-01 00:00:00.1' '$work/x.db'" check --recovered "$work/x.db"
+    ended 3 '' "*dbck: note: $work/x.db and its log have pages of different sizes"$'\n'"${note%.}"$'dbck: E11 the log does not fit the database\n'
+}
+
+@test 'with --recovered and --with a note says that the bytes are others' {
+    paired
+    exactly 0 $'ok\n' "dbck: note: $work/pair.db-wal: 1 page of 1 transaction is read from it"$'\n'"dbck: note: $work/pair.db with 2 other bytes"$'\n' \
+        check --recovered --with 92=0000 "$work/pair.db"
+}
+
+@test 'bytes after the last page of a recovered database are counted' {
+    needs python3
+    cp "$data/two-tables.db" "$work/x.db"
+    journal_of "$work/x.db" <<< 1
+    # It had ten pages, and states eight.
+    put_at "$work/x.db-journal" 16 '\0\0\0\012'
+    expect 1 '*' "dbck: note: $work/x.db-journal: 1 page is read from it; the database had 10 pages"$'\n'"dbck: note: 1024 bytes after page 8 are not read, 2 whole pages among them"$'\n' \
+        check --recovered "$work/x.db"
 }
 
 @test 'a log of pages of another size does not fit' {

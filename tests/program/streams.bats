@@ -166,5 +166,26 @@ END
 @test 'lines go to a terminal one by one, whatever the other output leads to' {
     many_lines
     row 'writes of 6000 lines to a terminal' written 6000 "'$DBCK' check --limit 6000 '$work/lines.db' 2> '$work/report'"
+    row 'writes of 6000 lines where both lead to it' written 6000 "'$DBCK' check --limit 6000 '$work/lines.db'"
+    row 'writes of 6000 faults where both lead to it' written 6001 "'$DBCK' stat '$work/lines.db'"
     row 'writes of 6000 faults to a terminal' written 6001 "'$DBCK' stat '$work/lines.db' > '$work/report'"
+}
+
+@test 'each write of a report ends with a line' {
+    needs python3
+    cp "$data/empty.db" "$work/x.db"
+    truncate -s $((512 * 3001)) "$work/x.db"
+    for words in 'check --limit 300' 'check --limit 1000' 'check --limit 3000' 'stat --all'; do
+        # shellcheck disable=SC2086
+        row "writes of $words" python3 - "$DBCK" $words "$work/x.db" << 'END'
+import socket, subprocess, sys
+
+near, far = socket.socketpair(socket.AF_UNIX, socket.SOCK_SEQPACKET)
+subprocess.Popen(sys.argv[1:], stdout=far, stderr=subprocess.DEVNULL)
+far.close()
+writes = list(iter(lambda: near.recv(70000), b""))
+if not writes or any(write[-1:] != b"\n" for write in writes):
+    sys.exit(repr([write[-40:] for write in writes]))
+END
+    done
 }

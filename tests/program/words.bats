@@ -26,6 +26,13 @@ load common
     [ "$rows" = 26 ]
 }
 
+@test 'what is wrong with the words is said to its end' {
+    local more=$'\n\nFor more information, try \'--help\'.\n'
+    exactly 2 '' $'dbck: the following required arguments were not provided:\n  <FILE>\n\nUsage: dbck check <FILE>'"$more" check
+    exactly 2 '' $'dbck: unexpected argument \'--limt\' found\n\n  tip: a similar argument exists: \'--limit\'\n\nUsage: dbck check --limit <N> <FILE>'"$more" check --limt 3 x
+    exactly 2 '' $'dbck: unrecognized subcommand \'chek\'\n\n  tip: a similar subcommand exists: \'check\'\n\nUsage: dbck <COMMAND>'"$more" chek x
+}
+
 @test 'a word that is refused is shown without control characters' {
     expect 2 '' $'dbck: word 2 of the command line is not UTF-8\n' check $'\xff'
     expect 2 '' $'dbck: word 4 of the command line is not UTF-8\n' check --limit 1 $'x\xff' $'\xff'
