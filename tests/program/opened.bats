@@ -146,6 +146,16 @@ state() {
     [ -z "$(find "$work/here" -type f)" ]
 }
 
+@test 'the program calls these functions of the system, and no other' {
+    needs nm
+    nm -D --undefined-only "$DBCK" > "$work/names"
+    ! grep -q __sanitizer "$work/names" || skip 'it is built without its proof'
+    # A name that begins with an underscore belongs to the start or the end of a program.
+    awk '{ sub(/@.*/, "", $NF); if ($NF !~ /^_/) print $NF }' "$work/names" | sort > "$work/called"
+    printf '%s\n' clock_gettime close free isatty lseek malloc memcpy memmove memset open pread realloc realpath statx write | comm -13 - "$work/called" > "$work/more"
+    [ ! -s "$work/more" ] || fail "it also calls $(show "$work/more")"
+}
+
 @test 'nothing is read from standard input' {
     for command in "${five[@]}"; do
         [ "$(printf 'one\ntwo\n' | { "$DBCK" "$command" "$data/whole.db" > "$work/out"; cat; })" = $'one\ntwo' ]
