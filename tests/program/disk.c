@@ -1,5 +1,6 @@
 // A disk, for tests: it is loaded before the C library. Each read takes SLOW microseconds. Where BAD is given, 4096 bytes from that
-// offset on of the file whose name ends with NAME cannot be read: a read that begins there fails, and one that comes to them ends there.
+// offset on of the file whose name ends with NAME cannot be read: a read that begins there fails, by ERROR or as an error of the device, and
+// one that comes to them ends there.
 // Where AT is given, a read of that file that begins there fails, and no other read that comes to these bytes. A read gives SHORT bytes at
 // most, and every second one is interrupted where INTERRUPTED is given. What is at a path that ends with HIDDEN cannot be looked at, or what
 // that link is with HIDDEN_LINK. The file OPENED gets a line for each file that is opened: how, and its path.
@@ -47,7 +48,7 @@ ssize_t pread(int file, void *bytes, size_t count, off_t from) {
     }
     if (bad >= 0 && from < bad + 4096 && from + (off_t)count > bad && is_named(file)) {
         if (from >= bad) {
-            errno = EIO;
+            errno = number("ERROR", EIO);
             return -1;
         }
         count = bad - from;

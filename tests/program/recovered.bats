@@ -347,6 +347,20 @@ recovering() {
     exactly 4 '' "dbck: note: $work/link.db: whether a log is beside it is not known"$'\n'"$unread" check --recovered "$work/link.db"
 }
 
+@test 'a log of 4 GiB or more is not passed over' {
+    local size
+    paired
+    dbck stat --all "$work/whole.db"
+    cp "$work/out" "$work/wanted"
+    log_notes "$work/pair.db"
+    for size in 4294967296 5000000000; do
+        sparse "$work/pair.db-wal" "$size"
+        dbck stat --all --recovered "$work/pair.db"
+        row "what is reported beside a log of $size bytes" cmp "$work/out" "$work/wanted"
+        exactly 0 $'ok\n' "$wal" check "$work/pair.db"
+    done
+}
+
 @test 'a log that cannot be opened for want of a descriptor is E8' {
     paired
     as=(python3 -c 'import os, resource, sys; resource.setrlimit(resource.RLIMIT_NOFILE, (4, 4)); os.execvp(sys.argv[1], sys.argv[1:])')

@@ -189,3 +189,36 @@ if not writes or any(write[-1:] != b"\n" for write in writes):
 END
     done
 }
+
+@test 'a report on a terminal is that in a file' {
+    local command name
+    needs script
+    on_terminal true
+    [ "$status" = 0 ] || skip 'script makes no terminal here'
+    for name in two-tables two-owners whole; do
+        for command in "${five[@]}"; do
+            dbck "$command" "$data/$name.db"
+            cp "$work/out" "$work/wanted"
+            cp "$work/err" "$work/wanted-err"
+            on_terminal "'$DBCK' $command '$data/$name.db' 2> '$work/report'"
+            row "$command of $name on a terminal" cmp <(tr -d '\r' < "$work/out") "$work/wanted"
+            row "the other output of $command of $name" cmp "$work/report" "$work/wanted-err"
+            on_terminal "'$DBCK' $command '$data/$name.db' > '$work/report'"
+            row "the other output of $command of $name on a terminal" cmp <(tr -d '\r' < "$work/out") "$work/wanted-err"
+        done
+    done
+}
+
+@test 'rows that an output does not take are not lost in silence' {
+    needs python3
+    row_of 6000 512 "$work/x.db"
+    row 'rows to a pipe that is full' python3 - "$DBCK" "$work/x.db" << 'END'
+import os, subprocess, sys
+
+near, far = os.pipe()
+os.set_blocking(far, False)
+run = subprocess.run([sys.argv[1], "stat", sys.argv[2]], stdout=far, stderr=subprocess.PIPE)
+if run.returncode != 6 or not run.stderr.startswith(b"dbck: note: standard output: Resource temporarily unavailable\n"):
+    sys.exit(repr(run))
+END
+}

@@ -120,3 +120,13 @@ END
     on_disk "BAD=$at" NAME=/x.db
     exactly 4 '' "dbck: note: $work/x.db: the 65536 bytes at $at cannot be read"$'\n'"$unread" check "$work/x.db"
 }
+
+# EIO, ENODATA, EBADMSG, ESTALE and EREMOTEIO.
+@test 'a read that fails for any reason is E8' {
+    local error
+    row_of 2002 4096 "$work/x.db"
+    for error in 5 61 74 116 121; do
+        on_disk "ERROR=$error" BAD=4194304 NAME=/x.db
+        exactly 4 '' "dbck: note: $work/x.db: the 4096 bytes at 4194304 cannot be read"$'\n'"$unread" check "$work/x.db"
+    done
+}

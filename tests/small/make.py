@@ -688,7 +688,21 @@ def many_entries(_):
 
 def ordered_leaves(_):
     """An index of words on three leaves, of which the first is page 4, and the second page 3."""
-    keys = [record(text(word.encode()), byte(n)) for n, word in enumerate("abmnprxz", 1)]
+    return three_leaves(text(word.encode()) for word in "abmnprxz")
+
+
+def falling_leaves(_):
+    """As `ordered_leaves`, with words that fall."""
+    return three_leaves(text(word.encode()) for word in "zxrpnmba")
+
+
+def negative_leaves(_):
+    """As `ordered_leaves`, of numbers."""
+    return three_leaves(byte(number % 256) for number in (-9, -8, -3, -2, 4, 5, 6, 7))
+
+
+def three_leaves(values):
+    keys = [record(value, byte(n)) for n, value in enumerate(values, 1)]
     db = Database(5)
     db.schema(("index", "t", 2))
     db.tree_page(2, INTERIOR_INDEX, [be(child) + varint(len(key)) + key for child, key in ((4, keys[2]), (3, keys[5]))], 5)
