@@ -55,6 +55,82 @@ are_put() {
     [ "$rows" -gt 140 ]
 }
 
+# is_put_back OFFSET BYTES..: x.db gets these bytes at these offsets, and with the changes that mend writes it is as it was.
+is_put_back() {
+    cp "$work/x.db" "$work/was.db"
+    while [ $# -gt 0 ]; do
+        put_at "$work/x.db" "$1" "$2"
+        shift 2
+    done
+    dbck mend "$work/x.db"
+    cp "$work/out" "$work/lines"
+    are_put "$work/x.db" "$work/lines" && cmp "$work/put.db" "$work/was.db"
+}
+
+# made SQL: makes x.db, with pages of 512 bytes.
+made() {
+    rm -f "$work/x.db"
+    sqlite3 "$work/x.db" "PRAGMA page_size = 512; $1"
+}
+
+# before NAME: where the bytes before the statement of a table are in x.db.
+before() {
+    grep -abo "CREATE TABLE $1(" "$work/x.db" | head -n 1 | cut -d: -f1
+}
+
+@test 'mend finds the roots of tables, of one byte and of two, between those of the rows beside them' {
+    needs sqlite3
+    made 'CREATE TABLE s(a); INSERT INTO s VALUES (zeroblob(200000)); CREATE TABLE t(a)'
+    row 'a root of two bytes' is_put_back $(($(before t) - 2)) '\0177\0176'
+    made 'CREATE TABLE t1(a); CREATE TABLE t2(a); CREATE TABLE t3(a); CREATE TABLE t4(a); DROP TABLE t1; CREATE TABLE t5(a);'
+    row 'two roots' is_put_back $(($(before t3) - 1)) '\0143' $(($(before t5) - 1)) '\0143'
+}
+
+@test 'mend finds the encoding, and roots of each' {
+    local at encoding
+    needs sqlite3
+    for encoding in UTF-8 UTF-16le UTF-16be; do
+        made "PRAGMA encoding = '$encoding'; CREATE TABLE t(a); CREATE INDEX i ON t(a); INSERT INTO t VALUES (1)"
+        row "$encoding" is_put_back 59 '\07'
+        made "PRAGMA encoding = '$encoding'; CREATE TABLE t(a)"
+        at=$(LC_ALL=C grep -aboP '\x02(\x00?)C\x00?R\x00?E' "$work/x.db" | head -n 1 | cut -d: -f1)
+        row "a root of $encoding" is_put_back "$at" '\0143'
+    done
+}
+
+@test 'mend finds the numbers of the header and in the heads and pointers of page 1 and interior pages' {
+    needs sqlite3
+    while read -r what at bytes; do
+        cp "$data/whole.db" "$work/x.db"
+        row "$what" is_put_back "$at" "$bytes"
+    done << 'END'
+a_size_that_is_too_small 31 \014
+the_write_version 18 \0143
+a_pointer_of_an_interior_page 524 \0\0
+a_pointer_of_page_1 108 \0\0
+END
+    cp "$data/whole.db" "$work/x.db"
+    put_at "$work/x.db" 18 '\02\02'
+    row 'the write version of a database with a -wal' is_put_back 18 '\0143'
+    for at in 104 106 107; do
+        made 'CREATE TABLE t(a); CREATE TABLE u(a)'
+        row "the head of page 1, at $at" is_put_back "$at" '\07'
+    done
+}
+
+@test 'mend finds an entry of the second page of the pointer map' {
+    needs sqlite3
+    made 'PRAGMA auto_vacuum = full; CREATE TABLE t(a); INSERT INTO t VALUES (zeroblob(150000))'
+    row 'an entry for page 107' is_put_back 53272 n
+}
+
+@test 'beside a page that is lost for good mend finds a number' {
+    printf '== whole: 3 0 7878787878787878787878787878787878787878, 5 8 00000000\nok\n' > "$work/two.txt"
+    tests/small/make.py "$work/two.txt" "$work/two" > "$work/list"
+    dbck mend "$work/two/0.db"
+    ended 1 $'*at byte 2056 put 00000007 for 00000000\n    page 5 at byte 2048\n    1 fault is left\n1 fault is left\n' ''
+}
+
 # refused NAME OFFSET BYTES TEXT [WORDS..]: NAME.db of tests with these bytes at an offset is refused, and mend writes this, and the notes and
 # the error of check.
 refused() {
