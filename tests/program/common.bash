@@ -132,6 +132,26 @@ on_terminal() {
     script -qec "$1" /dev/null > "$work/out" 2> "$work/err" < /dev/null 3>&- || status=$?
 }
 
+# needs_terminal: skips the test where no terminal can be made.
+needs_terminal() {
+    needs script
+    on_terminal true
+    [ "$status" = 0 ] || skip 'script makes no terminal here'
+}
+
+# writes_of OUTPUT WORDS..: a line for each write of the program to stdout or stderr: how many lines it has, and whether it ends with one.
+writes_of() {
+    python3 - "$1" "$DBCK" "${@:2}" << 'END'
+import socket, subprocess, sys
+
+near, far = socket.socketpair(socket.AF_UNIX, socket.SOCK_SEQPACKET)
+subprocess.Popen(sys.argv[2:], **{"stdout": subprocess.DEVNULL, "stderr": subprocess.DEVNULL, sys.argv[1]: far})
+far.close()
+for write in iter(lambda: near.recv(70000), b""):
+    print(write.count(b"\n"), "whole" if write[-1:] == b"\n" else "cut")
+END
+}
+
 # meanwhile FILE COMMAND..: runs the statistics of all pages of a file, with `flags`, and the command while the run waits for its reader:
 # the rows have to be so many that they fit into no pipe.
 meanwhile() {
@@ -213,7 +233,7 @@ to_be_nobody() {
 # on_disk SETTING..: lets `as` run the program with the files on a disk that is slow, or has a bad block: see disk.c.
 on_disk() {
     needs cc
-    cc -shared -fPIC -O1 -o "$work/disk.so" "$root/tests/program/disk.c" -ldl
+    [ -e "$work/disk.so" ] || cc -shared -fPIC -O1 -o "$work/disk.so" "$root/tests/program/disk.c" -ldl
     as=(env "LD_PRELOAD=$work/disk.so" "$@")
 }
 
@@ -238,15 +258,15 @@ large_database() {
     pages=$(($(wc -c < "$work/large.db") / 512))
 }
 
-# logged NAME: makes NAME.db, a table t(a) in pages of 512 bytes, and its log. The log has what the statements of standard input do, one a
-# line; each is a transaction, but for what is between BEGIN and COMMIT.
+# logged NAME [SIZE]: makes NAME.db, a table t(a) in pages of 512 bytes, or SIZE, and its log. The log has what the statements of standard
+# input do, one a line; each is a transaction, but for what is between BEGIN and COMMIT.
 logged() {
     needs python3
     python3 -c '
 import shutil, sqlite3, sys
 made = sys.argv[1] + "/made.db"
 db = sqlite3.connect(made, isolation_level=None)
-db.execute("PRAGMA page_size = 512")
+db.execute("PRAGMA page_size = " + sys.argv[3])
 db.execute("PRAGMA journal_mode = WAL")
 db.execute("PRAGMA wal_autocheckpoint = 0")
 db.execute("CREATE TABLE t(a)")
@@ -254,8 +274,8 @@ db.execute("PRAGMA wal_checkpoint(TRUNCATE)")
 for statement in sys.stdin:
     db.execute(statement)
 for suffix in ("", "-wal"):
-    shutil.copy(made + suffix, "%s/%s.db%s" % (*sys.argv[1:], suffix))
-' "$work" "$1"
+    shutil.copy(made + suffix, "%s/%s.db%s" % (*sys.argv[1:3], suffix))
+' "$work" "$1" "${2:-512}"
 }
 
 # journal_of FILE: makes the journal of FILE, which had as many pages as it has. It has a record for each page of standard input, of the bytes

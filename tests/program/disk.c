@@ -1,9 +1,14 @@
-// A disk, for tests: it is loaded before the C library. Each read takes SLOW microseconds. Where BAD is given, 4096 bytes from that
-// offset on of the file whose name ends with NAME cannot be read: a read that begins there fails, by ERROR or as an error of the device, and
-// one that comes to them ends there.
-// Where AT is given, a read of that file that begins there fails, and no other read that comes to these bytes. A read gives SHORT bytes at
-// most, and every second one is interrupted where INTERRUPTED is given. What is at a path that ends with HIDDEN cannot be looked at, or what
-// that link is with HIDDEN_LINK. The file OPENED gets a line for each file that is opened: how, and its path.
+// A disk, for tests: it is loaded before the C library. These settings, each from the environment, say what it does:
+//   SLOW         how many microseconds each read takes
+//   BAD, NAME    4096 bytes from this offset on of the file whose name ends so cannot be read: a read that begins there fails, and one that
+//                comes to them ends there
+//   ERROR        the number of the error of such a read, if not EIO
+//   AT, NAME     a read of that file that begins there fails, and no other read that comes to these bytes
+//   SHORT        how many bytes a read gives at most
+//   INTERRUPTED  every second read is interrupted
+//   HIDDEN       what is at a path that ends so cannot be looked at
+//   HIDDEN_LINK  nor whether that path is a link
+//   OPENED       a file that gets a line for each file that is opened: how, and its path
 #define _GNU_SOURCE
 #include <dlfcn.h>
 #include <errno.h>

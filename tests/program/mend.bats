@@ -364,9 +364,7 @@ END
 
 @test 'progress is that of the run at hand' {
     local wiped
-    needs script
-    on_terminal true
-    [ "$status" = 0 ] || skip 'script makes no terminal here'
+    needs_terminal
     large_database
     # A reserved byte of the header: one fault, and a run without it.
     put_at "$work/large.db" 72 '\01'

@@ -303,14 +303,5 @@ END
     cp "$data/empty.db" "$work/x.db"
     printf seven.. >> "$work/x.db"
     echo log > "$work/x.db-wal"
-    row 'two notes' python3 - "$DBCK" "$work/x.db" << 'END'
-import socket, subprocess, sys
-
-near, far = socket.socketpair(socket.AF_UNIX, socket.SOCK_SEQPACKET)
-subprocess.run([sys.argv[1], "check", sys.argv[2]], stdout=subprocess.DEVNULL, stderr=far)
-far.close()
-writes = list(iter(lambda: near.recv(65536), b""))
-if len(writes) != 2 or any(write.count(b"\n") != 1 or write[-1:] != b"\n" for write in writes):
-    sys.exit(repr(writes))
-END
+    row 'two notes' [ "$(writes_of stderr check "$work/x.db")" = $'1 whole\n1 whole' ]
 }

@@ -6,9 +6,7 @@ blank=$'\r                                        \r'
 
 # progress_of_large: makes large.db; $wiped is the progress of a run over it.
 progress_of_large() {
-    needs script
-    on_terminal true
-    [ "$status" = 0 ] || skip 'script makes no terminal here'
+    needs_terminal
     large_database
     wiped="dbck: 65536 of $pages pages, 97%"$'\r'$blank
 }
@@ -64,9 +62,7 @@ progress_of_large() {
 }
 
 @test 'progress of a database with its log is shown' {
-    needs script
-    on_terminal true
-    [ "$status" = 0 ] || skip 'script makes no terminal here'
+    needs_terminal
     logged x <<< 'INSERT INTO t VALUES (zeroblob(66000 * 508))'
     on_terminal "'$DBCK' check --recovered '$work/x.db' > '$work/report'"
     row 'progress beside a log' ended 0 $'dbck: note: *\r\n'"dbck: 65536 of 660* pages, 99%"$'\r'"$blank" ''
@@ -74,9 +70,7 @@ progress_of_large() {
 
 # `explain` reads each page that is not in use.
 @test 'progress is shown after each 65536 pages, also after the last' {
-    needs script
-    on_terminal true
-    [ "$status" = 0 ] || skip 'script makes no terminal here'
+    needs_terminal
     cp "$data/empty.db" "$work/twice.db"
     truncate -s $((512 * 131072)) "$work/twice.db"
     on_terminal "'$DBCK' explain --limit 1 '$work/twice.db' > '$work/report'"
@@ -84,9 +78,7 @@ progress_of_large() {
 }
 
 @test 'progress of pages above 4096 bytes is shown after each 256 MiB' {
-    needs script
-    on_terminal true
-    [ "$status" = 0 ] || skip 'script makes no terminal here'
+    needs_terminal
     cp tests/sqlite/pages-of-65536.db "$work/x.db"
     put_at "$work/x.db" 28 '\0\0\0\0'
     sparse "$work/x.db" $((65536 * 4097))

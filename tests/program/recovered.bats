@@ -177,6 +177,14 @@ END
     row 'what is reported of both' cmp "$work/out" "$work/wanted"
 }
 
+# journaled_alone: journaled, and `alone`, what is reported of then.db without its journal.
+journaled_alone() {
+    needs python3
+    journaled
+    dbck check "$work/then.db"
+    cp "$work/out" "$work/alone"
+}
+
 # cold WHY: the journal of then.db is not rolled back; WHY is what is said of that.
 cold() {
     dbck check --recovered "$work/then.db"
@@ -191,10 +199,7 @@ altered() {
 }
 
 @test 'a journal of which nothing is used is not rolled back, and a note says why' {
-    needs python3
-    journaled
-    dbck check "$work/then.db"
-    cp "$work/out" "$work/alone"
+    journaled_alone
     cp "$work/then.db-journal" "$work/kept-journal"
     altered 0 '\x00'
     cold 'begins with 0, and is not rolled back: SQLite does not need it'
@@ -219,20 +224,14 @@ END
 }
 
 @test 'the name of a super-journal is shown in its note' {
-    needs python3
-    journaled
-    dbck check "$work/then.db"
-    cp "$work/out" "$work/alone"
+    journaled_alone
     name_super "$work/"$'main\e[2J\n.db-mj1'
     cold "names the super-journal $work/main\\x1b[2J\\x0a.db-mj1, which is not here, and is not rolled back (see the manual)"
 }
 
 @test 'a journal that names a super-journal is rolled back where that is there' {
     local name=$work/main.db-mj1
-    needs python3
-    journaled
-    dbck check "$work/then.db"
-    cp "$work/out" "$work/alone"
+    journaled_alone
     dbck check "$work/before.db"
     cp "$work/out" "$work/wanted"
     name_super "$name"
@@ -260,10 +259,7 @@ END
 
 @test 'a super-journal that cannot be is not here' {
     local name
-    needs python3
-    journaled
-    dbck check "$work/then.db"
-    cp "$work/out" "$work/alone"
+    journaled_alone
     cp "$work/then.db-journal" "$work/kept-journal"
     ln -s itself "$work/itself"
     for name in "$work/then.db/main.db-mj1" "$work/itself"; do
@@ -405,21 +401,11 @@ unread_at() {
 # The first table is in the file alone, and the pages of the second one in the log alone. Page 1 is in both.
 @test 'of a read that fails once a -wal was looked through a note names the file, and the place in it' {
     local note="dbck: note: $work/x.db-wal: 10 pages of 1 transaction are read from it"
-    needs python3
-    python3 - "$work" << 'END'
-import shutil, sqlite3, sys
-made = sys.argv[1] + "/made.db"
-db = sqlite3.connect(made, isolation_level=None)
-db.execute("PRAGMA page_size = 65536")
-db.execute("PRAGMA journal_mode = WAL")
-db.execute("PRAGMA wal_autocheckpoint = 0")
-for table in "tu":
-    db.execute("CREATE TABLE %s(a)" % table)
-db.execute("INSERT INTO t VALUES (zeroblob(4 * 65532))")
-db.execute("PRAGMA wal_checkpoint(TRUNCATE)")
-db.execute("INSERT INTO u VALUES (zeroblob(8 * 65532))")
-for suffix in ("", "-wal"):
-    shutil.copy(made + suffix, sys.argv[1] + "/x.db" + suffix)
+    logged x 65536 << 'END'
+CREATE TABLE u(a)
+INSERT INTO t VALUES (zeroblob(4 * 65532))
+PRAGMA wal_checkpoint(TRUNCATE)
+INSERT INTO u VALUES (zeroblob(8 * 65532))
 END
     exactly 0 $'ok\n' "$note"$'\n' check --recovered "$work/x.db"
     # A head of 32 bytes, and ten frames of 24 + 65536: the first page of the log, of which the header is read first, one in its middle, and
@@ -566,27 +552,23 @@ END
     done
 }
 
-# It waits with its first note, which is of the journal: then the -wal is not yet read.
-@test 'a -wal that is written before it is read, and after it was opened, has a note' {
-    local wal="dbck: note: $work/x.db-wal"
-    needs python3
-    cp "$data/empty.db" "$work/x.db"
-    journal_of "$work/x.db" <<< 1
-    at_first_note "echo more >> '$work/x.db-wal'" check --recovered "$work/x.db"
-    ended_exactly 0 $'ok\n' "dbck: note: $work/x.db-journal: 1 page is read from it; the database had 1 page"$'\n'"$wal holds nothing that SQLite would read"$'\n'"$wal was changed while it was read; the report may be of no state that it had"$'\n'
-}
-
-@test 'a database or a journal that is written while both are read as one has a note' {
-    local name note notes="dbck: note: $work/x.db-journal: 1 page is read from it; the database had 1 page"
+# It waits with its first note, which is of the journal: then the -wal is opened, and not yet read.
+@test 'a database or a log that is written while they are read as one has a note' {
+    local change name note notes="dbck: note: $work/x.db-journal: 1 page is read from it; the database had 1 page"
     needs python3
     notes+=$'\n'"dbck: note: $work/x.db-wal holds nothing that SQLite would read"$'\n'
-    for name in x.db x.db-journal; do
+    while read -r name change; do
         cp "$data/empty.db" "$work/x.db"
         journal_of "$work/x.db" <<< 1
         note=$(changed_note "$work/$name")
-        at_first_note "touch -d '2001-01-01 00:00:00.1' '$work/$name'" check --recovered "$work/x.db"
+        at_first_note "$change '$work/$name'" check --recovered "$work/x.db"
         row "$name that is written" ended_exactly 0 $'ok\n' "$notes${note%.}"
-    done
+    done << 'END'
+x.db touch -d '2001-01-01 00:00:00.1'
+x.db-journal touch -d '2001-01-01 00:00:00.1'
+x.db-wal echo more >>
+END
+    [ "$rows" = 3 ]
 }
 
 @test 'a file that is written before it is found that its log does not fit has a note' {

@@ -138,10 +138,8 @@ written() {
 
 # many_lines: makes lines.db, of which a check has 6000 lines of $bytes bytes, and the script that counts writes.
 many_lines() {
-    needs script
+    needs_terminal
     [ -r /proc/self/io ] || skip 'there is no /proc/self/io'
-    on_terminal true
-    [ "$status" = 0 ] || skip 'script makes no terminal here'
     cat > "$work/writes" << 'END'
 writes() { while read -r key value; do [ "$key" != syscw: ] || writes=$value; done < /proc/$$/io; }
 writes
@@ -177,24 +175,15 @@ END
     truncate -s $((512 * 3001)) "$work/x.db"
     for words in 'check --limit 300' 'check --limit 1000' 'check --limit 3000' 'stat --all'; do
         # shellcheck disable=SC2086
-        row "writes of $words" python3 - "$DBCK" $words "$work/x.db" << 'END'
-import socket, subprocess, sys
-
-near, far = socket.socketpair(socket.AF_UNIX, socket.SOCK_SEQPACKET)
-subprocess.Popen(sys.argv[1:], stdout=far, stderr=subprocess.DEVNULL)
-far.close()
-writes = list(iter(lambda: near.recv(70000), b""))
-if not writes or any(write[-1:] != b"\n" for write in writes):
-    sys.exit(repr([write[-40:] for write in writes]))
-END
+        writes_of stdout $words "$work/x.db" > "$work/writes"
+        row "writes of $words" [ -s "$work/writes" ]
+        row "whole lines of $words" [ "$(grep -c cut "$work/writes")" = 0 ]
     done
 }
 
 @test 'a report on a terminal is that in a file' {
     local command name
-    needs script
-    on_terminal true
-    [ "$status" = 0 ] || skip 'script makes no terminal here'
+    needs_terminal
     for name in two-tables two-owners whole; do
         for command in "${five[@]}"; do
             dbck "$command" "$data/$name.db"
