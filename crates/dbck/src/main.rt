@@ -3,7 +3,7 @@
 
 use dbcli::{
     FailedReads, FailedWrites, LineError, LineOut, Progress, Stream, StreamName, System,
-    SystemFiles, answer_words, tell, texts_of, words_of,
+    SystemFiles, answer_words, report_error, texts_of, words_of,
 };
 use dbsource::{BufferedOut, StreamOut};
 use std::io::IsTerminal;
@@ -39,6 +39,6 @@ fn run(rt: &HostRuntime) -> Result<u8, LineError> {
 fn main(rt: HostRuntime) -> ExitCode {
     match run(&rt) {
         Ok(status) => ExitCode::from(status),
-        Err(error) => ExitCode::from(tell(&rt, &error)),
+        Err(error) => ExitCode::from(report_error(&rt, &error)),
     }
 }

@@ -103,13 +103,13 @@ fn has_its_lines(command: Command, found: &Found) -> bool {
     let is_check = command == check_of(LIMIT);
     let told = if is_check { out } else { err };
     let clean = if is_check { "ok\n" } else { "" };
-    let is_told = match found.answer {
+    let is_reported = match found.answer {
         Ok(Verdict::Clean) => told == clean.as_bytes(),
         Ok(Verdict::Faulty(faults)) => faults == lines(told) as u64,
         Err(RunError::Refused(_)) => out.is_empty() && err.is_empty(),
         Err(_) => false,
     };
-    is_told && (err.is_empty() || !is_check)
+    is_reported && (err.is_empty() || !is_check)
 }
 
 // Reads one of the pages again that were read, which is a later version of it.

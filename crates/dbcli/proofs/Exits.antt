@@ -55,8 +55,8 @@ explain_answers limit file V e h = rw h refl
 -- a status that is none of 0, 1 and 3
 neither : (n : ℕ) (r : Report) (why : Option Refusal) (out out' err err' : OutState) → 4 ≤ n
     → BeginsThenLine err err' r.err (exit_line n why) → IsStatusOf n r why out out' err err'
-neither n r why out out' err err' h told = record {
-  told = told;
+neither n r why out out' err err' h ends = record {
+  ends = ends;
   clean = λ e. absurd (omega arith);
   faulty = λ e. absurd (omega arith);
   refused = λ e. absurd (omega arith);
@@ -92,9 +92,9 @@ begins_then_line most old mid new bytes line room b f l = record {
 }
 
 -- the line of a refusal
-refused_told : (err err' : OutState) (bytes : List ℕ) (why : Option Refusal) (e : Refusal) → why ≡ Some e
+refused_ends : (err err' : OutState) (bytes : List ℕ) (why : Option Refusal) (e : Refusal) → why ≡ Some e
     → BeginsThenLine err err' bytes (error_line (Refused e)) → BeginsThenLine err err' bytes (refused_line why)
-refused_told err err' bytes why e h told = let P : Option Refusal → Type 0 = λ w. BeginsThenLine err err' bytes (refused_line w) in subst P (sym h) told
+refused_ends err err' bytes why e h ends = let P : Option Refusal → Type 0 = λ w. BeginsThenLine err err' bytes (refused_line w) in subst P (sym h) ends
 
 -- what the second Out got of a report, where nothing more was put to it
 err_written : (err mid err' : OutState) (bytes : List ℕ) → Appends err.bytes mid.bytes bytes → err' ≡ mid → Appends err.bytes err'.bytes bytes
@@ -108,19 +108,19 @@ status_by_outcome : (rep : Report) (file : List ℕ) → ((e : Refusal) → refu
     → OnOk outcome (err' ≡ mid) → OnErr outcome (FewFailed (second_most (exit_status outcome)) err mid)
     → IfErr outcome (λ error. EndsWithLine (error_line error) 2 mid err') → IsStatusOf (exit_status outcome) rep (refusal file) out out' err err'
 status_by_outcome rep file refusing (Ok Clean) out out' err mid err' answer written second verdict unwritten quiet few line = record {
-  told = all_then_line err err' rep.err (err_written err mid err' rep.err second quiet);
+  ends = all_then_line err err' rep.err (err_written err mid err' rep.err second quiet);
   clean = λ e. (verdict, record { first = written; second = err_written err mid err' rep.err second quiet });
   faulty = λ e. absurd (omega arith);
   refused = λ e. absurd (omega arith);
 }
 status_by_outcome rep file refusing (Ok (Faulty n)) out out' err mid err' answer written second verdict unwritten quiet few line = record {
-  told = all_then_line err err' rep.err (err_written err mid err' rep.err second quiet);
+  ends = all_then_line err err' rep.err (err_written err mid err' rep.err second quiet);
   clean = λ e. absurd (omega arith);
   faulty = λ e. (n, verdict, record { first = written; second = err_written err mid err' rep.err second quiet });
   refused = λ e. absurd (omega arith);
 }
 status_by_outcome rep file refusing (Err (Refused e)) out out' err mid err' answer written second verdict unwritten quiet few line = record {
-  told = refused_told err err' rep.err (refusal file) e answer
+  ends = refused_ends err err' rep.err (refusal file) e answer
       (begins_then_line 2 err mid err' rep.err (error_line (Refused e)) (omega arith) second few line);
   clean = λ h. absurd (omega arith);
   faulty = λ h. absurd (omega arith);
@@ -329,9 +329,10 @@ refused_at_3 step (Err OutOfMemory) old new h k = absurd (omega arith)
 refused_at_3 step (Err WriteFailed) old new h k = absurd (omega arith)
 
 -- and what is said of it
-pub untold : {X Y : Type 0} (f : X → Y) (outcome : Result Verdict RunError) (old new : X) → IsUnwritten outcome old new → IsUnwritten outcome (f old) (f new)
-untold f (Ok v) old new u = tt
-untold f (Err (Refused e)) old new u = ap f u
-untold f (Err ReadFailed) old new u = tt
-untold f (Err OutOfMemory) old new u = tt
-untold f (Err WriteFailed) old new u = tt
+pub unreported : {X Y : Type 0} (f : X → Y) (outcome : Result Verdict RunError) (old new : X) → IsUnwritten outcome old new
+    → IsUnwritten outcome (f old) (f new)
+unreported f (Ok v) old new u = tt
+unreported f (Err (Refused e)) old new u = ap f u
+unreported f (Err ReadFailed) old new u = tt
+unreported f (Err OutOfMemory) old new u = tt
+unreported f (Err WriteFailed) old new u = tt

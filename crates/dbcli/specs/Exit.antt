@@ -84,7 +84,7 @@ IsKnown status = (status ≤ 1) ⊎ ((3 ≤ status) × (status ≤ 6))
 -- What an exit status says of a report and of what was written of it, where this is why its file is refused, if it is.
 pub record IsStatusOf (status : ℕ) (r : Report) (why : Option Refusal) (out out' err err' : OutState) : Type 0 where
   -- the second Out got a beginning of its part of the report, and then the line of the error
-  pub told : BeginsThenLine err err' r.err (exit_line status why)
+  pub ends : BeginsThenLine err err' r.err (exit_line status why)
   -- 0 is answered only where no fault was found, and all of the report was written
   pub clean : status ≡ 0 → (r.answer ≡ Ok Clean) × IsWritten r out out' err err'
   -- 1 only where some were, and all of the report was written

@@ -24,23 +24,23 @@ pub trait Notes {
     fn begin(&mut self, changes: &Changes);
 
     /// Called with the number of references that lead to pages after the stated end, before the outcome is reported.
-    fn tell_references(&mut self, count: u64);
+    fn report_references(&mut self, count: u64);
 
     /// The run has this outcome. The line of an error is not yet put.
-    fn tell(&mut self, outcome: &Result<Verdict, RunError>);
+    fn report_outcome(&mut self, outcome: &Result<Verdict, RunError>);
 
     /// There is no run, for this reason. The line of that is not yet put.
-    fn tell_unrun(&mut self, why: Unrun);
+    fn report_unrun(&mut self, why: Unrun);
 }
 
 // Ends a run by a line: hands on what is pending, tells the notes why, puts the line, and hands that on, as far as it can. If handing on
 // and the line both fail, no more is tried.
-fn put_last<E: Out, F: FnOnce()>(err: &mut E, line: &str, tell_notes: F)
-    requires { F.pre tell_notes }
+fn put_last<E: Out, F: FnOnce()>(err: &mut E, line: &str, report_notes: F)
+    requires { F.pre report_notes }
     ensures { EndsWithLine line.now 2 (E.held err.old) (E.held err.new) }
 {
     let is_flushed = err.flush().is_ok();
-    tell_notes();
+    report_notes();
     let is_put = err.put(line.as_bytes()).is_ok();
     if is_flushed || is_put {
         let _ = err.flush();
@@ -51,7 +51,7 @@ fn put_last<E: Out, F: FnOnce()>(err: &mut E, line: &str, tell_notes: F)
 pub(crate) fn put_unrun<E: Out, N: Notes>(err: &mut E, why: Unrun, notes: &mut N)
     ensures { EndsWithLine (unrun_line why) 2 (E.held err.old) (E.held err.new) }
 {
-    put_last(err, unrun_line(why), || notes.tell_unrun(why));
+    put_last(err, unrun_line(why), || notes.report_unrun(why));
 }
 
 /// Ends a run: gives the notes the outcome; at an error puts its line to `err`, after the notes, and hands it on, as
@@ -62,8 +62,8 @@ pub fn end<E: Out, N: Notes>(err: &mut E, outcome: Result<Verdict, RunError>, no
     ensures line { IfErr outcome (λ error. EndsWithLine (error_line error) 2 (E.held err.old) (E.held err.new)) }
 {
     match outcome {
-        Ok(_) => notes.tell(&outcome),
-        Err(error) => put_last(err, error_line(error), || notes.tell(&outcome)),
+        Ok(_) => notes.report_outcome(&outcome),
+        Err(error) => put_last(err, error_line(error), || notes.report_outcome(&outcome)),
     }
     status_of(&outcome)
 }

@@ -341,11 +341,11 @@ impl<R: Lookup + AllocGlobal, N: Out> Notes for FileNotes<'_, R, N> {
         ]);
     }
 
-    fn tell_references(&mut self, count: u64) {
+    fn report_references(&mut self, count: u64) {
         self.references = count;
     }
 
-    fn tell_unrun(&mut self, why: Unrun) {
+    fn report_unrun(&mut self, why: Unrun) {
         match why {
             Unrun::PastEnd => self.put_length(),
             Unrun::Version => {}
@@ -356,7 +356,7 @@ impl<R: Lookup + AllocGlobal, N: Out> Notes for FileNotes<'_, R, N> {
         self.put_changes();
     }
 
-    fn tell(&mut self, outcome: &Result<Verdict, RunError>) {
+    fn report_outcome(&mut self, outcome: &Result<Verdict, RunError>) {
         match outcome {
             Ok(verdict) => {
                 if *verdict != Verdict::Clean {

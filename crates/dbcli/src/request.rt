@@ -36,7 +36,7 @@ fn told_verdict<N: Notes>(
     ensures { result ≡ verdict_in answer }
 {
     let explanation = answer?;
-    notes.tell_references(explanation.after_end);
+    notes.report_references(explanation.after_end);
     Ok(explanation.verdict)
 }
 

@@ -111,7 +111,7 @@ pub fn answer_words<
     let rt = system.rt;
     match line_of(rt.alloc(), words) {
         Ok(line) => run_line(system, line, out, err, notes, progress),
-        Err(error) => tell(rt, &error),
+        Err(error) => report_error(rt, &error),
     }
 }
 
@@ -138,7 +138,7 @@ fn print_unwritten<R: Eprint + AllocGlobal>(rt: &R, error: &io::Error) {
 
 /// Prints why the words are no command line, or the help that they ask for, and answers the exit status: 6 where the
 /// help cannot be printed.
-pub fn tell<R: Print + Eprint + AllocGlobal>(rt: &R, error: &LineError) -> u8
+pub fn report_error<R: Print + Eprint + AllocGlobal>(rt: &R, error: &LineError) -> u8
     ensures { IsErrorStatus result error.now }
 {
     let status = line_status(error);

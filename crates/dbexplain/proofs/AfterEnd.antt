@@ -7,9 +7,9 @@ use Rattle.dbformat.specs.Lines.{counted}
 use Rattle.dbformat.specs.Reference.{Reference}
 use Rattle.dbformat.specs.declared.Geometry.{Geometry}
 use Rattle.dbtrace.specs.declared.TracedFault.{TracedFault}
-use Rattle.dbscan.specs.Placed.{faults_of, told_faults}
-use Rattle.dbscan.proofs.AllTold.{all_told}
-use Rattle.dbexplain.specs.AfterEnd.{after_end_told, leads_after_end, none_after_end, references_after_end}
+use Rattle.dbscan.specs.Placed.{faults_of, reported_faults}
+use Rattle.dbscan.proofs.AllReported.{all_reported}
+use Rattle.dbexplain.specs.AfterEnd.{after_end_reported, leads_after_end, none_after_end, references_after_end}
 use Rattle.dbexplain.specs.declared.after_end.AfterEnd.{AfterEnd}
 
 module _ (g : Geometry) (len : ℕ) where
@@ -20,10 +20,10 @@ module _ (g : Geometry) (len : ℕ) where
   -- from such a state on, these faults add as many as lead there
   abbrev CountsOn : List TracedFault → Type 0
   CountsOn ts = (m n : ℕ) → m ≡ counted n
-      → (fold after_end_told (counting m) ts).references ≡ counted (n + count_by (leads_after_end g len) (faults_of ts))
+      → (fold after_end_reported (counting m) ts).references ≡ counted (n + count_by (leads_after_end g len) (faults_of ts))
 
   one_more : (t : TracedFault) (ts : List TracedFault) → CountsOn ts → (m n : ℕ) → m ≡ counted n → (b : Bool) → leads_after_end g len t.fault ≡ b
-      → (fold after_end_told (cond b (counting (counted (m + 1))) (counting m)) ts).references
+      → (fold after_end_reported (cond b (counting (counted (m + 1))) (counting m)) ts).references
       ≡ counted (n + count_by (leads_after_end g len) (faults_of (t ∷ ts)))
   one_more t ts on m n e true h =
       let all = count-append (leads_after_end g len) (t.fault ∷ []) (faults_of ts) in
@@ -44,11 +44,11 @@ module _ (g : Geometry) (len : ℕ) where
 
 -- all of a file were counted, from none on
 pub all_counted : (file : List ℕ) (V : List Reference) (first now : AfterEnd) → first ≡ none_after_end (geometry file) (length file)
-    → now ≡ fold after_end_told first (told_faults file V) → now.references ≡ counted (references_after_end file V)
-all_counted file V first now none told =
-    let ts = told_faults file V in
+    → now ≡ fold after_end_reported first (reported_faults file V) → now.references ≡ counted (references_after_end file V)
+all_counted file V first now none reported =
+    let ts = reported_faults file V in
     let leads = leads_after_end (geometry file) (length file) in
-    ap (λ (c : AfterEnd). c.references) (told ∙ ap (λ c. fold after_end_told c ts) none)
+    ap (λ (c : AfterEnd). c.references) (reported ∙ ap (λ c. fold after_end_reported c ts) none)
     ∙ counts_on (geometry file) (length file) ts 0 0 refl
     ∙ ap counted (let q : 0 + count_by leads (faults_of ts) ≡ count_by leads (faults_of ts) = omega arith in q)
-    ∙ ap (λ fs. counted (count_by leads fs)) (all_told file V)
+    ∙ ap (λ fs. counted (count_by leads fs)) (all_reported file V)

@@ -14,7 +14,7 @@ use Rattle.dbsource.specs.declared.error.RunError.{RunError}
 use Rattle.dbsource.specs.declared.error.RunError.TheVariants.{Refused, ReadFailed, OutOfMemory, WriteFailed}
 use Rattle.dbsource.proofs.Beginnings.{begins_nothing}
 use Rattle.dbsource.proofs.Puts.{appends_nothing}
-use Rattle.dbwalk.specs.Telling.{IsReadWriteOrMemory}
+use Rattle.dbwalk.specs.Reporting.{IsReadWriteOrMemory}
 use Rattle.dbscan.specs.Finishes.{Leaves}
 use Rattle.dbreport.specs.Runs.{IsAnswerOf, SaysOk}
 use Rattle.dbreport.proofs.NotBegun.{no_failure}
@@ -25,7 +25,7 @@ use Rattle.dbinjuries.specs.Lists.{ListsFirst}
 use Rattle.dbexplain.specs.AfterEnd.{references_after_end}
 use Rattle.dbexplain.specs.Explained.{explain_report, explain_text, found_text}
 use Rattle.dbexplain.specs.Keeping.{lines_of}
-use Rattle.dbexplain.specs.Reporting.{Ends, Hears, IsFresh, IsReportLeft, LeavesExplained, PutsLines}
+use Rattle.dbexplain.specs.Reporting.{Ends, Receives, IsFresh, IsReportLeft, LeavesExplained, PutsLines}
 use Rattle.dbexplain.specs.Runs.{IsExplained, OutFailures, PutsFound, WritesReport, answer_with, verdict_in}
 use Rattle.dbexplain.specs.declared.after_end.AfterEnd.{AfterEnd}
 use Rattle.dbexplain.specs.declared.reporter.ExplainReporter.{ExplainReporter}
@@ -46,9 +46,9 @@ module _ {A O : Type 0} (held : O → OutState) (limit : ℕ) (file : List ℕ) 
       let text = lines_of l.injuries.listed in record {
         text = text;
         found = record {
-          told = found.told;
+          reported = found.reported;
           first = found.first;
-          lines = found_lines limit (injuries found.told) l found.shows;
+          lines = found_lines limit (injuries found.reported) l found.shows;
         };
         answer = lines.put;
         put = subst (λ o. Puts lines.put (held o) (held after.out.now) text) k.0 lines.lines;
@@ -75,7 +75,7 @@ module _ {A O : Type 0} (held : O → OutState) (limit : ℕ) (file : List ℕ) 
   found (Err e) k = tt
 
   pub explained : (r : Result Verdict RunError) (old : O) → Survey file V → IsFresh limit file first → first.out.now ≡ old
-      → Leaves Hears (LeavesExplained held) file V r first now → Ends held r now after
+      → Leaves Receives (LeavesExplained held) file V r first now → Ends held r now after
       → WritesReport limit file V r (held old) (held after.out.now) × IfOk r (λ v. (explain_report limit file V).answer ≡ Ok v)
   explained r old survey fresh begun left ends =
       let k = is_left held file V survey first now limit fresh r left in
@@ -88,7 +88,7 @@ module _ {A O : Type 0} (held : O → OutState) (limit : ℕ) (file : List ℕ) 
   counted_in (Err e) k = tt
 
   pub references_counted : (r : Result Verdict RunError) → Survey file V → IsFresh limit file first
-      → Leaves Hears (LeavesExplained held) file V r first now → after.after_end ≡ now.after_end
+      → Leaves Receives (LeavesExplained held) file V r first now → after.after_end ≡ now.after_end
       → IfOk r (λ v. after.after_end.references ≡ counted (references_after_end file V))
   references_counted r survey fresh left same =
       subst (λ (c : AfterEnd). IfOk r (λ v. c.references ≡ counted (references_after_end file V))) (sym same)
@@ -131,13 +131,13 @@ module _ {A O : Type 0} (held : O → OutState) (now after : ExplainReporter A O
 pub is_explained : (limit : ℕ) (file : List ℕ) (r : Result Verdict RunError) (old new : OutState) → IfErr r IsReadWriteOrMemory → refusal file ≡ None
     → ((V : List Reference) → Survey file V → WritesReport limit file V r old new × IfOk r (λ v. (explain_report limit file V).answer ≡ Ok v))
     → IsExplained limit file r old new
-is_explained limit file r old new only read told = record {
+is_explained limit file r old new only read reported = record {
   survey = (one_survey file).0;
-  written = λ V s. (told V s).0;
-  verdict = λ V s. (told V s).1;
+  written = λ V s. (reported V s).0;
+  verdict = λ V s. (reported V s).1;
   answer = read_answer file r only read;
-  sound = if_ok r (explain_sound limit file read) (told (survey file) (one_survey file).0).1;
-  ok = ok_at r (told (survey file) (one_survey file).0).0;
+  sound = if_ok r (explain_sound limit file read) (reported (survey file) (one_survey file).0).1;
+  ok = ok_at r (reported (survey file) (one_survey file).0).0;
 }
   where
     ok_at : (r : Result Verdict RunError) → WritesReport limit file (survey file) r old new → OnOk r (SaysOk file old.bytes new.bytes)
@@ -163,7 +163,7 @@ not_explained limit file e out answer = record {
     unwritten V ReadFailed = record {
       text = [];
       found = record {
-        told = [];
+        reported = [];
         first = (listed_faults file V, refl);
         lines = none limit;
       };

@@ -8,7 +8,7 @@ use Rattle.std.proofs.lemmas.List.Folds.{list_any-append}
 use Rattle.dbformat.specs.Rows.{StatRow}
 use Rattle.dbscan.specs.StartTable.{most_starts}
 use Rattle.dbexplain.specs.Indexes.{AreIndexes, index_noted, is_index_page, is_index_type}
-use Rattle.dbexplain.proofs.Tallies.{none_told, slot}
+use Rattle.dbexplain.proofs.Tallies.{none_reported, slot}
 
 any_more : (k : ℕ) (rs : List StatRow) (r : StatRow) → list_any (is_index_page k) (rs ++ r ∷ [])
     ≡ (list_any (is_index_page k) rs || ((r.start == k) && is_index_type r.pagetype))
@@ -54,4 +54,4 @@ all_indexes rs noted is = noted_from rs [] noted is
 -- no row was noted
 pub none_noted : (noted : List Bool) → noted ≡ replicate most_starts false → AreIndexes [] noted
 unfolding most_starts
-none_noted noted e k l = ap (λ xs. slice_get xs k) e ∙ none_told most_starts k false (omega arith)
+none_noted noted e k l = ap (λ xs. slice_get xs k) e ∙ none_reported most_starts k false (omega arith)

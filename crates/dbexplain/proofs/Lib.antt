@@ -2,7 +2,7 @@ pub mod AfterEnd
 pub mod Below
 pub mod Desks
 pub mod Explained
-pub mod Heard
+pub mod Received
 pub mod KeptInjuries
 pub mod IndexesNoted
 pub mod Left

@@ -14,7 +14,7 @@ use Rattle.dbformat.specs.Lines.{counted}
 use Rattle.dbscan.specs.StartTable.{most_starts}
 use Rattle.dbtrace.specs.declared.TracedFault.{TracedFault}
 use Rattle.dbexplain.specs.KeptRanges.{AreAllKept, AreKept, AreRangesOf, KeptRanges, closed, count_of, no_more, no_ranges, one_more, range_added, range_kept}
-use Rattle.dbexplain.specs.KeptRanges.{range_told, after_last, range_if, with_last}
+use Rattle.dbexplain.specs.KeptRanges.{range_reported, after_last, range_if, with_last}
 use Rattle.dbexplain.specs.Ranges.{Found, found_after, found_more, found_with, grown, is_of, joins, most_ranges, none_found, range_of, ranges_found}
 use Rattle.dbexplain.specs.Ranges.{same_kind}
 use Rattle.dbexplain.specs.declared.ranges.RangeCount.{RangeCount}
@@ -150,19 +150,19 @@ of_range f k r is = subst (λ o. IsOf (found_after f.done f.last r) (after_last 
         by_join true = record { last = refl; kept = is.kept }
         by_join false = record { last = refl; kept = kept_more f.done s k is.kept }
 
-of_fault : (f : Found) (k : KeptRanges) (t : TracedFault) → IsOf f k → IsOf (found_more f t) (range_told k t)
+of_fault : (f : Found) (k : KeptRanges) (t : TracedFault) → IsOf f k → IsOf (found_more f t) (range_reported k t)
 of_fault f k t is = by_range (range_of t)
   where
     by_range : (o : Option RowRange) → IsOf (found_with f o) (range_if k o)
     by_range None = is
     by_range (Some r) = of_range f k r is
 
-of_faults : (ts : List TracedFault) (f : Found) (k : KeptRanges) → IsOf f k → IsOf (fold found_more f ts) (fold range_told k ts)
+of_faults : (ts : List TracedFault) (f : Found) (k : KeptRanges) → IsOf f k → IsOf (fold found_more f ts) (fold range_reported k ts)
 of_faults [] f k is = is
-of_faults (t ∷ ts) f k is = of_faults ts (found_more f t) (range_told k t) (of_fault f k t is)
+of_faults (t ∷ ts) f k is = of_faults ts (found_more f t) (range_reported k t) (of_fault f k t is)
 
-pub all_ranges_told : (ts : List TracedFault) (k : KeptRanges) → AreRangesOf [] k → AreRangesOf ts (fold range_told k ts)
-all_ranges_told ts k is =
+pub all_ranges_reported : (ts : List TracedFault) (k : KeptRanges) → AreRangesOf [] k → AreRangesOf ts (fold range_reported k ts)
+all_ranges_reported ts k is =
     let h = of_faults ts none_found k (record { last = is.last; kept = is.kept }) in
     record { last = h.last; kept = h.kept }
 

@@ -12,7 +12,7 @@ use Rattle.dbsurvey.proofs.Ranges.{count_push}
 use Rattle.dbtrace.specs.declared.TracedFault.{TracedFault}
 use Rattle.dbformat.specs.Starts.{start_at}
 use Rattle.dbinjuries.specs.Bits.{has_bit}
-use Rattle.dbexplain.specs.Summary.{start_count, is_reached, is_told}
+use Rattle.dbexplain.specs.Summary.{start_count, is_reached, is_reported}
 use Rattle.dbexplain.specs.Tallies.{Tallied, IsTallyTo, counted_start, no_count, one_reached_page, page_reached}
 use Rattle.dbexplain.proofs.Tallies.{slot}
 
@@ -29,7 +29,7 @@ module _ (V : List Reference) (ts : List TracedFault) (n : ℕ) (few : n < most_
   p = n + 1
 
   abbrev both : ℕ → ℕ → Bool
-  both k q = is_reached V k q && is_told ts q
+  both k q = is_reached V k q && is_reported ts q
 
   more : (f : ℕ → Bool) → count_by f (range_with_len 1 (n + 1)) ≡ count_by f (range_with_len 1 n) + cond (f p) 1 0
   more f = count_push f 1 n p (omega arith)
@@ -41,7 +41,8 @@ module _ (V : List Reference) (ts : List TracedFault) (n : ℕ) (few : n < most_
       sym (more (is_reached V k) ∙ ap (λ b. count_by (is_reached V k) (range_with_len 1 n) + cond b 1 0) off
       ∙ none (count_by (is_reached V k) (range_with_len 1 n))) in
       let b : count_by (both k) (range_with_len 1 n) ≡ count_by (both k) (range_with_len 1 (n + 1)) =
-      sym (more (both k) ∙ ap (λ b. count_by (both k) (range_with_len 1 n) + cond (b && is_told ts p) 1 0) off ∙ none (count_by (both k) (range_with_len 1 n)))
+      sym (more (both k) ∙ ap (λ b. count_by (both k) (range_with_len 1 n) + cond (b && is_reported ts p) 1 0) off
+          ∙ none (count_by (both k) (range_with_len 1 n)))
       in
       ap₂ (λ x y. record { faults = counted (start_count ts k); reached = x; faulty = y }) a b
     where
@@ -49,8 +50,8 @@ module _ (V : List Reference) (ts : List TracedFault) (n : ℕ) (few : n < most_
       none m = omega arith
 
   -- where it was
-  next_start : (k : ℕ) → is_reached V k p ≡ true → one_reached_page (is_told ts p) (counted_start V ts n k) ≡ counted_start V ts (n + 1) k
-  next_start k on = ap₂ (λ x y. record { faults = counted (start_count ts k); reached = x; faulty = y }) reached (faulty (is_told ts p) refl)
+  next_start : (k : ℕ) → is_reached V k p ≡ true → one_reached_page (is_reported ts p) (counted_start V ts n k) ≡ counted_start V ts (n + 1) k
+  next_start k on = ap₂ (λ x y. record { faults = counted (start_count ts k); reached = x; faulty = y }) reached (faulty (is_reported ts p) refl)
     where
       reached : min (count_by (is_reached V k) (range_with_len 1 n) + 1) (2 ^ 32 - 1) ≡ count_by (is_reached V k) (range_with_len 1 (n + 1))
       reached =
@@ -58,7 +59,7 @@ module _ (V : List Reference) (ts : List TracedFault) (n : ℕ) (few : n < most_
           capped (count_by (is_reached V k) (range_with_len 1 n)) (count_by (is_reached V k) (range_with_len 1 (n + 1))) (omega (arith, l, few))
           (more (is_reached V k) ∙ ap (λ b. count_by (is_reached V k) (range_with_len 1 n) + cond b 1 0) on)
 
-      faulty : (b : Bool) → is_told ts p ≡ b
+      faulty : (b : Bool) → is_reported ts p ≡ b
           → min (count_by (both k) (range_with_len 1 n) + cond b 1 0) (2 ^ 32 - 1) ≡ count_by (both k) (range_with_len 1 (n + 1))
       faulty b e =
           let l = at_most (both k) 1 n in

@@ -18,8 +18,8 @@ use Rattle.dbformat.specs.declared.Verdict.TheVariants.{Clean}
 use Rattle.dbformat.proofs.Theory.{one_survey}
 use Rattle.dbsound.proofs.Soundness.{sound_by_faults, sound_by_verdict}
 use Rattle.dbtrace.specs.declared.TracedFault.{TracedFault}
-use Rattle.dbscan.specs.Placed.{faults_of, told_faults}
-use Rattle.dbscan.proofs.AllTold.{all_told}
+use Rattle.dbscan.specs.Placed.{faults_of, reported_faults}
+use Rattle.dbscan.proofs.AllReported.{all_reported}
 use Rattle.dbscan.specs.Roots.{listed_rows}
 use Rattle.dbinjuries.specs.Listed.{listed_injuries}
 use Rattle.dbinjuries.specs.Listing.{Injury, size}
@@ -29,7 +29,7 @@ use Rattle.dbreport.proofs.RunAnswers.{said_ok}
 use Rattle.dbreport.proofs.RunReports.{check_answer}
 use Rattle.dbexplain.specs.Explained.{injury_text, explain_report, explain_text}
 use Rattle.dbexplain.specs.Summary.{code_line, count_text, start_sum_line, summary, trees_text, whole_line, whole_trees, zeros_text}
-use Rattle.dbexplain.proofs.Reports.{none_told, ok_text}
+use Rattle.dbexplain.proofs.Reports.{none_reported, ok_text}
 
 module _ (limit : ℕ) (file : List ℕ) (V : List Reference) (read : refusal file ≡ None) where
   abbrev read_report : Report
@@ -84,10 +84,10 @@ module _ (limit : ℕ) (file : List ℕ) (V : List Reference) where
   -- so is the report of a file that has injuries
   longer : (e : Injury) (es : List Injury) → 4 ≤ length (explain_text limit file V (e ∷ es))
   longer e es = end_long (flat_map (injury_text file V) (take limit (e ∷ es))) (more_text (sum_by size (drop limit (e ∷ es))))
-      (summary file V (told_faults file V)) (summary_long file V (told_faults file V))
+      (summary file V (reported_faults file V)) (summary_long file V (reported_faults file V))
 
   none_by_text : (es : List Injury) → listed_injuries file V ≡ es → explain_text limit file V es ≡ ok_line → faults file V ≡ []
-  none_by_text [] is e = sym (all_told file V) ∙ ap faults_of (none_told file V is)
+  none_by_text [] is e = sym (all_reported file V) ∙ ap faults_of (none_reported file V is)
   none_by_text (k ∷ es) is e = absurd
       (let x = longer k es in let y : length (explain_text limit file V (k ∷ es)) ≡ 3 = ap length e in let f : ⊥ = omega (arith, x, y) in f)
 
@@ -108,7 +108,7 @@ module _ (limit : ℕ) (file : List ℕ) (V : List Reference) where
   text_is_ok s = let by = sound_by_faults file V s in (
     (λ e. by.1 (by_text e)),
     (λ sound. let h = by.0 sound in
-        sym (out_is limit file V h.0) ∙ ok_text limit file V (none_of (told_faults file V) (all_told file V ∙ h.1))),
+        sym (out_is limit file V h.0) ∙ ok_text limit file V (none_of (reported_faults file V) (all_reported file V ∙ h.1))),
   )
 
   -- and so is what was written of it

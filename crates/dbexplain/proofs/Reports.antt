@@ -7,7 +7,7 @@ use Rattle.dbformat.specs.Report.{more_text}
 use Rattle.dbtrace.specs.declared.TracedFault.{TracedFault}
 use Rattle.dbinjuries.specs.Listing as listing
 use Rattle.dbinjuries.specs.Listing.{injuries, size}
-use Rattle.dbscan.specs.Placed.{told_faults}
+use Rattle.dbscan.specs.Placed.{reported_faults}
 use Rattle.dbreport.proofs.Checks.{more_counted}
 use Rattle.dbinjuries.specs.Listed.{is_lost, listed_injuries, listed_faults, looked_at, others_of}
 use Rattle.dbinjuries.specs.Lists.{Held, Shows}
@@ -33,21 +33,21 @@ none_of file V (t ∷ ts) h = by_case (is_lost t) h
     by_case true h = absurd (some (others_of ts) (map (looked_at file V) (filter is_lost ts)) (looked_at file V t) h)
     by_case false h = cc
 
-pub none_told : (file : List ℕ) (V : List Reference) → listed_injuries file V ≡ [] → told_faults file V ≡ []
-none_told file V h = none_of file V (told_faults file V) (some_listed (listed_faults file V) h)
+pub none_reported : (file : List ℕ) (V : List Reference) → listed_injuries file V ≡ [] → reported_faults file V ≡ []
+none_reported file V h = none_of file V (reported_faults file V) (some_listed (listed_faults file V) h)
 
 text_some : (limit : ℕ) (file : List ℕ) (V : List Reference) (es : List listing.Injury) → (es ≡ [] → ⊥)
-    → flat_map (injury_text file V) (take limit es) ++ (more_text (sum_by size (drop limit es)) ++ summary file V (told_faults file V))
+    → flat_map (injury_text file V) (take limit es) ++ (more_text (sum_by size (drop limit es)) ++ summary file V (reported_faults file V))
     ≡ explain_text limit file V es
 text_some limit file V [] h = absurd (h refl)
 text_some limit file V (e ∷ es) h = refl
 
-pub report_text : (limit : ℕ) (file : List ℕ) (V : List Reference) → (told_faults file V ≡ [] → ⊥)
+pub report_text : (limit : ℕ) (file : List ℕ) (V : List Reference) → (reported_faults file V ≡ [] → ⊥)
     → flat_map (injury_text file V) (take limit (listed_injuries file V))
-    ++ (more_text (sum_by size (drop limit (listed_injuries file V))) ++ summary file V (told_faults file V))
+    ++ (more_text (sum_by size (drop limit (listed_injuries file V))) ++ summary file V (reported_faults file V))
     ≡ explain_text limit file V (listed_injuries file V)
-report_text limit file V some = text_some limit file V (listed_injuries file V) (λ e. some (none_told file V e))
+report_text limit file V some = text_some limit file V (listed_injuries file V) (λ e. some (none_reported file V e))
 
 -- and else there is the line of a file without a fault
-pub ok_text : (limit : ℕ) (file : List ℕ) (V : List Reference) → told_faults file V ≡ [] → explain_text limit file V (listed_injuries file V) ≡ ok_line
+pub ok_text : (limit : ℕ) (file : List ℕ) (V : List Reference) → reported_faults file V ≡ [] → explain_text limit file V (listed_injuries file V) ≡ ok_line
 ok_text limit file V none = ap (λ ts. explain_text limit file V (injuries (others_of ts ++ map (looked_at file V) (filter is_lost ts)))) none

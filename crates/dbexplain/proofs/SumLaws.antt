@@ -20,7 +20,7 @@ use Rattle.dbformat.proofs.Rising.{starts_rise}
 use Rattle.dbtrace.specs.declared.Part.{Part}
 use Rattle.dbtrace.specs.declared.Part.TheVariants as part
 use Rattle.dbtrace.specs.declared.TracedFault.{TracedFault}
-use Rattle.dbscan.specs.Placed.{told_faults}
+use Rattle.dbscan.specs.Placed.{reported_faults}
 use Rattle.dbscan.proofs.Reached.{of_starts}
 use Rattle.dbexplain.specs.Summary.{is_part_of_start, is_whole, CodesAddUp, StartsAddUp}
 
@@ -92,7 +92,7 @@ once_in (l ∷ ls) k rise (inr i) =
     omega (arith, a, b)
 
 module _ (file : List ℕ) (V : List Reference) (s : Survey file V) where
-  one_part : (t : TracedFault) → IsIn t (told_faults file V) → count_by (λ (l : Link Way). is_part_of_start l.step t.part) (starts file V)
+  one_part : (t : TracedFault) → IsIn t (reported_faults file V) → count_by (λ (l : Link Way). is_part_of_start l.step t.part) (starts file V)
       + cond (is_whole t.part) 1 0 ≡ 1
   one_part t i = by_part t.part refl
     where
@@ -103,5 +103,5 @@ module _ (file : List ℕ) (V : List Reference) (s : Survey file V) where
       by_part part.End e = let a = count_none (λ (l : Link Way). false) (starts file V) (λ l i. refl) in omega (arith, a)
 
   pub starts_add_up : StartsAddUp file V
-  starts_add_up = all_once (λ (l : Link Way) (t : TracedFault). is_part_of_start l.step t.part) (λ t. is_whole t.part) (starts file V) (told_faults file V)
+  starts_add_up = all_once (λ (l : Link Way) (t : TracedFault). is_part_of_start l.step t.part) (λ t. is_whole t.part) (starts file V) (reported_faults file V)
       one_part

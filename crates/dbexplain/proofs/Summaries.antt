@@ -37,7 +37,7 @@ use Rattle.dbtrace.specs.declared.Part.TheVariants as part
 use Rattle.dbtrace.specs.declared.TracedFault.{TracedFault}
 use Rattle.dbformat.proofs.BelowStarts.{before_freelist, rows_start}
 use Rattle.dbformat.proofs.Rising.{rows_end}
-use Rattle.dbscan.specs.Placed.{told_faults}
+use Rattle.dbscan.specs.Placed.{reported_faults}
 use Rattle.dbscan.proofs.Reached.{of_starts}
 use Rattle.dbinjuries.specs.Lines.{indented}
 use Rattle.dbinjuries.specs.Bits.{has_bit}
@@ -101,7 +101,7 @@ room k n h = omega arith
 
 module _ (file : List ℕ) (V : List Reference) (s : Survey file V) where
   abbrev ts : List TracedFault
-  ts = told_faults file V
+  ts = reported_faults file V
 
   abbrev n : ℕ
   n = (geometry file).pages
@@ -237,22 +237,22 @@ module _ (file : List ℕ) (V : List Reference) (s : Survey file V) where
 -- so it is of what is put by the list of roots, and by the runs of the pages that are zeros
 pub known_summary : (file : List ℕ) (V : List Reference) → Survey file V
     → (h : HeaderBytes) (rows : List SchemaRow) (e : Encoding) (t : Tallied) (size : ℕ) (r : PageRuns) (below : ℕ → List ℕ)
-    → IsHeaderOf h file → AreListed file V rows → e ≡ encoding h.bytes → IsTallyTo (geometry file).pages V (told_faults file V) (geometry file).pages t
+    → IsHeaderOf h file → AreListed file V rows → e ≡ encoding h.bytes → IsTallyTo (geometry file).pages V (reported_faults file V) (geometry file).pages t
     → zeros_sum size r ≡ zeros_text (geometry file).page_size (zero_pages file V)
-    → ((k : ℕ) → k ≤ freelist_start → below k ≡ rows_below file V (told_faults file V) k)
-    → summary_by size r e rows below t ≡ summary file V (told_faults file V)
+    → ((k : ℕ) → k ≤ freelist_start → below k ≡ rows_below file V (reported_faults file V) k)
+    → summary_by size r e rows below t ≡ summary file V (reported_faults file V)
 known_summary file V s h given e t size r below header listed texts is zeros rows_are =
     ap₂ (λ e rows. summary_by size r e rows below t) (texts ∙ ap encoding header.begins ∙ encoding_within file) listed
     ∙ summary_same file V s t is below rows_are size r zeros
 
 -- the lines of the rows of start k, by what is kept of them
 pub known_rows : (file : List ℕ) (V : List Reference) (rows : List SchemaRow) (ranges : KeptRanges) (indexes : List Bool) → AreListed file V rows
-    → AreAllKept (told_faults file V) ranges → AreIndexes (stat_rows file V) indexes → (k : ℕ) → k ≤ freelist_start
-    → rows_sum ranges indexes rows k ≡ rows_below file V (told_faults file V) k
+    → AreAllKept (reported_faults file V) ranges → AreIndexes (stat_rows file V) indexes → (k : ℕ) → k ≤ freelist_start
+    → rows_sum ranges indexes rows k ≡ rows_below file V (reported_faults file V) k
 known_rows file V given ranges indexes listed kept noted k l =
     ap₂ (λ rows (o : Option Bool). cond (is_index_start rows k || unwrap_or o false) [] (kept_text ranges k)) listed (noted k l)
     ∙ by_tests (is_index_start (listed_rows file V) k) (list_any (is_index_page k) (stat_rows file V))
-    ∙ ap (λ w. cond (has_rowids file V k) w []) (kept_lines (told_faults file V) ranges kept k l)
+    ∙ ap (λ w. cond (has_rowids file V k) w []) (kept_lines (reported_faults file V) ranges kept k l)
   where
     by_tests : (a b : Bool) → cond (a || b) [] (kept_text ranges k) ≡ cond (not a && not b) (kept_text ranges k) []
     by_tests true b = refl

@@ -21,8 +21,8 @@ use Rattle.dbtrace.specs.declared.TracedFault.{TracedFault}
 use Rattle.dbscan.specs.StartTable.{most_starts}
 use Rattle.dbscan.proofs.Slots.{get_set, get_set_other}
 use Rattle.dbinjuries.specs.Bits.{bit_set, has_bit}
-use Rattle.dbexplain.specs.Summary.{code_count, is_part_of_start, is_told, is_whole}
-use Rattle.dbexplain.specs.Tallies.{Tallied, IsTallyOf, counted_start, no_count, one_fault, fault_told}
+use Rattle.dbexplain.specs.Summary.{code_count, is_part_of_start, is_reported, is_whole}
+use Rattle.dbexplain.specs.Tallies.{Tallied, IsTallyOf, counted_start, no_count, one_fault, fault_reported}
 use Rattle.dbinjuries.proofs.Bits.{set_is}
 
 -- ---- counts
@@ -65,7 +65,7 @@ module _ (pages : ℕ) (ts : List TracedFault) (f : Fault) (why : Cause) (t : Ta
   all_more : (p : Part) → counted (t.all + 1) ≡ counted (length (with p))
   all_more p = let e = is.all in let l = length-append ts (one p ∷ []) in omega (arith, e, l)
 
-  codes_more : (p : Part) (c : FaultCode) → slice_get (fault_told t (one p)).codes (code_index c) ≡ Some (counted (code_count (with p) c))
+  codes_more : (p : Part) (c : FaultCode) → slice_get (fault_reported t (one p)).codes (code_index c) ≡ Some (counted (code_count (with p) c))
   codes_more p c = by_part p
     where
       here : slice_get (slice_set t.codes (code_index f.code) (counted (slice_index_or t.codes (code_index f.code) 0 + 1))) (code_index c)
@@ -74,37 +74,37 @@ module _ (pages : ℕ) (ts : List TracedFault) (f : Fault) (why : Cause) (t : Ta
           (λ e. rises (λ (t : TracedFault). is_code t.fault.code c) p (apart f.code c ∙ e))
           (λ e. stays (λ (t : TracedFault). is_code t.fault.code c) p (apart f.code c ∙ e))
 
-      by_part : (q : Part) → slice_get (fault_told t (one q)).codes (code_index c) ≡ Some (counted (code_count (with p) c))
+      by_part : (q : Part) → slice_get (fault_reported t (one q)).codes (code_index c) ≡ Some (counted (code_count (with p) c))
       by_part part.Header = here
       by_part (part.Start j) = here
       by_part part.End = here
 
   -- pages of faults that were reported at starts
-  any_more : (p : Part) (q : ℕ) → is_told (with p) q ≡ (is_told ts q || (not (is_whole p) && (f.page == q)))
+  any_more : (p : Part) (q : ℕ) → is_reported (with p) q ≡ (is_reported ts q || (not (is_whole p) && (f.page == q)))
   any_more p q =
       list_any-append (λ (t : TracedFault). not (is_whole t.part) && (t.fault.page == q)) ts (one p ∷ [])
-      ∙ ap (λ b. is_told ts q || b) (or-false (not (is_whole p) && (f.page == q)))
+      ∙ ap (λ b. is_reported ts q || b) (or-false (not (is_whole p) && (f.page == q)))
 
-  pub told_more : (p : Part) → IsTallyOf pages (with p) (fault_told t (one p))
-  told_more part.Header = record {
+  pub reported_more : (p : Part) → IsTallyOf pages (with p) (fault_reported t (one p))
+  reported_more part.Header = record {
     all = all_more part.Header;
     codes = codes_more part.Header;
     starts = λ k l. is.starts k l ∙ ap (λ n. Some (record { faults = n; reached = 0; faulty = 0 }))
         (stays (λ (t : TracedFault). is_part_of_start k t.part) part.Header refl);
     whole = ap (λ n. counted (n + 1)) is.whole ∙ rises (λ (t : TracedFault). is_whole t.part) part.Header refl;
     room = is.room;
-    bits = λ q l. is.bits q l ∙ sym (any_more part.Header q ∙ or-false (is_told ts q));
+    bits = λ q l. is.bits q l ∙ sym (any_more part.Header q ∙ or-false (is_reported ts q));
   }
-  told_more part.End = record {
+  reported_more part.End = record {
     all = all_more part.End;
     codes = codes_more part.End;
     starts = λ k l. is.starts k l ∙ ap (λ n. Some (record { faults = n; reached = 0; faulty = 0 }))
         (stays (λ (t : TracedFault). is_part_of_start k t.part) part.End refl);
     whole = ap (λ n. counted (n + 1)) is.whole ∙ rises (λ (t : TracedFault). is_whole t.part) part.End refl;
     room = is.room;
-    bits = λ q l. is.bits q l ∙ sym (any_more part.End q ∙ or-false (is_told ts q));
+    bits = λ q l. is.bits q l ∙ sym (any_more part.End q ∙ or-false (is_reported ts q));
   }
-  told_more (part.Start j) = record {
+  reported_more (part.Start j) = record {
     all = all_more (part.Start j);
     codes = codes_more (part.Start j);
     starts = λ k l. slot t.starts j k no_count one_fault (counted_start [] ts 0 k) (counted_start [] (with (part.Start j)) 0 k) (is.starts k l)
@@ -117,25 +117,25 @@ module _ (pages : ℕ) (ts : List TracedFault) (f : Fault) (why : Cause) (t : Ta
   }
 
 -- fault after fault
-pub all_told : (pages : ℕ) (xs ts : List TracedFault) (t : Tallied) → IsTallyOf pages ts t → IsTallyOf pages (ts ++ xs) (fold fault_told t xs)
-all_told pages [] ts t is = subst (λ l. IsTallyOf pages l t) (sym (append-nil ts)) is
-all_told pages (x ∷ xs) ts t is =
-    subst (λ l. IsTallyOf pages l (fold fault_told (fault_told t x) xs)) (append_assoc ts (x ∷ []) xs)
-    (all_told pages xs (ts ++ x ∷ []) (fault_told t x) (told_more pages ts x.fault x.cause t is x.part))
+pub all_reported : (pages : ℕ) (xs ts : List TracedFault) (t : Tallied) → IsTallyOf pages ts t → IsTallyOf pages (ts ++ xs) (fold fault_reported t xs)
+all_reported pages [] ts t is = subst (λ l. IsTallyOf pages l t) (sym (append-nil ts)) is
+all_reported pages (x ∷ xs) ts t is =
+    subst (λ l. IsTallyOf pages l (fold fault_reported (fault_reported t x) xs)) (append_assoc ts (x ∷ []) xs)
+    (all_reported pages xs (ts ++ x ∷ []) (fault_reported t x) (reported_more pages ts x.fault x.cause t is x.part))
 
-pub none_told : {X : Type 0} (n k : ℕ) (c : X) → k < n → slice_get (replicate n c) k ≡ Some c
-none_told (suc n) zero c l = refl
-none_told (suc n) (suc k) c l = none_told n k c (omega arith)
-none_told zero k c l = absurd (let f : ⊥ = omega arith in f)
+pub none_reported : {X : Type 0} (n k : ℕ) (c : X) → k < n → slice_get (replicate n c) k ≡ Some c
+none_reported (suc n) zero c l = refl
+none_reported (suc n) (suc k) c l = none_reported n k c (omega arith)
+none_reported zero k c l = absurd (let f : ⊥ = omega arith in f)
 
 -- where no fault was reported
-pub nothing_told : (pages : ℕ) (t : Tallied) → t.all ≡ 0 → t.codes ≡ replicate 35 0 → t.starts ≡ replicate most_starts no_count → t.whole ≡ 0
+pub nothing_reported : (pages : ℕ) (t : Tallied) → t.all ≡ 0 → t.codes ≡ replicate 35 0 → t.starts ≡ replicate most_starts no_count → t.whole ≡ 0
     → pages < 64 * length t.pages → ((p : ℕ) → has_bit t.pages p ≡ false) → IsTallyOf pages [] t
 unfolding most_starts
-nothing_told pages t all codes starts whole room none = record {
+nothing_reported pages t all codes starts whole room none = record {
   all = all;
-  codes = λ c. ap (λ ns. slice_get ns (code_index c)) codes ∙ none_told 35 (code_index c) 0 (slice_get_within all_codes (code_index c) c (listed c));
-  starts = λ k l. ap (λ xs. slice_get xs k) starts ∙ none_told most_starts k no_count (omega arith);
+  codes = λ c. ap (λ ns. slice_get ns (code_index c)) codes ∙ none_reported 35 (code_index c) 0 (slice_get_within all_codes (code_index c) c (listed c));
+  starts = λ k l. ap (λ xs. slice_get xs k) starts ∙ none_reported most_starts k no_count (omega arith);
   whole = whole;
   room = room;
   bits = λ p l. none p;

@@ -26,7 +26,7 @@ use Rattle.dbformat.specs.SchemaRow.{schema_row}
 use Rattle.dbformat.specs.Survey.{refused, rules_of}
 use Rattle.dbformat.specs.PlainNames.{plain_name}
 use Rattle.dbformat.specs.Varint.{varint}
-use Rattle.dbformat.specs.Story.{story_of, telling}
+use Rattle.dbformat.specs.Story.{story_of, reporting}
 use Rattle.dbformat.specs.Faults.{fault}
 use Rattle.dbformat.specs.Samples.{long_row_file, long_row_survey}
 use Rattle.dbformat.specs.declared.FaultCode.TheVariants.{H10, R01, R02, R03, T04, M01}
@@ -41,7 +41,8 @@ unfolding cell cell_count cell_pointer cells change_counter content_start covera
     first_trunk fixed_use fragmented_bytes freeblocks freelist_count greatest_root has_pointer_map header_faults incremental_vacuum is_size_valid items
     key_faults keys late_root_fault later_starts local_len map_entry map_page_of more_line own_kind page_bytes page_count page_faults page_size payload
     record_values refusal_of refused reserved_bytes right_number row_faults rules_of schema schema_format schema_row serial_len plain_name stated_pages story_of
-    sum_faults telling tree_name tree_page_faults tree_view type_byte unused usable_size use_fault varint version_valid_for view walk_faults whole_pages is_utf8
+    sum_faults reporting tree_name tree_page_faults tree_view type_byte unused usable_size use_fault varint version_valid_for view walk_faults whole_pages
+        is_utf8
     chars utf16_chars encode digits place_of
 two_owners = refl
 
@@ -51,7 +52,8 @@ unfolding cell cell_count cell_pointer cells change_counter content_start covera
     first_trunk fixed_use fragmented_bytes freeblocks freelist_count greatest_root has_pointer_map header_faults incremental_vacuum is_size_valid items
     key_faults keys late_root_fault later_starts local_len map_entry map_page_of more_line own_kind page_bytes page_count page_faults page_size payload
     record_values refusal_of refused reserved_bytes right_number row_faults rules_of schema schema_format schema_row serial_len plain_name stated_pages story_of
-    sum_faults telling tree_name tree_page_faults tree_view type_byte unused usable_size use_fault varint version_valid_for view walk_faults whole_pages is_utf8
+    sum_faults reporting tree_name tree_page_faults tree_view type_byte unused usable_size use_fault varint version_valid_for view walk_faults whole_pages
+        is_utf8
     chars utf16_chars encode digits place_of
 lost_root = refl
 
@@ -62,7 +64,8 @@ unfolding cell cell_count cell_pointer cells change_counter content_start covera
     first_trunk fixed_use fragmented_bytes freeblocks freelist_count greatest_root has_pointer_map header_faults incremental_vacuum is_size_valid items
     key_faults keys late_root_fault later_starts local_len map_entry map_page_of more_line own_kind page_bytes page_count page_faults page_size payload
     record_values refusal_of refused reserved_bytes right_number row_faults rules_of schema schema_format schema_row serial_len plain_name stated_pages story_of
-    sum_faults telling tree_name tree_page_faults tree_view type_byte unused usable_size use_fault varint version_valid_for view walk_faults whole_pages is_utf8
+    sum_faults reporting tree_name tree_page_faults tree_view type_byte unused usable_size use_fault varint version_valid_for view walk_faults whole_pages
+        is_utf8
     chars utf16_chars encode digits place_of
 wrong_entry = refl
 
@@ -72,7 +75,8 @@ unfolding cell cell_count cell_pointer cells change_counter content_start covera
     first_trunk fixed_use fragmented_bytes freeblocks freelist_count greatest_root has_pointer_map header_faults incremental_vacuum is_size_valid items
     key_faults keys late_root_fault later_starts local_len map_entry map_page_of more_line own_kind page_bytes page_count page_faults page_size payload
     record_values refusal_of refused reserved_bytes right_number row_faults rules_of schema schema_format schema_row serial_len plain_name stated_pages story_of
-    sum_faults telling tree_name tree_page_faults tree_view type_byte unused usable_size use_fault varint version_valid_for view walk_faults whole_pages is_utf8
+    sum_faults reporting tree_name tree_page_faults tree_view type_byte unused usable_size use_fault varint version_valid_for view walk_faults whole_pages
+        is_utf8
     chars utf16_chars encode digits place_of
 wrong_count = refl
 
@@ -83,7 +87,8 @@ unfolding cell cell_count cell_pointer cells change_counter content_start covera
     first_trunk fixed_use fragmented_bytes freeblocks freelist_count greatest_root has_pointer_map header_faults incremental_vacuum is_size_valid items
     key_faults keys late_root_fault later_starts local_len map_entry map_page_of more_line own_kind page_bytes page_count page_faults page_size payload
     record_values refusal_of refused reserved_bytes right_number row_faults rules_of schema schema_format schema_row serial_len plain_name stated_pages story_of
-    sum_faults telling tree_name tree_page_faults tree_view type_byte unused usable_size use_fault varint version_valid_for view walk_faults whole_pages is_utf8
+    sum_faults reporting tree_name tree_page_faults tree_view type_byte unused usable_size use_fault varint version_valid_for view walk_faults whole_pages
+        is_utf8
     chars utf16_chars encode digits place_of
 fixed_page = refl
 
@@ -94,7 +99,8 @@ unfolding cell cell_count cell_pointer cells change_counter content_start covera
     first_trunk fixed_use fragmented_bytes freeblocks freelist_count greatest_root has_pointer_map header_faults incremental_vacuum is_size_valid items
     key_faults keys late_root_fault later_starts local_len map_entry map_page_of more_line own_kind page_bytes page_count page_faults page_size payload
     record_values refusal_of refused reserved_bytes right_number row_faults rules_of schema schema_format schema_row serial_len plain_name stated_pages story_of
-    sum_faults telling tree_name tree_page_faults tree_view type_byte unused usable_size use_fault varint version_valid_for view walk_faults whole_pages is_utf8
+    sum_faults reporting tree_name tree_page_faults tree_view type_byte unused usable_size use_fault varint version_valid_for view walk_faults whole_pages
+        is_utf8
     chars utf16_chars encode digits place_of
 first_trunk_start = refl
 
@@ -104,6 +110,7 @@ unfolding cell cell_count cell_pointer cells change_counter content_start covera
     first_trunk fixed_use fragmented_bytes freeblocks freelist_count greatest_root has_pointer_map header_faults incremental_vacuum is_size_valid items
     key_faults keys late_root_fault later_starts local_len map_entry map_page_of more_line own_kind page_bytes page_count page_faults page_size payload
     record_values refusal_of refused reserved_bytes right_number row_faults rules_of schema schema_format schema_row serial_len plain_name stated_pages story_of
-    sum_faults telling tree_name tree_page_faults tree_view type_byte unused usable_size use_fault varint version_valid_for view walk_faults whole_pages is_utf8
+    sum_faults reporting tree_name tree_page_faults tree_view type_byte unused usable_size use_fault varint version_valid_for view walk_faults whole_pages
+        is_utf8
     chars utf16_chars encode digits place_of
 no_page = refl

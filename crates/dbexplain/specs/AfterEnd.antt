@@ -36,5 +36,5 @@ abbrev pub is_between : AfterEnd → Fault → Bool
 is_between c f = is_outside f.code && (nat_lt c.last (value_page f.value) && nat_le (value_page f.value) c.whole)
 
 -- a fault more
-abbrev pub after_end_told : AfterEnd → TracedFault → AfterEnd
-after_end_told c t = if is_between c t.fault then record c { references = counted (c.references + 1) } else c
+abbrev pub after_end_reported : AfterEnd → TracedFault → AfterEnd
+after_end_reported c t = if is_between c t.fault then record c { references = counted (c.references + 1) } else c

@@ -19,7 +19,7 @@ use Rattle.dbinjuries.specs.Listing.{Injury, injuries, size}
 use Rattle.dbinjuries.specs.Others.{others_text}
 use Rattle.dbinjuries.specs.Listed.{IsBeginning, listed_injuries, listed_faults}
 use Rattle.dbexplain.specs.Below.{lines_below, place_line}
-use Rattle.dbscan.specs.Placed.{told_faults}
+use Rattle.dbscan.specs.Placed.{reported_faults}
 use Rattle.dbexplain.specs.Facts.{facts_text, run_text}
 use Rattle.dbexplain.specs.Summary.{pages_text, summary}
 
@@ -58,7 +58,7 @@ injury_text file V e = front_text file V e.first.fault ++ (cause_lines file V e.
 abbrev pub explain_text : ℕ → List ℕ → List Reference → List Injury → List ℕ
 explain_text limit file V [] = ok_line
 explain_text limit file V (e ∷ es) =
-    flat_map (injury_text file V) (take limit (e ∷ es)) ++ (more_text (sum_by size (drop limit (e ∷ es))) ++ summary file V (told_faults file V))
+    flat_map (injury_text file V) (take limit (e ∷ es)) ++ (more_text (sum_by size (drop limit (e ∷ es))) ++ summary file V (reported_faults file V))
 
 -- the report of `explain` with at most `limit` injuries: its verdict is that of `check`
 unfoldable pub explain_report : ℕ → List ℕ → List Reference → Report
@@ -73,6 +73,6 @@ found_text limit es = flat_map (λ (e : Injury). fault_line e.first.fault) (take
 
 -- The fault lines of the first injuries of the faults found so far: of a beginning of those that are listed.
 pub record IsFoundText (limit : ℕ) (file : List ℕ) (V : List Reference) (text : List ℕ) : Type 0 where
-  pub told : List TracedFault
-  pub first : IsBeginning told (listed_faults file V)
-  pub lines : text ≡ found_text limit (injuries told)
+  pub reported : List TracedFault
+  pub first : IsBeginning reported (listed_faults file V)
+  pub lines : text ≡ found_text limit (injuries reported)

@@ -11,7 +11,7 @@ use Rattle.dbinjuries.specs.declared.injury.Injury.{Injury}
 use Rattle.dbinjuries.specs.Lists.{HasBits, IsUnused, ListsAll}
 use Rattle.dbscan.specs.Desks.{DeskView}
 use Rattle.dbscan.specs.Finishes.{IsDeskOf}
-use Rattle.dbscan.specs.Placed.{told_faults}
+use Rattle.dbscan.specs.Placed.{reported_faults}
 use Rattle.dbscan.specs.Trees.{AreTrees}
 use Rattle.dbexplain.specs.Explained.{after_cause, front_text}
 use Rattle.dbexplain.specs.Indexes.{AreIndexes}
@@ -44,18 +44,18 @@ pub record IsEmpty {A : Type 0} (limit : ℕ) (g : Geometry) (k : Kept A) : Type
 -- Faults were found in the file of a desk. All of them were counted, and are listed, and the start of each page was noted.
 pub record HasAll {A : Type 0} (d : DeskView) (k : Kept A) (file : List ℕ) (V : List Reference) : Type 0 where
   pub desk : IsDeskOf d file V
-  pub some : told_faults file V ≡ [] → ⊥
+  pub some : reported_faults file V ≡ [] → ⊥
   pub listing : ListsAll k.listing.injuries.limit file V k.listing
-  pub tally : IsTallyOf (geometry file).pages (told_faults file V) k.tally
+  pub tally : IsTallyOf (geometry file).pages (reported_faults file V) k.tally
   pub zeros : AreZeros file V k.listing.zeros
-  pub ranges : AreRangesOf (told_faults file V) k.ranges
+  pub ranges : AreRangesOf (reported_faults file V) k.ranges
   pub indexes : AreIndexes (stat_rows file V) k.indexes
   pub trees : AreTrees V k.trees.known
 
 -- All faults of a file were counted by a tally, these bits are of the pages that are zeros, and this is known of the rows.
 pub record IsCounted {A : Type 0} (o : Owners A) (t : Tallied) (words : List ℕ) (rows : RowNotes A) (file : List ℕ) (V : List Reference) : Type 0 where
   pub owners : AreOwnersOf o file V
-  pub tally : IsTallyOf (geometry file).pages (told_faults file V) t
+  pub tally : IsTallyOf (geometry file).pages (reported_faults file V) t
   pub zeros : AreZeros file V words
-  pub ranges : AreAllKept (told_faults file V) rows.ranges.now
+  pub ranges : AreAllKept (reported_faults file V) rows.ranges.now
   pub indexes : AreIndexes (stat_rows file V) rows.indexes.now

@@ -71,8 +71,8 @@ abbrev pub range_if : KeptRanges → Option RowRange → KeptRanges
 range_if k None = k
 range_if k (Some r) = range_added k r
 
-abbrev pub range_told : KeptRanges → TracedFault → KeptRanges
-range_told k t = range_if k (range_of t)
+abbrev pub range_reported : KeptRanges → TracedFault → KeptRanges
+range_reported k t = range_if k (range_of t)
 
 -- the last one is put to the others
 abbrev pub with_last : KeptRanges → Option RowRange → KeptRanges

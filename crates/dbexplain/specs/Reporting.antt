@@ -12,27 +12,27 @@ use Rattle.dbsource.specs.Outs.{Begins, OutState, Puts}
 use Rattle.dbsource.specs.declared.error.RunError.{RunError}
 use Rattle.dbsource.specs.declared.error.RunError.TheVariants.{ReadFailed}
 use Rattle.dbsource.specs.declared.out.WriteFailed.{WriteFailed}
-use Rattle.dbwalk.specs.Telling.{SinkState, one_out}
+use Rattle.dbwalk.specs.Reporting.{SinkState, one_out}
 use Rattle.dbscan.specs.Notices.{Notice}
 use Rattle.dbinjuries.specs.Listed.{listed_injuries}
-use Rattle.dbinjuries.specs.Lists.{ListsFirst, heard}
-use Rattle.dbinjuries.specs.Traced.{HearsTraced}
+use Rattle.dbinjuries.specs.Lists.{ListsFirst, received}
+use Rattle.dbinjuries.specs.Traced.{ReceivesTraced}
 use Rattle.dbscan.specs.Trees.{row_noted}
-use Rattle.dbexplain.specs.AfterEnd.{after_end_told, none_after_end, references_after_end}
+use Rattle.dbexplain.specs.AfterEnd.{after_end_reported, none_after_end, references_after_end}
 use Rattle.dbexplain.specs.Explained.{explain_text}
 use Rattle.dbexplain.specs.Indexes.{index_noted}
 use Rattle.dbexplain.specs.Keeping.{IsEmpty, lines_of}
-use Rattle.dbexplain.specs.KeptRanges.{range_told}
-use Rattle.dbexplain.specs.Tallies.{fault_told}
+use Rattle.dbexplain.specs.KeptRanges.{range_reported}
+use Rattle.dbexplain.specs.Tallies.{fault_reported}
 use Rattle.dbexplain.specs.declared.reporter.ExplainReporter.{ExplainReporter}
 
 module _ {A O : Type 0} where
   -- A fault was counted, and listed, and its rows noted, and whether it is a reference to a page after the stated end.
   pub record Adds (x : TracedFault) (s t : ExplainReporter A O) : Type 0 where
-    pub tally : t.kept.now.tally ≡ fault_told s.kept.now.tally x
-    pub listing : t.kept.now.listing ≡ heard s.kept.now.listing x
-    pub ranges : t.kept.now.ranges ≡ range_told s.kept.now.ranges x
-    pub after_end : t.after_end ≡ after_end_told s.after_end x
+    pub tally : t.kept.now.tally ≡ fault_reported s.kept.now.tally x
+    pub listing : t.kept.now.listing ≡ received s.kept.now.listing x
+    pub ranges : t.kept.now.ranges ≡ range_reported s.kept.now.ranges x
+    pub after_end : t.after_end ≡ after_end_reported s.after_end x
     pub indexes : t.kept.now.indexes ≡ s.kept.now.indexes
     pub trees : t.kept.now.trees.known ≡ s.kept.now.trees.known
     pub out : t.out.now ≡ s.out.now
@@ -53,8 +53,8 @@ module _ {A O : Type 0} where
     pub after_end : s.after_end ≡ none_after_end (geometry file) (length file)
 
   -- a notice was taken: a fault was added, or a row noted, and nothing else changes it
-  abbrev pub Hears : ExplainReporter A O → Notice → ExplainReporter A O → Type 0
-  Hears = HearsTraced Adds Notes
+  abbrev pub Receives : ExplainReporter A O → Notice → ExplainReporter A O → Type 0
+  Receives = ReceivesTraced Adds Notes
 
   module _ (held : O → OutState) where
     -- it borrows its Out, whose failures are counted; nothing is put before its end

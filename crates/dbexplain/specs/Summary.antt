@@ -30,7 +30,7 @@ use Rattle.dbtrace.specs.declared.Part.TheVariants as part
 use Rattle.dbtrace.specs.declared.TracedFault.{TracedFault}
 use Rattle.dbscan.specs.Texts.{tree_of_row}
 use Rattle.dbformat.specs.Starts.{start_at}
-use Rattle.dbscan.specs.Placed.{told_faults}
+use Rattle.dbscan.specs.Placed.{reported_faults}
 use Rattle.dbscan.specs.Roots.{listed_rows, root_page}
 use Rattle.dbexplain.specs.declared.trees.TreeSum.{TreeSum}
 
@@ -69,12 +69,12 @@ abbrev pub reached_pages : List ℕ → List Reference → ℕ → ℕ
 reached_pages file V k = count_by (is_reached V k) (page_numbers (geometry file))
 
 -- whether page p has a fault that was reported at a start
-abbrev pub is_told : List TracedFault → ℕ → Bool
-is_told ts p = list_any (λ t. not (is_whole t.part) && (t.fault.page == p)) ts
+abbrev pub is_reported : List TracedFault → ℕ → Bool
+is_reported ts p = list_any (λ t. not (is_whole t.part) && (t.fault.page == p)) ts
 
 -- how many of the pages that were reached from start k have one
 abbrev pub faulty_pages : List ℕ → List Reference → List TracedFault → ℕ → ℕ
-faulty_pages file V ts k = count_by (λ p. is_reached V k p && is_told ts p) (page_numbers (geometry file))
+faulty_pages file V ts k = count_by (λ p. is_reached V k p && is_reported ts p) (page_numbers (geometry file))
 
 -- Trees.
 
@@ -195,4 +195,5 @@ CodesAddUp ts = sum_by (code_count ts) all_codes ≡ length ts
 
 -- and so do those of the starts and of the whole file
 abbrev pub StartsAddUp : List ℕ → List Reference → Type 0
-StartsAddUp file V = sum_by (λ l. start_count (told_faults file V) l.step) (starts file V) + whole_count (told_faults file V) ≡ length (told_faults file V)
+StartsAddUp file V = sum_by (λ l. start_count (reported_faults file V) l.step) (starts file V) + whole_count (reported_faults file V)
+    ≡ length (reported_faults file V)

@@ -11,7 +11,7 @@ use Rattle.dbtrace.specs.declared.Part.{Part}
 use Rattle.dbtrace.specs.declared.Part.TheVariants as part
 use Rattle.dbtrace.specs.declared.TracedFault.{TracedFault}
 use Rattle.dbinjuries.specs.Bits.{bit_set, has_bit, HasPageBit}
-use Rattle.dbexplain.specs.Summary.{code_count, start_count, whole_count, is_reached, is_told}
+use Rattle.dbexplain.specs.Summary.{code_count, start_count, whole_count, is_reached, is_reported}
 use Rattle.dbexplain.specs.declared.tally.StartCount.{StartCount}
 use Rattle.dbexplain.specs.declared.tally.Tally.TheInside.{Inside}
 
@@ -43,19 +43,19 @@ count_at t k = slice_index_or t.starts k no_count
 -- ---- a fault more
 
 -- one with this code
-abbrev pub code_told : FaultCode → Tallied → Tallied
-code_told code t = record t { all = counted (t.all + 1); codes = slice_set t.codes (code_index code) (counted (count_of t code + 1)) }
+abbrev pub code_reported : FaultCode → Tallied → Tallied
+code_reported code t = record t { all = counted (t.all + 1); codes = slice_set t.codes (code_index code) (counted (count_of t code + 1)) }
 
 -- at a start, where its page is noted, or of the whole file
 abbrev pub one_fault : StartCount → StartCount
 one_fault c = record c { faults = counted (c.faults + 1) }
 
-abbrev pub part_told : Part → ℕ → Tallied → Tallied
-part_told (part.Start k) page t = record t { starts = slice_set t.starts k (one_fault (count_at t k)); pages = bit_set page t.pages }
-part_told _ page t = record t { whole = counted (t.whole + 1) }
+abbrev pub part_reported : Part → ℕ → Tallied → Tallied
+part_reported (part.Start k) page t = record t { starts = slice_set t.starts k (one_fault (count_at t k)); pages = bit_set page t.pages }
+part_reported _ page t = record t { whole = counted (t.whole + 1) }
 
-abbrev pub fault_told : Tallied → TracedFault → Tallied
-fault_told t x = part_told x.part x.fault.page (code_told x.fault.code t)
+abbrev pub fault_reported : Tallied → TracedFault → Tallied
+fault_reported t x = part_reported x.part x.fault.page (code_reported x.fault.code t)
 
 -- ---- a page more
 
@@ -78,7 +78,7 @@ abbrev pub counted_start : List Reference → List TracedFault → ℕ → ℕ �
 counted_start V ts n k = record {
   faults = counted (start_count ts k);
   reached = count_by (is_reached V k) (range_with_len 1 n);
-  faulty = count_by (λ p. is_reached V k p && is_told ts p) (range_with_len 1 n);
+  faulty = count_by (λ p. is_reached V k p && is_reported ts p) (range_with_len 1 n);
 }
 
 -- The tally is that of these faults, of a file with this number of pages, and of its first n pages.
@@ -88,7 +88,7 @@ pub record IsTallyTo (pages : ℕ) (V : List Reference) (ts : List TracedFault) 
   pub starts : (k : ℕ) → k ≤ freelist_start → slice_get t.starts k ≡ Some (counted_start V ts n k)
   pub whole : t.whole ≡ counted (whole_count ts)
   pub room : HasPageBit t.pages pages
-  pub bits : (p : ℕ) → p ≤ pages → has_bit t.pages p ≡ is_told ts p
+  pub bits : (p : ℕ) → p ≤ pages → has_bit t.pages p ≡ is_reported ts p
 
 -- The tally is that of these faults, where no page is counted yet.
 abbrev pub IsTallyOf : ℕ → List TracedFault → Tallied → Type 0

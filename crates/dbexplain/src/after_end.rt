@@ -1,7 +1,7 @@
 // Pages that are in the file, after the end that its header states: the line of one, and how many references lead to them.
 ghost use Rattle.std.specs.Prelude.{◌≡◌, ◌/◌, true};
 ghost use Rattle.dbformat.specs.FixedPages.{IsInRange, geometry_of};
-ghost use Rattle.dbexplain.specs.AfterEnd.{after_end_told, is_outside, none_after_end};
+ghost use Rattle.dbexplain.specs.AfterEnd.{after_end_reported, is_outside, none_after_end};
 ghost use Rattle.dbexplain.specs.Below.{after_end_said, after_end_text, is_after_end, value_page};
 
 use arrayvec::ArrayVec;
@@ -85,11 +85,11 @@ impl AfterEnd {
 
     // Counts a fault of a reference to a page that the file does not have, if the page is after the stated end.
     #[cold]
-    fn add(&mut self, told: &TracedFault)
-        requires { is_outside told.now.fault.code ≡ true }
-        ensures { self.new ≡ after_end_told self.old told.now }
+    fn add(&mut self, reported: &TracedFault)
+        requires { is_outside reported.now.fault.code ≡ true }
+        ensures { self.new ≡ after_end_reported self.old reported.now }
     {
-        let page = named_page(&told.fault);
+        let page = named_page(&reported.fault);
         if page > self.last && page <= self.whole {
             self.references = self.references.saturating_add(1);
         }
@@ -97,11 +97,11 @@ impl AfterEnd {
 
     /// Counts a fault, if it is of such a reference. Most are not, even where a file has many.
     #[inline(always)]
-    pub(crate) fn hear(&mut self, told: &TracedFault)
-        ensures { self.new ≡ after_end_told self.old told.now }
+    pub(crate) fn receive(&mut self, reported: &TracedFault)
+        ensures { self.new ≡ after_end_reported self.old reported.now }
     {
-        if is_outside(told.fault.code) {
-            self.add(told);
+        if is_outside(reported.fault.code) {
+            self.add(reported);
         }
     }
 }

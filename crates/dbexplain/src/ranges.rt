@@ -2,7 +2,7 @@
 ghost use Rattle.std.specs.Prelude.{◌≡◌, [], IfOk};
 ghost use Rattle.dbexplain.specs.Ranges.{if_some_rows, is_no_range, is_of, joins, kind_of, one_row, range_by, range_of, rows_at};
 ghost use Rattle.dbexplain.specs.Ranges.{same_bounds, same_key, same_kind, touches};
-ghost use Rattle.dbexplain.specs.KeptRanges.{AreRangesOf, closed, count_of, range_added, range_if, range_kept, range_told, unkept};
+ghost use Rattle.dbexplain.specs.KeptRanges.{AreRangesOf, closed, count_of, range_added, range_if, range_kept, range_reported, unkept};
 
 use crate::range_counts::RangeCounts;
 use dbformat::{Fault, FaultCode};
@@ -149,11 +149,11 @@ fn range_by(start: u32, fault: &Fault, cause: &Cause) -> Option<RowRange>
 }
 
 // The rows that a fault is of, if there are any.
-fn range_of(told: &TracedFault) -> Option<RowRange>
-    ensures { result ≡ range_of told.now }
+fn range_of(reported: &TracedFault) -> Option<RowRange>
+    ensures { result ≡ range_of reported.now }
 {
-    match told.part {
-        Part::Start(start) => range_by(start, &told.fault, &told.cause),
+    match reported.part {
+        Part::Start(start) => range_by(start, &reported.fault, &reported.cause),
         Part::Header | Part::End => None,
     }
 }
@@ -299,23 +299,23 @@ impl<A: Allocator> RowRanges<A> {
 
     // Adds the rows that a fault of any kind is of, if there are any.
     #[inline(never)]
-    fn add_any(&mut self, told: &TracedFault)
-        ensures { self.new ≡ range_told self.old told.now }
+    fn add_any(&mut self, reported: &TracedFault)
+        ensures { self.new ≡ range_reported self.old reported.now }
     {
-        self.add_if(range_of(told));
+        self.add_if(range_of(reported));
     }
 
     /// Adds the rows that a fault is of, if there are any.
-    pub fn hear(&mut self, told: &TracedFault)
-        ensures { self.new ≡ range_told self.old told.now }
+    pub fn receive(&mut self, reported: &TracedFault)
+        ensures { self.new ≡ range_reported self.old reported.now }
     {
         // Where a file has many faults, most are rowids out of order. There is a rowid below each, but for the least one.
-        if let (Part::Start(start), Cause::Key(_, None)) = (told.part, &told.cause)
-            && i64::MIN < told.fault.value
+        if let (Part::Start(start), Cause::Key(_, None)) = (reported.part, &reported.cause)
+            && i64::MIN < reported.fault.value
         {
-            self.add_if(row_at(start, RowsKind::OnFaulty, told.fault.value));
+            self.add_if(row_at(start, RowsKind::OnFaulty, reported.fault.value));
         } else {
-            self.add_any(told);
+            self.add_any(reported);
         }
     }
 

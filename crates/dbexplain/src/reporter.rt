@@ -44,14 +44,14 @@ impl<'a, A: Allocator, O: Out> ExplainReporter<'a, A, O> {
     }
 
     // Counts a fault, lists it, and notes its rows, and whether it leads to a page after the stated end.
-    fn add(&mut self, told: &TracedFault)
-        ensures added { Adds told.now self.old self.new }
+    fn add(&mut self, reported: &TracedFault)
+        ensures added { Adds reported.now self.old self.new }
         ensures held { explain_held O.held self.new ≡ explain_held O.held self.old }
     {
-        self.kept.tally.add(told);
-        self.kept.listing.hear(told);
-        self.kept.ranges.hear(told);
-        self.after_end.hear(told);
+        self.kept.tally.add(reported);
+        self.kept.listing.receive(reported);
+        self.kept.ranges.receive(reported);
+        self.after_end.receive(reported);
     }
 
     // Notes the start of the page of a row, and whether it is one of an index.
@@ -76,15 +76,15 @@ impl<'a, A: Allocator, O: Out> ExplainReporter<'a, A, O> {
 }
 
 impl<A: Allocator, O: Out> Reporter for ExplainReporter<'_, A, O> {
-    ghost use Rattle.dbexplain.specs.Reporting.{Hears, explain_held};
+    ghost use Rattle.dbexplain.specs.Reporting.{Receives, explain_held};
 
-    ghost hears = { Hears };
+    ghost receives = { Receives };
 
     ghost held = { explain_held O.held };
 
-    fn hear(&mut self, notice: &Notice<'_>) {
+    fn receive(&mut self, notice: &Notice<'_>) {
         match notice {
-            Notice::Fault(told) => self.add(told),
+            Notice::Fault(reported) => self.add(reported),
             Notice::Row(_, row) => self.note(row),
             Notice::Ended(_) | Notice::Page(_, _, _) => {}
         }

@@ -1,6 +1,6 @@
 // The summary after the last fault.
 ghost use Rattle.dblines.specs.Writing.{WroteOf};
-ghost use Rattle.dbscan.specs.Placed.{told_faults};
+ghost use Rattle.dbscan.specs.Placed.{reported_faults};
 ghost use Rattle.dbexplain.specs.Keeping.{IsCounted};
 ghost use Rattle.dbexplain.specs.Summary.{summary};
 
@@ -28,7 +28,8 @@ pub(crate) fn put_summary<A: Allocator, O: Out>(
     rows: &RowNotes<'_, A>,
 )
     // Where all faults of the file were added.
-    ensures { WroteOf O.held writer.old (IsCounted owners.now tally.old listing.now.zeros rows.now) (λ file V. summary file V (told_faults file V)) writer.new }
+    ensures { WroteOf O.held writer.old (IsCounted owners.now tally.old listing.now.zeros rows.now) (λ file V.
+        summary file V (reported_faults file V)) writer.new }
 {
     count_pages(tally, owners);
     let shape = owners.header.geometry();

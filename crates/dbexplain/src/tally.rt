@@ -1,6 +1,6 @@
 // The tally of the faults that were reported.
 ghost use Rattle.std.specs.Prelude.{◌≡◌, [], IfOk};
-ghost use Rattle.dbexplain.specs.Tallies.{code_told, count_at, count_of, fault_told, IsTallyOf, one_reached_page, part_told, start_reached};
+ghost use Rattle.dbexplain.specs.Tallies.{code_reported, count_at, count_of, fault_reported, IsTallyOf, one_reached_page, part_reported, start_reached};
 
 use crate::start_counts::StartCounts;
 use dbformat::{FaultCode, Geometry};
@@ -76,7 +76,7 @@ impl<A: Allocator + Copy> Tally<A> {
 impl<A: Allocator> Tally<A> {
     // Counts a fault of a page at a start, and notes the page; or a fault of the whole file.
     fn count_part(&mut self, part: Part, page: u32)
-        ensures { self.new ≡ part_told part page self.old }
+        ensures { self.new ≡ part_reported part page self.old }
     {
         match part {
             Part::Header | Part::End => self.whole = self.whole.saturating_add(1),
@@ -91,7 +91,7 @@ impl<A: Allocator> Tally<A> {
 
     // Counts a fault with this code.
     fn count_code(&mut self, code: FaultCode)
-        ensures { self.new ≡ code_told code self.old }
+        ensures { self.new ≡ code_reported code self.old }
     {
         let index = code.index();
         self.all = self.all.saturating_add(1);
@@ -99,11 +99,11 @@ impl<A: Allocator> Tally<A> {
     }
 
     /// Counts a fault, with its code and at its start, and notes its page.
-    pub fn add(&mut self, told: &TracedFault)
-        ensures { self.new ≡ fault_told self.old told.now }
+    pub fn add(&mut self, reported: &TracedFault)
+        ensures { self.new ≡ fault_reported self.old reported.now }
     {
-        self.count_code(told.fault.code);
-        self.count_part(told.part, told.fault.page);
+        self.count_code(reported.fault.code);
+        self.count_part(reported.part, reported.fault.page);
     }
 
     /// How many faults were reported.

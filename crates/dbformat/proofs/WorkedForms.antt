@@ -32,7 +32,7 @@ use Rattle.dbformat.proofs.Worked.{same_root, same_root_survey}
 use Rattle.dbformat.proofs.WorkedMaps.{free_leaf_file, free_leaf_visits}
 use Rattle.dbformat.specs.declared.Command.TheVariants.{Stat}
 use Rattle.dbformat.specs.declared.Verdict.TheVariants.{Clean, Faulty}
-use Rattle.dbformat.specs.Story.{story_of, telling}
+use Rattle.dbformat.specs.Story.{story_of, reporting}
 
 -- one row for each tree
 pub long_row_trees : report (Stat true false) long_row_file long_row_survey
@@ -41,7 +41,8 @@ unfolding cell cell_count cell_pointer cells change_counter content_start covera
     first_trunk fixed_use form_line form_rows fragmented_bytes freeblocks freelist_count greatest_root has_pointer_map header_faults incremental_vacuum
     is_size_valid items key_faults keys late_root_fault later_starts local_len map_entry map_page_of more_line own_kind page_bytes page_count page_faults
     page_size path_text payload record_values refusal_of refused report reserved_bytes right_number row_faults rules_of schema schema_format schema_row
-    serial_len shown_name stat_rows stated_pages story_of sum_faults telling tree_name tree_page_faults tree_view type_byte unused usable_size use_fault varint
+    serial_len shown_name stat_rows stated_pages story_of sum_faults reporting tree_name tree_page_faults tree_view type_byte unused usable_size use_fault
+    varint
     version_valid_for view walk_faults whole_pages is_utf8 chars utf16_chars encode digits
 long_row_trees = refl
 
@@ -57,7 +58,8 @@ unfolding cell cell_count cell_pointer cells change_counter content_start covera
     first_trunk fixed_use form_line form_rows fragmented_bytes freeblocks freelist_count greatest_root has_pointer_map header_faults incremental_vacuum
     is_size_valid items key_faults keys late_root_fault later_starts local_len map_entry map_page_of more_line own_kind page_bytes page_count page_faults
     page_size path_text payload record_values refusal_of refused report reserved_bytes right_number row_faults rules_of schema schema_format schema_row
-    serial_len shown_name stat_rows stated_pages story_of sum_faults telling tree_name tree_page_faults tree_view type_byte unused usable_size use_fault varint
+    serial_len shown_name stat_rows stated_pages story_of sum_faults reporting tree_name tree_page_faults tree_view type_byte unused usable_size use_fault
+    varint
     version_valid_for view walk_faults whole_pages is_utf8 chars utf16_chars encode digits
 same_root_trees = refl
 
@@ -74,7 +76,8 @@ unfolding cell cell_count cell_pointer cells change_counter content_start covera
     first_trunk fixed_use form_line form_rows fragmented_bytes freeblocks freelist_count greatest_root has_pointer_map header_faults incremental_vacuum
     is_size_valid items key_faults keys late_root_fault later_starts local_len map_entry map_page_of more_line own_kind page_bytes page_count page_faults
     page_size path_text payload record_values refusal_of refused report reserved_bytes right_number row_faults rules_of schema schema_format schema_row
-    serial_len shown_name stat_rows stated_pages story_of sum_faults telling tree_name tree_page_faults tree_view type_byte unused usable_size use_fault varint
+    serial_len shown_name stat_rows stated_pages story_of sum_faults reporting tree_name tree_page_faults tree_view type_byte unused usable_size use_fault
+    varint
     version_valid_for view walk_faults whole_pages is_utf8 chars utf16_chars encode digits
 free_leaf_all = refl
 
@@ -90,7 +93,8 @@ unfolding cell cell_count cell_pointer cells change_counter content_start covera
     first_trunk fixed_use form_line form_rows fragmented_bytes freeblocks freelist_count greatest_root has_pointer_map header_faults incremental_vacuum
     is_size_valid items key_faults keys late_root_fault later_starts local_len map_entry map_page_of more_line own_kind page_bytes page_count page_faults
     page_size path_text payload record_values refusal_of refused report reserved_bytes right_number row_faults rules_of schema schema_format schema_row
-    serial_len shown_name stat_rows stated_pages story_of sum_faults telling tree_name tree_page_faults tree_view type_byte unused usable_size use_fault varint
+    serial_len shown_name stat_rows stated_pages story_of sum_faults reporting tree_name tree_page_faults tree_view type_byte unused usable_size use_fault
+    varint
     version_valid_for view walk_faults whole_pages is_utf8 chars utf16_chars encode digits
 free_leaf_trees_all = refl
 
@@ -106,6 +110,7 @@ unfolding cell cell_count cell_pointer cells change_counter content_start covera
     first_trunk fixed_use form_line form_rows fragmented_bytes freeblocks freelist_count greatest_root has_pointer_map header_faults incremental_vacuum
     is_size_valid items key_faults keys late_root_fault later_starts local_len map_entry map_page_of more_line own_kind page_bytes page_count page_faults
     page_size path_text payload record_values refusal_of refused report reserved_bytes right_number row_faults rules_of schema schema_format schema_row
-    serial_len shown_name stat_rows stated_pages story_of sum_faults telling tree_name tree_page_faults tree_view type_byte unused usable_size use_fault varint
+    serial_len shown_name stat_rows stated_pages story_of sum_faults reporting tree_name tree_page_faults tree_view type_byte unused usable_size use_fault
+    varint
     version_valid_for view walk_faults whole_pages is_utf8 chars utf16_chars encode digits
 unowned_all = refl

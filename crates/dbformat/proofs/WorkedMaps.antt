@@ -31,7 +31,7 @@ use Rattle.dbformat.specs.Address.{freelist_start}
 use Rattle.dbformat.specs.Samples.{base_file, blank_page, empty_leaf, long_row_leaf, one_table, patched, reference, schema_root}
 use Rattle.dbformat.specs.declared.Command.TheVariants.{Check}
 use Rattle.dbformat.specs.declared.Verdict.TheVariants.{Clean, Faulty}
-use Rattle.dbformat.specs.Story.{story_of, telling}
+use Rattle.dbformat.specs.Story.{story_of, reporting}
 use Rattle.dbformat.specs.declared.TreeKind.TheVariants as tree
 
 -- ---- root pages first
@@ -61,7 +61,8 @@ unfolding cell cell_count cell_pointer cells change_counter content_start covera
     first_trunk fixed_use fragmented_bytes freeblocks freelist_count greatest_root has_pointer_map header_faults incremental_vacuum is_size_valid items
     key_faults keys late_root_fault later_starts local_len map_entry map_page_of more_line own_kind page_bytes page_count page_faults page_size path_text
     payload record_values refusal_of refused report reserved_bytes right_number row_faults rules_of schema schema_format schema_row serial_len shown_name
-    stat_rows stated_pages story_of sum_faults telling tree_name tree_page_faults tree_view type_byte unused usable_size use_fault varint version_valid_for view
+    stat_rows stated_pages story_of sum_faults reporting tree_name tree_page_faults tree_view type_byte unused usable_size use_fault varint version_valid_for
+    view
     walk_faults whole_pages is_utf8 chars utf16_chars encode digits
 late_root_check = refl
 
@@ -78,7 +79,8 @@ unfolding cell cell_count cell_pointer cells change_counter content_start covera
     first_trunk fixed_use fragmented_bytes freeblocks freelist_count greatest_root has_pointer_map header_faults incremental_vacuum is_size_valid items
     key_faults keys late_root_fault later_starts local_len map_entry map_page_of more_line own_kind page_bytes page_count page_faults page_size path_text
     payload record_values refusal_of refused report reserved_bytes right_number row_faults rules_of schema schema_format schema_row serial_len shown_name
-    stat_rows stated_pages story_of sum_faults telling tree_name tree_page_faults tree_view type_byte unused usable_size use_fault varint version_valid_for view
+    stat_rows stated_pages story_of sum_faults reporting tree_name tree_page_faults tree_view type_byte unused usable_size use_fault varint version_valid_for
+    view
     walk_faults whole_pages is_utf8 chars utf16_chars encode digits
 unmapped_check = refl
 
@@ -98,7 +100,8 @@ unfolding cell cell_count cell_pointer cells change_counter content_start covera
     first_trunk fixed_use fragmented_bytes freeblocks freelist_count greatest_root has_pointer_map header_faults incremental_vacuum is_size_valid items
     key_faults keys late_root_fault later_starts local_len map_entry map_page_of more_line own_kind page_bytes page_count page_faults page_size path_text
     payload record_values refusal_of refused report reserved_bytes right_number row_faults rules_of schema schema_format schema_row serial_len shown_name
-    stat_rows stated_pages story_of sum_faults telling tree_name tree_page_faults tree_view type_byte unused usable_size use_fault varint version_valid_for view
+    stat_rows stated_pages story_of sum_faults reporting tree_name tree_page_faults tree_view type_byte unused usable_size use_fault varint version_valid_for
+    view
     walk_faults whole_pages is_utf8 chars utf16_chars encode digits
 root_first_check = refl
 
@@ -120,7 +123,8 @@ unfolding cell cell_count cell_pointer cells change_counter content_start covera
     first_trunk fixed_use fragmented_bytes freeblocks freelist_count greatest_root has_pointer_map header_faults incremental_vacuum is_size_valid items
     key_faults keys late_root_fault later_starts local_len map_entry map_page_of more_line own_kind page_bytes page_count page_faults page_size path_text
     payload record_values refusal_of refused report reserved_bytes right_number row_faults rules_of schema schema_format schema_row serial_len shown_name
-    stat_rows stated_pages story_of sum_faults telling tree_name tree_page_faults tree_view type_byte unused usable_size use_fault varint version_valid_for view
+    stat_rows stated_pages story_of sum_faults reporting tree_name tree_page_faults tree_view type_byte unused usable_size use_fault varint version_valid_for
+    view
     walk_faults whole_pages is_utf8 chars utf16_chars encode digits
 mapped_row_check = refl
 
@@ -145,6 +149,7 @@ unfolding cell cell_count cell_pointer cells change_counter content_start covera
     first_trunk fixed_use fragmented_bytes freeblocks freelist_count greatest_root has_pointer_map header_faults incremental_vacuum is_size_valid items
     key_faults keys late_root_fault later_starts local_len map_entry map_page_of more_line own_kind page_bytes page_count page_faults page_size path_text
     payload record_values refusal_of refused report reserved_bytes right_number row_faults rules_of schema schema_format schema_row serial_len shown_name
-    stat_rows stated_pages story_of sum_faults telling tree_name tree_page_faults tree_view type_byte unused usable_size use_fault varint version_valid_for view
+    stat_rows stated_pages story_of sum_faults reporting tree_name tree_page_faults tree_view type_byte unused usable_size use_fault varint version_valid_for
+    view
     walk_faults whole_pages is_utf8 chars utf16_chars encode digits
 free_leaf_check = refl

@@ -32,5 +32,5 @@ IsListedOnce = ((code : FaultCode) → slice_get all_codes (code_index code) ≡
     × (map code_index all_codes ≡ range_with_len 0 (length all_codes))
 
 -- two codes are the same exactly where their indexes are
-abbrev pub AreToldApart : Type 0
-AreToldApart = (a b : FaultCode) → is_code a b ≡ (code_index a == code_index b)
+abbrev pub AreReportedApart : Type 0
+AreReportedApart = (a b : FaultCode) → is_code a b ≡ (code_index a == code_index b)

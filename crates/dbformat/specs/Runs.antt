@@ -20,7 +20,7 @@ unfoldable pub longest_run : ℕ → List ℕ → ByteRun
 longest_run at [] = record { start = at; len = 0; byte = 0 }
 longest_run at (first ∷ bytes) = longer (record { start = at; len = run_len (first ∷ bytes); byte = first }) (longest_run (at + 1) bytes)
 
--- it is told where it has 64 bytes or more
+-- it is reported if it has 64 bytes or more
 abbrev pub long_run : ByteRun → Option ByteRun
 long_run run = if nat_le 64 run.len then Some run else None
 

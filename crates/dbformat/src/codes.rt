@@ -1,6 +1,6 @@
 // The list of all codes of faults, and where each is in it.
 ghost use Rattle.std.specs.Prelude.{◌≡◌, ◌<◌, Some, slice_get};
-ghost use Rattle.dbformat.specs.Codes.{all_codes, code_index, IsListedOnce, AreToldApart};
+ghost use Rattle.dbformat.specs.Codes.{all_codes, code_index, IsListedOnce, AreReportedApart};
 
 use crate::FaultCode;
 
@@ -65,5 +65,5 @@ impl FaultCode {
 /// Each code is in the list of all codes, once, and two codes have two indexes.
 pub fn codes_are_listed()
     ensures listed { IsListedOnce }
-    ensures apart { AreToldApart }
+    ensures apart { AreReportedApart }
 {}

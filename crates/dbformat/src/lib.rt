@@ -13,7 +13,7 @@ ghost use Rattle.dbformat.specs.Head.{View, is_interior};
 ghost use Rattle.dbformat.specs.Errands.{IsByCell, IsNoneAtDamage, IsOneCellMore, IsByReading, IsByChain};
 ghost use Rattle.dbformat.specs.Errands.{IsByLeaf, IsOneLeafMore, IsNoneAtFreeLeaf, AreAllQuiet};
 ghost use Rattle.dbformat.specs.Errands.{AreCellsApart};
-ghost use Rattle.dbformat.specs.Laws.{HasOneSurvey, FollowsTheUnrefused, IsRefusedByMarks, IsInTheTheory, IsToldInOrder, LooksBackAlone};
+ghost use Rattle.dbformat.specs.Laws.{HasOneSurvey, FollowsTheUnrefused, IsRefusedByMarks, IsInTheTheory, IsReportedInOrder, LooksBackAlone};
 ghost use Rattle.dbformat.specs.Laws.{IsByStarts, IsSchemaBelowItsStart, FollowsAllWhereFaultless, HasWholeChains};
 ghost use Rattle.dbformat.specs.Lines.{counted};
 ghost use Rattle.dbformat.specs.Log.{RunsReadOnce};
@@ -372,9 +372,9 @@ pub fn one_survey()
 
 /// The rules and the story of each file are those of the theory. What is reported of its survey has one order, that of
 /// places, in which a traversal reports it. The faults of pages and references and the rows come in this order.
-pub fn told_in_order()
+pub fn reported_in_order()
     ensures theory { (file : List ℕ) → IsInTheTheory file }
-    ensures told { (file : List ℕ) → IsToldInOrder file }
+    ensures reported { (file : List ℕ) → IsReportedInOrder file }
 {}
 
 /// Faults look back only: each rests on the pages visited up to its place. So they can be reported during the walk,

@@ -4,7 +4,7 @@ use Rattle.std.specs.Prelude.{IfErr}
 use Rattle.dbformat.specs.Reference.{Reference}
 use Rattle.dbsource.specs.Errors.{is_write_failed}
 use Rattle.dbsource.specs.declared.error.RunError.{RunError}
-use Rattle.dbwalk.specs.Telling.{IsReadOrWrite, SinkAfter, SinkState}
+use Rattle.dbwalk.specs.Reporting.{IsReadOrWrite, SinkAfter, SinkState}
 use Rattle.dbscan.specs.Desks.{DeskView}
 use Rattle.dbscan.specs.Finishes.{IsDeskOf}
 use Rattle.dbscan.specs.Kept.{KeepsRoots}

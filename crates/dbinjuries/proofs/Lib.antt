@@ -2,7 +2,7 @@ pub mod Adding
 pub mod Belonging
 pub mod Bits
 pub mod Desks
-pub mod Heard
+pub mod Received
 pub mod ListedFaults
 pub mod LostPages
 pub mod Noting

@@ -10,13 +10,13 @@ use Rattle.dbtrace.specs.declared.TracedFault.{TracedFault}
 use Rattle.dbinjuries.specs.Bits.{has_bit}
 use Rattle.dbinjuries.specs.Listed.{IsBeginning, is_lost, listed_faults, lost_faults, others_of}
 use Rattle.dbinjuries.specs.Listing.{injuries}
-use Rattle.dbinjuries.specs.Lists.{HasListed, Held, IsUnused, ListsAll, ListsFirst, Shows, added, heard}
+use Rattle.dbinjuries.specs.Lists.{HasListed, Held, IsUnused, ListsAll, ListsFirst, Shows, added, received}
 use Rattle.dbinjuries.specs.Store.{put}
 use Rattle.dbinjuries.specs.Lost.{HasNoted}
 use Rattle.dbinjuries.specs.Zeros.{is_of_one_byte, is_of_zeros, noted}
 use Rattle.dbinjuries.proofs.Adding.{Keeps, keeps_injuries}
 use Rattle.dbinjuries.proofs.ZeroPages.{bits_are}
-use Rattle.dbscan.specs.Placed.{told_faults}
+use Rattle.dbscan.specs.Placed.{reported_faults}
 
 -- the injuries, and the pages that are noted
 injuries_of : (xs : List TracedFault) (s : Held) → (fold added s xs).injuries ≡ fold put s.injuries xs
@@ -38,21 +38,21 @@ shown limit first s xs none e =
     record { room = k.room; listed = rw k.room at k.listed; rest = rw k.room at k.rest }
 
 -- those that are listed as they are heard
-heard_others : (ts : List TracedFault) (s : Held) → fold heard s ts ≡ fold added s (others_of ts)
-heard_others [] s = refl
-heard_others (t ∷ ts) s = by_case (is_lost t) (heard_others ts)
+received_others : (ts : List TracedFault) (s : Held) → fold received s ts ≡ fold added s (others_of ts)
+received_others [] s = refl
+received_others (t ∷ ts) s = by_case (is_lost t) (received_others ts)
   where
-    by_case : (b : Bool) → ((s : Held) → fold heard s ts ≡ fold added s (others_of ts))
-        → fold heard (cond b s (added s t)) ts ≡ fold added s (cond (not b) (t ∷ others_of ts) (others_of ts))
+    by_case : (b : Bool) → ((s : Held) → fold received s ts ≡ fold added s (others_of ts))
+        → fold received (cond b s (added s t)) ts ≡ fold added s (cond (not b) (t ∷ others_of ts) (others_of ts))
     by_case true h = h s
     by_case false h = h (added s t)
 
 -- all of a file were heard, and its lost pages looked at
-module _ (file : List ℕ) (V : List Reference) (first now l : Held) (e : HasListed first (told_faults file V) now)
+module _ (file : List ℕ) (V : List Reference) (first now l : Held) (e : HasListed first (reported_faults file V) now)
     (f : l ≡ fold added now (lost_faults file V)) where
   all_added : l ≡ fold added first (listed_faults file V)
-  all_added = f ∙ ap (λ s. fold added s (lost_faults file V)) (e ∙ heard_others (told_faults file V) first)
-      ∙ sym (fold-append added first (others_of (told_faults file V)) (lost_faults file V))
+  all_added = f ∙ ap (λ s. fold added s (lost_faults file V)) (e ∙ received_others (reported_faults file V) first)
+      ∙ sym (fold-append added first (others_of (reported_faults file V)) (lost_faults file V))
 
   pub all_listed : (limit : ℕ) → IsUnused limit first → ListsAll limit file V l
   all_listed limit none = shown limit first l (listed_faults file V) none all_added
@@ -69,27 +69,27 @@ module _ (file : List ℕ) (V : List Reference) (first now l : Held) (e : HasLis
   }
 
 -- the first faults of a file were heard
-pub heard_first : (limit : ℕ) (file : List ℕ) (V : List Reference) (first s : Held) (us : List TracedFault) → IsUnused limit first
-    → IsBeginning us (told_faults file V) → s ≡ fold heard first us → ListsFirst limit file V s
-heard_first limit file V first s us none begins e = record {
-  told = others_of us;
+pub received_first : (limit : ℕ) (file : List ℕ) (V : List Reference) (first s : Held) (us : List TracedFault) → IsUnused limit first
+    → IsBeginning us (reported_faults file V) → s ≡ fold received first us → ListsFirst limit file V s
+received_first limit file V first s us none begins e = record {
+  reported = others_of us;
   first = (
     others_of begins.0 ++ lost_faults file V,
     sym (append_assoc (others_of us) (others_of begins.0) (lost_faults file V))
         ∙ ap (λ l. l ++ lost_faults file V) (sym (filter-append (λ x. not (is_lost x)) us begins.0) ∙ ap others_of begins.1),
   );
-  shows = shown limit first s (others_of us) none (e ∙ heard_others us first);
+  shows = shown limit first s (others_of us) none (e ∙ received_others us first);
 }
 
 -- all of them were, and then the first lost pages were looked at
 pub looked_first : (limit : ℕ) (file : List ℕ) (V : List Reference) (first now s : Held) (ys : List TracedFault) → IsUnused limit first
-    → now ≡ fold heard first (told_faults file V) → IsBeginning ys (lost_faults file V) → s ≡ fold added now ys → ListsFirst limit file V s
+    → now ≡ fold received first (reported_faults file V) → IsBeginning ys (lost_faults file V) → s ≡ fold added now ys → ListsFirst limit file V s
 looked_first limit file V first now s ys none e begins f = record {
-  told = xs ++ ys;
+  reported = xs ++ ys;
   first = (begins.0, append_assoc xs ys begins.0 ∙ ap (λ l. xs ++ l) begins.1);
   shows = shown limit first s (xs ++ ys) none
-      (f ∙ ap (λ s. fold added s ys) (e ∙ heard_others (told_faults file V) first) ∙ sym (fold-append added first xs ys));
+      (f ∙ ap (λ s. fold added s ys) (e ∙ received_others (reported_faults file V) first) ∙ sym (fold-append added first xs ys));
 }
   where
     xs : List TracedFault
-    xs = others_of (told_faults file V)
+    xs = others_of (reported_faults file V)

@@ -19,8 +19,8 @@ use Rattle.dbformat.specs.FixedPages.{is_fixed, is_page}
 use Rattle.dbformat.specs.HeaderFaults.{header_faults}
 use Rattle.dbformat.specs.Reference.{Reference, Role, root, child, first_overflow, later_overflow, trunk, free_leaf, role_of, from_of}
 use Rattle.dbformat.specs.Report.{event_faults}
-use Rattle.dbformat.specs.Story.{Event, telling}
-use Rattle.dbformat.specs.Tests.{told_if}
+use Rattle.dbformat.specs.Story.{Event, reporting}
+use Rattle.dbformat.specs.Tests.{reported_if}
 use Rattle.dbformat.specs.declared.Fault.{Fault}
 use Rattle.dbformat.specs.declared.FaultCode.{FaultCode}
 use Rattle.dbformat.specs.declared.Geometry.{Geometry}
@@ -32,7 +32,7 @@ use Rattle.dbtrace.specs.declared.Cause.{Cause}
 use Rattle.dbtrace.specs.declared.Part.TheVariants as part
 use Rattle.dbtrace.specs.declared.TracedFault.{TracedFault}
 use Rattle.dbscan.specs.Notices.{at_start, of_file}
-use Rattle.dbscan.specs.Placed.{told_faults, walk_told}
+use Rattle.dbscan.specs.Placed.{reported_faults, walk_reported}
 use Rattle.dbinjuries.specs.Listed.{IsBeginning, is_lost, is_lost_code, is_lost_page, is_unreached, looked_at, lost_faults}
 use Rattle.dbinjuries.specs.Lost.{lost_at, lost_page}
 
@@ -110,7 +110,7 @@ none_at_start : (file : List ℕ) (V : List Reference) (k : ℕ) (why : FaultCod
 none_at_start file V k why [] = refl
 none_at_start file V k why (f ∷ fs) = none_at_start file V k why fs
 
-none_of_walk : (file : List ℕ) (V : List Reference) (ts : List (story.Told Event))
+none_of_walk : (file : List ℕ) (V : List Reference) (ts : List (story.Reported Event))
     → flat_map (as_lost file V) (flat_map (λ t. map (λ f. at_start (start_of t.key) f (cause_of file V t.event f.code)) (event_faults file V t.event)) ts) ≡ []
 none_of_walk file V [] = refl
 none_of_walk file V (t ∷ ts) =
@@ -123,7 +123,7 @@ none_of_walk file V (t ∷ ts) =
 abbrev at_end : List ℕ → List Reference → Fault → List TracedFault
 at_end file V f = as_lost file V (of_file part.End f)
 
-not_at_end : (file : List ℕ) (V : List Reference) (b : Bool) (f : Fault) → is_lost_code f.code ≡ false → flat_map (at_end file V) (told_if b f) ≡ []
+not_at_end : (file : List ℕ) (V : List Reference) (b : Bool) (f : Fault) → is_lost_code f.code ≡ false → flat_map (at_end file V) (reported_if b f) ≡ []
 not_at_end file V true f e = rw e refl
 not_at_end file V false f e = refl
 
@@ -165,11 +165,11 @@ lost_are file V =
     let hs = map (of_file part.Header) (header_faults file (length file)) in
     let es = map (of_file part.End) (end_faults file V) in
     let pages = page_numbers (geometry file) in
-    picked file V (told_faults file V)
-    ∙ flat_map-append (as_lost file V) (hs ++ walk_told file V) es
+    picked file V (reported_faults file V)
+    ∙ flat_map-append (as_lost file V) (hs ++ walk_reported file V) es
     ∙ ap₂ (λ a b. a ++ b)
-    (flat_map-append (as_lost file V) hs (walk_told file V)
-    ∙ ap₂ (λ a b. a ++ b) (none_in_header file V (header_faults file (length file))) (none_of_walk file V (telling file V)))
+    (flat_map-append (as_lost file V) hs (walk_reported file V)
+    ∙ ap₂ (λ a b. a ++ b) (none_in_header file V (header_faults file (length file))) (none_of_walk file V (reporting file V)))
     (flat_map-map (as_lost file V) (of_file part.End) (end_faults file V)
     ∙ flat_map-append (at_end file V) (sum_faults file V) (flat_map (page_end_faults file V) pages)
     ∙ ap₂ (λ a b. a ++ b) (sums_at_end file V)

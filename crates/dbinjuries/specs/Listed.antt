@@ -12,7 +12,7 @@ use Rattle.dbtrace.specs.declared.Part.{Part}
 use Rattle.dbtrace.specs.declared.Part.TheVariants as part
 use Rattle.dbtrace.specs.declared.TracedFault.{TracedFault}
 use Rattle.dbinjuries.specs.Listing.{Injury, injuries}
-use Rattle.dbscan.specs.Placed.{told_faults}
+use Rattle.dbscan.specs.Placed.{reported_faults}
 
 -- ---- lost pages, to which nothing refers
 
@@ -50,11 +50,11 @@ others_of xs = filter (λ x. not (is_lost x)) xs
 
 -- those of lost pages
 abbrev pub lost_faults : List ℕ → List Reference → List TracedFault
-lost_faults file V = map (looked_at file V) (filter is_lost (told_faults file V))
+lost_faults file V = map (looked_at file V) (filter is_lost (reported_faults file V))
 
 -- all, in the order in which they are listed
 abbrev pub listed_faults : List ℕ → List Reference → List TracedFault
-listed_faults file V = others_of (told_faults file V) ++ lost_faults file V
+listed_faults file V = others_of (reported_faults file V) ++ lost_faults file V
 
 -- what is listed of them
 abbrev pub listed_injuries : List ℕ → List Reference → List Injury

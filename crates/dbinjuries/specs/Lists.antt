@@ -54,12 +54,12 @@ added s x = record {
 }
 
 -- as it is heard: that of a lost page is added later
-abbrev pub heard : Held → TracedFault → Held
-heard s x = if is_lost x then s else added s x
+abbrev pub received : Held → TracedFault → Held
+received s x = if is_lost x then s else added s x
 
 -- some faults were heard, one after another
 abbrev pub HasListed : Held → List TracedFault → Held → Type 0
-HasListed first ts s = s ≡ fold heard first ts
+HasListed first ts s = s ≡ fold received first ts
 
 -- of these injuries the first `limit` are listed, and the faults of the others are counted
 pub record Shows (limit : ℕ) (es : List Injury) (s : Held) : Type 0 where
@@ -73,6 +73,6 @@ ListsAll limit file V s = Shows limit (listed_injuries file V) s
 
 -- the first of them are
 pub record ListsFirst (limit : ℕ) (file : List ℕ) (V : List Reference) (s : Held) : Type 0 where
-  pub told : List TracedFault
-  pub first : IsBeginning told (listed_faults file V)
-  pub shows : Shows limit (injuries told) s
+  pub reported : List TracedFault
+  pub first : IsBeginning reported (listed_faults file V)
+  pub shows : Shows limit (injuries reported) s

@@ -11,7 +11,7 @@ use Rattle.dbinjuries.specs.Bits.{HasPageBit}
 use Rattle.dbinjuries.specs.Listed.{is_lost_page, is_unreached}
 use Rattle.dbinjuries.specs.Lists.{HasListed, Held, IsUnused, ListsAll, ListsFirst, added}
 use Rattle.dbinjuries.specs.Zeros.{AreBlank, AreZeros}
-use Rattle.dbscan.specs.Placed.{told_faults}
+use Rattle.dbscan.specs.Placed.{reported_faults}
 
 -- the fault of a lost page
 abbrev pub lost_page : List ℕ → List Reference → ℕ → TracedFault
@@ -32,5 +32,5 @@ pub record HasNoted (file : List ℕ) (V : List Reference) (first new : Held) : 
 
 -- The faults of all lost pages were listed, after all others were heard; after a failed read the first of them.
 abbrev pub HasLooked : {A E : Type 0} → List ℕ → List Reference → Result A E → Held → Held → Type 0
-HasLooked file V r old new = (limit : ℕ) (first : Held) → IsUnused limit first → HasListed first (told_faults file V) old
+HasLooked file V r old new = (limit : ℕ) (first : Held) → IsUnused limit first → HasListed first (reported_faults file V) old
     → MatchResult r (λ _. ListsAll limit file V new × HasNoted file V first new) (λ _. ListsFirst limit file V new)

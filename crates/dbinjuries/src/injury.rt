@@ -49,14 +49,14 @@ impl Injury {
 
     /// Adds a fault that belongs to it.
     #[inline(always)]
-    pub(crate) fn add(&mut self, told: &TracedFault)
-        ensures { self.new ≡ injury_added self.old told.now }
+    pub(crate) fn add(&mut self, reported: &TracedFault)
+        ensures { self.new ≡ injury_added self.old reported.now }
     {
         let others = &mut self.others;
         others.count = others.count.saturating_add(1);
-        others.page = told.fault.page;
-        others.item = told.fault.item;
-        others.runs.add(told.fault.page);
-        others.cells = others.cells.saturating_add(cells_of(&told.cause));
+        others.page = reported.fault.page;
+        others.item = reported.fault.item;
+        others.runs.add(reported.fault.page);
+        others.cells = others.cells.saturating_add(cells_of(&reported.cause));
     }
 }

@@ -74,10 +74,10 @@ fn rank(part: Part) -> u64
 }
 
 // Whether two faults are of one code.
-fn is_beside(told: &TracedFault, first: &TracedFault) -> bool
-    ensures { result ≡ is_beside told.now first.now }
+fn is_beside(reported: &TracedFault, first: &TracedFault) -> bool
+    ensures { result ≡ is_beside reported.now first.now }
 {
-    first.fault.code.index() == told.fault.code.index()
+    first.fault.code.index() == reported.fault.code.index()
 }
 
 // Whether the page of a fault with this cause is zeros.
@@ -154,14 +154,14 @@ impl<A: Allocator + Copy> Listing<A> {
 impl<A: Allocator> Listing<A> {
     // Adds a fault, which comes after the earlier ones of its part.
     #[inline(always)]
-    pub(crate) fn add(&mut self, told: &TracedFault)
-        ensures { self.new ≡ added self.old told.now }
+    pub(crate) fn add(&mut self, reported: &TracedFault)
+        ensures { self.new ≡ added self.old reported.now }
     {
-        self.note_bytes(told);
-        self.turn_to(rank(told.part));
-        match self.home(told) {
-            Some(slot) => self.put_kept(slot, told),
-            None => self.put_new(told),
+        self.note_bytes(reported);
+        self.turn_to(rank(reported.part));
+        match self.home(reported) {
+            Some(slot) => self.put_kept(slot, reported),
+            None => self.put_new(reported),
         }
     }
 
@@ -217,14 +217,14 @@ impl<A: Allocator> Listing<A> {
     }
 
     // The injury that a fault of the last part belongs to, if one is kept: there are at most three of each code, and six of lost pages.
-    fn home(&self, told: &TracedFault) -> Option<usize>
-        ensures { result ≡ home_kept told.now self.now.injuries }
+    fn home(&self, reported: &TracedFault) -> Option<usize>
+        ensures { result ≡ home_kept reported.now self.now.injuries }
     {
-        let mut left = most(told.fault.code);
+        let mut left = most(reported.fault.code);
         for slot in self.begins..self.shown {
             let first = &self.injuries[slot].first;
-            if is_beside(told, first) {
-                if left <= 1 || same_cause(&told.cause, &first.cause) {
+            if is_beside(reported, first) {
+                if left <= 1 || same_cause(&reported.cause, &first.cause) {
                     return Some(slot);
                 }
                 left -= 1;
@@ -234,21 +234,21 @@ impl<A: Allocator> Listing<A> {
     }
 
     // Adds a fault to an injury that is kept.
-    fn put_kept(&mut self, slot: usize, told: &TracedFault)
+    fn put_kept(&mut self, slot: usize, reported: &TracedFault)
         requires { slot < length self.old.injuries.listed }
-        ensures { self.new ≡ record self.old { injuries = put_kept slot told.now self.old.injuries } }
+        ensures { self.new ≡ record self.old { injuries = put_kept slot reported.now self.old.injuries } }
     {
-        self.injuries[slot].add(told);
+        self.injuries[slot].add(reported);
     }
 
     // Adds an injury, where there is room. Most faults belong to one that is kept, and do not reach this call.
     #[cold]
     #[inline(never)]
-    fn put_new(&mut self, told: &TracedFault)
-        ensures { self.new ≡ record self.old { injuries = put_new told.now self.old.injuries } }
+    fn put_new(&mut self, reported: &TracedFault)
+        ensures { self.new ≡ record self.old { injuries = put_new reported.now self.old.injuries } }
     {
         if self.shown < self.injuries.len() {
-            self.injuries[self.shown] = Injury::of(told);
+            self.injuries[self.shown] = Injury::of(reported);
             self.shown += 1;
         } else {
             self.rest = self.rest.saturating_add(1);
@@ -257,33 +257,33 @@ impl<A: Allocator> Listing<A> {
 
     // Notes whether the page of a fault is zeros, and whether it is one byte throughout.
     #[inline(always)]
-    fn note_bytes(&mut self, told: &TracedFault)
+    fn note_bytes(&mut self, reported: &TracedFault)
         ensures { self.new ≡ record self.old {
-          zeros = noted is_of_zeros self.old.zeros told.now;
-          blank = noted (is_of_one_byte self.old.usable) self.old.blank told.now;
+          zeros = noted is_of_zeros self.old.zeros reported.now;
+          blank = noted (is_of_one_byte self.old.usable) self.old.blank reported.now;
         } }
     {
-        if shows_bytes(&told.cause) {
-            self.note_zeros(told);
-            self.note_blank(told);
+        if shows_bytes(&reported.cause) {
+            self.note_zeros(reported);
+            self.note_blank(reported);
         }
     }
 
     // Notes of the page of a fault that it is zeros, if it is.
-    fn note_zeros(&mut self, told: &TracedFault)
-        ensures { self.new ≡ record self.old { zeros = noted is_of_zeros self.old.zeros told.now } }
+    fn note_zeros(&mut self, reported: &TracedFault)
+        ensures { self.new ≡ record self.old { zeros = noted is_of_zeros self.old.zeros reported.now } }
     {
-        if is_of_zeros(&told.cause) {
-            self.zeros.set(told.fault.page);
+        if is_of_zeros(&reported.cause) {
+            self.zeros.set(reported.fault.page);
         }
     }
 
     // Notes of the page of a fault that it is one byte throughout, if it is.
-    fn note_blank(&mut self, told: &TracedFault)
-        ensures { self.new ≡ record self.old { blank = noted (is_of_one_byte self.old.usable) self.old.blank told.now } }
+    fn note_blank(&mut self, reported: &TracedFault)
+        ensures { self.new ≡ record self.old { blank = noted (is_of_one_byte self.old.usable) self.old.blank reported.now } }
     {
-        if is_of_one_byte(self.usable, &told.cause) {
-            self.blank.set(told.fault.page);
+        if is_of_one_byte(self.usable, &reported.cause) {
+            self.blank.set(reported.fault.page);
         }
     }
 }

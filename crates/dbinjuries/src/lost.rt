@@ -8,7 +8,7 @@ ghost use Rattle.dbscan.specs.Desks.{shape_of};
 ghost use Rattle.dbscan.specs.Finishes.{IsDeskOf};
 ghost use Rattle.dbscan.specs.Looks.{IsUnmarked, ReadsOrNot, ReadsRising};
 ghost use Rattle.dbinjuries.specs.Listed.{is_lost};
-ghost use Rattle.dbinjuries.specs.Lists.{heard};
+ghost use Rattle.dbinjuries.specs.Lists.{received};
 ghost use Rattle.dbinjuries.specs.Lost.{AddsLost, HasLooked};
 
 use crate::listing::Listing;
@@ -19,20 +19,20 @@ use dbtrace::{Part, TracedFault};
 use std::alloc::Allocator;
 
 // Whether a fault is that of a lost page.
-fn is_lost(told: &TracedFault) -> bool
-    ensures { result ≡ is_lost told.now }
+fn is_lost(reported: &TracedFault) -> bool
+    ensures { result ≡ is_lost reported.now }
 {
-    matches!(told.part, Part::End) && matches!(told.fault.code, FaultCode::N01)
+    matches!(reported.part, Part::End) && matches!(reported.fault.code, FaultCode::N01)
 }
 
 impl<A: Allocator> Listing<A> {
     /// Lists a fault, but for that of a lost page, which is listed when its page is looked at. The faults of one part come one after
     /// another.
-    pub fn hear(&mut self, told: &TracedFault)
-        ensures { self.new ≡ heard self.old told.now }
+    pub fn receive(&mut self, reported: &TracedFault)
+        ensures { self.new ≡ received self.old reported.now }
     {
-        if !is_lost(told) {
-            self.add(told);
+        if !is_lost(reported) {
+            self.add(reported);
         }
     }
 

@@ -20,30 +20,30 @@ use Rattle.dbsource.specs.declared.error.RunError.{RunError}
 use Rattle.dbsource.specs.declared.error.RunError.TheVariants.{OutOfMemory, ReadFailed, Refused, WriteFailed}
 use Rattle.dbscan.specs.Finishes.{Leaves}
 use Rattle.dbscan.specs.Notices.{run_notices}
-use Rattle.dbscan.specs.Placed.{told_faults}
-use Rattle.dbscan.proofs.AllTold.{all_told}
+use Rattle.dbscan.specs.Placed.{reported_faults}
+use Rattle.dbscan.proofs.AllReported.{all_reported}
 use Rattle.dbinjuries.specs.Lists.{HasListed, Held, ListsAll}
 use Rattle.dbinjuries.specs.Lost.{HasNoted}
-use Rattle.dbpicture.specs.Keeping.{AreNoted, HasFaults, HearsNone}
+use Rattle.dbpicture.specs.Keeping.{AreNoted, HasFaults, ReceivesNone}
 use Rattle.dbpicture.specs.Faults.{fault_signs}
 use Rattle.dbscan.specs.Trees.{AreTrees}
 use Rattle.dbscan.proofs.Trees.{all_noted}
 use Rattle.dbpicture.specs.Pictures.{map_picture}
 use Rattle.dbmap.specs.Maps.{PutsMap}
-use Rattle.dbmap.specs.MapRuns.{Hears, LeavesMap}
+use Rattle.dbmap.specs.MapRuns.{Receives, LeavesMap}
 use Rattle.dbmap.specs.declared.map_reporter.MapReporter.{MapReporter}
 use Rattle.dbmap.proofs.MapAnswers.{nothing_begun}
-use Rattle.dbmap.proofs.Heard.{all_heard, HasNotedFaults, some_untouched}
+use Rattle.dbmap.proofs.Received.{all_received, HasNotedFaults, some_untouched}
 
 module _ {A O : Type 0} (file : List ℕ) (V : List Reference) (survey : Survey file V) (s t : MapReporter A O)
-    (empty : HearsNone (geometry file) s.kept.now) where
+    (empty : ReceivesNone (geometry file) s.kept.now) where
   -- all of a run was heard, and nothing before it: its faults were counted, and these are kept
-  module _ (heard : Moves Hears s (run_notices file V) t) where
-    all : HasNotedFaults (geometry file).pages s (told_faults file V) (stat_rows file V) t
-    all = all_heard file V survey s t empty heard
+  module _ (received : Moves Receives s (run_notices file V) t) where
+    all : HasNotedFaults (geometry file).pages s (reported_faults file V) (stat_rows file V) t
+    all = all_received file V survey s t empty received
 
-    as_many : length (told_faults file V) ≡ length (faults file V)
-    as_many = sym (length-map (told_faults file V) (λ (x : TracedFault). x.fault)) ∙ ap length (all_told file V)
+    as_many : length (reported_faults file V) ≡ length (faults file V)
+    as_many = sym (length-map (reported_faults file V) (λ (x : TracedFault). x.fault)) ∙ ap length (all_reported file V)
 
     pub map_counts : t.kept.now.faults ≡ counted (length (faults file V))
     map_counts = all.count ∙ ap counted as_many
@@ -51,15 +51,15 @@ module _ {A O : Type 0} (file : List ℕ) (V : List Reference) (survey : Survey 
     pub map_finds : verdict_of t.kept.now.faults ≡ verdict (faults file V)
     map_finds = ap verdict_of map_counts ∙ verdict_counted (faults file V)
 
-    pub map_hears : HasListed s.kept.now.listing (told_faults file V) t.kept.now.listing
-    map_hears = all.listing
+    pub map_receives : HasListed s.kept.now.listing (reported_faults file V) t.kept.now.listing
+    map_receives = all.listing
 
     -- with the lost pages
     pub map_keeps : (l : Held) → ListsAll 100 file V l × HasNoted file V s.kept.now.listing l
         → HasFaults file V (record t.kept.now { listing = l })
     map_keeps l looked = record {
       trees = subst (AreTrees V) (sym all.trees) (all_noted file V s.kept.now.trees.known survey empty.room);
-      notes = subst (λ fs. AreNoted (geometry file).pages (flat_map fault_signs fs) t.kept.now.notes) (all_told file V) all.notes;
+      notes = subst (λ fs. AreNoted (geometry file).pages (flat_map fault_signs fs) t.kept.now.notes) (all_reported file V) all.notes;
       listing = looked.0;
       zeros = looked.1.zeros empty.bits.zeros;
       blank = looked.1.blank empty.bits.usable empty.bits.blank;
@@ -84,7 +84,7 @@ module _ {A O : Type 0} (file : List ℕ) (V : List Reference) (survey : Survey 
   unbegun WriteFailed old new kept = nothing_begun old new (map_picture file V s.name.now) kept
 
   -- a run that came to its end, or not
-  pub map_left : (held : O → OutState) (r : Result Verdict RunError) → Leaves Hears (LeavesMap held) file V r s t
+  pub map_left : (held : O → OutState) (r : Result Verdict RunError) → Leaves Receives (LeavesMap held) file V r s t
       → IfOk r (λ v. v ≡ verdict (faults file V)) × PutsMap r (held s.out.now).bytes (held t.out.now).bytes (map_picture file V s.name.now)
   map_left held r (inl h) = h empty
   map_left held r (inr (e, is, k)) =

@@ -1,3 +1,3 @@
 pub mod Counting
-pub mod Heard
+pub mod Received
 pub mod MapAnswers

@@ -16,7 +16,7 @@ use Rattle.dbsource.proofs.Puts.{appends_kept, appends_nothing, keeps_same}
 use Rattle.dbsource.specs.Outs.{Begins}
 use Rattle.dbsource.specs.declared.error.RunError.{RunError}
 use Rattle.dbsource.specs.declared.error.RunError.TheVariants.{OutOfMemory, ReadFailed, Refused, WriteFailed}
-use Rattle.dbwalk.specs.Telling.{IsReadWriteOrMemory}
+use Rattle.dbwalk.specs.Reporting.{IsReadWriteOrMemory}
 use Rattle.dbreport.specs.Runs.{IsAnswerOf}
 use Rattle.dbreport.proofs.RunAnswers.{read_answer}
 use Rattle.dbreport.proofs.RunReports.{check_answer}

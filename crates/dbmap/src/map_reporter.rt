@@ -15,15 +15,15 @@ pub(crate) struct MapReporter<'n, 'k, 'o, A: Allocator, O> {
 }
 
 impl<A: Allocator, O: Out> Reporter for MapReporter<'_, '_, '_, A, O> {
-    ghost use Rattle.dbmap.specs.MapRuns.{Hears, map_held};
+    ghost use Rattle.dbmap.specs.MapRuns.{Receives, map_held};
 
-    ghost hears = { Hears };
+    ghost receives = { Receives };
 
     ghost held = { map_held O.held };
 
-    fn hear(&mut self, notice: &Notice<'_>) {
+    fn receive(&mut self, notice: &Notice<'_>) {
         match notice {
-            Notice::Fault(told) => self.kept.note(told),
+            Notice::Fault(reported) => self.kept.note(reported),
             Notice::Row(_, row) => self.kept.note_row(row),
             Notice::Ended(_) | Notice::Page(_, _, _) => {}
         }

@@ -17,7 +17,7 @@ use Rattle.dbformat.specs.FixedPages.{is_fixed, is_page}
 use Rattle.dbformat.specs.Reference.{Role, root, child, first_overflow, later_overflow, trunk, free_leaf, Reference, role_of, from_of, is_on_freelist, entry_of}
 use Rattle.dbformat.specs.Reference.{is_root}
 use Rattle.dbformat.specs.EndFaults.{visit_of, use_fault, entry_fault, free_pages, greatest_root_reached}
-use Rattle.dbformat.specs.Tests.{told_if}
+use Rattle.dbformat.specs.Tests.{reported_if}
 use Rattle.dbformat.specs.Faults.{fault}
 use Rattle.dbformat.specs.Survey.{Survey}
 use Rattle.dbformat.proofs.Visited.{allowed, each_once}
@@ -38,7 +38,7 @@ pub found_in : (V : List Reference) (p : ℕ) (r : Reference) → visit_of V p �
 found_in V p r h = let k = find-some (λ u. u.page == p) V r h in (k.0, eqb-true r.page p k.1)
 
 abbrev use_by : List ℕ → ℕ → Bool → Option Reference → List Fault
-use_by file p b None = told_if (not b) (fault N01 p 0 (pos 0))
+use_by file p b None = reported_if (not b) (fault N01 p 0 (pos 0))
 use_by file p b (Some r) = entry_fault p (map_entry file p) r
 
 mark_by_role : (p : ℕ) (e : Option MapEntry) (from : ℕ) (role : Role) → other_entry p e (entry_of role from) ≡ mark_fault p e (role_mark role from)

@@ -19,13 +19,13 @@ use Rattle.dbformat.specs.FixedPages.{is_page, is_fixed}
 use Rattle.dbformat.specs.Reference.{Way, Reference, role_of, is_root}
 use Rattle.dbformat.specs.Schema.{schema_link, starts}
 use Rattle.dbformat.specs.Survey.{Survey, rules_of}
-use Rattle.dbformat.specs.Tests.{told_if}
+use Rattle.dbformat.specs.Tests.{reported_if}
 use Rattle.dbformat.specs.declared.Fault.{Fault}
 use Rattle.dbformat.specs.declared.FaultCode.TheVariants.{M02}
 use Rattle.dbformat.specs.declared.Geometry.{Geometry}
 use Rattle.dbformat.proofs.Rising.{starts_rise}
 use Rattle.dbformat.proofs.Visited.{allowed, each_once, has_address, root_is_start}
-use Rattle.dbmarks.specs.EndMarks.{AreVisits, is_root_mark, is_other_mark, is_marked, least_other_marked, late_fault, MarksTellTheEnd}
+use Rattle.dbmarks.specs.EndMarks.{AreVisits, is_root_mark, is_other_mark, is_marked, least_other_marked, late_fault, MarksGiveTheEnd}
 use Rattle.dbmarks.specs.Marking.{mark_of, marks_of}
 use Rattle.dbmarks.proofs.EndMarking.{use_fault-by_mark, free_pages-by_marks, survey_visits, root_test, other_test, visited_pages, visit-of_marked}
 use Rattle.dbmarks.proofs.EndMarking.{marked-visit_of, visited_is_marked, marked_is_visited, greatest_root-by_marks}
@@ -136,7 +136,7 @@ module _ (file : List ℕ) (V : List Reference) (s : Survey file V) where
 
   abbrev late_by : ℕ → Option ℕ → List Fault
   late_by p None = []
-  late_by p (Some least) = told_if ((geometry file).has_map && is_root_page V p && nat_lt least p) (fault M02 p 0 (pos least))
+  late_by p (Some least) = reported_if ((geometry file).has_map && is_root_page V p && nat_lt least p) (fault M02 p 0 (pos least))
 
   late_root_fault-by_marks : (p : ℕ) → late_root_fault file V p
       ≡ late_fault (geometry file).has_map p (mark_of (geometry file) V p) (least_other_marked (marks_of (geometry file) V))
@@ -147,10 +147,10 @@ module _ (file : List ℕ) (V : List Reference) (s : Survey file V) where
     where
       by_least : (o : Option ℕ) → late_by p o ≡ late_fault (geometry file).has_map p (mark_of (geometry file) V p) o
       by_least None = refl
-      by_least (Some least) = ap (λ b. told_if ((geometry file).has_map && b && nat_lt least p) (fault M02 p 0 (pos least))) (root_page-by_mark p)
+      by_least (Some least) = ap (λ b. reported_if ((geometry file).has_map && b && nat_lt least p) (fault M02 p 0 (pos least))) (root_page-by_mark p)
 
-pub marks_tell_the_end : (file : List ℕ) → MarksTellTheEnd file
-marks_tell_the_end file V s = record {
+pub marks_give_the_end : (file : List ℕ) → MarksGiveTheEnd file
+marks_give_the_end file V s = record {
   uses = λ p. use_fault-by_mark file V p (survey_visits file V s);
   late = late_root_fault-by_marks file V s;
   free = sym (free_pages-by_marks (geometry file) V (survey_visits file V s));

@@ -6,7 +6,7 @@ use Rattle.std.specs.Option.{option_map_or}
 use Rattle.dbsurvey.specs.Address.{IsIn}
 use Rattle.dbsurvey.specs.Whole.{HasEachPageOnce}
 use Rattle.dbformat.specs.Faults.{fault}
-use Rattle.dbformat.specs.Tests.{told_if}
+use Rattle.dbformat.specs.Tests.{reported_if}
 use Rattle.dbformat.specs.File.{geometry, MapEntry, map_entry}
 use Rattle.dbformat.specs.FixedPages.{is_page, is_fixed}
 use Rattle.dbformat.specs.Reference.{Reference}
@@ -42,7 +42,7 @@ entry_value e = record { type = e.kind; number = e.number }
 -- that the map has another entry
 abbrev pub other_entry : ℕ → Option MapEntry → MapEntry → List Fault
 other_entry p None own = []
-other_entry p (Some e) own = told_if (not (is_same_entry e own)) (fault M01 p e.type (pos e.number))
+other_entry p (Some e) own = reported_if (not (is_same_entry e own)) (fault M01 p e.type (pos e.number))
 
 -- the fault of page p at the end, by its entry in the map and its mark
 abbrev pub mark_fault : ℕ → Option MapEntry → Mark → List Fault
@@ -87,11 +87,11 @@ least_other_marked marks = find (is_marked is_other_mark marks) (range_with_len 
 -- that page p is the root of a row of the schema and comes after that page, in a file with a pointer map
 abbrev pub late_fault : Bool → ℕ → Mark → Option ℕ → List Fault
 late_fault has_map p mark None = []
-late_fault has_map p mark (Some least) = told_if (has_map && (is_root_mark mark && not (p == 1)) && nat_lt least p) (fault M02 p 0 (pos least))
+late_fault has_map p mark (Some least) = reported_if (has_map && (is_root_mark mark && not (p == 1)) && nat_lt least p) (fault M02 p 0 (pos least))
 
 -- what the visits of V say at the end is what their marks say: of the use of each page, of its place among the roots, of
 -- the count of the freelist, and of the greatest root
-pub record IsToldByMarks (file : List ℕ) (V : List Reference) : Type 0 where
+pub record IsGivenByMarks (file : List ℕ) (V : List Reference) : Type 0 where
   pub uses : (p : ℕ) → use_fault file V p ≡ mark_fault p (map_entry file p) (mark_of (geometry file) V p)
   pub late : (p : ℕ) → late_root_fault file V p
       ≡ late_fault (geometry file).has_map p (mark_of (geometry file) V p) (least_other_marked (marks_of (geometry file) V))
@@ -99,5 +99,5 @@ pub record IsToldByMarks (file : List ℕ) (V : List Reference) : Type 0 where
   pub greatest : greatest_root_reached V ≡ greatest_root_marked (marks_of (geometry file) V)
 
 -- so it is of each survey
-abbrev pub MarksTellTheEnd : List ℕ → Type 0
-MarksTellTheEnd file = (V : List Reference) → Survey file V → IsToldByMarks file V
+abbrev pub MarksGiveTheEnd : List ℕ → Type 0
+MarksGiveTheEnd file = (V : List Reference) → Survey file V → IsGivenByMarks file V

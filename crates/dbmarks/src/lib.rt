@@ -5,7 +5,7 @@
 //! after it was followed reads no page twice, whatever a source answers (specs/Reads, [`walks_read_each_page_once`]).
 //!
 //! At the end of a run the marks alone say which pages nothing refers to, which entries of the pointer map are wrong,
-//! how long the freelist is and which root is the greatest (specs/EndMarks, [`marks_tell_the_end`]).
+//! how long the freelist is and which root is the greatest (specs/EndMarks, [`marks_give_the_end`]).
 #![tactic(auto)]
 
 mod entry;
@@ -13,4 +13,4 @@ mod marks;
 
 pub use dbformat::{FaultCode, Geometry};
 pub use entry::MapEntry;
-pub use marks::{Mark, Marks, marks_tell_the_end, walks_read_each_page_once};
+pub use marks::{Mark, Marks, marks_give_the_end, walks_read_each_page_once};

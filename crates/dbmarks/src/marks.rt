@@ -3,7 +3,7 @@ ghost use Rattle.std.specs.Prelude.{ℕ, List, ◌≡◌, ◌-◌, ◌+◌, ◌<
 ghost use Rattle.dbformat.specs.FixedPages.{most_pages, IsPageNumber, IsInRange};
 ghost use Rattle.dbmarks.specs.Marking.{cleared, followed, mark_of, marks_of, named_page, page_mark, refusal_by, unpacked};
 ghost use Rattle.dbformat.specs.declared.Geometry.{Geometry};
-ghost use Rattle.dbmarks.specs.EndMarks.{MarksTellTheEnd};
+ghost use Rattle.dbmarks.specs.EndMarks.{MarksGiveTheEnd};
 ghost use Rattle.dbmarks.specs.Reads.{ReadsEachPageOnce};
 
 use dbformat::{FaultCode, Geometry};
@@ -209,8 +209,8 @@ impl Marks {
 
 /// Marks alone decide what is reported at the end of a run: the faults of each page, the count of the freelist and the
 /// greatest root.
-pub fn marks_tell_the_end()
-    ensures { (file : List ℕ) → MarksTellTheEnd file }
+pub fn marks_give_the_end()
+    ensures { (file : List ℕ) → MarksGiveTheEnd file }
 {}
 
 /// What walks read, one call after another, are pages of the file, none twice, and none of fixed use.

@@ -10,8 +10,8 @@ use Rattle.dbformat.specs.declared.Fault.{Fault}
 use Rattle.dbformat.specs.declared.Verdict.{Verdict}
 use Rattle.dbsource.specs.declared.error.RunError.{RunError}
 use Rattle.dbscan.specs.Finishes.{Leaves}
-use Rattle.dbscan.specs.Notices.{HearsFaults, run_notices}
-use Rattle.dbscan.proofs.FaultsHeard.{faults_heard_by}
+use Rattle.dbscan.specs.Notices.{ReceivesFaults, run_notices}
+use Rattle.dbscan.proofs.FaultsReceived.{faults_received_by}
 use Rattle.dbmend.specs.Counts.{Counts, LeavesCount}
 use Rattle.dbmend.specs.declared.counter.Counter.{Counter}
 
@@ -27,14 +27,14 @@ counted_more (f ∷ fs) n s t e m =
     counted_more fs (n + 1) m.0 t here m.2 ∙ ap counted (omega arith)
 
 module _ (file : List ℕ) (V : List Reference) (survey : Survey file V) (s t : Counter) where
-  pub all_counted : Moves (HearsFaults CountsFault) s (run_notices file V) t → s.faults ≡ 0 → t.faults ≡ counted (length (faults file V))
+  pub all_counted : Moves (ReceivesFaults CountsFault) s (run_notices file V) t → s.faults ≡ 0 → t.faults ≡ counted (length (faults file V))
   all_counted m none =
-      let told = faults_heard_by CountsFault {A = Unit {0}} file V survey (Ok tt) s t m in
+      let reported = faults_received_by CountsFault {A = Unit {0}} file V survey (Ok tt) s t m in
       let e : s.faults ≡ counted 0 = none in
-      counted_more (faults file V) 0 s t e told ∙ ap counted (omega arith)
+      counted_more (faults file V) 0 s t e reported ∙ ap counted (omega arith)
 
   -- a run that came to its end, or not
-  pub count_left : (r : Result Verdict RunError) → Leaves (HearsFaults CountsFault) LeavesCount file V r s t → s.faults ≡ 0
+  pub count_left : (r : Result Verdict RunError) → Leaves (ReceivesFaults CountsFault) LeavesCount file V r s t → s.faults ≡ 0
       → IfOk r (λ v. (t.faults ≡ counted (length (faults file V))) × (v ≡ verdict (faults file V)))
   count_left r (inl h) none = h none
   count_left r (inr (e, is, k)) none =

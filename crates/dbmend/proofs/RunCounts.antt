@@ -24,9 +24,9 @@ use Rattle.dbsource.specs.Snapshots.{HasReadAfterHeader}
 use Rattle.dbsource.specs.declared.error.RunError.{RunError}
 use Rattle.dbsource.specs.declared.error.RunError.TheVariants.{OutOfMemory, ReadFailed, Refused, WriteFailed}
 use Rattle.dbsource.specs.declared.source.Source.{Ghosts as SourceWords}
-use Rattle.dbwalk.specs.Telling.{IsReadWriteOrMemory}
+use Rattle.dbwalk.specs.Reporting.{IsReadWriteOrMemory}
 use Rattle.dbscan.specs.Finishes.{Leaves}
-use Rattle.dbscan.specs.Notices.{HearsFaults}
+use Rattle.dbscan.specs.Notices.{ReceivesFaults}
 use Rattle.dbscan.proofs.AfterHeader.{after_weaker}
 use Rattle.dbreport.specs.Opening.{IsNotOpened, IsOpened}
 use Rattle.dbreport.specs.Runs.{AsksHeaderAlone, IsAnswerOf}
@@ -79,7 +79,7 @@ module _ {S : Type 0} (source : SourceWords S) (old : S) where
   module _ (h : HeaderBytes) (mid new : S) (is_opened : IsOpened source h old mid) (s t : Counter) (none : s.faults ≡ 0) where
     abbrev HasLeft : Result Verdict RunError → Type 0
     HasLeft r = HasReadAfterHeader source.step (IsPageLog (geometry_of h.bytes h.file_len)) h
-        (λ file. (V : List Reference) → Survey file V → Leaves (HearsFaults CountsFault) LeavesCount file V r s t)
+        (λ file. (V : List Reference) → Survey file V → Leaves (ReceivesFaults CountsFault) LeavesCount file V r s t)
         (source.held mid) (source.held new)
 
     -- an error stopped it
@@ -94,7 +94,7 @@ module _ {S : Type 0} (source : SourceWords S) (old : S) where
     -- all was heard
     whole_count : (v : Verdict) (c : Count) → c.faults ≡ t.faults → c.page_size ≡ (geometry_of h.bytes h.file_len).page_size
         → (file : List ℕ) → IsHeaderOf h file
-        → ((V : List Reference) → Survey file V → Leaves (HearsFaults CountsFault) LeavesCount file V (Ok v) s t)
+        → ((V : List Reference) → Survey file V → Leaves (ReceivesFaults CountsFault) LeavesCount file V (Ok v) s t)
         → IsCountOf file (Ok c)
     whole_count v c same size file is left =
         let V = survey file in

@@ -17,7 +17,7 @@ use Rattle.dbsource.specs.declared.out.Out.{Ghosts as OutWords}
 use Rattle.dbsource.specs.declared.source.Source.{Ghosts as SourceWords}
 use Rattle.dbsource.proofs.Beginnings.{begins_nothing}
 use Rattle.dbsource.proofs.Gathered.{begins_longer}
-use Rattle.dbwalk.specs.Telling.{IsReadWriteOrMemory}
+use Rattle.dbwalk.specs.Reporting.{IsReadWriteOrMemory}
 use Rattle.dbmend.specs.Deeds.{Deed, Does, DoesAll, HasTried, IsReadOrMemory, looked, tried}
 use Rattle.dbmend.specs.Mended.{AreSteps, Fix, Follows, HasMended, IsMended, WritesOkOfSound, changes_of, ended, faults_of, fix_text, left_after, mend_text}
 use Rattle.dbmend.specs.Searched.{HasSearched}

@@ -8,7 +8,7 @@ use Rattle.dbformat.specs.Sound.{Sound}
 use Rattle.dbformat.specs.Survey.{Survey, survey}
 use Rattle.dbformat.specs.declared.Verdict.{Verdict}
 use Rattle.dbsource.specs.declared.error.RunError.{RunError}
-use Rattle.dbwalk.specs.Telling.{SinkState}
+use Rattle.dbwalk.specs.Reporting.{SinkState}
 use Rattle.dbreport.specs.Runs.{IsAnswerOf}
 use Rattle.dbmend.specs.declared.count.Count.{Count}
 use Rattle.dbmend.specs.declared.counter.Counter.{Counter}

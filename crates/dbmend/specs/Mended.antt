@@ -13,7 +13,7 @@ use Rattle.dbsource.specs.declared.error.RunError.{RunError}
 use Rattle.dbsource.specs.declared.error.RunError.TheVariants.{Refused}
 use Rattle.dbsource.specs.declared.out.Out.{Ghosts as OutWords}
 use Rattle.dbsource.specs.declared.source.Source.{Ghosts as SourceWords}
-use Rattle.dbwalk.specs.Telling.{IsReadWriteOrMemory}
+use Rattle.dbwalk.specs.Reporting.{IsReadWriteOrMemory}
 use Rattle.dbmend.specs.Deeds.{Deed, DoesAll, runs_in, tried}
 use Rattle.dbmend.specs.Texts.{change_line, end_text, first_text, page_line, still_text}
 use Rattle.dbmend.specs.Trials.{IsStep}

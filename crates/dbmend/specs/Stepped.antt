@@ -7,7 +7,7 @@ use Rattle.dbsource.specs.Outs.{Writes}
 use Rattle.dbsource.specs.declared.error.RunError.{RunError}
 use Rattle.dbsource.specs.declared.out.Out.{Ghosts as OutWords}
 use Rattle.dbsource.specs.declared.source.Source.{Ghosts as SourceWords}
-use Rattle.dbwalk.specs.Telling.{IsReadWriteOrMemory}
+use Rattle.dbwalk.specs.Reporting.{IsReadWriteOrMemory}
 use Rattle.dbmend.specs.Deeds.{Deed, DoesAll, runs_in}
 use Rattle.dbmend.specs.Mended.{AreSteps, Fix, changes_of, fix_text, left_after}
 

@@ -33,13 +33,13 @@ impl Noted {
         key_item: 0,
     };
 
-    fn of(told: &TracedFault) -> Noted {
-        let (key_page, key_item) = match told.cause {
+    fn of(reported: &TracedFault) -> Noted {
+        let (key_page, key_item) = match reported.cause {
             Cause::Key(key, _) => (key.page, key.item),
             _ => (0, 0),
         };
         Noted {
-            fault: told.fault,
+            fault: reported.fault,
             key_page,
             key_item,
         }
@@ -72,12 +72,12 @@ impl Counter {
     }
 
     // Counts a fault.
-    fn add(&mut self, told: &TracedFault)
+    fn add(&mut self, reported: &TracedFault)
         ensures { Counts self.old 1 self.new }
     {
         self.faults = self.faults.saturating_add(1);
-        if self.count < ROOM && is_of_place(told.fault.code) && !self.has(&told.fault) {
-            self.noted[self.count] = Noted::of(told);
+        if self.count < ROOM && is_of_place(reported.fault.code) && !self.has(&reported.fault) {
+            self.noted[self.count] = Noted::of(reported);
             self.count += 1;
         }
     }
@@ -125,16 +125,16 @@ fn is_of_item(code: FaultCode) -> bool {
 
 // Where a fault is found is nothing to the count.
 impl Reporter for Counter {
-    ghost use Rattle.dbscan.specs.Notices.{HearsFaults};
+    ghost use Rattle.dbscan.specs.Notices.{ReceivesFaults};
     ghost use Rattle.dbmend.specs.Counts.{Counts, borrows_none};
 
-    ghost hears = { HearsFaults (λ s f t. Counts s 1 t) };
+    ghost receives = { ReceivesFaults (λ s f t. Counts s 1 t) };
 
     ghost held = { borrows_none };
 
-    fn hear(&mut self, notice: &Notice<'_>) {
+    fn receive(&mut self, notice: &Notice<'_>) {
         match notice {
-            Notice::Fault(told) => self.add(told),
+            Notice::Fault(reported) => self.add(reported),
             Notice::Row(_, _) | Notice::Ended(_) | Notice::Page(_, _, _) => {}
         }
     }

@@ -21,7 +21,7 @@ use Rattle.dbmarks.specs.declared.marks.Mark.{Mark}
 use Rattle.dbscan.specs.Desks.{DeskView}
 use Rattle.dbscan.specs.Finishes.{IsDeskOf}
 use Rattle.dbinjuries.specs.Bits.{bit_set, has_bit, HasPageBit}
-use Rattle.dbinjuries.specs.Lists.{HasBits, IsUnused, ListsAll, heard}
+use Rattle.dbinjuries.specs.Lists.{HasBits, IsUnused, ListsAll, received}
 use Rattle.dbinjuries.specs.Zeros.{AreBlank, AreZeros}
 use Rattle.dbscan.specs.Trees.{AreTrees, place_by, row_noted}
 use Rattle.dbscan.specs.Texts.{tree_of_row}
@@ -68,7 +68,7 @@ pub record AreNoted {A : Type 0} (count : ℕ) (signs : List (ℕ × Sign)) (n :
   pub framed : AreBits count signs Framed n.framed
 
 -- No fault was reported of a file of this shape. There is room for 100 injuries, and for the starts of the pages.
-pub record HearsNone {A : Type 0} (g : Geometry) (k : KeptFaults A) : Type 0 where
+pub record ReceivesNone {A : Type 0} (g : Geometry) (k : KeptFaults A) : Type 0 where
   pub none : k.faults ≡ 0
   pub room : g.pages < length k.trees.known
   pub notes : AreNoted g.pages [] k.notes
@@ -79,7 +79,7 @@ pub record HearsNone {A : Type 0} (g : Geometry) (k : KeptFaults A) : Type 0 whe
 pub record Adds {A : Type 0} (x : TracedFault) (old new : KeptFaults A) : Type 0 where
   pub count : new.faults ≡ counted (old.faults + 1)
   pub notes : (count : ℕ) (signs : List (ℕ × Sign)) → AreNoted count signs old.notes → AreNoted count (signs ++ fault_signs x.fault) new.notes
-  pub listing : new.listing ≡ heard old.listing x
+  pub listing : new.listing ≡ received old.listing x
   pub trees : new.trees ≡ old.trees
 
 -- the start of the page of a row is noted

@@ -2,7 +2,7 @@
 ghost use Rattle.std.specs.Prelude.{IfOk};
 ghost use Rattle.dbformat.specs.FixedPages.{IsInRange};
 ghost use Rattle.dbwalk.specs.Rows.{row_of};
-ghost use Rattle.dbpicture.specs.Keeping.{Adds, HearsNone, Notes};
+ghost use Rattle.dbpicture.specs.Keeping.{Adds, ReceivesNone, Notes};
 
 use crate::fault_notes::FaultNotes;
 use crate::faults::Sign;
@@ -40,7 +40,7 @@ impl<A: Allocator + Copy> KeptFaults<A> {
     /// [`NoMemory`] where a growth was refused.
     pub fn new_in(alloc: A, geometry: &Geometry) -> Result<KeptFaults<A>, NoMemory>
         requires { IsInRange geometry.now }
-        ensures { IfOk result (HearsNone geometry.now) }
+        ensures { IfOk result (ReceivesNone geometry.now) }
     {
         let trees = PageTrees::new_in(alloc, geometry)?;
         let tally = PageTally::new_in(alloc)?;
@@ -58,14 +58,14 @@ impl<A: Allocator + Copy> KeptFaults<A> {
 
 impl<A: Allocator> KeptFaults<A> {
     /// Counts a fault, notes its page, and lists it.
-    pub fn note(&mut self, told: &TracedFault)
-        ensures { Adds told.now self.old self.new }
+    pub fn note(&mut self, reported: &TracedFault)
+        ensures { Adds reported.now self.old self.new }
     {
         self.faults = self.faults.saturating_add(1);
-        let fault = &told.fault;
+        let fault = &reported.fault;
         self.notes.note(fault.page, Sign::Code(fault.code));
         self.notes.note(fault.page, Sign::Faulty);
-        self.listing.hear(told);
+        self.listing.receive(reported);
     }
 
     /// Notes the tree of the page of a row.

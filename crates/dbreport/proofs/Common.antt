@@ -16,11 +16,11 @@ pub use Rattle.dbformat.specs.declared.Geometry.{Geometry}
 pub use Rattle.dbformat.specs.declared.Verdict.{Verdict}
 pub use Rattle.dbreport.specs.Columns.{child_text, page_end, tree_end}
 pub use Rattle.dbreport.specs.Runs.{AsksHeaderAlone, IsAnswerOf, IsReported}
-pub use Rattle.dbreport.specs.StatReporter.{CutsStat, HasBegun, HasWritten, HearsOpen, HearsStat, IsFlushedIf, WritesBoth, pages_text, tree_end_text}
+pub use Rattle.dbreport.specs.StatReporter.{CutsStat, HasBegun, HasWritten, ReceivesOpen, ReceivesStat, IsFlushedIf, WritesBoth, pages_text, tree_end_text}
 pub use Rattle.dbreport.specs.TreeNames.{name_at, tree_label_text}
 pub use Rattle.dbreport.specs.declared.statistics.Form.{Form}
 pub use Rattle.dbreport.specs.declared.statistics.reporter.StatReporter.{StatReporter}
-pub use Rattle.dbscan.specs.Notices.{HearsFaults, Notice, ended, heard_fault, heard_row, marked, run_notices}
+pub use Rattle.dbscan.specs.Notices.{ReceivesFaults, Notice, ended, received_fault, received_row, marked, run_notices}
 pub use Rattle.dbsource.specs.Errors.{is_write_failed, run_error}
 pub use Rattle.dbsource.specs.Failures.{CountsAfter, failures_after}
 pub use Rattle.dbsource.specs.HeaderBytes.{HeaderBytes}
@@ -29,4 +29,4 @@ pub use Rattle.dbsource.specs.Outs.{Begins, OutState, Puts, Writes}
 pub use Rattle.dbsource.specs.declared.error.RunError.{RunError}
 pub use Rattle.dbsource.specs.declared.error.RunError.TheVariants.{OutOfMemory, WriteFailed}
 pub use Rattle.dbsurvey.specs.Moves.{Moves, MovesBySome, Stops}
-pub use Rattle.dbwalk.specs.Telling.{IsReadWriteOrMemory, Tells, one_out}
+pub use Rattle.dbwalk.specs.Reporting.{IsReadWriteOrMemory, Reports, one_out}

@@ -2,8 +2,8 @@
 use Rattle.std.proofs.Common.{◌≡◌, ℕ, Bool, inl, inr, List, [], ◌∷◌, Ok, Err, Result, ap, ◌∙◌}
 use Rattle.dbreport.proofs.Common.{is_write_failed, CountsAfter, failures_after, RunError, WriteFailed, OutOfMemory, one_out}
 use Rattle.dbsource.specs.declared.error.RunError.TheVariants.{ReadFailed, Refused}
-use Rattle.dbwalk.specs.Telling.{SinkAfter, SinkState}
-use Rattle.dbscan.proofs.Tellers.{first}
+use Rattle.dbwalk.specs.Reporting.{SinkAfter, SinkState}
+use Rattle.dbscan.proofs.Notifiers.{first}
 
 -- the second of some numbers
 abbrev pub second : List ℕ → ℕ

@@ -87,11 +87,11 @@ pub run_by : (rep : List ℕ → List Reference → Report) (file : List ℕ) (r
     → IfErr r IsReadWriteOrMemory → refusal file ≡ None
     → IsSoundRep rep file → ((V : List Reference) → Survey file V → IsReportedBy (rep file V) r out_old out_new err_old err_new)
     → IsRunBy rep file r out_old out_new err_old err_new
-run_by rep file r out_old out_new err_old err_new only read sound told = record {
+run_by rep file r out_old out_new err_old err_new only read sound given = record {
   survey = (one_survey file).0;
-  reported = told;
+  reported = given;
   answer = read_answer file r only read;
-  sound = if_ok r sound (told (survey file) (one_survey file).0).verdict;
+  sound = if_ok r sound (given (survey file) (one_survey file).0).verdict;
 }
 
 -- nothing was written, and no verdict found
@@ -129,11 +129,11 @@ pub run_of : (command : Command) (file : List ℕ) (r : Result Verdict RunError)
     → refusal file ≡ None
     → ((V : List Reference) → Survey file V → IsReported command file V r out_old out_new err_old err_new)
     → IsRunOf command file r out_old out_new err_old err_new
-run_of command file r out_old out_new err_old err_new only read told = record {
+run_of command file r out_old out_new err_old err_new only read given = record {
   run = run_by (report command) file r out_old out_new err_old err_new only read (λ v e. sound_by_verdict file command (survey file) (one_survey file).0 v e)
-      told;
+      given;
   counts = λ V s. counts_pages command file V s;
-  ok = ok_by command file r out_old out_new err_old err_new (told (survey file) (one_survey file).0);
+  ok = ok_by command file r out_old out_new err_old err_new (given (survey file) (one_survey file).0);
 }
 
 pub none_of : (command : Command) (file : List ℕ) (e : RunError) (out err : Option (List ℕ)) → IsAnswerOf {A = Verdict} (Err e) file

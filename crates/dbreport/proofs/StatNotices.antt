@@ -1,14 +1,15 @@
 -- What the reporter of the statistics writes of what it hears, notice after notice.
 use Rattle.std.proofs.Common.{◌≡◌, ℕ, ◌+◌, ◌⊎◌, inl, inr, Bool, false, not, List, [], ◌∷◌, ◌++◌, Result, Ok, Err, refl, sym, ap, ◌∙◌, subst, arith, append-nil}
 use Rattle.std.proofs.Common.{OnOk}
-use Rattle.dbreport.proofs.Common.{Moves, Stops, MovesBySome, counted, fault_line, StatRow, Fault, Begins, OutState, RunError, Tells, Notice, heard_fault}
-use Rattle.dbreport.proofs.Common.{heard_row, ended, marked, tree_end_text, pages_text, CutsStat, HasBegun, HasWritten, HearsOpen, HearsStat, IsFlushedIf}
+use Rattle.dbreport.proofs.Common.{Moves, Stops, MovesBySome, counted, fault_line, StatRow, Fault, Begins, OutState, RunError, Reports, Notice, received_fault}
+use Rattle.dbreport.proofs.Common.{received_row, ended, marked, tree_end_text, pages_text, CutsStat, HasBegun, HasWritten, ReceivesOpen, ReceivesStat,
+    IsFlushedIf}
 use Rattle.dbreport.proofs.Common.{WritesBoth, name_at, Form, StatReporter}
 use Rattle.std.specs.Io.KnownBytes.{Appends}
 use Rattle.dbformat.specs.declared.Encoding.{Encoding}
 use Rattle.dbsource.proofs.Beginnings.{begins_more}
 use Rattle.dbsource.proofs.Puts.{appends_nothing, kept_appends}
-use Rattle.dbscan.specs.Notices.{faults_heard}
+use Rattle.dbscan.specs.Notices.{faults_received}
 use Rattle.dbscan.specs.Starts.{At}
 use Rattle.dbreport.specs.StatReporter.{other_text, CutsStatFault, IsSameReporter, TakesFault}
 use Rattle.dbreport.specs.Sums.{sums_of}
@@ -48,15 +49,15 @@ pub record Sheet : Type 0 where
 
 -- the bytes that are put to the first Out at a notice
 abbrev pub lines : Sheet → Notice → List ℕ
-lines p (heard_fault x) = []
-lines p (heard_row at r) = pages_text p.form.aggregate (name_at p.encoding at) p.size (r ∷ [])
+lines p (received_fault x) = []
+lines p (received_row at r) = pages_text p.form.aggregate (name_at p.encoding at) p.size (r ∷ [])
 lines p (ended at) = tree_end_text p.form.aggregate (name_at p.encoding at) p.size p.rows
 lines p (marked g q mark) = other_text p.form.all g q mark
 
 -- and how they are written after it
 abbrev pub next : Sheet → Notice → Sheet
-next p (heard_fault x) = p
-next p (heard_row at r) = record p { rows = p.rows ++ r ∷ [] }
+next p (received_fault x) = p
+next p (received_row at r) = record p { rows = p.rows ++ r ∷ [] }
 next p (ended at) = record p { rows = [] }
 next p (marked g q mark) = p
 
@@ -65,17 +66,17 @@ all_lines p [] = []
 all_lines p (n ∷ ns) = lines p n ++ all_lines (next p n) ns
 
 abbrev faults_of : List Notice → List Fault
-faults_of ns = faults_heard ns
+faults_of ns = faults_received ns
 
 one_more : (n : Notice) (ns : List Notice) → faults_of (n ∷ []) ++ faults_of ns ≡ faults_of (n ∷ ns)
-one_more (heard_fault x) ns = refl
-one_more (heard_row at r) ns = refl
+one_more (received_fault x) ns = refl
+one_more (received_row at r) ns = refl
 one_more (ended at) ns = refl
 one_more (marked g q mark) ns = refl
 
 module _ {O E : Type 0} (held : O → OutState) (held' : E → OutState) where
   abbrev all : StatReporter O E → Notice → StatReporter O E → Type 0
-  all = HearsStat held held'
+  all = ReceivesStat held held'
 
   abbrev part : StatReporter O E → Notice → StatReporter O E → Type 0
   part = CutsStat held held'
@@ -134,9 +135,9 @@ module _ {O E : Type 0} (held : O → OutState) (held' : E → OutState) where
     on_same m same rows e = record { form = same.form ∙ on.form; encoding = same.encoding ∙ on.encoding; size = same.page_size ∙ on.size; summed = e }
 
     one_written : (n : Notice) (m : StatReporter O E) → all s n m → HasWritten held held' s m (lines p n) (faults_of (n ∷ [])) × IsOn (next p n) m
-    one_written (heard_fault x) m a = (fault_written s m x.fault a, on_same m a.same p.rows (a.sums ∙ on.summed))
-    one_written (heard_row at r) m a = (
-      rows_written (not s.form.aggregate) s m (lines p (heard_row at r)) a.same a.found a.err
+    one_written (received_fault x) m a = (fault_written s m x.fault a, on_same m a.same p.rows (a.sums ∙ on.summed))
+    one_written (received_row at r) m a = (
+      rows_written (not s.form.aggregate) s m (lines p (received_row at r)) a.same a.found a.err
           (by_sheet (Appends (held s.out.now).bytes (held m.out.now).bytes) (λ form name size. pages_text form name size (r ∷ [])) at a.puts.held),
       on_same m a.same (p.rows ++ r ∷ []) (a.sums p.rows on.summed),
     )
@@ -153,8 +154,8 @@ module _ {O E : Type 0} (held : O → OutState) (held' : E → OutState) where
     )
 
     one_begun : (n : Notice) (t : StatReporter O E) → part s n t → HasBegun held held' s t (lines p n) (faults_of (n ∷ []))
-    one_begun (heard_fault x) t a = fault_begun s t x.fault a
-    one_begun (heard_row at r) t a = record {
+    one_begun (received_fault x) t a = fault_begun s t x.fault a
+    one_begun (received_row at r) t a = record {
       out = by_sheet (Begins (held s.out.now).bytes (held t.out.now).bytes) (λ form name size. pages_text form name size (r ∷ [])) at a.out;
       err = keeps_begins (held' s.err.now).bytes (held' t.err.now).bytes [] a.err;
     }
@@ -195,6 +196,6 @@ module _ {O E : Type 0} (held : O → OutState) (held' : E → OutState) where
 
   -- the reporter was open before them; and after them, if nothing stopped the run
   pub notices_written : {A : Type 0} (r : Result A RunError) (p : Sheet) (ns : List Notice) (s t : StatReporter O E) → IsOn p s → s.is_shut ≡ false
-      → OnOk r (t.is_shut ≡ false) → Tells (HearsOpen held held') r s ns t → WritesBoth held held' r s t (all_lines p ns) (faults_of ns)
+      → OnOk r (t.is_shut ≡ false) → Reports (ReceivesOpen held held') r s ns t → WritesBoth held held' r s t (all_lines p ns) (faults_of ns)
   notices_written (Ok a) p ns s t on first last h = all_written p ns s t on (all_open held held' ns s t first last h)
   notices_written (Err e) p ns s t on first last h = some_written p ns s t on (some_open held held' ns s t first h)

@@ -2,7 +2,7 @@
 use Rattle.std.proofs.Common.{◌≡◌, ℕ, false, None, ◌+◌, List, [], ◌++◌, length, Result, Ok, Err, inl, inr, sym, ap, ◌∙◌, subst, arith, flat_map, if◌then◌else◌}
 use Rattle.dbreport.proofs.Common.{Moves, MovesBySome, geometry, refusal, Stat, counted, fault_line, form_line, Reference, faults, verdict_of, form_rows}
 use Rattle.dbreport.proofs.Common.{other_rows, page_rows, tree_rows, Survey, Geometry, Verdict, HeaderBytes, IsHeaderOf, OutState, Writes, RunError}
-use Rattle.dbreport.proofs.Common.{run_notices, IsReported, HasBegun, HasWritten, HearsOpen, StatReporter, Form}
+use Rattle.dbreport.proofs.Common.{run_notices, IsReported, HasBegun, HasWritten, ReceivesOpen, StatReporter, Form}
 use Rattle.std.proofs.lemmas.Grind.{flat_map-append}
 use Rattle.dbformat.specs.Header.{encoding as encoding_of}
 use Rattle.dbformat.proofs.HeaderPrefix.{encoding_within}
@@ -44,11 +44,11 @@ module _ {O E : Type 0} (held : O → OutState) (held' : E → OutState) (file :
   )
 
   -- a beginning of what is reported was heard
-  stat_stopped : (e : RunError) (s t : StatReporter O E) → MovesBySome (HearsOpen held held') s (run_notices file V) t
+  stat_stopped : (e : RunError) (s t : StatReporter O E) → MovesBySome (ReceivesOpen held held') s (run_notices file V) t
       → LeavesStat held held' file V (Err e) s t
   stat_stopped e s t k for none first = begun e s t (run_written {A = Verdict} held held' file V survey s t for first (Err e) tt k) for none first
 
-  stat_left : (r : Result Verdict RunError) (s t : StatReporter O E) → Leaves (HearsOpen held held') (LeavesStat held held') file V r s t
+  stat_left : (r : Result Verdict RunError) (s t : StatReporter O E) → Leaves (ReceivesOpen held held') (LeavesStat held held') file V r s t
       → LeavesStat held held' file V r s t
   stat_left r s t (inl h) = h
   stat_left r s t (inr (e, is, k)) = subst (λ (r : Result Verdict RunError). LeavesStat held held' file V r s t) (sym is) (stat_stopped e s t k)
@@ -57,7 +57,7 @@ module _ {O E : Type 0} (held : O → OutState) (held' : E → OutState) (file :
   pub stat_reported : (r : Result Verdict RunError) (s t : StatReporter O E) (out after : O) (err behind : E) (form : Form) → s.out.now ≡ out → s.err.now ≡ err
       → s.form ≡ form → s.found ≡ 0 → s.is_shut ≡ false → IsForFile file s
       → after ≡ t.out.now → behind ≡ t.err.now → refusal file ≡ None
-      → Leaves (HearsOpen held held') (LeavesStat held held') file V r s t
+      → Leaves (ReceivesOpen held held') (LeavesStat held held') file V r s t
       → IsReported (Stat form.aggregate form.all) file V r (held out).bytes (held after).bytes (held' err).bytes (held' behind).bytes
   stat_reported r s t out after err behind form same same' form_is none first for end end' read h =
       let k = stat_left r s t h for none first in record {
@@ -72,10 +72,11 @@ module _ {O E : Type 0} (held : O → OutState) (held' : E → OutState) (file :
       }
 
   -- all was heard
-  pub stat_ended : (s t : StatReporter O E) → t.is_shut ≡ false → Moves (HearsOpen held held') s (run_notices file V) t → (v : Verdict) → v ≡ verdict_of t.found
+  pub stat_ended : (s t : StatReporter O E) → t.is_shut ≡ false → Moves (ReceivesOpen held held') s (run_notices file V) t → (v : Verdict)
+      → v ≡ verdict_of t.found
       → LeavesStat held held' file V (Ok v) s t
-  stat_ended s t last told v found for none first =
-      whole v s t (run_written {A = Unit {0}} held held' file V survey s t for first (Ok tt) last told) found for none first
+  stat_ended s t last reported v found for none first =
+      whole v s t (run_written {A = Unit {0}} held held' file V survey s t for first (Ok tt) last reported) found for none first
 
 -- a reporter by the header of a file is as the file asks for
 pub for_file : {O E : Type 0} (file : List ℕ) (h : HeaderBytes) (g : Geometry) (s : StatReporter O E) → IsHeaderOf h file → g ≡ geometry file

@@ -1,36 +1,37 @@
 -- The reporter of the statistics takes nothing once it is shut.
 use Rattle.std.proofs.Common.{◌≡◌, ◌⊎◌, Bool, true, false, inl, inr, List, [], ◌∷◌, sym, ap, subst, ◌∙◌}
-use Rattle.dbreport.proofs.Common.{Moves, Stops, MovesBySome, OutState, Notice, CutsStat, HearsOpen, HearsStat, StatReporter}
+use Rattle.dbreport.proofs.Common.{Moves, Stops, MovesBySome, OutState, Notice, CutsStat, ReceivesOpen, ReceivesStat, StatReporter}
 use Rattle.std.proofs.lemmas.Bool.{cases_Bool, false≢true}
-use Rattle.dbwalk.proofs.Telling.Sinks.{moves_some}
-use Rattle.dbreport.specs.StatReporter.{HearsBy}
+use Rattle.dbwalk.proofs.Reporting.Sinks.{moves_some}
+use Rattle.dbreport.specs.StatReporter.{ReceivesBy}
 
 module _ {O E : Type 0} (held : O → OutState) (held' : E → OutState) where
   abbrev all : StatReporter O E → Notice → StatReporter O E → Type 0
-  all = HearsStat held held'
+  all = ReceivesStat held held'
 
   abbrev part : StatReporter O E → Notice → StatReporter O E → Type 0
   part = CutsStat held held'
 
-  stays_shut : (n : Notice) (s t : StatReporter O E) → HearsOpen held held' s n t → s.is_shut ≡ true → s ≡ t
-  stays_shut n s t h e = by_flags t.is_shut (subst (λ b. HearsBy held held' b t.is_shut s n t) e h)
+  stays_shut : (n : Notice) (s t : StatReporter O E) → ReceivesOpen held held' s n t → s.is_shut ≡ true → s ≡ t
+  stays_shut n s t h e = by_flags t.is_shut (subst (λ b. ReceivesBy held held' b t.is_shut s n t) e h)
     where
-      by_flags : (b : Bool) → HearsBy held held' true b s n t → s ≡ t
+      by_flags : (b : Bool) → ReceivesBy held held' true b s n t → s ≡ t
       by_flags true h = h
       by_flags false h = absurd h
 
-  some_shut : (ns : List Notice) (s t : StatReporter O E) → MovesBySome (HearsOpen held held') s ns t → s.is_shut ≡ true → s ≡ t
+  some_shut : (ns : List Notice) (s t : StatReporter O E) → MovesBySome (ReceivesOpen held held') s ns t → s.is_shut ≡ true → s ≡ t
   some_shut [] s t h e = h
   some_shut (n ∷ ns) s t (inl h) e = h
   some_shut (n ∷ ns) s t (inr h) e =
       let one = stays_shut n s h.0 h.1 e in
       one ∙ some_shut ns h.0 t h.2 (ap (λ (x : StatReporter O E). x.is_shut) (sym one) ∙ e)
 
-  opened : (n : Notice) (s t : StatReporter O E) (b : Bool) → HearsOpen held held' s n t → s.is_shut ≡ false → t.is_shut ≡ b → HearsBy held held' false b s n t
-  opened n s t b h e f = subst (λ b. HearsBy held held' false b s n t) f (subst (λ a. HearsBy held held' a t.is_shut s n t) e h)
+  opened : (n : Notice) (s t : StatReporter O E) (b : Bool) → ReceivesOpen held held' s n t → s.is_shut ≡ false → t.is_shut ≡ b
+      → ReceivesBy held held' false b s n t
+  opened n s t b h e f = subst (λ b. ReceivesBy held held' false b s n t) f (subst (λ a. ReceivesBy held held' a t.is_shut s n t) e h)
 
   -- one that is open at the end took all
-  pub all_open : (ns : List Notice) (s t : StatReporter O E) → s.is_shut ≡ false → t.is_shut ≡ false → Moves (HearsOpen held held') s ns t → Moves all s ns t
+  pub all_open : (ns : List Notice) (s t : StatReporter O E) → s.is_shut ≡ false → t.is_shut ≡ false → Moves (ReceivesOpen held held') s ns t → Moves all s ns t
   all_open [] s t a b h = h
   all_open (n ∷ ns) s t a b h = elim (cases_Bool h.0.is_shut) [
     | inl e ↦ absurd (false≢true (sym b ∙ ap (λ (x : StatReporter O E). x.is_shut) (sym (some_shut ns h.0 t (moves_some _ h.0 t ns h.2) e)) ∙ e))
@@ -38,7 +39,7 @@ module _ {O E : Type 0} (held : O → OutState) (held' : E → OutState) where
   ]
 
   -- some of them were taken, and perhaps one was cut off
-  pub some_open : (ns : List Notice) (s t : StatReporter O E) → s.is_shut ≡ false → MovesBySome (HearsOpen held held') s ns t
+  pub some_open : (ns : List Notice) (s t : StatReporter O E) → s.is_shut ≡ false → MovesBySome (ReceivesOpen held held') s ns t
       → MovesBySome all s ns t ⊎ Stops all part s ns t
   some_open [] s t a h = inl h
   some_open (n ∷ ns) s t a (inl h) = inl (inl h)

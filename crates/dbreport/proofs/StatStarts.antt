@@ -2,7 +2,8 @@
 use Rattle.std.proofs.Common.{◌≡◌, ℕ, suc, ◌+◌, Bool, true, false, cond, List, [], ◌∷◌, ◌++◌, length, map, Some, Result, refl, sym, ap, ap₂, ◌∙◌, subst, arith}
 use Rattle.std.proofs.Common.{append_assoc, append-nil, OnOk, flat_map, slice_get, codes, ◌==◌}
 use Rattle.dbreport.proofs.Common.{geometry, faults, Fault, Geometry, page_size, page_line, tree_name, trunk, Way, Reference, StatRow, Survey, OutState}
-use Rattle.dbreport.proofs.Common.{RunError, Tells, Notice, heard_fault, heard_row, ended, marked, run_notices, name_at, HearsOpen, tree_end_text, pages_text}
+use Rattle.dbreport.proofs.Common.{RunError, Reports, Notice, received_fault, received_row, ended, marked, run_notices, name_at, ReceivesOpen, tree_end_text,
+    pages_text}
 use Rattle.dbreport.proofs.Common.{WritesBoth, StatReporter, Form}
 use Rattle.std.specs.List.{enumerate_from}
 use Rattle.dbsurvey.specs.Story.{Errand, Go, Follow, errands_at}
@@ -15,9 +16,9 @@ use Rattle.dbformat.specs.SchemaRow.{SchemaRow}
 use Rattle.dbformat.specs.Story.{Event, start_errands}
 use Rattle.dbmarks.specs.Marking.{marks_of}
 use Rattle.dbmarks.specs.declared.marks.Mark.{Mark}
-use Rattle.dbtrace.specs.Finding.{Finding, told_row, told_fault, told_below, visited_below}
+use Rattle.dbtrace.specs.Finding.{Finding, reported_row, reported_fault, reported_below, visited_below}
 use Rattle.dbwalk.specs.Trunks.{freelist_reference}
-use Rattle.dbwalk.proofs.Telling.Belows.{told_none}
+use Rattle.dbwalk.proofs.Reporting.Belows.{reported_none}
 use Rattle.dbtrace.specs.declared.Part.{Part}
 use Rattle.dbscan.specs.Notices.{whole, found, pages_from, errands_left, root_reference, tree_notices, later_notices, start_notices, end_notices}
 use Rattle.dbscan.specs.Roots.{listed_rows}
@@ -33,8 +34,8 @@ use Rattle.dbscan.proofs.RowsBelow.{rows_below}
 use Rattle.dbreport.proofs.StatTrees.{freelist_rows}
 use Rattle.dbscan.proofs.StartByStart.{of_later}
 use Rattle.dbscan.proofs.Starts.{quiet_go}
-use Rattle.dbscan.proofs.HeardFaults.{faults_are_heard}
-use Rattle.dbscan.proofs.ToldStarts.{start_errands_listed}
+use Rattle.dbscan.proofs.ReceivedFaults.{faults_are_received}
+use Rattle.dbscan.proofs.ReportedStarts.{start_errands_listed}
 use Rattle.dbtrace.specs.declared.Part.TheVariants as part
 
 schema_name : (file : List ℕ) (V : List Reference) → codes "sqlite_schema" ≡ tree_name file V 0
@@ -69,7 +70,7 @@ found_lines : (p : Sheet) (at : At) (items : List Finding) (rest : List Notice)
 found_lines p at [] rest =
     ap (λ rows. all_lines (record p { rows = rows }) rest) (sym (append-nil p.rows))
     ∙ ap (λ l. l ++ all_lines (record p { rows = p.rows ++ [] }) rest) (sym (no_pages p.form.aggregate (name_at p.encoding at) p.size))
-found_lines p at (told_row r ∷ items) rest =
+found_lines p at (reported_row r ∷ items) rest =
     let name = name_at p.encoding at in
     let q : Sheet = record p { rows = p.rows ++ r ∷ [] } in
     let others = pages_text p.form.aggregate name p.size (found_rows items) in
@@ -77,7 +78,7 @@ found_lines p at (told_row r ∷ items) rest =
     (found_lines q at items rest ∙ ap (λ rows. others ++ all_lines (record p { rows = rows }) rest) (append_assoc p.rows (r ∷ []) (found_rows items)))
     ∙ sym (append_assoc (pages_text p.form.aggregate name p.size (r ∷ [])) others _)
     ∙ ap (λ l. l ++ all_lines (record p { rows = p.rows ++ (r ∷ found_rows items) }) rest) (pages_more p.form.aggregate name p.size r (found_rows items))
-found_lines p at (told_fault f why ∷ items) rest = found_lines p at items rest
+found_lines p at (reported_fault f why ∷ items) rest = found_lines p at items rest
 
 module _ (file : List ℕ) (V : List Reference) (form all : Bool) where
   -- between two trees
@@ -88,10 +89,10 @@ module _ (file : List ℕ) (V : List Reference) (form all : Bool) where
   shown at = name_at (encoding_of file) at
 
   tree_lines : (at : At) (W : List Reference) (c : Reference) (rest : List Notice)
-      → all_lines sheet (tree_notices at file W c ++ rest) ≡ tree_rows_text form (shown at) (page_size file) (found_rows (told_below file W (Go c ∷ [])))
+      → all_lines sheet (tree_notices at file W c ++ rest) ≡ tree_rows_text form (shown at) (page_size file) (found_rows (reported_below file W (Go c ∷ [])))
       ++ all_lines sheet rest
   tree_lines at W c rest =
-      let items = told_below file W (Go c ∷ []) in
+      let items = reported_below file W (Go c ∷ []) in
       let rows = found_rows items in
       ap (all_lines sheet) (append_assoc (map (found at) items) (ended at ∷ []) rest)
       ∙ found_lines sheet at items (ended at ∷ rest)
@@ -104,19 +105,19 @@ module _ (file : List ℕ) (V : List Reference) (form all : Bool) where
 
   freelist_lines : (W : List Reference) → all_lines sheet (later_notices file W []) ≡ starts_text form file V W (errands_left file [])
   freelist_lines W =
-      let items = told_below file W (errands_left file []) in
+      let items = reported_below file W (errands_left file []) in
       ap (all_lines sheet) (sym (append-nil (map (found at_freelist) items))) ∙ found_lines sheet at_freelist items [] ∙ append-nil _
       ∙ by_case (first_trunk file == 0)
     where
       d : Reference
       d = freelist_reference (first_trunk file)
 
-      none : found_rows (told_below file W (Go d ∷ [])) ≡ []
+      none : found_rows (reported_below file W (Go d ∷ [])) ≡ []
       none = rows_below file W (Go d ∷ []) (quiet_go d) ∙ freelist_rows file W (start freelist_start trunk (first_trunk file)) refl
 
-      by_case : (b : Bool) → pages_text form (shown at_freelist) (page_size file) (found_rows (told_below file W (if_none b)))
+      by_case : (b : Bool) → pages_text form (shown at_freelist) (page_size file) (found_rows (reported_below file W (if_none b)))
           ≡ starts_text form file V W (if_none b)
-      by_case true = ap (λ l. pages_text form (shown at_freelist) (page_size file) (found_rows l)) (told_none file W)
+      by_case true = ap (λ l. pages_text form (shown at_freelist) (page_size file) (found_rows l)) (reported_none file W)
           ∙ no_pages form (shown at_freelist) (page_size file)
       by_case false =
           ap (pages_text form (shown at_freelist) (page_size file)) none ∙ no_pages form (shown at_freelist) (page_size file)
@@ -137,7 +138,7 @@ module _ (file : List ℕ) (V : List Reference) (form all : Bool) where
   next_lines k row rows W ns es h named =
       let c = root_reference file k row in
       let zero_more : k + 0 ≡ k = omega arith in
-      let text : List ℕ → List ℕ = λ name. tree_rows_text form name (page_size file) (found_rows (told_below file W (Go c ∷ []))) in
+      let text : List ℕ → List ℕ = λ name. tree_rows_text form name (page_size file) (found_rows (reported_below file W (Go c ∷ []))) in
       let here : shown (at_row k row) ≡ tree_name file V k = subst (λ n. shown (at_row n row) ≡ tree_name file V n) zero_more (named 0 row refl) in
       tree_lines (at_row k row) W c ns
       ∙ ap₂ (λ name rest. text name ++ rest) here (h (λ j r e.
@@ -148,7 +149,7 @@ module _ (file : List ℕ) (V : List Reference) (form all : Bool) where
       let c = schema_reference in
       let U = [] ++ visited_below file [] (Go c ∷ []) in
       let rows = listed_rows file V in
-      let text : List ℕ → List ℕ = λ name. tree_rows_text form name (page_size file) (found_rows (told_below file [] (Go c ∷ []))) in
+      let text : List ℕ → List ℕ = λ name. tree_rows_text form name (page_size file) (found_rows (reported_below file [] (Go c ∷ []))) in
       tree_lines at_schema [] c (later_notices file U (enumerate_from 1 rows))
       ∙ ap₂ (λ name rest. text name ++ rest) (schema_name file V) (of_later file Writes (λ k W named. freelist_lines W) next_lines 1 rows U (λ j r e.
       let n : suc j ≡ 1 + j = omega arith in subst (λ n. shown (at_row n r) ≡ tree_name file V n) n (listed_name file V rows j r refl e)))
@@ -164,8 +165,8 @@ module _ (file : List ℕ) (V : List Reference) (form all : Bool) where
   no_lines q p (f ∷ fs) = no_lines q p fs
 
   same_form : (p : Sheet) (n : Notice) → (next p n).form ≡ p.form
-  same_form p (heard_fault x) = refl
-  same_form p (heard_row at r) = refl
+  same_form p (received_fault x) = refl
+  same_form p (received_row at r) = refl
   same_form p (ended at) = refl
   same_form p (marked g q mark) = refl
 
@@ -192,11 +193,11 @@ module _ (file : List ℕ) (V : List Reference) (form all : Bool) where
 -- All of a file was reported, or a beginning: its rows and faults were written accordingly.
 pub run_written : {A O E : Type 0} (held : O → OutState) (held' : E → OutState) (file : List ℕ) (V : List Reference) → Survey file V → (s t : StatReporter O E)
     → IsForFile file s → s.is_shut ≡ false
-    → (r : Result A RunError) → OnOk r (t.is_shut ≡ false) → Tells (HearsOpen held held') r s (run_notices file V) t
+    → (r : Result A RunError) → OnOk r (t.is_shut ≡ false) → Reports (ReceivesOpen held held') r s (run_notices file V) t
     → WritesBoth held held' r s t (rows_text s.form.aggregate s.form.all file V) (faults file V)
-run_written held held' file V survey s t is first r last told =
+run_written held held' file V survey s t is first r last reported =
     let p = sheet file V s.form.aggregate s.form.all in
     subst (λ x. WritesBoth held held' r s t x (faults file V)) (run_lines file V s.form.aggregate s.form.all survey)
-    (subst (λ fs. WritesBoth held held' r s t (all_lines p (run_notices file V)) fs) (faults_are_heard file V survey)
+    (subst (λ fs. WritesBoth held held' r s t (all_lines p (run_notices file V)) fs) (faults_are_received file V survey)
     (notices_written held held' r p (run_notices file V) s t (record { form = refl; encoding = is.encoding; size = is.page_size; summed = is.summed })
-    first last told))
+    first last reported))

@@ -19,7 +19,7 @@ use Rattle.dbformat.specs.Story.{Event, start_errands}
 use Rattle.dbformat.proofs.Rising.{starts_rise}
 use Rattle.dbformat.proofs.Theory.{are_rules}
 use Rattle.dbtrace.specs.Finding.{visited_below}
-use Rattle.dbwalk.proofs.Telling.Belows.{visited_none}
+use Rattle.dbwalk.proofs.Reporting.Belows.{visited_none}
 use Rattle.dbreport.specs.StatLines.{tree_rows_text, starts_text}
 use Rattle.dbscan.proofs.RowsBelow.{rows_below, rows_join, rows_none}
 use Rattle.dbscan.proofs.RunItems.{all_visited, goes_named}

@@ -9,7 +9,7 @@ use Rattle.dbsource.specs.Outs.{OutState, Puts, Writes}
 use Rattle.dbsource.specs.declared.error.RunError.{RunError}
 use Rattle.dblines.specs.Writing.{Wrote}
 use Rattle.dblines.specs.declared.writer.Writer.{Writer}
-use Rattle.dbwalk.specs.Telling.{SinkState, one_out}
+use Rattle.dbwalk.specs.Reporting.{SinkState, one_out}
 use Rattle.dbreport.specs.declared.checking.CheckReporter.{CheckReporter}
 
 -- these bytes were put whole

@@ -69,10 +69,10 @@ SaysOkWhereSound (Stat aggregate all) file old new = Unit {0}
 
 -- What a run left, by a survey of a file whose report this is: on each Out its part of the report, at an error a beginning of it;
 -- and the verdict.
-pub record IsReportedBy (told : Report) (r : Result Verdict RunError) (out_old out_new err_old err_new : Option (List ℕ)) : Type 0 where
-  pub out : Writes r out_old out_new told.out
-  pub err : Writes r err_old err_new told.err
-  pub verdict : IfOk r (λ v. told.answer ≡ Ok v)
+pub record IsReportedBy (whole : Report) (r : Result Verdict RunError) (out_old out_new err_old err_new : Option (List ℕ)) : Type 0 where
+  pub out : Writes r out_old out_new whole.out
+  pub err : Writes r err_old err_new whole.err
+  pub verdict : IfOk r (λ v. whole.answer ≡ Ok v)
 
 -- the same of the report of a command
 abbrev pub IsReported : Command → List ℕ → List Reference → Result Verdict RunError → Option (List ℕ) → Option (List ℕ) → Option (List ℕ)

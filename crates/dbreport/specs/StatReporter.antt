@@ -9,9 +9,9 @@ use Rattle.dbsource.specs.Failures.{CountsAfter, is_any}
 use Rattle.dbsource.specs.Outs.{Begins, Flushes, OutState}
 use Rattle.dbsource.specs.declared.out.WriteFailed.{WriteFailed}
 use Rattle.dbmarks.specs.declared.marks.Mark.{Mark}
-use Rattle.dbscan.specs.Notices.{Notice, heard_fault, heard_row, ended, marked}
+use Rattle.dbscan.specs.Notices.{Notice, received_fault, received_row, ended, marked}
 use Rattle.dbscan.specs.Starts.{At}
-use Rattle.dbwalk.specs.Telling.{SinkState}
+use Rattle.dbwalk.specs.Reporting.{SinkState}
 use Rattle.dbreport.specs.CheckReporter.{PutsAll}
 use Rattle.dbreport.specs.TreeNames.{name_at}
 use Rattle.dbreport.specs.OtherMarks.{marked_line}
@@ -150,16 +150,16 @@ pub record CutsOther {O E : Type 0} (held : O → OutState) (held' : E → OutSt
   pub writes : Begins (held s.out.now).bytes (held t.out.now).bytes (other_text s.form.all g p mark)
 
 -- a notice was taken
-abbrev pub HearsStat : {O E : Type 0} → (O → OutState) → (E → OutState) → StatReporter O E → Notice → StatReporter O E → Type 0
-HearsStat out err s (heard_fault x) t = TakesFault out err s x.fault t
-HearsStat out err s (heard_row at r) t = TakesStatRow out err s at r t
-HearsStat out err s (ended at) t = EndsTree out err s at t
-HearsStat out err s (marked g p mark) t = PutsOther out err s g p mark t
+abbrev pub ReceivesStat : {O E : Type 0} → (O → OutState) → (E → OutState) → StatReporter O E → Notice → StatReporter O E → Type 0
+ReceivesStat out err s (received_fault x) t = TakesFault out err s x.fault t
+ReceivesStat out err s (received_row at r) t = TakesStatRow out err s at r t
+ReceivesStat out err s (ended at) t = EndsTree out err s at t
+ReceivesStat out err s (marked g p mark) t = PutsOther out err s g p mark t
 
 -- it was not taken whole
 abbrev pub CutsStat : {O E : Type 0} → (O → OutState) → (E → OutState) → StatReporter O E → Notice → StatReporter O E → Type 0
-CutsStat out err s (heard_fault x) t = CutsStatFault out err s x.fault t
-CutsStat out err s (heard_row at r) t = CutsRow out err s at r t
+CutsStat out err s (received_fault x) t = CutsStatFault out err s x.fault t
+CutsStat out err s (received_row at r) t = CutsRow out err s at r t
 CutsStat out err s (ended at) t = CutsEnd out err s at t
 CutsStat out err s (marked g p mark) t = CutsOther out err s g p mark t
 
@@ -167,17 +167,17 @@ CutsStat out err s (marked g p mark) t = CutsOther out err s g p mark t
 -- failure of one is counted, and not noted yet.
 pub record Writes {O E : Type 0} (out : O → OutState) (err : E → OutState) (r : Result (Unit {0}) WriteFailed) (s : StatReporter O E) (n : Notice)
     (t : StatReporter O E) : Type 0 where
-  pub taken : MatchResult r (λ _. HearsStat out err s n t) (λ _. CutsStat out err s n t)
+  pub taken : MatchResult r (λ _. ReceivesStat out err s n t) (λ _. CutsStat out err s n t)
   pub same : AreSameOuts s t
   pub count : CountsAfter is_any r (failures_of_each (out s.out.now) (err s.err.now)) (failures_of_each (out t.out.now) (err t.err.now))
 
 -- What a notice makes of a reporter, by whether it was shut before it, and is after it: an open one takes it, and is shut if it was not
 -- taken whole; a shut one takes nothing.
-abbrev pub HearsBy : {O E : Type 0} → (O → OutState) → (E → OutState) → Bool → Bool → StatReporter O E → Notice → StatReporter O E → Type 0
-HearsBy out err false false s n t = HearsStat out err s n t
-HearsBy out err false true s n t = CutsStat out err s n t
-HearsBy out err true true s n t = s ≡ t
-HearsBy out err true false s n t = ⊥
+abbrev pub ReceivesBy : {O E : Type 0} → (O → OutState) → (E → OutState) → Bool → Bool → StatReporter O E → Notice → StatReporter O E → Type 0
+ReceivesBy out err false false s n t = ReceivesStat out err s n t
+ReceivesBy out err false true s n t = CutsStat out err s n t
+ReceivesBy out err true true s n t = s ≡ t
+ReceivesBy out err true false s n t = ⊥
 
-abbrev pub HearsOpen : {O E : Type 0} → (O → OutState) → (E → OutState) → StatReporter O E → Notice → StatReporter O E → Type 0
-HearsOpen out err s n t = HearsBy out err s.is_shut t.is_shut s n t
+abbrev pub ReceivesOpen : {O E : Type 0} → (O → OutState) → (E → OutState) → StatReporter O E → Notice → StatReporter O E → Type 0
+ReceivesOpen out err s n t = ReceivesBy out err s.is_shut t.is_shut s n t

@@ -58,17 +58,17 @@ impl<'a, O: Out> CheckReporter<'a, O> {
 
 // Where a fault is found is nothing to a check.
 impl<O: Out> Reporter for CheckReporter<'_, O> {
-    ghost use Rattle.dbscan.specs.Notices.{HearsFaults};
+    ghost use Rattle.dbscan.specs.Notices.{ReceivesFaults};
     ghost use Rattle.dbreport.specs.CheckReporter.{ShowsFault, check_held};
 
-    ghost hears = { HearsFaults (ShowsFault O.held) };
+    ghost receives = { ReceivesFaults (ShowsFault O.held) };
 
     ghost held = { check_held O.held };
 
     // Puts the line of a fault, unless the Out failed before, or counts it.
     #[tactic(auto, using(dblines::proofs::Writing::wrote_nothing))]
-    fn hear(&mut self, notice: &Notice<'_>) {
-        let Notice::Fault(told) = notice else {
+    fn receive(&mut self, notice: &Notice<'_>) {
+        let Notice::Fault(reported) = notice else {
             return;
         };
         if self.shown >= self.limit {
@@ -76,7 +76,7 @@ impl<O: Out> Reporter for CheckReporter<'_, O> {
             return;
         }
         if !self.has_failed {
-            self.has_failed = put_fault(self.out, &told.fault).is_err();
+            self.has_failed = put_fault(self.out, &reported.fault).is_err();
         }
         self.shown += 1;
     }

@@ -21,11 +21,11 @@ struct RowCounts {
 impl Reporter for RowCounts {
     ghost use Rattle.std.specs.Prelude.{[], false, ⊤};
 
-    ghost hears = { λ _ _ _. ⊤ };
+    ghost receives = { λ _ _ _. ⊤ };
 
     ghost held = { λ _. record { lent = []; failures = []; is_shut = false } };
 
-    fn hear(&mut self, notice: &Notice<'_>) {
+    fn receive(&mut self, notice: &Notice<'_>) {
         if let Notice::Row(start, page) = notice {
             let rows = match page.pagetype {
                 PageType::Tree(PageKind::InteriorTable) => 0,

@@ -20,7 +20,7 @@ pub use Rattle.dbformat.specs.Schema.{SchemaCell, freelist_starts, root_start, r
 unfoldable pub use Rattle.dbformat.specs.Schema.{later_starts, schema}
 pub use Rattle.dbformat.specs.SchemaRow.{SchemaRow}
 pub use Rattle.dbformat.specs.Starts.{start_at}
-pub use Rattle.dbformat.specs.Story.{Event, at_key, at_page, at_refused, own_visit, start_errands, telling}
+pub use Rattle.dbformat.specs.Story.{Event, at_key, at_page, at_refused, own_visit, start_errands, reporting}
 unfoldable pub use Rattle.dbformat.specs.Story.{story_of}
 pub use Rattle.dbformat.specs.Survey.{Survey}
 unfoldable pub use Rattle.dbformat.specs.Survey.{rules_of}
@@ -38,14 +38,15 @@ pub use Rattle.dbscan.specs.EndPass.{is_fixed_mark, page_notices, pages_items}
 pub use Rattle.dbscan.specs.Findings.{found_rows, is_schema_row}
 pub use Rattle.dbscan.specs.Looks.{IsUnmarked, ReadsMarked, ReadsRising}
 pub use Rattle.dbscan.specs.MapReads.{HasMapFor, IsMapInUse, MapReads, MapReadsBefore}
-pub use Rattle.dbscan.specs.Notices.{Notice, at_start, end_notices, ended, errands_left, faults_heard, found, heard_fault, heard_row, later_notices, marked}
+pub use Rattle.dbscan.specs.Notices.{Notice, at_start, end_notices, ended, errands_left, faults_received, found, received_fault, received_row, later_notices,
+    marked}
 pub use Rattle.dbscan.specs.Notices.{of_file, pages_from, root_reference, run_notices, start_notices, tree_notices, whole}
-pub use Rattle.dbscan.specs.Placed.{faults_of, reported_in, reported_of, told_faults, walk_told}
+pub use Rattle.dbscan.specs.Placed.{faults_of, reported_in, reported_of, reported_faults, walk_reported}
 pub use Rattle.dbscan.specs.Roots.{AreListed, IsWithin, Listed, TakesRow, kept_row, listed_rows}
 pub use Rattle.dbscan.specs.Starts.{AreBelowStarts, At, IsSchemaOf, at_freelist, at_row, at_schema, later_errands, root_of, schema_reference}
-pub use Rattle.dbscan.specs.Telling.{items_of}
+pub use Rattle.dbscan.specs.Reporting.{items_of}
 pub use Rattle.dbscan.specs.Trees.{AreTrees, place_by, start_by}
-pub use Rattle.dbscan.specs.Walks.{AreTold, AreWalked, IsAtStarts, IsBetweenStarts, IsSchemaWalked, IsTreeWalked, IsWalkedOver, StopsTelling}
+pub use Rattle.dbscan.specs.Walks.{AreReported, AreWalked, IsAtStarts, IsBetweenStarts, IsSchemaWalked, IsTreeWalked, IsWalkedOver, StopsReporting}
 pub use Rattle.dbsource.specs.Answers.{Step}
 pub use Rattle.dbsource.specs.Errors.{is_read_failed, is_write_failed}
 pub use Rattle.dbsource.specs.Failures.{failures_after}
@@ -57,8 +58,8 @@ pub use Rattle.dbsource.specs.declared.error.RunError.TheVariants.{WriteFailed}
 pub use Rattle.dbsurvey.specs.Address.{Address, IsIn}
 pub use Rattle.dbsurvey.specs.InOrder.{AreQuiet, read_back, visits_in}
 pub use Rattle.dbsurvey.specs.Moves.{Moves, MovesBySome}
-pub use Rattle.dbsurvey.specs.Story.{Errand, Follow, Go, Told, errands_at, goes, telling_of}
+pub use Rattle.dbsurvey.specs.Story.{Errand, Follow, Go, Reported, errands_at, goes, reporting_of}
 pub use Rattle.dbtrace.specs.Causes.{cause_of, lost_cause_at}
-pub use Rattle.dbtrace.specs.Finding.{Finding, told_at, told_below, told_by, told_fault, told_row, visited_below}
+pub use Rattle.dbtrace.specs.Finding.{Finding, reported_at, reported_below, reported_by, reported_fault, reported_row, visited_below}
 pub use Rattle.dbtrace.specs.declared.Part.{Part}
-pub use Rattle.dbwalk.specs.Telling.{IsReadOrWrite, SinkAfter, SinkMoves, SinkState, Tells}
+pub use Rattle.dbwalk.specs.Reporting.{IsReadOrWrite, SinkAfter, SinkMoves, SinkState, Reports}

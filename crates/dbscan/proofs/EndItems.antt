@@ -4,7 +4,7 @@ use Rattle.std.proofs.Common.{ap, ap₂, subst, ◌∙◌, arith, ◌*◌, ◌/�
 use Rattle.dbscan.proofs.Common.{Moves, visit_of, end_faults, has_rows, geometry, map_entry, entry_in, MapEntry, is_fixed, is_page, map_page_of}
 use Rattle.dbscan.proofs.Common.{entries_per_map, Role, root, child, first_overflow, later_overflow, trunk, free_leaf, Reference, role_of, from_of, Survey}
 use Rattle.dbscan.proofs.Common.{Fault, Geometry, HeaderBytes, IsHeaderOf, RunError, is_free_mark, least_other_marked, mark_fault, late_fault, Notice, whole}
-use Rattle.dbscan.proofs.Common.{end_notices, pages_from, mark_of, marks_of, role_mark, visit_mark, AreMarksOf, Tells, Mark, Unmarked, Fixed, is_fixed_mark}
+use Rattle.dbscan.proofs.Common.{end_notices, pages_from, mark_of, marks_of, role_mark, visit_mark, AreMarksOf, Reports, Mark, Unmarked, Fixed, is_fixed_mark}
 use Rattle.dbscan.proofs.Common.{page_notices, pages_items, items_of}
 use Rattle.std.specs.List.{range_with_len}
 use Rattle.std.specs.Option.{option_map_or}
@@ -15,13 +15,13 @@ use Rattle.dbformat.proofs.Looping.{range-parts}
 use Rattle.dbformat.specs.EndFaults.{sum_faults, page_end_faults, page_numbers}
 use Rattle.dbformat.specs.Faults.{fault}
 use Rattle.dbformat.specs.Header.{has_pointer_map, schema_format, encoding_number, greatest_root, freelist_count}
-use Rattle.dbformat.specs.Tests.{told_if}
+use Rattle.dbformat.specs.Tests.{reported_if}
 use Rattle.dbformat.specs.declared.FaultCode.TheVariants.{M02}
 use Rattle.dbformat.proofs.HeaderPrefix.{schema_format_within, encoding_number_within, greatest_root_within, freelist_count_within}
 use Rattle.dbmarks.specs.EndMarks.{greatest_root_marked}
 use Rattle.dbmarks.specs.Marking.{is_none}
 use Rattle.dbmarks.specs.declared.marks.Mark.TheVariants.{Root, Trunk, FreeLeaf, FirstOverflow, LaterOverflow, Child}
-use Rattle.dbmarks.proofs.LateRoots.{marks_tell_the_end}
+use Rattle.dbmarks.proofs.LateRoots.{marks_give_the_end}
 use Rattle.dbsurvey.proofs.Moving.{Moves-append, some_after}
 use Rattle.dbscan.specs.EndPass.{counted_faults}
 use Rattle.dbscan.proofs.CountedMarks.{numbers_more}
@@ -29,7 +29,7 @@ use Rattle.dbtrace.specs.declared.Part.TheVariants as part
 
 -- ---- one page
 
-late_none : (has later : Bool) (f : Fault) → told_if ((has && false) && later) f ≡ []
+late_none : (has later : Bool) (f : Fault) → reported_if ((has && false) && later) f ≡ []
 late_none true later f = refl
 late_none false later f = refl
 
@@ -124,22 +124,22 @@ module _ (file : List ℕ) (V : List Reference) (s : Survey file V) where
   pages_are : pages_items file V (least_other_marked (marks_of (geometry file) V)) (geometry file).pages
       ≡ map (whole part.End) (flat_map (page_end_faults file V) (page_numbers (geometry file)))
   pages_are =
-      let told = marks_tell_the_end file V s in
+      let reported = marks_give_the_end file V s in
       sym (map-flat_map (page_end_faults file V) (whole part.End) (page_numbers (geometry file))
       ∙ flat_map-same _ (λ p. page_notices file (least_other_marked (marks_of (geometry file) V)) p (mark_of (geometry file) V p))
       (page_numbers (geometry file))
-      (λ p i. ap (map (whole part.End)) (ap₂ (λ a b. a ++ b) (told.uses p) (told.late p))))
+      (λ p i. ap (map (whole part.End)) (ap₂ (λ a b. a ++ b) (reported.uses p) (reported.late p))))
 
   sums_are : (h : HeaderBytes) (rows : Bool) → IsHeaderOf h file → rows ≡ has_rows file V
       → counted_faults h.bytes rows (greatest_root_marked (marks_of (geometry file) V)) (count_by is_free_mark (marks_of (geometry file) V)) ≡ sum_faults file V
   unfolding sum_faults has_pointer_map
   sums_are h rows header e =
-      let told = marks_tell_the_end file V s in
+      let reported = marks_give_the_end file V s in
       let format = ap schema_format header.begins ∙ schema_format_within file in
       let encoding = ap encoding_number header.begins ∙ encoding_number_within file in
       let greatest = ap greatest_root header.begins ∙ greatest_root_within file in
       let count = ap freelist_count header.begins ∙ freelist_count_within file in
-      rw (format, encoding, greatest, count, e, ← told.greatest, ← told.free) refl
+      rw (format, encoding, greatest, count, e, ← reported.greatest, ← reported.free) refl
 
   -- the faults of the whole, as they were reported, and then those of the pages
   pub all_items : (h : HeaderBytes) (rows : Bool) (marks : List Mark) (greatest free : ℕ) (faults : List (Option Fault))
@@ -153,16 +153,17 @@ module _ (file : List ℕ) (V : List Reference) (s : Survey file V) where
       ∙ sym (map-append (whole part.End) (sum_faults file V) (flat_map (page_end_faults file V) (page_numbers (geometry file))))
 
 -- some items, and then others
-pub tells_then : {S I A : Type 0} (takes : S → I → S → Type 0) (r : Result A RunError) (s m t : S) (L M : List I) → Moves takes s L m
-    → Tells takes r m M t → Tells takes r s (L ++ M) t
-tells_then takes (Ok a) s m t L M h k = Moves-append takes s m t L M h k
-tells_then takes (Err e) s m t L M h k = some_after takes s m t L M h k
+pub reports_then : {S I A : Type 0} (takes : S → I → S → Type 0) (r : Result A RunError) (s m t : S) (L M : List I) → Moves takes s L m
+    → Reports takes r m M t → Reports takes r s (L ++ M) t
+reports_then takes (Ok a) s m t L M h k = Moves-append takes s m t L M h k
+reports_then takes (Err e) s m t L M h k = some_after takes s m t L M h k
 
 -- the pages, and then the faults at the end
-pub pages_then : {S A : Type 0} (hears : S → Notice → S → Type 0) (file : List ℕ) (V : List Reference) (r : Result A RunError) (s m t : S) (g : Geometry)
+pub pages_then : {S A : Type 0} (receives : S → Notice → S → Type 0) (file : List ℕ) (V : List Reference) (r : Result A RunError) (s m t : S) (g : Geometry)
     (marks : List Mark)
-    → g ≡ geometry file → AreMarksOf file V marks → Moves hears s (pages_from g 1 marks) m → Tells hears r m (map (whole part.End) (end_faults file V)) t
-    → Tells hears r s (end_notices file V) t
-pages_then hears file V r s m t g marks same marked told k =
-    tells_then hears r s m t (pages_from (geometry file) 1 (marks_of (geometry file) V)) (map (whole part.End) (end_faults file V))
-    (subst (λ l. Moves hears s l m) (ap₂ (λ g l. pages_from g 1 l) same marked) told) k
+    → g ≡ geometry file → AreMarksOf file V marks → Moves receives s (pages_from g 1 marks) m
+        → Reports receives r m (map (whole part.End) (end_faults file V)) t
+    → Reports receives r s (end_notices file V) t
+pages_then receives file V r s m t g marks same marked reported k =
+    reports_then receives r s m t (pages_from (geometry file) 1 (marks_of (geometry file) V)) (map (whole part.End) (end_faults file V))
+    (subst (λ l. Moves receives s l m) (ap₂ (λ g l. pages_from g 1 l) same marked) reported) k

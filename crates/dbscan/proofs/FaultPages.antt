@@ -19,7 +19,7 @@ use Rattle.dbformat.specs.Reference.{cell_links, right_links, overflow_links, tr
 use Rattle.dbformat.specs.ReferenceFaults.{refusal_fault, reference_faults}
 use Rattle.dbformat.specs.Story.{cell_items, page_items, role_items}
 use Rattle.dbformat.specs.Survey.{refused}
-use Rattle.dbformat.specs.Tests.{told_if}
+use Rattle.dbformat.specs.Tests.{reported_if}
 use Rattle.dbformat.specs.declared.CellFault.{CellFault}
 use Rattle.dbformat.specs.declared.CellFault.TheVariants.{Offset, Unreadable}
 use Rattle.dbformat.specs.declared.Coverage.{Coverage}
@@ -55,7 +55,7 @@ module _ (p : ℕ) where
   of_one g e f (inl h) = ap (λ (f : Fault). f.page) h ∙ e
   of_one g e f (inr i) = absurd i
 
-  of_if : (b : Bool) (g : Fault) → g.page ≡ p → AreOf p (told_if b g)
+  of_if : (b : Bool) (g : Fault) → g.page ≡ p → AreOf p (reported_if b g)
   of_if true g e = of_one g e
   of_if false g e = of_none
 
@@ -142,7 +142,7 @@ row_of_cell is_full c = by_row c.row
     by_row : (row : Result SchemaRow RowFault) → AreOf c.page (row_faults_if is_full (record c { row = row }))
     by_row (Err Malformed) = of_one c.page _ refl
     by_row (Err (Root value)) = of_one c.page _ refl
-    by_row (Ok r) = each_both (IsOf c.page) (told_if (is_none r.name) (fault _ c.page c.item c.rowid)) _ (of_if c.page _ _ refl) (of_if c.page _ _ refl)
+    by_row (Ok r) = each_both (IsOf c.page) (reported_if (is_none r.name) (fault _ c.page c.item c.rowid)) _ (of_if c.page _ _ refl) (of_if c.page _ _ refl)
 
 rows_of_cell : (file : List ℕ) (V : List Reference) (c : SchemaCell) → AreOf c.page (row_faults file V c)
 unfolding row_faults

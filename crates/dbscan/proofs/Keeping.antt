@@ -1,7 +1,7 @@
 -- A call of a run that adds no root to the list, after one that may have added some.
 use Rattle.std.proofs.Common.{inl, Ok, Err, Result, ap, subst, ◌∙◌, IfErr}
 use Rattle.dbscan.proofs.Common.{is_write_failed, RunError, IsReadOrWrite, SinkAfter, SinkState, DeskView, Listed}
-use Rattle.dbwalk.specs.Telling.{IsReadWriteOrMemory}
+use Rattle.dbwalk.specs.Reporting.{IsReadWriteOrMemory}
 use Rattle.dbwalk.proofs.Underway.Walks.{none_refused}
 use Rattle.dbscan.specs.Kept.{KeepsHeader, KeepsRoots}
 

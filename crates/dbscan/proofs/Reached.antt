@@ -1,25 +1,25 @@
 -- A fault that is reported at a start is of a page that was reached from it, and each such start is one of the file's.
 use Rattle.std.proofs.Common.{◌≡◌, ℕ, ◌+◌, inl, inr, Bool, true, false, cond, List, [], ◌∷◌, ◌++◌, map, take, length, Some, refl, sym, ap, subst, ◌∙◌, ◌==◌}
-use Rattle.dbscan.proofs.Common.{Address, IsIn, Told, Follow, goes, start_of, schema_start, last_root_start, freelist_start, end_faults, page_bytes}
+use Rattle.dbscan.proofs.Common.{Address, IsIn, Reported, Follow, goes, start_of, schema_start, last_root_start, freelist_start, end_faults, page_bytes}
 use Rattle.dbscan.proofs.Common.{first_trunk, usable_size, header_faults, Way, Reference, role_of, from_of, trunk, event_faults, schema, root_start}
 use Rattle.dbscan.proofs.Common.{rooted_rows, start, freelist_starts, later_starts, starts, SchemaRow, Event, at_page, at_key, at_refused, start_errands}
-use Rattle.dbscan.proofs.Common.{story_of, telling, Survey, rules_of, Fault, cause_of, Part, start_at, at_start, of_file, told_faults, walk_told}
+use Rattle.dbscan.proofs.Common.{story_of, reporting, Survey, rules_of, Fault, cause_of, Part, start_at, at_start, of_file, reported_faults, walk_reported}
 use Rattle.std.specs.List.{enumerate_from}
 use Rattle.dbsurvey.specs.From.{under}
-use Rattle.dbsurvey.specs.Story.{IsTold, of_errand, of_page, of_place, of_refused}
+use Rattle.dbsurvey.specs.Story.{IsReported, of_errand, of_page, of_place, of_refused}
 use Rattle.dbsurvey.specs.Survey.{Link, children, named_at}
 use Rattle.dbsurvey.proofs.Composing.{named_at-from}
 use Rattle.dbsurvey.proofs.Order.{IsIn-cases}
 use Rattle.dbsurvey.proofs.Ordering.{IsIn-from_map, IsIn-from_flat_map}
-use Rattle.dbsurvey.proofs.Tellings.{goes-errands}
+use Rattle.dbsurvey.proofs.Reportings.{goes-errands}
 use Rattle.dbformat.specs.Reference.{role_links}
 use Rattle.dbformat.specs.Schema.{root_starts}
 use Rattle.std.proofs.lemmas.Bool.{both_ways}
 use Rattle.dbformat.proofs.LookBack.{key_at}
-use Rattle.dbformat.proofs.Theory.{links-follows, no_tell, told_in_order}
+use Rattle.dbformat.proofs.Theory.{links-follows, no_due, reported_in_order}
 use Rattle.dbformat.proofs.Visited.{has_address}
 use Rattle.dbtrace.specs.declared.TracedFault.{TracedFault}
-use Rattle.dbtrace.proofs.Told.{IsOf, told_of}
+use Rattle.dbtrace.proofs.Reported.{IsOf, reported_of}
 use Rattle.dbformat.proofs.BelowStarts.{one_below, start_here, start_of-step, start_visited}
 use Rattle.dbformat.proofs.Ways.{of_role}
 use Rattle.dbscan.specs.Placed.{IsOfStart}
@@ -107,29 +107,30 @@ module _ (file : List ℕ) (V : List Reference) (s : Survey file V) where
       let from : from_of r ≡ u.page = ap from_of m.2 ∙ of_role (role_of u) u.page (usable_size file) (page_bytes file u.page) m.0 m.1 in
       subst (IsPlaced r.address) (sym from) (of_visit u r.address i (one_below file V s u r i c).0)
 
-  refused_at : (t : Told Event) → IsTold (rules_of file) (story_of file) (start_errands file V) V t → (r : Reference) → t.event ≡ at_refused r
+  refused_at : (t : Reported Event) → IsReported (rules_of file) (story_of file) (start_errands file V) V t → (r : Reference) → t.event ≡ at_refused r
       → IsPlaced t.key (from_of r)
   unfolding story_of
-  refused_at t (of_errand i) r e = absurd (no_tell [] (starts file V) t i)
-  refused_at t (of_page u i f) r e = absurd (let x : at_page u ≡ at_refused r = sym (ap (λ (t : Told Event). t.event) f) ∙ e in cc)
+  refused_at t (of_errand i) r e = absurd (no_due [] (starts file V) t i)
+  refused_at t (of_page u i f) r e = absurd (let x : at_page u ≡ at_refused r = sym (ap (λ (t : Reported Event). t.event) f) ∙ e in cc)
   refused_at t (of_place u i j) r e =
       let m = key_at u.address ((story_of file).items u) t j in
       absurd (both_ways (is_refusal t.event) (accepted file u m.0 t.event m.1) (ap is_refusal e))
   refused_at t (of_refused c n out f) r e =
-      let same : c ≡ r = (let x : at_refused c ≡ at_refused r = sym (ap (λ (t : Told Event). t.event) f) ∙ e in cc) in
+      let same : c ≡ r = (let x : at_refused c ≡ at_refused r = sym (ap (λ (t : Reported Event). t.event) f) ∙ e in cc) in
       let at : IsPlaced c.address (from_of c) = elim n [ inl i ↦ of_start c i | inr w ↦ of_child w.0 c w.1 w.2 ] in
-      subst (λ a. IsPlaced a (from_of r)) (sym (ap (λ (t : Told Event). t.key) f)) (subst (λ q. IsPlaced c.address (from_of q)) same at)
+      subst (λ a. IsPlaced a (from_of r)) (sym (ap (λ (t : Reported Event). t.key) f)) (subst (λ q. IsPlaced c.address (from_of q)) same at)
 
   -- all that is reported is placed so
-  placed : (t : Told Event) → IsIn t (telling file V) → IsPlaced t.key (page_of_event t.event)
+  placed : (t : Reported Event) → IsIn t (reporting file V) → IsPlaced t.key (page_of_event t.event)
   placed t i =
-      let told = ((told_in_order file V s).0.exact t).0 i in
-      of_event t.key t.event (told_of file (start_errands file V) V (no_tell [] (starts file V)) t told) (refused_at t told)
+      let reported = ((reported_in_order file V s).0.exact t).0 i in
+      of_event t.key t.event (reported_of file (start_errands file V) V (no_due [] (starts file V)) t reported) (refused_at t reported)
 
   -- so are the faults of the walk
-  of_walk : (x : TracedFault) → IsIn x (walk_told file V) → IsOfStart file V x
+  of_walk : (x : TracedFault) → IsIn x (walk_reported file V) → IsOfStart file V x
   of_walk x i =
-      let m = IsIn-from_flat_map (λ t. map (λ f. at_start (start_of t.key) f (cause_of file V t.event f.code)) (event_faults file V t.event)) (telling file V) x
+      let m = IsIn-from_flat_map (λ t. map (λ f. at_start (start_of t.key) f (cause_of file V t.event f.code)) (event_faults file V t.event))
+          (reporting file V) x
       i in
       let t = m.0 in
       let n = IsIn-from_map (λ f. at_start (start_of t.key) f (cause_of file V t.event f.code)) (event_faults file V t.event) x m.2 in
@@ -145,13 +146,13 @@ module _ (file : List ℕ) (V : List Reference) (s : Survey file V) where
       let m = IsIn-from_map (of_file p) fs x i in
       subst (IsOfStart file V) (sym m.2) (λ k e. absurd (none k e))
 
-  pub of_starts : (x : TracedFault) → IsIn x (told_faults file V) → IsOfStart file V x
+  pub of_starts : (x : TracedFault) → IsIn x (reported_faults file V) → IsOfStart file V x
   of_starts x i =
       let first = map (of_file part.Header) (header_faults file (length file)) in
       let last = map (of_file part.End) (end_faults file V) in
-      elim (IsIn-cases x (first ++ walk_told file V) last i) [
+      elim (IsIn-cases x (first ++ walk_reported file V) last i) [
         | inr j ↦ of_others part.End (λ k e. cc) (end_faults file V) x j
-        | inl j ↦ (elim (IsIn-cases x first (walk_told file V) j) [
+        | inl j ↦ (elim (IsIn-cases x first (walk_reported file V) j) [
           | inl l ↦ of_others part.Header (λ k e. cc) (header_faults file (length file)) x l
           | inr l ↦ of_walk x l
         ])

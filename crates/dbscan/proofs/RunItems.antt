@@ -6,13 +6,13 @@ use Rattle.dbsurvey.specs.From.{under}
 use Rattle.dbsurvey.specs.Story.{AreErrandsApart}
 use Rattle.dbsurvey.specs.Survey.{Link, named_at}
 use Rattle.dbsurvey.specs.Traverse.{part_of}
-use Rattle.dbsurvey.proofs.Tellings.{errands_at-apart}
+use Rattle.dbsurvey.proofs.Reportings.{errands_at-apart}
 use Rattle.dbformat.proofs.LookBack.{by_starts}
 use Rattle.dbformat.proofs.Rising.{starts_rise, follows_pairs}
 use Rattle.dbformat.proofs.SchemaStart.{schema_below}
 use Rattle.dbformat.proofs.Visited.{has_address}
-use Rattle.dbwalk.proofs.Telling.Belows.{visited_join}
-use Rattle.dbwalk.proofs.Telling.Lefts.{left_start}
+use Rattle.dbwalk.proofs.Reporting.Belows.{visited_join}
+use Rattle.dbwalk.proofs.Reporting.Lefts.{left_start}
 use Rattle.dbscan.specs.Walks.{Any}
 
 -- starts depend only on the schema

@@ -1,7 +1,7 @@
 -- What the walk over the schema's tree has found: its rows in the list, and whether there are any.
 use Rattle.std.proofs.Common.{◌≡◌, ◌↔◌, ℕ, Bool, false, List, [], ◌∷◌, length, map, take, Result, Ok, Err, refl, sym, ap, subst, ◌∙◌, ◌||◌, OnOk}
 use Rattle.dbscan.proofs.Common.{last_root_start, schema_start, Go, Follow, errands_at, schema_part, schema, rooted_rows, Reference, Survey, Encoding}
-use Rattle.dbscan.proofs.Common.{HeaderBytes, IsHeaderOf, RunError, told_below, AreMarksOf, Mark, Listed, TakesRow, is_schema_row, Notice, IsSchemaOf}
+use Rattle.dbscan.proofs.Common.{HeaderBytes, IsHeaderOf, RunError, reported_below, AreMarksOf, Mark, Listed, TakesRow, is_schema_row, Notice, IsSchemaOf}
 use Rattle.dbscan.proofs.Common.{at_schema, schema_reference, IsSchemaWalked, IsTreeWalked, IsWalkedOver}
 use Rattle.std.specs.List.{list_any}
 use Rattle.dbformat.specs.Header.{encoding as encoding_of}
@@ -11,9 +11,9 @@ use Rattle.dbwalk.specs.Roots.{IsRootAfter}
 use Rattle.dbwalk.specs.declared.root.Root.{Root}
 use Rattle.dbwalk.specs.declared.root.RootKind.TheVariants.{Schema}
 use Rattle.dbscan.specs.Starts.{root_of_schema}
-use Rattle.dbscan.specs.declared.teller.Teller.{Teller}
+use Rattle.dbscan.specs.declared.notifier.Notifier.{Notifier}
 use Rattle.dbscan.proofs.RootsTaken.{roots_start_empty, schema_roots, starts_listed}
-use Rattle.dbscan.proofs.SchemaTold.{schema_rows_told}
+use Rattle.dbscan.proofs.SchemaReported.{schema_rows_reported}
 use Rattle.dbformat.proofs.HeaderPrefix.{encoding_within}
 
 -- its root is the schema's
@@ -30,26 +30,26 @@ schema_first file encoding marks h = record {
 }
 
 -- The walk over the schema's tree with a teller to which nothing was reported before, and what it has found.
-module _ {S : Type 0} (hears : S → Notice → S → Type 0) (file : List ℕ) (marks : List Mark) (w t : Teller S) (old new : Listed)
+module _ {S : Type 0} (receives : S → Notice → S → Type 0) (file : List ℕ) (marks : List Mark) (w t : Notifier S) (old new : Listed)
     (start : w.start.now ≡ at_schema) (unseen : w.has_rows ≡ false) (empty : old.rows ≡ []) where
-  by_result : (r : Result (Unit {0}) RunError) → IsWalkedOver {A = Unit {0}} hears TakesRow file [] schema_reference r marks w t old new
-      → IsTreeWalked {A = Unit {0}} hears at_schema file [] schema_reference r marks w.reporter.now t.reporter.now
+  by_result : (r : Result (Unit {0}) RunError) → IsWalkedOver {A = Unit {0}} receives TakesRow file [] schema_reference r marks w t old new
+      → IsTreeWalked {A = Unit {0}} receives at_schema file [] schema_reference r marks w.reporter.now t.reporter.now
       × ((V : List Reference) → Survey file V → OnOk r (IsSchemaOf file V new.rows t.has_rows))
   by_result (Err e) d = (
-    subst (λ at. IsTreeWalked {A = Unit {0}} hears at file [] schema_reference (Err e) marks w.reporter.now t.reporter.now) start
+    subst (λ at. IsTreeWalked {A = Unit {0}} receives at file [] schema_reference (Err e) marks w.reporter.now t.reporter.now) start
         d.tree,
     λ V s. tt,
   )
   by_result (Ok u) d =
-      let items = told_below file [] (Go schema_reference ∷ []) in
+      let items = reported_below file [] (Go schema_reference ∷ []) in
       let P = schema_part file in (
-        subst (λ at. IsTreeWalked {A = Unit {0}} hears at file [] schema_reference (Ok u) marks w.reporter.now t.reporter.now) start d.tree,
+        subst (λ at. IsTreeWalked {A = Unit {0}} receives at file [] schema_reference (Ok u) marks w.reporter.now t.reporter.now) start d.tree,
         λ V s.
             let same : schema file V ≡ schema file P = (by_starts file V s).1 in
             let rows = schema_roots file P old new empty (d.given refl) ∙ ap (λ cs. take last_root_start (rooted_rows cs)) (sym same) in
             record {
               listed = rows;
-              has_rows = d.has_rows ∙ ap (λ b. b || list_any is_schema_row items) unseen ∙ schema_rows_told file V s;
+              has_rows = d.has_rows ∙ ap (λ b. b || list_any is_schema_row items) unseen ∙ schema_rows_reported file V s;
               left = ap (λ ls. errands_at [] (map Follow ls)) (sym (starts_listed file V new.rows rows));
             },
       )
@@ -60,21 +60,21 @@ module _ {S : Type 0} (hears : S → Notice → S → Type 0) (file : List ℕ) 
     abbrev IsWalked : Result (Unit {0}) RunError → Type 0
     IsWalked r = named.encoding ≡ encoding_of file → (W : List Reference) (c : Reference) → IsRootAfter file named W c first → (held : Listed → ℕ)
         → (named.kind ≡ Schema → StartsEmpty TakesRow held old)
-        → IsWalkedOver hears TakesRow file W c r marks w t old new
+        → IsWalkedOver receives TakesRow file W c r marks w t old new
 
     from_schema : (r : Result (Unit {0}) RunError) → IsWalked r
-        → IsTreeWalked hears at_schema file [] schema_reference r marks w.reporter.now t.reporter.now
+        → IsTreeWalked receives at_schema file [] schema_reference r marks w.reporter.now t.reporter.now
         × ((V : List Reference) → Survey file V → OnOk r (IsSchemaOf file V new.rows t.has_rows))
     from_schema r walked =
         by_result r (walked (ap (λ (r : Root). r.encoding) root ∙ coded ∙ ap encoding_of is.begins ∙ encoding_within file) [] schema_reference
         (subst (λ r. IsRootAfter file r [] schema_reference first) (sym root) (schema_first file code first fresh)) (λ l. length l.rows)
         (λ k. roots_start_empty old empty))
 
-    pub schema_stopped : (e : RunError) → IsWalked (Err e) → IsSchemaWalked hears file (Err e) marks new.rows w.reporter.now t.reporter.now
-    schema_stopped e walked = let d = from_schema (Err e) walked in record { tree = record { marked = tt; told = d.0.told }; schema = λ V s. tt }
+    pub schema_stopped : (e : RunError) → IsWalked (Err e) → IsSchemaWalked receives file (Err e) marks new.rows w.reporter.now t.reporter.now
+    schema_stopped e walked = let d = from_schema (Err e) walked in record { tree = record { marked = tt; reported = d.0.reported }; schema = λ V s. tt }
 
     pub schema_walked : (any : Bool) → any ≡ t.has_rows → IsWalked (Ok tt)
-        → IsSchemaWalked hears file (Ok any) marks new.rows w.reporter.now t.reporter.now
+        → IsSchemaWalked receives file (Ok any) marks new.rows w.reporter.now t.reporter.now
     schema_walked any e walked =
         let d = from_schema (Ok tt) walked in
-        record { tree = record { marked = d.0.marked; told = d.0.told }; schema = λ V s. subst (IsSchemaOf file V new.rows) (sym e) (d.1 V s) }
+        record { tree = record { marked = d.0.marked; reported = d.0.reported }; schema = λ V s. subst (IsSchemaOf file V new.rows) (sym e) (d.1 V s) }

@@ -1,13 +1,13 @@
 -- What holds of the notices of the starts after the schema's, one start after another.
 use Rattle.std.proofs.Common.{ℕ, ◌+◌, List, [], ◌∷◌, ◌++◌, map}
-use Rattle.dbscan.proofs.Common.{Errand, Go, Way, Reference, SchemaRow, Event, told_below, visited_below, Notice, found, errands_left, root_reference}
+use Rattle.dbscan.proofs.Common.{Errand, Go, Way, Reference, SchemaRow, Event, reported_below, visited_below, Notice, found, errands_left, root_reference}
 use Rattle.dbscan.proofs.Common.{tree_notices, later_notices, at_freelist, at_row}
 use Rattle.std.specs.List.{enumerate_from}
 
 -- After the visits of W, of the rows from start k on: it holds of what is reported along the freelist. It holds of the tree of
 -- a row and what is reported after it, if it holds of the latter.
 module _ (file : List ℕ) (Holds : ℕ → List SchemaRow → List Reference → List Notice → List (Errand Way Event) → Type 0)
-    (of_freelist : (k : ℕ) (W : List Reference) → Holds k [] W (map (found at_freelist) (told_below file W (errands_left file []))) (errands_left file []))
+    (of_freelist : (k : ℕ) (W : List Reference) → Holds k [] W (map (found at_freelist) (reported_below file W (errands_left file []))) (errands_left file []))
     (of_tree : (k : ℕ) (row : SchemaRow) (rows : List SchemaRow) (W : List Reference) (ns : List Notice) (es : List (Errand Way Event))
     → Holds (k + 1) rows (W ++ visited_below file W (Go (root_reference file k row) ∷ [])) ns es
     → Holds k (row ∷ rows) W (tree_notices (at_row k row) file W (root_reference file k row) ++ ns) (Go (root_reference file k row) ∷ es)) where

@@ -1,6 +1,7 @@
 -- What a reporter hears at starts comes start by start, in their order.
 use Rattle.std.proofs.Common.{◌≡◌, ℕ, ◌+◌, ◌≤◌, inl, inr, List, [], ◌∷◌, ◌++◌, length, map, sym, subst, arith, filter_map}
-use Rattle.dbscan.proofs.Common.{IsIn, Go, freelist_start, Reference, schema, rooted_rows, SchemaRow, Finding, told_fault, told_row, told_below, visited_below}
+use Rattle.dbscan.proofs.Common.{IsIn, Go, freelist_start, Reference, schema, rooted_rows, SchemaRow, Finding, reported_fault, reported_row, reported_below,
+    visited_below}
 use Rattle.dbscan.proofs.Common.{Notice, found, ended, errands_left, root_reference, tree_notices, later_notices, start_notices, listed_rows, At, at_freelist}
 use Rattle.dbscan.proofs.Common.{at_row, at_schema, schema_reference}
 use Rattle.std.specs.List.{enumerate_from}
@@ -15,19 +16,19 @@ numbers notices = filter_map number_of notices
 
 of_found : (at : At) (items : List Finding) → (k : ℕ) → IsIn k (numbers (map (found at) items)) → k ≡ at.number
 of_found at [] k i = absurd i
-of_found at (told_row r ∷ items) k (inl e) = e
-of_found at (told_row r ∷ items) k (inr i) = of_found at items k i
-of_found at (told_fault f why ∷ items) k (inl e) = e
-of_found at (told_fault f why ∷ items) k (inr i) = of_found at items k i
+of_found at (reported_row r ∷ items) k (inl e) = e
+of_found at (reported_row r ∷ items) k (inr i) = of_found at items k i
+of_found at (reported_fault f why ∷ items) k (inl e) = e
+of_found at (reported_fault f why ∷ items) k (inr i) = of_found at items k i
 
 found_rise : (at : At) (items : List Finding) → StartsRise (map (found at) items)
 found_rise at [] = tt
-found_rise at (told_row r ∷ items) = ((λ k i. let e = of_found at items k i in omega (arith, e)), found_rise at items)
-found_rise at (told_fault f why ∷ items) = ((λ k i. let e = of_found at items k i in omega (arith, e)), found_rise at items)
+found_rise at (reported_row r ∷ items) = ((λ k i. let e = of_found at items k i in omega (arith, e)), found_rise at items)
+found_rise at (reported_fault f why ∷ items) = ((λ k i. let e = of_found at items k i in omega (arith, e)), found_rise at items)
 
 of_tree : (at : At) (file : List ℕ) (W : List Reference) (c : Reference) (k : ℕ) → IsIn k (numbers (tree_notices at file W c)) → k ≡ at.number
 of_tree at file W c k i =
-    let items = told_below file W (Go c ∷ []) in
+    let items = reported_below file W (Go c ∷ []) in
     elim (IsIn-cases k (numbers (map (found at) items)) (at.number ∷ [])
     (subst (λ l. IsIn k l) (filter_map-append number_of (map (found at) items) (ended at ∷ [])) i)) [
       | inl j ↦ of_found at items k j
@@ -38,7 +39,7 @@ of_tree at file W c k i =
 tree_rises : (at : At) (file : List ℕ) (W : List Reference) (c : Reference) (ns : List Notice) → StartsRise ns → ((k : ℕ) → IsIn k (numbers ns) → at.number ≤ k)
     → StartsRise (tree_notices at file W c ++ ns)
 tree_rises at file W c ns rise later =
-    let items = told_below file W (Go c ∷ []) in
+    let items = reported_below file W (Go c ∷ []) in
     subst (EachPair (λ j k. j ≤ k)) (sym (filter_map-append number_of (tree_notices at file W c) ns))
     (EachPair-append (λ j k. j ≤ k) (numbers (tree_notices at file W c)) (numbers ns)
     (subst (EachPair (λ j k. j ≤ k)) (sym (filter_map-append number_of (map (found at) items) (ended at ∷ [])))
@@ -50,8 +51,8 @@ tree_rises at file W c ns rise later =
 later_rises : (file : List ℕ) (rows : List SchemaRow) (k : ℕ) (W : List Reference) → k + length rows ≤ freelist_start
     → StartsRise (later_notices file W (enumerate_from k rows)) × ((j : ℕ) → IsIn j (numbers (later_notices file W (enumerate_from k rows))) → k ≤ j)
 later_rises file [] k W few = (
-  found_rise at_freelist (told_below file W (errands_left file [])),
-  λ j i. let e = of_found at_freelist (told_below file W (errands_left file [])) j i in omega (arith, e, few),
+  found_rise at_freelist (reported_below file W (errands_left file [])),
+  λ j i. let e = of_found at_freelist (reported_below file W (errands_left file [])) j i in omega (arith, e, few),
 )
 later_rises file (row ∷ rows) k W few =
     let c = root_reference file k row in
@@ -86,7 +87,7 @@ tree_starts at file W c ns most rest k i =
 
 later_starts : (file : List ℕ) (rows : List SchemaRow) (k : ℕ) (W : List Reference) → k + length rows ≤ freelist_start
     → AreStarts (later_notices file W (enumerate_from k rows))
-later_starts file [] k W few = λ j i. (let e = of_found at_freelist (told_below file W (errands_left file [])) j i in omega (arith, e))
+later_starts file [] k W few = λ j i. (let e = of_found at_freelist (reported_below file W (errands_left file [])) j i in omega (arith, e))
 later_starts file (row ∷ rows) k W few =
     let c = root_reference file k row in
     let U = W ++ visited_below file W (Go c ∷ []) in

@@ -8,30 +8,30 @@ use Rattle.dbsource.specs.Headed.{HeadedStep, headed}
 use Rattle.dbsource.specs.Snapshots.{HasReadAfterHeader}
 use Rattle.dbsource.specs.declared.source.Source.{Ghosts as SourceWords}
 use Rattle.dbsource.proofs.Logs.{asks_then, asks_weaker}
-use Rattle.dbscan.specs.Finishes.{HasHeard, HasReported, Leaves}
+use Rattle.dbscan.specs.Finishes.{HasReceived, HasReported, Leaves}
 use Rattle.dbscan.specs.Kept.{KeepsHeader}
 use Rattle.dbscan.specs.Scans.{IsScanned}
 use Rattle.dbscan.proofs.AfterHeader.{after_headed}
 use Rattle.dbscan.proofs.MapLogs.{looks_log}
 
-module _ {K : Type 0} (hears : K → Notice → K → Type 0) (leaves : List ℕ → List Reference → Result Verdict RunError → K → K → Type 0) (step : Step)
+module _ {K : Type 0} (receives : K → Notice → K → Type 0) (leaves : List ℕ → List Reference → Result Verdict RunError → K → K → Type 0) (step : Step)
     (before walked : DeskView) (first mid : K) where
   -- what a run asks for, and what it leaves
   abbrev AsksToLeave : Result Verdict RunError → K → SourceState → SourceState → Type 0
   AsksToLeave r t old new = Asks step (IsPageLog (shape_of before)) (λ file. IsHeaderOf before.header file → (V : List Reference) → Survey file V
-      → Leaves hears leaves file V r first t) is_read_failed r old new
+      → Leaves receives leaves file V r first t) is_read_failed r old new
 
   -- and what its scan does
   abbrev AsksToScan : Result (Unit {0}) RunError → SourceState → SourceState → Type 0
   AsksToScan r old now = Asks step (ReadsMarked (shape_of before) walked.marks) (λ file. IsHeaderOf before.header file → (V : List Reference) → Survey file V
-      → IsScanned hears file V r walked.marks walked.roots.rows first mid) is_read_failed r old now
+      → IsScanned receives file V r walked.marks walked.roots.rows first mid) is_read_failed r old now
 
   pub scan_stopped : (e : RunError) {old now : SourceState} → AsksToScan (Err e) old now → AsksToLeave (Err e) mid old now
-  scan_stopped e asks = asks_weaker _ _ (Err e) (λ n. refl) asks (λ log r. r.pages) (λ file done is V s. inr (e, refl, (done is V s).told))
+  scan_stopped e asks = asks_weaker _ _ (Err e) (λ n. refl) asks (λ log r. r.pages) (λ file done is V s. inr (e, refl, (done is V s).reported))
 
   pub scan_finished : (last : K) (r : Result Verdict RunError) {old now new : SourceState} → walked.header ≡ before.header → AsksToScan (Ok tt) old now
       → Asks step (ReadsRising (shape_of walked).page_size (IsUnmarked walked.marks))
-      (λ file. (V : List Reference) → (f : K) → HasHeard hears walked file V f mid → leaves file V r f last) is_read_failed r now new
+      (λ file. (V : List Reference) → (f : K) → HasReceived receives walked file V f mid → leaves file V r f last) is_read_failed r now new
       → AsksToLeave r last old new
   scan_finished last r same scans ends =
       asks_then (ReadsMarked (shape_of before) walked.marks) (ReadsRising (shape_of walked).page_size (IsUnmarked walked.marks)) _ _ r
@@ -42,7 +42,7 @@ module _ {K : Type 0} (hears : K → Notice → K → Type 0) (leaves : List ℕ
       let k = done is V s in
       inl (ended V first (record {
         desk = record { header = subst (λ (h : HeaderBytes). IsHeaderOf h file) (sym same) is; survey = s; marks = k.marked; rows = k.listed };
-        heard = k.told;
+        received = k.reported;
       })))
 
 -- with a header before the source, on a desk that is fresh again

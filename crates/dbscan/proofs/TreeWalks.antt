@@ -2,10 +2,11 @@
 use Rattle.std.proofs.Common.{◌≡◌, ◌↔◌, ℕ, suc, ◌+◌, ◌-◌, ◌<◌, Bool, false, cond, List, [], ◌∷◌, ◌++◌, drop, length, map, Some, Result, Ok, Err, refl, sym, ap}
 use Rattle.std.proofs.Common.{ap₂, subst, ◌∙◌, arith, append_assoc, append-nil, OnOk, slice_get, ◌==◌}
 use Rattle.dbscan.proofs.Common.{Moves, MovesBySome, Errand, Go, Follow, errands_at, freelist_start, schema_start, start_of, encoding, first_trunk, trunk, Way}
-use Rattle.dbscan.proofs.Common.{Reference, SchemaRow, Event, start_errands, Survey, Encoding, RunError, Finding, told_below, visited_below, AreMarksOf, Mark}
+use Rattle.dbscan.proofs.Common.{Reference, SchemaRow, Event, start_errands, Survey, Encoding, RunError, Finding, reported_below, visited_below, AreMarksOf,
+    Mark}
 use Rattle.dbscan.proofs.Common.{Notice, found, ended, errands_left, root_reference, tree_notices, later_notices, start_notices, IsSchemaOf, at_freelist}
 use Rattle.dbscan.proofs.Common.{at_row, at_schema, later_errands, root_of, schema_reference, IsAtStarts, IsTreeWalked, IsWalkedOver, IsSchemaWalked}
-use Rattle.dbscan.proofs.Common.{IsBetweenStarts, StopsTelling, AreTold, AreWalked}
+use Rattle.dbscan.proofs.Common.{IsBetweenStarts, StopsReporting, AreReported, AreWalked}
 use Rattle.std.specs.List.{enumerate_from}
 use Rattle.dbsurvey.proofs.Moving.{Moves-append, some_first, some_after}
 use Rattle.dbformat.specs.Schema.{start as start_at}
@@ -17,17 +18,17 @@ use Rattle.dbwalk.specs.Trunks.{IsFirstTrunk, freelist_reference}
 use Rattle.dbwalk.specs.declared.root.Root.{Root}
 use Rattle.dbwalk.specs.declared.root.RootKind.TheVariants.{Schema}
 use Rattle.dbwalk.specs.declared.taker.Taken.{Taken}
-use Rattle.dbwalk.proofs.RootTakings.{tree_given, tree_told}
-use Rattle.dbwalk.proofs.Telling.Belows.{told_none}
-use Rattle.dbwalk.proofs.Telling.Sinks.{moves_some}
-use Rattle.dbwalk.proofs.Telling.Lefts.{left_call, left_none}
+use Rattle.dbwalk.proofs.RootTakings.{tree_given, tree_reported}
+use Rattle.dbwalk.proofs.Reporting.Belows.{reported_none}
+use Rattle.dbwalk.proofs.Reporting.Sinks.{moves_some}
+use Rattle.dbwalk.proofs.Reporting.Lefts.{left_call, left_none}
 use Rattle.dbwalk.proofs.Trees.Bounds.{root_address}
-use Rattle.dbscan.specs.Tellers.{HandsOn}
+use Rattle.dbscan.specs.Notifiers.{HandsOn}
 use Rattle.dbscan.specs.Walks.{Any}
-use Rattle.dbscan.specs.declared.teller.Teller.{Teller}
+use Rattle.dbscan.specs.declared.notifier.Notifier.{Notifier}
 use Rattle.dbscan.proofs.RunItems.{all_visited, starts_left, survey_below_starts}
 use Rattle.dbscan.proofs.Starts.{drop_more, no_schema_kind, quiet_go, root_next, row_there, some_is}
-use Rattle.dbscan.proofs.Tellers.{teller_moves, teller_some}
+use Rattle.dbscan.proofs.Notifiers.{notifier_moves, notifier_some}
 
 any_moves : (items : List Finding) → Moves Any tt items tt
 any_moves [] = refl
@@ -39,7 +40,7 @@ at_next : (file : List ℕ) (V U : List Reference) (c : Reference) (es : List (E
     → AreMarksOf file (U ++ visited_below file U (Go c ∷ [])) marks' → IsAtStarts file V (U ++ visited_below file U (Go c ∷ [])) es marks'
 at_next file V U c es marks marks' h m = left_call Any file [] (start_errands file V) tt U marks tt {A = Unit {0}} tt marks' tt (Go c ∷ []) es h
     (quiet_go c)
-    (record { marked = m; told = any_moves (told_below file U (Go c ∷ [])) })
+    (record { marked = m; reported = any_moves (reported_below file U (Go c ∷ [])) })
 
 -- none is left
 at_end : (file : List ℕ) (V : List Reference) (survey : Survey file V) (U : List Reference) (marks : List Mark) → IsAtStarts file V U [] marks
@@ -47,95 +48,95 @@ at_end : (file : List ℕ) (V : List Reference) (survey : Survey file V) (U : Li
 at_end file V survey U marks h =
     subst (λ W. AreMarksOf file W marks) (all_visited file V survey) (left_none Any file [] (start_errands file V) tt U marks tt {A = Unit {0}} tt h).marked
 
-module _ {S : Type 0} (hears : S → Notice → S → Type 0) where
+module _ {S : Type 0} (receives : S → Notice → S → Type 0) where
   -- ---- one tree
 
   module _ {T : Type 0} (keeps : T → SchemaRow → Taken → T → Type 0) (refuses : T → SchemaRow → T → Type 0) (file : List ℕ) (W : List Reference) (c : Reference)
-      (marks : List Mark) (w m : Teller S) (first u : T) where
+      (marks : List Mark) (w m : Notifier S) (first u : T) where
     abbrev items : List Finding
-    items = told_below file W (Go c ∷ [])
+    items = reported_below file W (Go c ∷ [])
 
     -- what is below its root is marked and was reported, and the taker was given the rows of the schema
     abbrev IsDoneBy : Result (Unit {0}) RunError → Type 0
-    IsDoneBy r = IsDone (HandsOn hears) file W (Go c ∷ []) r marks w m
+    IsDoneBy r = IsDone (HandsOn receives) file W (Go c ∷ []) r marks w m
         × (start_of c.address ≡ schema_start → OnOk r (Moves (gives keeps) first (readable_rows file (W ++ visited_below file W (Go c ∷ []))) u))
 
     -- with a taker that starts empty, if the tree is the schema's
     pub root_done : (r : Result (Unit {0}) RunError) (root : Root) (old : List Mark) → IsRootAfter file root W c old
         → ((root.kind ≡ Schema) ↔ (root.start ≡ schema_start)) → (held : T → ℕ) → (root.kind ≡ Schema → StartsEmpty keeps held first)
-        → IsTreeDone (HandsOn hears) keeps refuses file W c r marks (w, first) (m, u) → IsDoneBy r
+        → IsTreeDone (HandsOn receives) keeps refuses file W c r marks (w, first) (m, u) → IsDoneBy r
     root_done r root old after schema held empty done =
         let at = root_address c.address root.start after.candidate.depth after.candidate.start in
         let first_empty : start_of c.address ≡ schema_start → StartsEmpty keeps held first = λ z. empty (schema.1 (sym after.candidate.start ∙ z)) in (
-          tree_told (HandsOn hears) keeps refuses file root.start W c at after.early r marks (w, first) (m, u) done held first_empty,
-          tree_given (HandsOn hears) keeps refuses file root.start W c at after.early r marks (w, first) (m, u) done held first_empty,
+          tree_reported (HandsOn receives) keeps refuses file root.start W c at after.early r marks (w, first) (m, u) done held first_empty,
+          tree_given (HandsOn receives) keeps refuses file root.start W c at after.early r marks (w, first) (m, u) done held first_empty,
         )
 
     -- an error stopped the walk
     pub tree_stopped : (e : RunError) → IsDoneBy (Err e)
-        → IsWalkedOver {A = Unit {0}} hears keeps file W c (Err e) marks w m first u
+        → IsWalkedOver {A = Unit {0}} receives keeps file W c (Err e) marks w m first u
     tree_stopped e d = record {
       tree = record {
         marked = tt;
-        told = some_first hears w.reporter.now m.reporter.now (map (found w.start.now) items) (ended w.start.now ∷ [])
-            (teller_some hears items w m d.0.told);
+        reported = some_first receives w.reporter.now m.reporter.now (map (found w.start.now) items) (ended w.start.now ∷ [])
+            (notifier_some receives items w m d.0.reported);
       };
       has_rows = tt;
       given = λ k. tt;
     }
 
     -- all was reported, and then that the tree ended
-    module _ (t : Teller S) (d : IsDoneBy (Ok tt)) (e : hears m.reporter.now (ended m.start.now) t.reporter.now) where
-      all_told : Moves hears w.reporter.now (tree_notices w.start.now file W c) t.reporter.now
-      all_told =
-          let k = teller_moves hears items w m d.0.told in
-          Moves-append hears w.reporter.now m.reporter.now t.reporter.now (map (found w.start.now) items) (ended w.start.now ∷ []) k.0
-          (t.reporter.now, subst (λ at. hears m.reporter.now (ended at) t.reporter.now) k.1 e, refl)
+    module _ (t : Notifier S) (d : IsDoneBy (Ok tt)) (e : receives m.reporter.now (ended m.start.now) t.reporter.now) where
+      all_reported : Moves receives w.reporter.now (tree_notices w.start.now file W c) t.reporter.now
+      all_reported =
+          let k = notifier_moves receives items w m d.0.reported in
+          Moves-append receives w.reporter.now m.reporter.now t.reporter.now (map (found w.start.now) items) (ended w.start.now ∷ []) k.0
+          (t.reporter.now, subst (λ at. receives m.reporter.now (ended at) t.reporter.now) k.1 e, refl)
 
       -- of which all was taken, or not
-      pub tree_ended : t.has_rows ≡ m.has_rows → (r : Result (Unit {0}) RunError) → IsWalkedOver hears keeps file W c r marks w t first u
+      pub tree_ended : t.has_rows ≡ m.has_rows → (r : Result (Unit {0}) RunError) → IsWalkedOver receives keeps file W c r marks w t first u
       tree_ended rows (Ok x) = record {
-        tree = record { marked = d.0.marked; told = all_told };
-        has_rows = rows ∙ (teller_moves hears items w m d.0.told).2;
+        tree = record { marked = d.0.marked; reported = all_reported };
+        has_rows = rows ∙ (notifier_moves receives items w m d.0.reported).2;
         given = d.1;
       }
       tree_ended rows (Err x) = record {
-        tree = record { marked = tt; told = moves_some hears w.reporter.now t.reporter.now (tree_notices w.start.now file W c) all_told };
+        tree = record { marked = tt; reported = moves_some receives w.reporter.now t.reporter.now (tree_notices w.start.now file W c) all_reported };
         has_rows = tt;
         given = λ k. tt;
       }
 
   -- the tree of a root, with a taker that starts empty, if the tree is the schema's: it was walked over, or an error stopped the walk
   module _ {T : Type 0} (keeps : T → SchemaRow → Taken → T → Type 0) (refuses : T → SchemaRow → T → Type 0) (file : List ℕ) (named : Root)
-      (old marks : List Mark) (w m : Teller S) (first u : T) (schema : (named.kind ≡ Schema) ↔ (named.start ≡ schema_start)) where
+      (old marks : List Mark) (w m : Notifier S) (first u : T) (schema : (named.kind ≡ Schema) ↔ (named.start ≡ schema_start)) where
     abbrev IsDoneFrom : Result (Unit {0}) RunError → Type 0
     IsDoneFrom r = named.encoding ≡ encoding file → (W : List Reference) (c : Reference) → IsRootAfter file named W c old
-        → IsTreeDone (HandsOn hears) keeps refuses file W c r marks (w, first) (m, u)
+        → IsTreeDone (HandsOn receives) keeps refuses file W c r marks (w, first) (m, u)
 
-    abbrev IsWalkedFrom : Result (Unit {0}) RunError → Teller S → Type 0
+    abbrev IsWalkedFrom : Result (Unit {0}) RunError → Notifier S → Type 0
     IsWalkedFrom r t = named.encoding ≡ encoding file → (W : List Reference) (c : Reference) → IsRootAfter file named W c old → (held : T → ℕ)
-        → (named.kind ≡ Schema → StartsEmpty keeps held first) → IsWalkedOver hears keeps file W c r marks w t first u
+        → (named.kind ≡ Schema → StartsEmpty keeps held first) → IsWalkedOver receives keeps file W c r marks w t first u
 
     pub from_stopped : (e : RunError) → IsDoneFrom (Err e) → IsWalkedFrom (Err e) m
     from_stopped e done code W c after held empty = tree_stopped keeps refuses file W c marks w m first u e
         (root_done keeps refuses file W c marks w m first u (Err e) named old after schema held empty (done code W c after))
 
-    pub from_ended : (t : Teller S) → hears m.reporter.now (ended m.start.now) t.reporter.now → t.has_rows ≡ m.has_rows → (r : Result (Unit {0}) RunError)
+    pub from_ended : (t : Notifier S) → receives m.reporter.now (ended m.start.now) t.reporter.now → t.has_rows ≡ m.has_rows → (r : Result (Unit {0}) RunError)
         → IsDoneFrom (Ok tt) → IsWalkedFrom r t
     from_ended t ends rows r done code W c after held empty = tree_ended keeps refuses file W c marks w m first u t
         (root_done keeps refuses file W c marks w m first u (Ok tt) named old after schema held empty (done code W c after)) ends rows r
 
   -- the tree of a row of a list, by the root that it names; the taker is not asked
   row_walked : {T : Type 0} (keeps : T → SchemaRow → Taken → T → Type 0) (file : List ℕ) (code : Encoding) (k : ℕ) (own row : SchemaRow) (named : Root)
-      (old marks : List Mark) (w t : Teller S) (first u : T) (r : Result (Unit {0}) RunError)
+      (old marks : List Mark) (w t : Notifier S) (first u : T) (r : Result (Unit {0}) RunError)
       → code ≡ encoding file → own ≡ row → named ≡ root_of code k own → w.start.now ≡ at_row k own
       → (named.encoding ≡ encoding file → (W : List Reference) (c : Reference) → IsRootAfter file named W c old → (held : T → ℕ)
-      → (named.kind ≡ Schema → StartsEmpty keeps held first) → IsWalkedOver hears keeps file W c r marks w t first u)
+      → (named.kind ≡ Schema → StartsEmpty keeps held first) → IsWalkedOver receives keeps file W c r marks w t first u)
       → (W : List Reference) (c : Reference) → IsRootAfter file (root_of (encoding file) k row) W c old
-      → IsTreeWalked hears (at_row k row) file W c r marks w.reporter.now t.reporter.now
+      → IsTreeWalked receives (at_row k row) file W c r marks w.reporter.now t.reporter.now
   row_walked keeps file code k own row named old marks w t first u r coded same is at walked W c after =
       let root : named ≡ root_of (encoding file) k row = is ∙ ap₂ (λ x y. root_of x k y) coded same in
-      subst (λ at. IsTreeWalked hears at file W c r marks w.reporter.now t.reporter.now) (at ∙ ap (at_row k) same)
+      subst (λ at. IsTreeWalked receives at file W c r marks w.reporter.now t.reporter.now) (at ∙ ap (at_row k) same)
       (walked (ap (λ (x : Root). x.encoding) root) W c (subst (λ x. IsRootAfter file x W c old) (sym root) after) (λ x. 0)
       (λ s. absurd (no_schema_kind row.kind (ap (λ (x : Root). x.kind) (sym root) ∙ s)))).tree
 
@@ -143,10 +144,10 @@ module _ {S : Type 0} (hears : S → Notice → S → Type 0) where
     -- ---- the schema's tree
 
     -- it is done, and the trees of its rows are left
-    pub schema_told : (marks marks' : List Mark) (rows : List SchemaRow) (any : Bool) (t : S) → AreMarksOf file [] marks
-        → IsSchemaWalked hears file (Ok any) marks' rows before t
-        → IsBetweenStarts hears file V before (enumerate_from 1 rows) marks' t
-    schema_told marks marks' rows any t fresh d =
+    pub schema_reported : (marks marks' : List Mark) (rows : List SchemaRow) (any : Bool) (t : S) → AreMarksOf file [] marks
+        → IsSchemaWalked receives file (Ok any) marks' rows before t
+        → IsBetweenStarts receives file V before (enumerate_from 1 rows) marks' t
+    schema_reported marks marks' rows any t fresh d =
         let U = [] ++ visited_below file [] (Go schema_reference ∷ []) in
         let of = d.schema V survey in
         record {
@@ -154,74 +155,74 @@ module _ {S : Type 0} (hears : S → Notice → S → Type 0) where
           at = subst (λ es. IsAtStarts file V U es marks') (sym of.left)
               (at_next file V [] schema_reference (later_errands file V) marks marks' (starts_left file V survey marks fresh) d.tree.marked);
           notices = tree_notices at_schema file [] schema_reference;
-          told = d.tree.told;
+          reported = d.tree.reported;
           rest = ap (λ l. tree_notices at_schema file [] schema_reference ++ later_notices file U (enumerate_from 1 l)) of.listed;
         }
 
     -- ---- the tree of the next row
 
     module _ (marks marks' : List Mark) (s t : S) where
-      next_told : (k : ℕ) (row : SchemaRow) (left : List (ℕ × SchemaRow)) (h : IsBetweenStarts hears file V before ((k, row) ∷ left) marks s)
-          → (r : Result (Unit {0}) RunError) → IsTreeWalked hears (at_row k row) file h.visits (root_reference file k row) r marks' s t
-          → StopsTelling hears file V before left r marks' t
-      next_told k row left h (Ok u) d =
+      next_reported : (k : ℕ) (row : SchemaRow) (left : List (ℕ × SchemaRow)) (h : IsBetweenStarts receives file V before ((k, row) ∷ left) marks s)
+          → (r : Result (Unit {0}) RunError) → IsTreeWalked receives (at_row k row) file h.visits (root_reference file k row) r marks' s t
+          → StopsReporting receives file V before left r marks' t
+      next_reported k row left h (Ok u) d =
           let c = root_reference file k row in
           let its = tree_notices (at_row k row) file h.visits c in
           record {
             visits = h.visits ++ visited_below file h.visits (Go c ∷ []);
             at = at_next file V h.visits c (errands_left file left) marks marks' h.at d.marked;
             notices = h.notices ++ its;
-            told = Moves-append hears before s t h.notices its h.told d.told;
+            reported = Moves-append receives before s t h.notices its h.reported d.reported;
             rest = append_assoc h.notices its (later_notices file (h.visits ++ visited_below file h.visits (Go c ∷ [])) left) ∙ h.rest;
           }
-      next_told k row left h (Err e) d =
+      next_reported k row left h (Err e) d =
           let c = root_reference file k row in
           let its = tree_notices (at_row k row) file h.visits c in
           let others = later_notices file (h.visits ++ visited_below file h.visits (Go c ∷ [])) left in
-          subst (λ L. MovesBySome hears before L t) (append_assoc h.notices its others ∙ h.rest)
-          (some_first hears before t (h.notices ++ its) others (some_after hears before s t h.notices its h.told d.told))
+          subst (λ L. MovesBySome receives before L t) (append_assoc h.notices its others ∙ h.rest)
+          (some_first receives before t (h.notices ++ its) others (some_after receives before s t h.notices its h.reported d.reported))
 
-      root_told : (rows : List SchemaRow) (i : ℕ) (r : Result (Unit {0}) RunError) → i < length rows
-          → IsBetweenStarts hears file V before (enumerate_from (i + 1) (drop i rows)) marks s
+      root_reported : (rows : List SchemaRow) (i : ℕ) (r : Result (Unit {0}) RunError) → i < length rows
+          → IsBetweenStarts receives file V before (enumerate_from (i + 1) (drop i rows)) marks s
           → ((row : SchemaRow) → slice_get rows (i + 1 - 1) ≡ Some row → (U : List Reference) (d : Reference)
           → IsRootAfter file (root_of (encoding file) (i + 1) row) U d marks
-          → IsTreeWalked hears (at_row (i + 1) row) file U d r marks' s t)
-          → StopsTelling hears file V before (enumerate_from (i + 1 + 1) (drop (i + 1) rows)) r marks' t
-      root_told rows i r l h walked =
+          → IsTreeWalked receives (at_row (i + 1) row) file U d r marks' s t)
+          → StopsReporting receives file V before (enumerate_from (i + 1 + 1) (drop (i + 1) rows)) r marks' t
+      root_reported rows i r l h walked =
           let n : i + 1 - 1 ≡ i = omega arith in
           let k : suc i ≡ i + 1 = omega arith in
           let there = row_there rows i l in
           let here : drop i rows ≡ there.0 ∷ drop (i + 1) rows = drop_more rows i there.0 there.1 ∙ ap (λ j. there.0 ∷ drop j rows) k in
           let rest = enumerate_from (i + 1 + 1) (drop (i + 1) rows) in
-          let left : IsBetweenStarts hears file V before ((i + 1, there.0) ∷ rest) marks s =
-          subst (λ l. IsBetweenStarts hears file V before (enumerate_from (i + 1) l) marks s) here h in
+          let left : IsBetweenStarts receives file V before ((i + 1, there.0) ∷ rest) marks s =
+          subst (λ l. IsBetweenStarts receives file V before (enumerate_from (i + 1) l) marks s) here h in
           let next = root_next file V left.visits marks (encoding file) (i + 1) there.0 (errands_left file rest) (survey_below_starts file V survey) left.at in
-          next_told (i + 1) there.0 rest left r (walked there.0 (ap (slice_get rows) n ∙ there.1) left.visits (root_reference file (i + 1) there.0) next)
+          next_reported (i + 1) there.0 rest left r (walked there.0 (ap (slice_get rows) n ∙ there.1) left.visits (root_reference file (i + 1) there.0) next)
 
     -- by the walk over its tree
     pub next_row : (marks marks' : List Mark) (s : S) {T : Type 0} (keeps : T → SchemaRow → Taken → T → Type 0) (rows : List SchemaRow) (i : ℕ)
         (r : Result (Unit {0}) RunError)
-        (code : Encoding) (own : SchemaRow) (named : Root) (w t : Teller S) (first u : T)
-        → i < length rows → IsBetweenStarts hears file V before (enumerate_from (i + 1) (drop i rows)) marks s
+        (code : Encoding) (own : SchemaRow) (named : Root) (w t : Notifier S) (first u : T)
+        → i < length rows → IsBetweenStarts receives file V before (enumerate_from (i + 1) (drop i rows)) marks s
         → code ≡ encoding file → slice_get rows (i + 1 - 1) ≡ Some own → named ≡ root_of code (i + 1) own → w.start.now ≡ at_row (i + 1) own
         → w.reporter.now ≡ s
         → (named.encoding ≡ encoding file → (W : List Reference) (c : Reference) → IsRootAfter file named W c marks → (held : T → ℕ)
-        → (named.kind ≡ Schema → StartsEmpty keeps held first) → IsWalkedOver hears keeps file W c r marks' w t first u)
-        → StopsTelling hears file V before (enumerate_from (i + 1 + 1) (drop (i + 1) rows)) r marks' t.reporter.now
+        → (named.kind ≡ Schema → StartsEmpty keeps held first) → IsWalkedOver receives keeps file W c r marks' w t first u)
+        → StopsReporting receives file V before (enumerate_from (i + 1 + 1) (drop (i + 1) rows)) r marks' t.reporter.now
     next_row marks marks' s keeps rows i r code own named w t first u l h coded there is at from walked =
-        root_told marks marks' s t.reporter.now rows i r l h (λ row e W c after.
-        subst (λ x. IsTreeWalked {A = Unit {0}} hears (at_row (i + 1) row) file W c r marks' x t.reporter.now) from
+        root_reported marks marks' s t.reporter.now rows i r l h (λ row e W c after.
+        subst (λ x. IsTreeWalked {A = Unit {0}} receives (at_row (i + 1) row) file W c r marks' x t.reporter.now) from
         (row_walked keeps file code (i + 1) own row named marks marks' w t first u r coded (some_is (sym there ∙ e)) is at walked W c after))
 
     -- ---- the freelist, which is the last
 
-    pub freelist_told : (marks marks' : List Mark) (w t : Teller S) (first : ℕ) (r : Result (Unit {0}) RunError) → w.start.now ≡ at_freelist
+    pub freelist_reported : (marks marks' : List Mark) (w t : Notifier S) (first : ℕ) (r : Result (Unit {0}) RunError) → w.start.now ≡ at_freelist
         → (first == 0) ≡ false → first ≡ first_trunk file
-        → IsBetweenStarts hears file V before [] marks w.reporter.now
+        → IsBetweenStarts receives file V before [] marks w.reporter.now
         → ((U : List Reference) (d : Reference) → IsFirstTrunk first d → IsNext U d → AreMarksOf file U marks
-        → IsDone (HandsOn hears) file U (Go d ∷ []) r marks' w t)
-        → AreTold hears file V r marks' before t.reporter.now
-    freelist_told marks marks' w t first r start some e h walked =
+        → IsDone (HandsOn receives) file U (Go d ∷ []) r marks' w t)
+        → AreReported receives file V r marks' before t.reporter.now
+    freelist_reported marks marks' w t first r start some e h walked =
         by_result r (walked h.visits d (record { page = refl; role = refl; from = refl; item = refl }) at.past at.marked)
       where
         d : Reference
@@ -235,58 +236,58 @@ module _ {S : Type 0} (hears : S → Notice → S → Type 0) where
         at = subst (λ es. IsAtStarts file V h.visits es marks) one h.at
 
         items : List Finding
-        items = told_below file h.visits (Go d ∷ [])
+        items = reported_below file h.visits (Go d ∷ [])
 
         all : h.notices ++ map (found w.start.now) items ≡ start_notices file V
-        all = ap (λ at. h.notices ++ map (found at) items) start ∙ ap (λ es. h.notices ++ map (found at_freelist) (told_below file h.visits es)) (sym one)
+        all = ap (λ at. h.notices ++ map (found at) items) start ∙ ap (λ es. h.notices ++ map (found at_freelist) (reported_below file h.visits es)) (sym one)
             ∙ h.rest
 
-        by_result : (r : Result (Unit {0}) RunError) → IsDone (HandsOn hears) file h.visits (Go d ∷ []) r marks' w t
-            → AreTold hears file V r marks' before t.reporter.now
+        by_result : (r : Result (Unit {0}) RunError) → IsDone (HandsOn receives) file h.visits (Go d ∷ []) r marks' w t
+            → AreReported receives file V r marks' before t.reporter.now
         by_result (Ok u) k = record {
           marked = at_end file V survey _ marks' (at_next file V h.visits d [] marks marks' at k.marked);
-          told = subst (λ L. Moves hears before L t.reporter.now) all
-              (Moves-append hears before w.reporter.now t.reporter.now h.notices (map (found w.start.now) items) h.told
-              (teller_moves hears items w t k.told).0);
+          reported = subst (λ L. Moves receives before L t.reporter.now) all
+              (Moves-append receives before w.reporter.now t.reporter.now h.notices (map (found w.start.now) items) h.reported
+              (notifier_moves receives items w t k.reported).0);
         }
         by_result (Err x) k = record {
           marked = tt;
-          told = subst (λ L. MovesBySome hears before L t.reporter.now) all
-              (some_after hears before w.reporter.now t.reporter.now h.notices (map (found w.start.now) items) h.told
-              (teller_some hears items w t k.told));
+          reported = subst (λ L. MovesBySome receives before L t.reporter.now) all
+              (some_after receives before w.reporter.now t.reporter.now h.notices (map (found w.start.now) items) h.reported
+              (notifier_some receives items w t k.reported));
         }
 
     -- there is none
-    pub no_freelist_told : (marks : List Mark) (s : S) → first_trunk file ≡ 0 → IsBetweenStarts hears file V before [] marks s
-        → AreTold {A = Unit {0}} hears file V (Ok tt) marks before s
-    no_freelist_told marks s e h = record {
+    pub no_freelist_reported : (marks : List Mark) (s : S) → first_trunk file ≡ 0 → IsBetweenStarts receives file V before [] marks s
+        → AreReported {A = Unit {0}} receives file V (Ok tt) marks before s
+    no_freelist_reported marks s e h = record {
       marked = at_end file V survey h.visits marks (subst (λ es. IsAtStarts file V h.visits es marks) none h.at);
-      told = subst (λ L. Moves hears before L s) all h.told;
+      reported = subst (λ L. Moves receives before L s) all h.reported;
     }
       where
         none : errands_left file [] ≡ []
         none = ap (λ n. errands_at [] (map Follow (cond (n == 0) [] (start_at freelist_start trunk n ∷ [])))) e
 
         all : h.notices ≡ start_notices file V
-        all = sym (append-nil h.notices) ∙ ap (λ L. h.notices ++ map (found at_freelist) L) (sym (told_none file h.visits))
-            ∙ ap (λ es. h.notices ++ map (found at_freelist) (told_below file h.visits es)) (sym none) ∙ h.rest
+        all = sym (append-nil h.notices) ∙ ap (λ L. h.notices ++ map (found at_freelist) L) (sym (reported_none file h.visits))
+            ∙ ap (λ es. h.notices ++ map (found at_freelist) (reported_below file h.visits es)) (sym none) ∙ h.rest
 
   -- ---- all starts, and what is known of the schema
 
   module _ (file : List ℕ) (V : List Reference) (marks : List Mark) (rows : List SchemaRow) (s t : S) where
     -- an error stopped the walk over the schema's tree, or those after it
-    pub schema_stopped : (e : RunError) → IsTreeWalked {A = Bool} hears at_schema file [] schema_reference (Err e) marks s t
-        → AreWalked hears file V (Err e) marks rows s t
+    pub schema_stopped : (e : RunError) → IsTreeWalked {A = Bool} receives at_schema file [] schema_reference (Err e) marks s t
+        → AreWalked receives file V (Err e) marks rows s t
     schema_stopped e d = record {
-      all = record { marked = tt; told = some_first hears s t (tree_notices at_schema file [] schema_reference) _ d.told };
+      all = record { marked = tt; reported = some_first receives s t (tree_notices at_schema file [] schema_reference) _ d.reported };
       has_rows = tt;
       listed = tt;
     }
 
-    pub later_stopped : (e : RunError) → AreTold {A = Unit {0}} hears file V (Err e) marks s t → AreWalked hears file V (Err e) marks rows s t
-    later_stopped e d = record { all = record { marked = tt; told = d.told }; has_rows = tt; listed = tt }
+    pub later_stopped : (e : RunError) → AreReported {A = Unit {0}} receives file V (Err e) marks s t → AreWalked receives file V (Err e) marks rows s t
+    later_stopped e d = record { all = record { marked = tt; reported = d.reported }; has_rows = tt; listed = tt }
 
     -- all was walked over
-    pub all_walked : (any : Bool) → IsSchemaOf file V rows any → AreTold {A = Unit {0}} hears file V (Ok tt) marks s t
-        → AreWalked hears file V (Ok any) marks rows s t
-    all_walked any of d = record { all = record { marked = d.marked; told = d.told }; has_rows = of.has_rows; listed = of.listed }
+    pub all_walked : (any : Bool) → IsSchemaOf file V rows any → AreReported {A = Unit {0}} receives file V (Ok tt) marks s t
+        → AreWalked receives file V (Ok any) marks rows s t
+    all_walked any of d = record { all = record { marked = d.marked; reported = d.reported }; has_rows = of.has_rows; listed = of.listed }

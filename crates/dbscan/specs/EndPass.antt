@@ -5,7 +5,7 @@ use Rattle.dbformat.specs.Faults.{fault}
 use Rattle.dbformat.specs.File.{geometry, map_entry}
 use Rattle.dbformat.specs.Header.{schema_format, encoding_number, greatest_root, freelist_count, has_pointer_map}
 use Rattle.dbformat.specs.Reference.{Reference}
-use Rattle.dbformat.specs.Tests.{told_if}
+use Rattle.dbformat.specs.Tests.{reported_if}
 use Rattle.dbformat.specs.declared.Fault.{Fault}
 use Rattle.dbformat.specs.declared.FaultCode.TheVariants.{H08, H09, H10}
 use Rattle.dbmarks.specs.EndMarks.{mark_fault, late_fault}
@@ -16,15 +16,15 @@ use Rattle.dbtrace.specs.declared.Part.TheVariants as part
 use Rattle.dbsource.specs.Bench.{Pages}
 use Rattle.dbsource.specs.Errors.{is_write_failed}
 use Rattle.dbsource.specs.declared.error.RunError.{RunError}
-use Rattle.dbwalk.specs.Telling.{IsReadOrWrite, SinkAfter, SinkState}
+use Rattle.dbwalk.specs.Reporting.{IsReadOrWrite, SinkAfter, SinkState}
 use Rattle.dbscan.specs.Notices.{Notice, whole}
 
 -- the faults of the whole, by the header, whether the schema has rows, the greatest root and the count of the freelist
 abbrev pub counted_faults : List ℕ → Bool → ℕ → ℕ → List Fault
 counted_faults header rows greatest free =
-    told_if (((schema_format header == 0) || (encoding_number header == 0)) && rows) (fault H08 1 (schema_format header) (pos (encoding_number header)))
-    ++ told_if (has_pointer_map header && not (greatest_root header == greatest)) (fault H09 1 0 (pos greatest))
-    ++ told_if (not (freelist_count header == free)) (fault H10 1 0 (pos free))
+    reported_if (((schema_format header == 0) || (encoding_number header == 0)) && rows) (fault H08 1 (schema_format header) (pos (encoding_number header)))
+    ++ reported_if (has_pointer_map header && not (greatest_root header == greatest)) (fault H09 1 0 (pos greatest))
+    ++ reported_if (not (freelist_count header == free)) (fault H10 1 0 (pos free))
 
 -- whether a mark is that of a page of fixed use
 abbrev pub is_fixed_mark : Mark → Bool

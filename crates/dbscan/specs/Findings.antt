@@ -5,12 +5,12 @@ use Rattle.dbformat.specs.Head.{is_interior}
 use Rattle.dbformat.specs.Rows.{StatRow}
 use Rattle.dbformat.specs.declared.PageType.{PageType}
 use Rattle.dbformat.specs.declared.PageType.TheVariants.{Tree}
-use Rattle.dbtrace.specs.Finding.{Finding, told_row, told_fault}
+use Rattle.dbtrace.specs.Finding.{Finding, reported_row, reported_fault}
 
 -- the row of a finding, if it is one
 abbrev pub found_row : Finding → Option StatRow
-found_row (told_row r) = Some r
-found_row (told_fault f why) = None
+found_row (reported_row r) = Some r
+found_row (reported_fault f why) = None
 
 -- the rows among findings
 abbrev pub found_rows : List Finding → List StatRow
@@ -27,5 +27,5 @@ is_schema_leaf r = (r.start == schema_start) && is_leaf r.pagetype && not (r.cou
 
 -- whether a finding is such a row
 abbrev pub is_schema_row : Finding → Bool
-is_schema_row (told_row r) = is_schema_leaf r
-is_schema_row (told_fault f why) = false
+is_schema_row (reported_row r) = is_schema_leaf r
+is_schema_row (reported_fault f why) = false

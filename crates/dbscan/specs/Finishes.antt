@@ -14,7 +14,7 @@ use Rattle.dbsource.specs.declared.error.RunError.{RunError}
 use Rattle.dbsource.specs.declared.source.Source.{Ghosts as SourceWords}
 use Rattle.dbmarks.specs.Marking.{AreMarksOf}
 use Rattle.dbscan.specs.Roots.{AreListed}
-use Rattle.dbwalk.specs.Telling.{SinkState}
+use Rattle.dbwalk.specs.Reporting.{SinkState}
 use Rattle.dbscan.specs.Desks.{DeskView, shape_of}
 use Rattle.dbscan.specs.Kept.{KeepsHeader, KeepsRoots}
 use Rattle.dbscan.specs.Looks.{IsUnmarked, ReadsRising}
@@ -28,18 +28,18 @@ pub record IsDeskOf (d : DeskView) (file : List ℕ) (V : List Reference) : Type
   pub rows : AreListed file V d.roots.rows
 
 -- A reporter has heard all that is reported of the file whose survey is on a desk.
-pub record HasHeard {K : Type 0} (hears : K → Notice → K → Type 0) (d : DeskView) (file : List ℕ) (V : List Reference) (first now : K) : Type 0 where
+pub record HasReceived {K : Type 0} (receives : K → Notice → K → Type 0) (d : DeskView) (file : List ℕ) (V : List Reference) (first now : K) : Type 0 where
   pub desk : IsDeskOf d file V
-  pub heard : Moves hears first (run_notices file V) now
+  pub received : Moves receives first (run_notices file V) now
 
 -- What the end of a report makes of a reporter, whatever the source answered. Pages that were not visited may be read, each
 -- once. Of each file that agrees with what was read, and whose notices were all that the reporter had heard, this is what a run
 -- leaves. The answer says who failed.
-pub record HasFinished {S K : Type 0} (source : SourceWords S) (hears : K → Notice → K → Type 0) (held : K → SinkState)
+pub record HasFinished {S K : Type 0} (source : SourceWords S) (receives : K → Notice → K → Type 0) (held : K → SinkState)
     (leaves : List ℕ → List Reference → Result Verdict RunError → K → K → Type 0)
     (r : Result Verdict RunError) (before after : DeskView) (old new : S × K) : Type 0 where
   pub asks : Asks source.step (ReadsRising (shape_of before).page_size (IsUnmarked before.marks))
-      (λ file. (V : List Reference) → (first : K) → HasHeard hears before file V first old.1 → leaves file V r first new.1)
+      (λ file. (V : List Reference) → (first : K) → HasReceived receives before file V first old.1 → leaves file V r first new.1)
       is_read_failed r (source.held old.0) (source.held new.0)
   pub keeps : KeepsRoots r before after (held old.1) (held new.1)
 
@@ -47,7 +47,7 @@ pub record HasFinished {S K : Type 0} (source : SourceWords S) (hears : K → No
 -- after a beginning of the notices.
 abbrev pub Leaves : {K : Type 0} → (K → Notice → K → Type 0) → (List ℕ → List Reference → Result Verdict RunError → K → K → Type 0)
     → List ℕ → List Reference → Result Verdict RunError → K → K → Type 0
-Leaves hears leaves file V r s t = leaves file V r s t ⊎ ((e : RunError) × (r ≡ Err e) × MovesBySome hears s (run_notices file V) t)
+Leaves receives leaves file V r s t = leaves file V r s t ⊎ ((e : RunError) × (r ≡ Err e) × MovesBySome receives s (run_notices file V) t)
 
 -- What a run over a desk makes of a reporter, whatever the source answered: there is a file of the desk's header that agrees
 -- with all that was read after it, and of each such file, by any survey, this is what a run leaves. The answer says who failed.

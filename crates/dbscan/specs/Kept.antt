@@ -3,8 +3,8 @@ use Rattle.std.specs.Prelude.{◌≡◌, Result, IfErr}
 use Rattle.dbsource.specs.Errors.{is_out_of_memory, is_write_failed}
 use Rattle.dbsource.specs.Failures.{failures_after}
 use Rattle.dbsource.specs.declared.error.RunError.{RunError}
-use Rattle.dbwalk.specs.Telling.{IsReadOrWrite, IsReadWriteOrMemory}
-use Rattle.dbwalk.specs.Telling.{SinkAfter, SinkState}
+use Rattle.dbwalk.specs.Reporting.{IsReadOrWrite, IsReadWriteOrMemory}
+use Rattle.dbwalk.specs.Reporting.{SinkAfter, SinkState}
 use Rattle.dbscan.specs.Desks.{DeskView}
 
 -- A run over a desk, or a part of one, which keeps its header. Its list of roots was refused memory, once, exactly where that is

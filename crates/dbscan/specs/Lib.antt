@@ -3,7 +3,7 @@ pub mod Desks
 pub mod EndPass
 pub mod Findings
 pub mod Finishes
-pub mod HeardRows
+pub mod ReceivedRows
 pub mod Kept
 pub mod Looks
 pub mod MapReads
@@ -14,8 +14,8 @@ pub mod Roots
 pub mod Scans
 pub mod StartTable
 pub mod Starts
-pub mod Tellers
-pub mod Telling
+pub mod Notifiers
+pub mod Reporting
 pub mod Texts
 pub mod Trees
 pub mod Walks

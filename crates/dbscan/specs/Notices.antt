@@ -15,7 +15,7 @@ use Rattle.dbformat.specs.declared.Fault.{Fault}
 use Rattle.dbformat.specs.declared.Geometry.{Geometry}
 use Rattle.dbmarks.specs.Marking.{marks_of}
 use Rattle.dbmarks.specs.declared.marks.Mark.{Mark}
-use Rattle.dbtrace.specs.Finding.{Finding, told_fault, told_row, told_below, visited_below}
+use Rattle.dbtrace.specs.Finding.{Finding, reported_fault, reported_row, reported_below, visited_below}
 use Rattle.dbtrace.specs.declared.Cause.{Cause}
 use Rattle.dbtrace.specs.declared.Cause.TheVariants.{Itself}
 use Rattle.dbtrace.specs.declared.Part.{Part}
@@ -30,8 +30,8 @@ use Rattle.dbscan.specs.declared.notice.Notice.TheVariants as lent
 -- A fault, with its part and its cause; a row of the tree of a start; the end of the tree of a start; or, when all walks have ended, a
 -- page and its mark.
 pub data Notice : Type 0 where
-  heard_fault : TracedFault → Notice
-  heard_row : At → StatRow → Notice
+  received_fault : TracedFault → Notice
+  received_row : At → StatRow → Notice
   ended : At → Notice
   marked : Geometry → ℕ → Mark → Notice
 
@@ -41,48 +41,48 @@ at_start k f why = record { part = part.Start k; fault = f; cause = why }
 
 -- a fault of the whole file, which goes back to nothing else
 abbrev pub of_file : Part → Fault → TracedFault
-of_file where_told f = record { part = where_told; fault = f; cause = Itself }
+of_file where_reported f = record { part = where_reported; fault = f; cause = Itself }
 
 -- what is found at a start
 abbrev pub found : At → Finding → Notice
-found at (told_fault f why) = heard_fault (at_start at.number f why)
-found at (told_row r) = heard_row at r
+found at (reported_fault f why) = received_fault (at_start at.number f why)
+found at (reported_row r) = received_row at r
 
 -- a fault of the whole file
 abbrev pub whole : Part → Fault → Notice
-whole where_told f = heard_fault (of_file where_told f)
+whole where_reported f = received_fault (of_file where_reported f)
 
 -- the notice that is borrowed
 abbrev pub notice_of : Lent → Notice
-notice_of (lent.Fault x) = heard_fault x.now
-notice_of (lent.Row at r) = heard_row at.now (row_of r.now)
+notice_of (lent.Fault x) = received_fault x.now
+notice_of (lent.Row at r) = received_row at.now (row_of r.now)
 notice_of (lent.Ended at) = ended at.now
 notice_of (lent.Page g p mark) = marked g.now p mark
 
 -- what a reporter may rely on: a page is numbered from 1, in a file of this shape
 abbrev pub IsGiven : Notice → Type 0
-IsGiven (heard_fault x) = Unit {0}
-IsGiven (heard_row at r) = Unit {0}
+IsGiven (received_fault x) = Unit {0}
+IsGiven (received_row at r) = Unit {0}
 IsGiven (ended at) = Unit {0}
 IsGiven (marked g p mark) = IsInRange g × (1 ≤ p)
 
 -- the fault of a notice, if it is one
 abbrev pub notice_fault : Notice → Option Fault
-notice_fault (heard_fault x) = Some x.fault
-notice_fault (heard_row at r) = None
+notice_fault (received_fault x) = Some x.fault
+notice_fault (received_row at r) = None
 notice_fault (ended at) = None
 notice_fault (marked g p mark) = None
 
 -- those among notices
-abbrev pub faults_heard : List Notice → List Fault
-faults_heard notices = filter_map notice_fault notices
+abbrev pub faults_received : List Notice → List Fault
+faults_received notices = filter_map notice_fault notices
 
 -- a reporter on which only faults have an effect
-abbrev pub HearsFaults : {S : Type 0} → (S → Fault → S → Type 0) → S → Notice → S → Type 0
-HearsFaults takes s (heard_fault x) t = takes s x.fault t
-HearsFaults takes s (heard_row at r) t = t ≡ s
-HearsFaults takes s (ended at) t = t ≡ s
-HearsFaults takes s (marked g p mark) t = t ≡ s
+abbrev pub ReceivesFaults : {S : Type 0} → (S → Fault → S → Type 0) → S → Notice → S → Type 0
+ReceivesFaults takes s (received_fault x) t = takes s x.fault t
+ReceivesFaults takes s (received_row at r) t = t ≡ s
+ReceivesFaults takes s (ended at) t = t ≡ s
+ReceivesFaults takes s (marked g p mark) t = t ≡ s
 
 -- the reference to the root of a row, as that of start k
 abbrev pub root_reference : List ℕ → ℕ → SchemaRow → Reference
@@ -94,11 +94,11 @@ errands_left file left = errands_at [] (map Follow (map (root_start file) left +
 
 -- what is reported at a start below its root, after the visits of W
 abbrev pub tree_notices : At → List ℕ → List Reference → Reference → List Notice
-tree_notices at file W c = map (found at) (told_below file W (Go c ∷ [])) ++ (ended at ∷ [])
+tree_notices at file W c = map (found at) (reported_below file W (Go c ∷ [])) ++ (ended at ∷ [])
 
 -- and at the starts of these rows, and then of the freelist
 abbrev pub later_notices : List ℕ → List Reference → List (ℕ × SchemaRow) → List Notice
-later_notices file W [] = map (found at_freelist) (told_below file W (errands_left file []))
+later_notices file W [] = map (found at_freelist) (reported_below file W (errands_left file []))
 later_notices file W ((k, row) ∷ left) =
     tree_notices (at_row k row) file W (root_reference file k row)
     ++ later_notices file (W ++ visited_below file W (Go (root_reference file k row) ∷ [])) left

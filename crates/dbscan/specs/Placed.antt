@@ -7,24 +7,24 @@ use Rattle.dbformat.specs.HeaderFaults.{header_faults}
 use Rattle.dbformat.specs.Reference.{Reference}
 use Rattle.dbformat.specs.Report.{event_faults}
 use Rattle.dbformat.specs.Schema.{starts}
-use Rattle.dbformat.specs.Story.{telling}
+use Rattle.dbformat.specs.Story.{reporting}
 use Rattle.dbformat.specs.declared.Fault.{Fault}
 use Rattle.dbtrace.specs.Causes.{cause_of}
 use Rattle.dbtrace.specs.declared.Part.{Part}
 use Rattle.dbtrace.specs.declared.Part.TheVariants as part
 use Rattle.dbtrace.specs.declared.TracedFault.{TracedFault}
 use Rattle.dbformat.specs.Starts.{start_at}
-use Rattle.dbscan.specs.Notices.{Notice, at_start, heard_fault, heard_row, ended, of_file}
+use Rattle.dbscan.specs.Notices.{Notice, at_start, received_fault, received_row, ended, of_file}
 
 -- Faults with their causes.
 
 -- the faults of the walk, each at the start of the address that it is reported at
-abbrev pub walk_told : List ℕ → List Reference → List TracedFault
-walk_told file V = flat_map (λ t. map (λ f. at_start (start_of t.key) f (cause_of file V t.event f.code)) (event_faults file V t.event)) (telling file V)
+abbrev pub walk_reported : List ℕ → List Reference → List TracedFault
+walk_reported file V = flat_map (λ t. map (λ f. at_start (start_of t.key) f (cause_of file V t.event f.code)) (event_faults file V t.event)) (reporting file V)
 
 -- all faults of a file
-abbrev pub told_faults : List ℕ → List Reference → List TracedFault
-told_faults file V = map (of_file part.Header) (header_faults file (length file)) ++ walk_told file V ++ map (of_file part.End) (end_faults file V)
+abbrev pub reported_faults : List ℕ → List Reference → List TracedFault
+reported_faults file V = map (of_file part.Header) (header_faults file (length file)) ++ walk_reported file V ++ map (of_file part.End) (end_faults file V)
 
 -- without part and cause
 abbrev pub faults_of : List TracedFault → List Fault
@@ -32,7 +32,7 @@ faults_of ts = map (λ t. t.fault) ts
 
 -- the fault of a notice, if it is one
 abbrev pub reported_of : Notice → Option TracedFault
-reported_of (heard_fault x) = Some x
+reported_of (received_fault x) = Some x
 reported_of _ = None
 
 -- those among notices
@@ -59,8 +59,8 @@ part_number _ = None
 
 -- the number of the start of a notice, if it is of one
 abbrev pub number_of : Notice → Option ℕ
-number_of (heard_fault x) = part_number x.part
-number_of (heard_row at r) = Some at.number
+number_of (received_fault x) = part_number x.part
+number_of (received_row at r) = Some at.number
 number_of (ended at) = Some at.number
 number_of _ = None
 

@@ -3,7 +3,7 @@ ghost use Rattle.std.specs.Prelude.{◌≡◌, max, count_by, Some, None, cond};
 ghost use Rattle.std.specs.Option.{option_or};
 ghost use Rattle.dbformat.specs.FixedPages.{IsInRange};
 ghost use Rattle.dbmarks.specs.EndMarks.{is_free_mark, is_root_mark, is_other_mark, greatest_root_marked, least_other_marked};
-ghost use Rattle.dbwalk.specs.Telling.{IsReportedTo};
+ghost use Rattle.dbwalk.specs.Reporting.{IsReportedTo};
 ghost use Rattle.dbscan.specs.Notices.{pages_from};
 
 use crate::notice::Notice;
@@ -63,7 +63,7 @@ pub(crate) fn count_marks<A: Allocator, K: Reporter>(
     reporter: &mut K,
 ) -> EndCounts
     requires { IsInRange geometry.now }
-    ensures told { IsReportedTo K.hears K.held reporter.old (pages_from geometry.now 1 marks.now) reporter.new }
+    ensures reported { IsReportedTo K.receives K.held reporter.old (pages_from geometry.now 1 marks.now) reporter.new }
     ensures free { result.free_pages ≡ count_by is_free_mark marks.now }
     ensures greatest { result.greatest_root ≡ greatest_root_marked marks.now }
     ensures least { result.least_other ≡ least_other_marked marks.now }
@@ -73,7 +73,7 @@ pub(crate) fn count_marks<A: Allocator, K: Reporter>(
     let mut least_other: Option<u32> = None;
     for index in 0..marks.pages() {
         let mark = marks.get(index + 1);
-        reporter.hear(&Notice::Page(geometry, index + 1, mark));
+        reporter.receive(&Notice::Page(geometry, index + 1, mark));
         let free = free_page(mark);
         free_pages += free;
         greatest_root = greater_root(greatest_root, index + 1, mark);

@@ -10,8 +10,8 @@ ghost use Rattle.dbsource.specs.Headers.{IsHeaderOf};
 ghost use Rattle.dbsource.specs.Sources.{Asks};
 ghost use Rattle.dbmarks.specs.EndMarks.{entry_value};
 ghost use Rattle.dbmarks.specs.Marking.{AreMarksOf, is_none, page_mark};
-ghost use Rattle.dbwalk.specs.Telling.{IsReadOrWrite};
-ghost use Rattle.dbwalk.specs.Telling.{Tells, SinkAfter};
+ghost use Rattle.dbwalk.specs.Reporting.{IsReadOrWrite};
+ghost use Rattle.dbwalk.specs.Reporting.{Reports, SinkAfter};
 ghost use Rattle.dbmarks.specs.declared.marks.Mark as marking;
 ghost use Rattle.dbscan.specs.Desks.{shape_of};
 ghost use Rattle.dbscan.specs.EndPass.{EndsPage, is_fixed_mark, page_notices, pages_items};
@@ -23,7 +23,7 @@ use crate::counts::count_marks;
 use crate::end_faults::{counted_faults, late_fault, use_fault};
 use crate::map_entry::stored_entry;
 use crate::reporter::{Reporter, ask};
-use crate::tell::tell_all;
+use crate::report::report_all;
 use dbmarks::MapEntry;
 use dbsource::{Bench, Fixed, Geometry, RunError, Source};
 use dbtrace::Part;
@@ -79,7 +79,7 @@ fn end_page<S: Source, K: Reporter, A: Allocator, B: Allocator>(
     ensures asks { Asks S.step (IsMapTurn bench.old.geometry page)
         (λ file. (mark : marking.Mark) → page_mark marks.now page ≡ Some mark → bench.old.geometry ≡ geometry file → refusal file ≡ None
         → is_fixed_mark mark ≡ is_fixed (geometry file) page → HasMapFor file (geometry file) page bench.old.chain
-        → Tells K.hears result reporter.old (page_notices file least_other page mark) reporter.new
+        → Reports K.receives result reporter.old (page_notices file least_other page mark) reporter.new
         × OnOk result (HasMapFor file (geometry file) (page + 1) bench.new.chain))
         is_read_failed result (S.held source.old) (S.held source.new) }
     ensures ends { EndsPage result (K.held reporter.old) (K.held reporter.new) bench.old bench.new }
@@ -101,7 +101,7 @@ fn end_page<S: Source, K: Reporter, A: Allocator, B: Allocator>(
         use_fault(page, entry, mark),
         late_fault(geometry.has_map, page, mark, least_other),
     ];
-    tell_all(Part::End, &faults, reporter)
+    report_all(Part::End, &faults, reporter)
 }
 
 // Does this for each page, by number.
@@ -115,7 +115,7 @@ fn end_pages<S: Source, K: Reporter, A: Allocator, B: Allocator>(
     requires { (K.held reporter.old).is_shut ≡ false }
     ensures asks { Asks S.step (MapReads bench.old.geometry) (λ file. bench.old.geometry ≡ geometry file → refusal file ≡ None
         → (V : List Reference) → AreMarksOf file V marks.now
-        → Tells K.hears result reporter.old (pages_items file V least_other (geometry file).pages) reporter.new)
+        → Reports K.receives result reporter.old (pages_items file V least_other (geometry file).pages) reporter.new)
         is_read_failed result (S.held source.old) (S.held source.new) }
     ensures ends { EndsPage result (K.held reporter.old) (K.held reporter.new) bench.old bench.new }
 {
@@ -133,7 +133,7 @@ fn end_pages<S: Source, K: Reporter, A: Allocator, B: Allocator>(
 ///
 /// [`RunError::ReadFailed`] exactly where the source failed, [`RunError::WriteFailed`] exactly where the reporter failed: then it heard a
 /// prefix of the notices.
-pub fn tell_end<S: Source, K: Reporter, A: Allocator>(
+pub fn report_end<S: Source, K: Reporter, A: Allocator>(
     desk: &mut Desk<A>,
     source: &mut S,
     any_rows: bool,
@@ -143,7 +143,7 @@ pub fn tell_end<S: Source, K: Reporter, A: Allocator>(
     ensures desk { desk.new ≡ record desk.old { pages = desk.new.pages } }
     ensures asks { Asks S.step (MapReads (shape_of desk.old)) (λ file. IsHeaderOf desk.old.header file
         → (V : List Reference) → Survey file V → AreMarksOf file V desk.old.marks → any_rows ≡ has_rows file V
-        → Tells K.hears result reporter.old (end_notices file V) reporter.new)
+        → Reports K.receives result reporter.old (end_notices file V) reporter.new)
         is_read_failed result (S.held source.old) (S.held source.new) }
     ensures writes { SinkAfter is_write_failed result (K.held reporter.old) (K.held reporter.new) }
     ensures only { IfErr result IsReadOrWrite }
@@ -152,7 +152,7 @@ pub fn tell_end<S: Source, K: Reporter, A: Allocator>(
     let counts = count_marks(&geometry, &desk.marks, reporter);
     ask(reporter)?;
     let faults = counted_faults(&desk.header, any_rows, counts);
-    tell_all(Part::End, &faults, reporter)?;
+    report_all(Part::End, &faults, reporter)?;
     let least = counts.least_other;
     end_pages(source, &mut desk.bench, &desk.marks, least, reporter)
 }

@@ -39,7 +39,7 @@ pub trait Finish<D: Viewed>: Reporter {
     /// [`RunError::ReadFailed`] exactly where the source failed, and [`RunError::WriteFailed`] exactly where an Out failed.
     fn finish<S: Source>(&mut self, desk: &mut D, source: &mut S) -> Result<Verdict, RunError>
         requires { (Self.held self.old).is_shut ≡ false }
-        ensures { HasFinished S.Source Self.hears Self.held leaves result (D.desk_view desk.old) (D.desk_view desk.new)
+        ensures { HasFinished S.Source Self.receives Self.held leaves result (D.desk_view desk.old) (D.desk_view desk.new)
             (source.old, self.old) (source.new, self.new) };
 }
 
@@ -56,7 +56,7 @@ pub fn run_over<A: Allocator, S: Source, K: Finish<Desk<A>>>(
     reporter: &mut K,
 ) -> Result<Verdict, RunError>
     requires { (K.held reporter.old).is_shut ≡ false }
-    ensures { HasReported S.Source K.held (Leaves K.hears K.leaves) result desk.old desk.new (source.old, reporter.old) (source.new, reporter.new) }
+    ensures { HasReported S.Source K.held (Leaves K.receives K.leaves) result desk.old desk.new (source.old, reporter.old) (source.new, reporter.new) }
 {
     desk.renew();
     let header = *desk.header();

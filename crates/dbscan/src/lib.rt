@@ -2,9 +2,9 @@
 //!
 //! A [`Desk`] has what a run keeps of a file: its header, page buffers, a mark for each page, and the list of roots ([`RootList`] takes
 //! the rows of the schema in a walk, and keeps those that have a root page). [`scan`] reports to a [`Reporter`] all that is found in the
-//! file, in three steps. [`tell_header`] reports the faults of the header. Then it walks over the schema, over each root that the schema
+//! file, in three steps. [`report_header`] reports the faults of the header. Then it walks over the schema, over each root that the schema
 //! names, and along the freelist; of what is found there the reporter hears at which [`Start`] it is, and where each tree ends.
-//! [`tell_end`] reports what is left when all pages have been visited: each page with its mark, and then the faults that the marks, the
+//! [`report_end`] reports what is left when all pages have been visited: each page with its mark, and then the faults that the marks, the
 //! header and the pages of the pointer map show.
 //!
 //! Marks and rows say who owns a page and what it is; no page is read again. [`PageTrees`] keeps, in four bytes a page, the start of each
@@ -37,8 +37,8 @@ mod roots;
 mod scans;
 mod start;
 mod start_table;
-mod tell;
-mod teller;
+mod report;
+mod notifier;
 mod tree_names;
 mod walks;
 
@@ -46,18 +46,18 @@ pub use dbformat::{Encoding, Fault, Fixed, Geometry, Look, Verdict};
 pub use dbsource::{Bench, Header, Out, ReadFailed, RunError, Source, WriteFailed};
 pub use dbwalk::{Cause, Mark, Marks, PageKind, PageType, Row, RowKind, SchemaRow, Taken, Taker};
 pub use desk::Desk;
-pub use end_pass::tell_end;
+pub use end_pass::report_end;
 pub use finish::{Finish, Viewed, run_over};
 pub use notice::Notice;
 pub use owner::visited_pages_are_owned;
 pub use page_trees::PageTrees;
 pub use place::{Place, mark_of, place_of};
 pub use place_texts::{place_from, place_front, place_tree, place_words};
-pub use placed::{faults_are_of_reached_pages, faults_are_told_with_their_causes};
+pub use placed::{faults_are_of_reached_pages, faults_are_reported_with_their_causes};
 pub use reporter::Reporter;
 pub use roots::RootList;
 pub use scans::scan;
 pub use start::Start;
 pub use start_table::StartTable;
-pub use tell::tell_header;
+pub use report::report_header;
 pub use tree_names::TreeNames;

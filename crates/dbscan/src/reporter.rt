@@ -1,7 +1,7 @@
 // Who hears what is found in a file.
 ghost use Rattle.std.specs.Prelude.{◌≡◌, if◌then◌else◌, Ok, Err};
 ghost use Rattle.dbsource.specs.declared.error.RunError.TheVariants as run_error;
-ghost use Rattle.dbwalk.specs.Telling.{SinkMoves};
+ghost use Rattle.dbwalk.specs.Reporting.{SinkMoves};
 ghost use Rattle.dbscan.specs.Notices.{IsGiven, notice_of};
 
 use crate::notice::Notice;
@@ -40,19 +40,19 @@ use dbsource::RunError;
 /// One that writes keeps its Out and a flag. After a failed put it sets the flag, puts nothing more and is shut, as `CheckReporter` (of
 /// `dbreport`) does.
 pub trait Reporter {
-    ghost use Rattle.dbwalk.specs.Telling.{SinkState};
-    ghost use Rattle.dbscan.specs.Notices.{Notice as Heard};
+    ghost use Rattle.dbwalk.specs.Reporting.{SinkState};
+    ghost use Rattle.dbscan.specs.Notices.{Notice as Received};
 
     // The state after a notice: it was taken, or not whole, or it came to a reporter that was shut.
-    ghost hears: { Self → Heard → Self → Type 0 };
+    ghost receives: { Self → Received → Self → Type 0 };
     // What it borrows, how many calls of each Out failed, in 64 bits, and whether it is shut.
     ghost held: { Self → SinkState };
 
     /// Takes a notice. A reporter that is shut takes nothing. Where the notice is not taken whole, this counts as one failure, and the
     /// reporter is shut.
-    fn hear(&mut self, notice: &Notice<'_>)
+    fn receive(&mut self, notice: &Notice<'_>)
         requires { IsGiven (notice_of notice.now) }
-        ensures notice { hears self.old (notice_of notice.now) self.new }
+        ensures notice { receives self.old (notice_of notice.now) self.new }
         ensures count { SinkMoves (held self.old) (held self.new) };
 
     /// Whether a notice was not taken whole. It stays so.

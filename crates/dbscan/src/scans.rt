@@ -11,11 +11,11 @@ ghost use Rattle.dbscan.specs.Looks.{ReadsMarked};
 ghost use Rattle.dbscan.specs.Scans.{IsScanned};
 
 use crate::Desk;
-use crate::end_pass::tell_end;
+use crate::end_pass::report_end;
 use crate::reporter::Reporter;
 use crate::start::Start;
-use crate::tell::tell_header;
-use crate::teller::Teller;
+use crate::report::report_header;
+use crate::notifier::Notifier;
 use crate::walks::{walk_roots, walk_schema, walk_trunks};
 use dbsource::{RunError, Source};
 use std::alloc::Allocator;
@@ -38,14 +38,14 @@ pub fn scan<A: Allocator, S: Source, K: Reporter>(
     requires open { (K.held reporter.old).is_shut ≡ false }
     ensures asks { Asks S.step (ReadsMarked (shape_of desk.old) desk.new.marks) (λ file. IsHeaderOf desk.old.header file
         → (V : List Reference) → Survey file V
-        → IsScanned K.hears file V result desk.new.marks desk.new.roots.rows reporter.old reporter.new)
+        → IsScanned K.receives file V result desk.new.marks desk.new.roots.rows reporter.old reporter.new)
         is_read_failed result (S.held source.old) (S.held source.new) }
     ensures keeps { KeepsHeader result desk.old desk.new (K.held reporter.old) (K.held reporter.new) }
 {
-    tell_header(desk.header(), reporter)?;
+    report_header(desk.header(), reporter)?;
     let any_rows = walk_schema(desk, source, reporter)?;
     walk_roots(desk, source, reporter)?;
     let start = Start::freelist();
-    walk_trunks(desk, source, &mut Teller::new(reporter, &start))?;
-    tell_end(desk, source, any_rows, reporter)
+    walk_trunks(desk, source, &mut Notifier::new(reporter, &start))?;
+    report_end(desk, source, any_rows, reporter)
 }

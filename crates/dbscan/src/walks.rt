@@ -9,13 +9,13 @@ ghost use Rattle.dbwalk.specs.declared.root.RootKind.TheVariants as root_kind;
 ghost use Rattle.dbscan.specs.Desks.{AsksOver, IsFresh};
 ghost use Rattle.dbscan.specs.Kept.{KeepsHeader, KeepsRoots};
 ghost use Rattle.dbscan.specs.Starts.{at_freelist, kind_by, root_of, root_of_schema};
-ghost use Rattle.dbscan.specs.Walks.{AreTold, IsSchemaWalked, IsBetweenStarts, StopsTelling};
+ghost use Rattle.dbscan.specs.Walks.{AreReported, IsSchemaWalked, IsBetweenStarts, StopsReporting};
 
 use crate::Desk;
 use crate::no_rows::NoRows;
 use crate::reporter::Reporter;
 use crate::start::Start;
-use crate::teller::Teller;
+use crate::notifier::Notifier;
 use dbbytes::SchemaRow;
 use dbformat::{Encoding, RowKind};
 use dbsource::{RunError, Source};
@@ -68,17 +68,17 @@ pub(crate) fn walk_schema<A: Allocator, S: Source, K: Reporter>(
     requires fresh { IsFresh desk.old }
     requires open { (K.held reporter.old).is_shut ≡ false }
     ensures asks { AsksOver S.step desk.old desk.new (λ file.
-        IsSchemaWalked K.hears file result desk.new.marks desk.new.roots.rows reporter.old reporter.new)
+        IsSchemaWalked K.receives file result desk.new.marks desk.new.roots.rows reporter.old reporter.new)
         result (S.held source.old) (S.held source.new) }
     ensures keeps { KeepsHeader result desk.old desk.new (K.held reporter.old) (K.held reporter.new) }
 {
     let root = schema_root(desk.header.encoding());
     let start = Start::schema();
-    let mut teller = Teller::new(reporter, &start);
+    let mut notifier = Notifier::new(reporter, &start);
     let (bench, marks) = (&mut desk.bench, &mut desk.marks);
-    walk_tree(source, bench, marks, root, &mut desk.roots, &mut teller)?;
-    teller.end()?;
-    Ok(teller.has_rows())
+    walk_tree(source, bench, marks, root, &mut desk.roots, &mut notifier)?;
+    notifier.end()?;
+    Ok(notifier.has_rows())
 }
 
 // Walks over the trees of the list, one after another. The reporter is given the name of each, borrowed from the list.
@@ -89,8 +89,8 @@ pub(crate) fn walk_roots<A: Allocator, S: Source, K: Reporter>(
 ) -> Result<(), RunError>
     requires { (K.held reporter.old).is_shut ≡ false }
     ensures asks { AsksOver S.step desk.old desk.new (λ file. (V : List Reference) → Survey file V → (before : K)
-        → IsBetweenStarts K.hears file V before (enumerate_from 1 desk.old.roots.rows) desk.old.marks reporter.old
-        → StopsTelling K.hears file V before [] result desk.new.marks reporter.new)
+        → IsBetweenStarts K.receives file V before (enumerate_from 1 desk.old.roots.rows) desk.old.marks reporter.old
+        → StopsReporting K.receives file V before [] result desk.new.marks reporter.new)
         result (S.held source.old) (S.held source.new) }
     ensures keeps { KeepsRoots result desk.old desk.new (K.held reporter.old) (K.held reporter.new) }
 {
@@ -102,10 +102,10 @@ pub(crate) fn walk_roots<A: Allocator, S: Source, K: Reporter>(
         };
         let root = root_of(&row, number, encoding);
         let start = Start::tree(number, row.name);
-        let mut teller = Teller::new(reporter, &start);
+        let mut notifier = Notifier::new(reporter, &start);
         let (bench, marks) = (&mut desk.bench, &mut desk.marks);
-        walk_tree(source, bench, marks, root, &mut NoRows, &mut teller)?;
-        teller.end()?;
+        walk_tree(source, bench, marks, root, &mut NoRows, &mut notifier)?;
+        notifier.end()?;
     }
     Ok(())
 }
@@ -114,20 +114,20 @@ pub(crate) fn walk_roots<A: Allocator, S: Source, K: Reporter>(
 pub(crate) fn walk_trunks<A: Allocator, S: Source, K: Reporter>(
     desk: &mut Desk<A>,
     source: &mut S,
-    teller: &mut Teller<'_, K>,
+    notifier: &mut Notifier<'_, K>,
 ) -> Result<(), RunError>
-    requires start { teller.old.start.now ≡ at_freelist }
-    requires open { (K.held teller.old.reporter.now).is_shut ≡ false }
-    ensures same_reporter { teller.new.reporter.ghost_name ≡ teller.old.reporter.ghost_name }
+    requires start { notifier.old.start.now ≡ at_freelist }
+    requires open { (K.held notifier.old.reporter.now).is_shut ≡ false }
+    ensures same_reporter { notifier.new.reporter.ghost_name ≡ notifier.old.reporter.ghost_name }
     ensures asks { AsksOver S.step desk.old desk.new (λ file. (V : List Reference) → Survey file V → (before : K)
-        → IsBetweenStarts K.hears file V before [] desk.old.marks teller.old.reporter.now
-        → AreTold K.hears file V result desk.new.marks before teller.new.reporter.now)
+        → IsBetweenStarts K.receives file V before [] desk.old.marks notifier.old.reporter.now
+        → AreReported K.receives file V result desk.new.marks before notifier.new.reporter.now)
         result (S.held source.old) (S.held source.new) }
-    ensures keeps { KeepsRoots result desk.old desk.new (K.held teller.old.reporter.now) (K.held teller.new.reporter.now) }
+    ensures keeps { KeepsRoots result desk.old desk.new (K.held notifier.old.reporter.now) (K.held notifier.new.reporter.now) }
 {
     let first = desk.header.first_trunk();
     if first == 0 {
         return Ok(());
     }
-    walk_freelist(source, &mut desk.bench, &mut desk.marks, first, teller)
+    walk_freelist(source, &mut desk.bench, &mut desk.marks, first, notifier)
 }

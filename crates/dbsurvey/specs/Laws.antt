@@ -2,11 +2,11 @@
 use Rattle.std.specs.Prelude.{◌≡◌, ℕ, ◌≤◌, ◌↔◌, Bool, true, false, int_lt, Option, None, filter_map, List, [], ◌∷◌, ◌++◌}
 use Rattle.dbsurvey.specs.Address.{Address, IsIn, IsBefore, IsAscending}
 use Rattle.dbsurvey.specs.Greatest.{OrderedKey, IsLine, IsOut, greater, greatest_from, is_out}
-use Rattle.dbsurvey.specs.Story.{Told, PageStep, links_in, AreRising, Story, IsStoryOf, Errand, Go, Tell, errands_at, errands_of, goes}
-use Rattle.dbsurvey.specs.Story.{AreErrandsApart, told_own, told_refused, IsTold, IsTelling, tell_below, telling_of}
+use Rattle.dbsurvey.specs.Story.{Reported, PageStep, links_in, AreRising, Story, IsStoryOf, Errand, Go, Due, errands_at, errands_of, goes}
+use Rattle.dbsurvey.specs.Story.{AreErrandsApart, reported_own, reported_refused, IsReported, IsReporting, report_below, reporting_of}
 use Rattle.dbsurvey.specs.Survey.{Rules, AreRules, IsRising, IsSurvey, Triple, Link, IsPart, IsOwned, IsNamed, children, named_at}
 use Rattle.dbsurvey.specs.From.{IsSurveyFrom, under, first_part, survey_from}
-use Rattle.dbsurvey.specs.InOrder.{ShowsVisits, AreQuiet, IsPast, earlier, is_visited, telling_by, visits_in, read_back, read_below}
+use Rattle.dbsurvey.specs.InOrder.{ShowsVisits, AreQuiet, IsPast, earlier, is_visited, reporting_by, visits_in, read_back, read_below}
 use Rattle.dbsurvey.specs.Run.{Machine, Run, up_to, advance, run, run_below}
 use Rattle.dbsurvey.specs.Traverse.{AreApart, free, is_followed, traverse, part_of, survey_of}
 use Rattle.dbsurvey.specs.Whole.{IsWhole, IsNoneRefused, HasEachPageOnce}
@@ -84,55 +84,56 @@ pub record Wholes (R : Type 0) : Type 0 where
 
 -- The traversal reports exactly what is to be reported of a survey, in strictly ascending order of keys. No other list
 -- does. What it reports before an event is what has a smaller key.
-pub record Telling (R E : Type 0) : Type 0 where
+pub record Reporting (R E : Type 0) : Type 0 where
   pub exact : (rules : Rules R) (story : Story R E) (pages : ℕ) (items : List (PageStep R E)) (V : List (Triple R))
       → AreRules rules pages → IsStoryOf rules story → AreRising items → IsSurvey rules (links_in items) V
-      → IsTelling rules story (errands_at [] items) V (telling_of rules story pages [] (errands_at [] items))
-  pub only : (rules : Rules R) (story : Story R E) (errands : List (Errand R E)) (V : List (Triple R)) (L M : List (Told E))
-      → IsTelling rules story errands V L → IsTelling rules story errands V M → L ≡ M
-  pub before : (rules : Rules R) (story : Story R E) (errands : List (Errand R E)) (V : List (Triple R)) (A B : List (Told E)) (e : Told E)
-      → IsTelling rules story errands V (A ++ (e ∷ B)) → (d : Told E)
-      → IsIn d A ↔ (IsTold rules story errands V d × IsBefore d.key e.key)
+      → IsReporting rules story (errands_at [] items) V (reporting_of rules story pages [] (errands_at [] items))
+  pub only : (rules : Rules R) (story : Story R E) (errands : List (Errand R E)) (V : List (Triple R)) (L M : List (Reported E))
+      → IsReporting rules story errands V L → IsReporting rules story errands V M → L ≡ M
+  pub before : (rules : Rules R) (story : Story R E) (errands : List (Errand R E)) (V : List (Triple R)) (A B : List (Reported E)) (e : Reported E)
+      → IsReporting rules story errands V (A ++ (e ∷ B)) → (d : Reported E)
+      → IsIn d A ↔ (IsReported rules story errands V d × IsBefore d.key e.key)
   pub found : (rules : Rules R) (story : Story R E) (pages fuel : ℕ) (W : List (Triple R)) (errands : List (Errand R E))
       → AreRules rules pages → IsStoryOf rules story → AreErrandsApart errands → free pages W ≤ fuel
-      → IsTelling rules story errands (part_of rules pages W (goes errands)) (tell_below rules story pages fuel W errands)
+      → IsReporting rules story errands (part_of rules pages W (goes errands)) (report_below rules story pages fuel W errands)
 
 -- What is left to report, step by step, for a program with a list of errands that are still to be done.
-pub record TellingSteps (R E : Type 0) : Type 0 where
+pub record ReportingSteps (R E : Type 0) : Type 0 where
   pub none : (rules : Rules R) (story : Story R E) (pages : ℕ) (W : List (Triple R)) → AreRules rules pages
-      → telling_of rules story pages W [] ≡ []
-  pub event : (rules : Rules R) (story : Story R E) (pages : ℕ) (W : List (Triple R)) (e : Told E) (es : List (Errand R E))
-      → AreRules rules pages → telling_of rules story pages W (Tell e ∷ es) ≡ e ∷ telling_of rules story pages W es
+      → reporting_of rules story pages W [] ≡ []
+  pub event : (rules : Rules R) (story : Story R E) (pages : ℕ) (W : List (Triple R)) (e : Reported E) (es : List (Errand R E))
+      → AreRules rules pages → reporting_of rules story pages W (Due e ∷ es) ≡ e ∷ reporting_of rules story pages W es
   pub refused : (rules : Rules R) (story : Story R E) (pages : ℕ) (W : List (Triple R)) (c : Triple R) (es : List (Errand R E))
       → AreRules rules pages → is_followed rules W c ≡ false
-      → telling_of rules story pages W (Go c ∷ es) ≡ told_refused story c ∷ telling_of rules story pages W es
+      → reporting_of rules story pages W (Go c ∷ es) ≡ reported_refused story c ∷ reporting_of rules story pages W es
   pub visit : (rules : Rules R) (story : Story R E) (pages : ℕ) (W : List (Triple R)) (c : Triple R) (es : List (Errand R E))
       → AreRules rules pages → IsStoryOf rules story → is_followed rules W c ≡ true
-      → telling_of rules story pages W (Go c ∷ es) ≡ told_own story c ∷ telling_of rules story pages (W ++ (c ∷ [])) (errands_of story c ++ es)
+      → reporting_of rules story pages W (Go c ∷ es) ≡ reported_own story c ∷ reporting_of rules story pages (W ++ (c ∷ [])) (errands_of story c ++ es)
   pub join : (rules : Rules R) (story : Story R E) (pages : ℕ) (W : List (Triple R)) (es fs : List (Errand R E))
       → AreRules rules pages
-      → telling_of rules story pages W (es ++ fs) ≡ telling_of rules story pages W es ++ telling_of rules story pages (W ++ part_of rules pages W (goes es)) fs
+      → reporting_of rules story pages W (es ++ fs) ≡ reporting_of rules story pages W es
+      ++ reporting_of rules story pages (W ++ part_of rules pages W (goes es)) fs
   pub goes : (rules : Rules R) (story : Story R E) (t : Triple R) → IsStoryOf rules story
       → goes (errands_of story t) ≡ children rules t
 
 -- What is reported of a survey follows from the survey itself, without a traversal: a named triple is visited if it may
--- be and no earlier one has its page, and all reported events, put in order, are the telling. The pages whose own
+-- be and no earlier one has its page, and all reported events, put in order, are the reporting. The pages whose own
 -- events are reported are those of the survey, in its order; below some errands they are those of the part below them.
-pub record TellingInOrder (R E : Type 0) : Type 0 where
+pub record ReportingInOrder (R E : Type 0) : Type 0 where
   pub visited : (rules : Rules R) (starts : List (Link R)) (V : List (Triple R)) (t : Triple R)
       → IsSurvey rules starts V → IsNamed rules (named_at [] starts) V t → IsIn t V ↔ (is_visited rules V t ≡ true)
   pub exact : (rules : Rules R) (story : Story R E) (pages : ℕ) (items : List (PageStep R E)) (V : List (Triple R))
       → AreRules rules pages → IsStoryOf rules story → AreRising items → IsSurvey rules (links_in items) V
-      → IsTelling rules story (errands_at [] items) V (telling_by rules story (errands_at [] items) V)
+      → IsReporting rules story (errands_at [] items) V (reporting_by rules story (errands_at [] items) V)
   pub found : (rules : Rules R) (story : Story R E) (pages : ℕ) (items : List (PageStep R E)) (V : List (Triple R))
       → AreRules rules pages → IsStoryOf rules story → AreRising items → IsSurvey rules (links_in items) V
-      → telling_by rules story (errands_at [] items) V ≡ telling_of rules story pages [] (errands_at [] items)
-  pub visits : (rules : Rules R) (story : Story R E) (visit : E → Option (Triple R)) (errands : List (Errand R E)) (V : List (Triple R)) (L : List (Told E))
+      → reporting_by rules story (errands_at [] items) V ≡ reporting_of rules story pages [] (errands_at [] items)
+  pub visits : (rules : Rules R) (story : Story R E) (visit : E → Option (Triple R)) (errands : List (Errand R E)) (V : List (Triple R)) (L : List (Reported E))
       → ShowsVisits story visit → AreQuiet visit errands → IsAscending (λ t. t.address) V
-      → IsTelling rules story errands V L → visits_in visit L ≡ V
+      → IsReporting rules story errands V L → visits_in visit L ≡ V
   pub part : (rules : Rules R) (story : Story R E) (pages : ℕ) (visit : E → Option (Triple R)) (W : List (Triple R)) (errands : List (Errand R E))
       → AreRules rules pages → IsStoryOf rules story → ShowsVisits story visit → AreQuiet visit errands
-      → visits_in visit (telling_of rules story pages W errands) ≡ part_of rules pages W (goes errands)
+      → visits_in visit (reporting_of rules story pages W errands) ≡ part_of rules pages W (goes errands)
 
 -- What a function gives for each reported event, by the triples visited up to it, step by step: for a program that
 -- reports each page when it reaches it.
@@ -140,9 +141,9 @@ pub record ReadingBelow (R E X : Type 0) : Type 0 where
   pub none : (rules : Rules R) (story : Story R E) (pages : ℕ) (visit : E → Option (Triple R)) (each : List (Triple R) → E → List X) (W : List (Triple R))
       → AreRules rules pages → read_below rules story pages visit each W [] ≡ []
   pub event : (rules : Rules R) (story : Story R E) (pages : ℕ) (visit : E → Option (Triple R))
-      (each : List (Triple R) → E → List X) (W : List (Triple R)) (e : Told E)
+      (each : List (Triple R) → E → List X) (W : List (Triple R)) (e : Reported E)
       → AreRules rules pages → visit e.event ≡ None
-      → read_below rules story pages visit each W (Tell e ∷ []) ≡ each W e.event
+      → read_below rules story pages visit each W (Due e ∷ []) ≡ each W e.event
   pub refused : (rules : Rules R) (story : Story R E) (pages : ℕ) (visit : E → Option (Triple R))
       (each : List (Triple R) → E → List X) (W : List (Triple R)) (c : Triple R)
       → AreRules rules pages → ShowsVisits story visit → is_followed rules W c ≡ false
@@ -157,7 +158,7 @@ pub record ReadingBelow (R E X : Type 0) : Type 0 where
       → AreRules rules pages → IsStoryOf rules story → ShowsVisits story visit → AreQuiet visit es
       → read_below rules story pages visit each W (es ++ fs) ≡ read_below rules story pages visit each W es
       ++ read_below rules story pages visit each (W ++ part_of rules pages W (goes es)) fs
-  pub both : (visit : E → Option (Triple R)) (each : List (Triple R) → E → List X) (W : List (Triple R)) (L M : List (Told E))
+  pub both : (visit : E → Option (Triple R)) (each : List (Triple R) → E → List X) (W : List (Triple R)) (L M : List (Reported E))
       → read_back visit each W (L ++ M) ≡ read_back visit each W L ++ read_back visit each (W ++ visits_in visit L) M
 
 -- The visited triples come before what is still to be done, at each step of a program; and all triples of such a list
@@ -179,9 +180,9 @@ pub record Passing (R E : Type 0) : Type 0 where
 pub record Runs (R E S X Y : Type 0) : Type 0 where
   pub none : (rules : Rules R) (story : Story R E) (pages : ℕ) (machine : Machine R E S X) (now : Run R S X)
       → AreRules rules pages → run_below rules story pages machine now [] ≡ now
-  pub event : (rules : Rules R) (story : Story R E) (pages : ℕ) (machine : Machine R E S X) (now : Run R S X) (t : Told E) (es : List (Errand R E))
+  pub event : (rules : Rules R) (story : Story R E) (pages : ℕ) (machine : Machine R E S X) (now : Run R S X) (t : Reported E) (es : List (Errand R E))
       → AreRules rules pages → machine.visit t.event ≡ None
-      → run_below rules story pages machine now (Tell t ∷ es) ≡ run_below rules story pages machine (advance machine now t.event) es
+      → run_below rules story pages machine now (Due t ∷ es) ≡ run_below rules story pages machine (advance machine now t.event) es
   pub refused : (rules : Rules R) (story : Story R E) (pages : ℕ) (machine : Machine R E S X) (now : Run R S X) (c : Triple R) (es : List (Errand R E))
       → AreRules rules pages → ShowsVisits story machine.visit → is_followed rules now.visits c ≡ false
       → run_below rules story pages machine now (Go c ∷ es) ≡ run_below rules story pages machine (advance machine now (story.refused c)) es
@@ -198,13 +199,13 @@ pub record Runs (R E S X Y : Type 0) : Type 0 where
       → (run_below rules story pages machine now es).items ≡ now.items ++ (run_below rules story pages machine (record now { items = [] }) es).items
   pub state : (rules : Rules R) (story : Story R E) (pages : ℕ) (machine : Machine R E S X) (now : Run R S X) (es : List (Errand R E))
       → (run_below rules story pages machine now es).state ≡ (run_below rules story pages machine (record now { items = [] }) es).state
-  pub reads : (f : X → Option Y) (each : List (Triple R) → E → List Y) (machine : Machine R E S X) (now : Run R S X) (L : List (Told E))
-      → ((A B : List (Told E)) (t : Told E) → L ≡ A ++ (t ∷ B)
+  pub reads : (f : X → Option Y) (each : List (Triple R) → E → List Y) (machine : Machine R E S X) (now : Run R S X) (L : List (Reported E))
+      → ((A B : List (Reported E)) (t : Reported E) → L ≡ A ++ (t ∷ B)
       → filter_map f (machine.out (up_to machine (run machine now A) t.event) (run machine now A).state t.event)
       ≡ each (up_to machine (run machine now A) t.event) t.event)
       → filter_map f (run machine now L).items ≡ filter_map f now.items ++ read_back machine.visit each now.visits L
 
--- The greatest key so far alone tells whether an entry is out of order, that is, whether it is so after an earlier one.
+-- The greatest key so far alone decides whether an entry is out of order, that is, whether it is so after an earlier one.
 pub record RunningGreatest (K : Type 0) : Type 0 where
   pub exact : (less : K → K → Bool) (before : List (OrderedKey K)) (e : OrderedKey K) → IsLine less
       → (is_out less (greatest_from less None before) e ≡ true) ↔ IsOut less before e

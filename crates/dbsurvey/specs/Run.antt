@@ -2,7 +2,7 @@
 -- and puts out items.
 use Rattle.std.specs.Prelude.{ℕ, List, [], ◌∷◌, ◌++◌, option_to_list, Option}
 use Rattle.dbsurvey.specs.Survey.{Triple, Rules}
-use Rattle.dbsurvey.specs.Story.{Told, Story, Errand, telling_of}
+use Rattle.dbsurvey.specs.Story.{Reported, Story, Errand, reporting_of}
 
 -- the visited page that an event is the own event of, the next state, and what is put out
 pub record Machine (R E S X : Type 0) : Type 0 where
@@ -29,10 +29,10 @@ advance machine now event = record {
 }
 
 -- along a list of reported events
-abbrev pub run : {R E S X : Type 0} → Machine R E S X → Run R S X → List (Told E) → Run R S X
+abbrev pub run : {R E S X : Type 0} → Machine R E S X → Run R S X → List (Reported E) → Run R S X
 run machine now [] = now
 run machine now (t ∷ trace) = run machine (advance machine now t.event) trace
 
 -- along all that is reported below some errands
 abbrev pub run_below : {R E S X : Type 0} → Rules R → Story R E → ℕ → Machine R E S X → Run R S X → List (Errand R E) → Run R S X
-run_below rules story pages machine now errands = run machine now (telling_of rules story pages now.visits errands)
+run_below rules story pages machine now errands = run machine now (reporting_of rules story pages now.visits errands)

@@ -5,12 +5,12 @@ use Rattle.std.specs.Prelude.{option_to_list, pos, ◌==◌}
 use Rattle.std.proofs.lemmas.List.{append-nil, length-append, map-append}
 use Rattle.dbsurvey.specs.Address.{IsIn, Address}
 use Rattle.dbsurvey.specs.Run.{run, up_to}
-use Rattle.dbsurvey.specs.Story.{Told}
+use Rattle.dbsurvey.specs.Story.{Reported}
 use Rattle.dbsurvey.specs.Survey.{IsNamed, children}
 use Rattle.dbsurvey.specs.InOrder.{read_back}
 use Rattle.dbsurvey.proofs.Composing.{named_at-step}
 use Rattle.dbformat.proofs.Visited.{kind_of_view}
-use Rattle.dbformat.specs.Tests.{told_if}
+use Rattle.dbformat.specs.Tests.{reported_if}
 use Rattle.dbformat.specs.Faults.{fault}
 use Rattle.dbformat.specs.Address.{start_of, depth}
 use Rattle.dbformat.specs.Reference.{Reference, role_of, tree_kind, tree_view}
@@ -24,7 +24,7 @@ use Rattle.dbformat.specs.declared.FaultCode.{FaultCode}
 use Rattle.dbformat.specs.declared.FaultCode.TheVariants.{T05}
 use Rattle.dbformat.specs.declared.TreeKind.{TreeKind}
 use Rattle.dbtrace.specs.Causes.{leaf_at, key_up_to, refusal_of, rowids_of, cause_of}
-use Rattle.dbtrace.specs.Finding.{told_row, told_by, told_at}
+use Rattle.dbtrace.specs.Finding.{reported_row, reported_by, reported_at}
 use Rattle.dbtrace.specs.declared.RowidBounds.{RowidBounds}
 use Rattle.dbtrace.specs.declared.TreeLeaf.{TreeLeaf}
 use Rattle.dbtrace.specs.Item.{found, given, rows_at_event, faults_at, items_at}
@@ -34,7 +34,7 @@ use Rattle.dbtrace.specs.Walk.{Walk, machine, advance}
 use Rattle.dbtrace.proofs.Depths.{page_parts, not_leaf, no_leaf}
 use Rattle.dbtrace.proofs.Causing.{AgreeOn, page_codes, page_same}
 use Rattle.dbtrace.proofs.SchemaOrder.{parent_inside}
-use Rattle.dbtrace.proofs.Told.{visited, trace, part, tells, IsOf, IsToldBelow, refused_as, told_as}
+use Rattle.dbtrace.proofs.Reported.{visited, trace, part, reports, IsOf, IsReportedBelow, refused_as, reported_as}
 
 module _ (file : List ℕ) where
   no_view : (r : Reference) → tree_kind (role_of r) ≡ None → tree_view file r ≡ None
@@ -59,22 +59,22 @@ module _ (file : List ℕ) where
   step_off U p (at_key r v x) h = absurd h
   step_off U p (at_refused r) h = refl
 
-  faults_off : (U : List Reference) (p : Progress) (e : Event) → IsOff e → told_by (cause_by file U p e) (faults_at file U p e)
-      ≡ told_by (cause_of file U e) (event_faults file U e)
-  faults_off U p (at_page r) h = ap (λ l. told_by (cause_by file U p (at_page r)) (page_faults file [] r ++ l)) quiet
-      ∙ ap (told_by (cause_by file U p (at_page r))) (append-nil (page_faults file [] r))
+  faults_off : (U : List Reference) (p : Progress) (e : Event) → IsOff e → reported_by (cause_by file U p e) (faults_at file U p e)
+      ≡ reported_by (cause_of file U e) (event_faults file U e)
+  faults_off U p (at_page r) h = ap (λ l. reported_by (cause_by file U p (at_page r)) (page_faults file [] r ++ l)) quiet
+      ∙ ap (reported_by (cause_by file U p (at_page r))) (append-nil (page_faults file [] r))
       ∙ page_same (cause_by file U p (at_page r)) (cause_of file U (at_page r)) file refl refl r in_tree
-      ∙ ap (told_by (cause_of file U (at_page r))) (sym (page_parts file U r ∙ ap (λ l. page_faults file [] r ++ l) (no_leaf file U r (no_view r h))
+      ∙ ap (reported_by (cause_of file U (at_page r))) (sym (page_parts file U r ∙ ap (λ l. page_faults file [] r ++ l) (no_leaf file U r (no_view r h))
       ∙ append-nil (page_faults file [] r)))
     where
       quiet : depth_faults file p.leaf r ≡ []
-      quiet = ap (λ b. told_if (b && not (depth r.address == depth_of p.leaf (depth r.address))) (fault T05 r.page 0 (pos (depth r.address))))
+      quiet = ap (λ b. reported_if (b && not (depth r.address == depth_of p.leaf (depth r.address))) (fault T05 r.page 0 (pos (depth r.address))))
           (not_leaf file (start_of r.address) r (no_view r h))
 
       in_tree : (kind : TreeKind) → tree_kind (role_of r) ≡ Some kind → AgreeOn page_codes (cause_by file U p (at_page r)) (cause_of file U (at_page r))
       in_tree kind e = let f = sym h ∙ e in cc
   faults_off U p (at_key r v x) h = absurd h
-  faults_off U p (at_refused r) h = ap (λ why. told_by why (reference_faults file U r)) same
+  faults_off U p (at_refused r) h = ap (λ why. reported_by why (reference_faults file U r)) same
     where
       same : cause_by file U p (at_refused r) ≡ cause_of file U (at_refused r)
       same = ap (λ kind. λ (code : FaultCode). refusal_of file U r (rowids_by p (key_up_to file U r)) kind) h
@@ -86,25 +86,25 @@ module _ (file : List ℕ) where
   rows_off U (at_refused r) h = refl
 
   -- along a trace of such events
-  state_off : (now : Walk) (L : List (Told Event)) → ((t : Told Event) → IsIn t L → IsOff t.event) → (run (machine file) now L).state ≡ now.state
+  state_off : (now : Walk) (L : List (Reported Event)) → ((t : Reported Event) → IsIn t L → IsOff t.event) → (run (machine file) now L).state ≡ now.state
   state_off now [] h = refl
   state_off now (t ∷ L) h = state_off (advance file now t.event) L (λ u i. h u (inr i))
       ∙ step_off (advance file now t.event).visits now.state t.event (h t (inl refl))
 
-  item_off : (U : List Reference) (p : Progress) (e : Event) → IsOff e → items_at file U p e ≡ map found (told_at file U e)
+  item_off : (U : List Reference) (p : Progress) (e : Event) → IsOff e → items_at file U p e ≡ map found (reported_at file U e)
   item_off U p e h = ap (λ rows. map given rows ++ map found
-      (map told_row (option_to_list (event_row file e)) ++ told_by (cause_by file U p e) (faults_at file U p e))) (rows_off U e h)
-      ∙ ap (λ fs. map found (map told_row (option_to_list (event_row file e)) ++ fs)) (faults_off U p e h)
+      (map reported_row (option_to_list (event_row file e)) ++ reported_by (cause_by file U p e) (faults_at file U p e))) (rows_off U e h)
+      ∙ ap (λ fs. map found (map reported_row (option_to_list (event_row file e)) ++ fs)) (faults_off U p e h)
 
-  items_off : (now : Walk) (L : List (Told Event)) → ((t : Told Event) → IsIn t L → IsOff t.event) → (run (machine file) now L).items ≡ now.items
-      ++ map found (read_back own_visit (told_at file) now.visits L)
+  items_off : (now : Walk) (L : List (Reported Event)) → ((t : Reported Event) → IsIn t L → IsOff t.event) → (run (machine file) now L).items ≡ now.items
+      ++ map found (read_back own_visit (reported_at file) now.visits L)
   items_off now [] h = sym (append-nil now.items)
   items_off now (t ∷ L) h =
       let U = up_to (machine file) now t.event in
       items_off (advance file now t.event) L (λ u i. h u (inr i))
-      ∙ ap (λ l. now.items ++ l ++ map found (read_back own_visit (told_at file) U L)) (item_off U now.state t.event (h t (inl refl)))
-      ∙ append_assoc now.items (map found (told_at file U t.event)) (map found (read_back own_visit (told_at file) U L))
-      ∙ ap (λ l. now.items ++ l) (sym (map-append found (told_at file U t.event) (read_back own_visit (told_at file) U L)))
+      ∙ ap (λ l. now.items ++ l ++ map found (read_back own_visit (reported_at file) U L)) (item_off U now.state t.event (h t (inl refl)))
+      ∙ append_assoc now.items (map found (reported_at file U t.event)) (map found (read_back own_visit (reported_at file) U L))
+      ∙ ap (λ l. now.items ++ l) (sym (map-append found (reported_at file U t.event) (read_back own_visit (reported_at file) U L)))
 
 module _ (file : List ℕ) (W : List Reference) (c : Reference) (none : tree_kind (role_of c) ≡ None) where
   -- a page that is in no tree has no reference to one that is
@@ -133,16 +133,16 @@ module _ (file : List ℕ) (W : List Reference) (c : Reference) (none : tree_kin
     | inr m ↦ none_of m.0 r m.2 (no_tree_below m.0 m.1)
   ]
 
-  off : (t : Told Event) → IsIn t (trace file W c) → IsOff file t.event
-  off t i = by_event t.key t.event refl (told_as file W c t told)
+  off : (t : Reported Event) → IsIn t (trace file W c) → IsOff file t.event
+  off t i = by_event t.key t.event refl (reported_as file W c t reported)
     where
-      told : IsToldBelow file W c t
-      told = ((tells file W c).exact t).0 i
+      reported : IsReportedBelow file W c t
+      reported = ((reports file W c).exact t).0 i
 
       by_event : (place : Address) (e : Event) → t.event ≡ e → IsOf file (visited file W c) place e → IsOff file e
       by_event place (at_page r) f h = no_tree_below r h.0
       by_event place (at_key r v x) f h = let e = sym (no_view file r (no_tree_below r h.0)) ∙ h.1 in cc
-      by_event place (at_refused r) f h = no_tree_named r (refused_as file W c t told r f)
+      by_event place (at_refused r) f h = no_tree_named r (refused_as file W c t reported r f)
 
 pub are_aside : (file : List ℕ) → AreAside file
 are_aside file now c none = record {

@@ -4,7 +4,7 @@ use Rattle.std.proofs.Common.{ap, ap₂, ◌∙◌}
 use Rattle.std.specs.Prelude.{flat_map, is_none, ◌==◌}
 use Rattle.std.specs.List.{range_with_len}
 use Rattle.std.proofs.lemmas.List.{append-nil, map-append}
-use Rattle.dbformat.specs.Tests.{told_if}
+use Rattle.dbformat.specs.Tests.{reported_if}
 use Rattle.dbformat.specs.Faults.{fault}
 use Rattle.dbformat.specs.Header.{usable_size}
 use Rattle.dbformat.specs.File.{page_bytes}
@@ -29,13 +29,13 @@ use Rattle.dbformat.specs.declared.HeadFault.TheVariants.{UnknownType, ContentSt
 use Rattle.dbformat.specs.declared.RowFault.{RowFault}
 use Rattle.dbformat.specs.declared.RowFault.TheVariants.{Malformed, Root}
 use Rattle.dbformat.specs.declared.TreeKind.{TreeKind}
-use Rattle.dbtrace.specs.Finding.{told_alone, told_fault, told_by}
+use Rattle.dbtrace.specs.Finding.{reported_alone, reported_fault, reported_by}
 use Rattle.dbtrace.specs.declared.Cause.{Cause}
 use Rattle.dbtrace.specs.declared.Cause.TheVariants.{Itself}
-use Rattle.dbtrace.proofs.Depths.{no_depth, told_same}
+use Rattle.dbtrace.proofs.Depths.{no_depth, reported_same}
 
-pub told_by-append : (why : FaultCode → Cause) (xs ys : List Fault) → told_by why (xs ++ ys) ≡ told_by why xs ++ told_by why ys
-told_by-append why xs ys = map-append (λ f. told_fault f (why f.code)) xs ys
+pub reported_by-append : (why : FaultCode → Cause) (xs ys : List Fault) → reported_by why (xs ++ ys) ≡ reported_by why xs ++ reported_by why ys
+reported_by-append why xs ys = map-append (λ f. reported_fault f (why f.code)) xs ys
 
 -- the codes of a page of a tree, those within an undamaged one last, and those of a row of the schema
 abbrev pub inner_codes : List FaultCode
@@ -62,17 +62,17 @@ cause_at i e = ap (λ causes. get_or causes i Itself) e
 module _ (why other : FaultCode → Cause) where
   -- they report some faults alike
   abbrev pub AreSame : List Fault → Type 0
-  AreSame fs = told_by why fs ≡ told_by other fs
+  AreSame fs = reported_by why fs ≡ reported_by other fs
 
   same-append : (xs ys : List Fault) → AreSame xs → AreSame ys → AreSame (xs ++ ys)
-  same-append xs ys h k = told_by-append why xs ys ∙ ap₂ (λ a b. a ++ b) h k ∙ sym (told_by-append other xs ys)
+  same-append xs ys h k = reported_by-append why xs ys ∙ ap₂ (λ a b. a ++ b) h k ∙ sym (reported_by-append other xs ys)
 
   same-each : {X : Type 0} (each : X → List Fault) (xs : List X) → ((x : X) → AreSame (each x)) → AreSame (flat_map each xs)
   same-each each [] h = refl
   same-each each (x ∷ xs) h = same-append (each x) (flat_map each xs) (h x) (same-each each xs h)
 
   same_one : (f : Fault) → why f.code ≡ other f.code → AreSame (f ∷ [])
-  same_one f e = ap (λ c. told_fault f c ∷ []) e
+  same_one f e = ap (λ c. reported_fault f c ∷ []) e
 
   -- the faults within a page
   module _ (h : AgreeOn inner_codes why other) where
@@ -81,11 +81,11 @@ module _ (why other : FaultCode → Cause) where
         same-append (fragment_fault v ++ cell_faults v ++ freeblock_fault v ++ coverage_fault v good) (empty_fault v is_child)
         (same-append (fragment_fault v ++ cell_faults v ++ freeblock_fault v) (coverage_fault v good)
         (same-append (fragment_fault v ++ cell_faults v) (freeblock_fault v)
-        (same-append (fragment_fault v) (cell_faults v) (told_same why other _ _ (cause_at 0 h))
+        (same-append (fragment_fault v) (cell_faults v) (reported_same why other _ _ (cause_at 0 h))
         (same-each (cell_fault v) (range_with_len 0 (count v)) at_cell))
         (at_freeblock (bad_freeblock v) refl))
         (at_coverage good (coverage v) refl))
-        (told_same why other _ _ (cause_at 6 h))
+        (reported_same why other _ _ (cause_at 6 h))
       where
         good : Bool
         good = length (cell_faults v ++ freeblock_fault v) == 0
@@ -104,7 +104,7 @@ module _ (why other : FaultCode → Cause) where
 
         at_coverage : (is_good : Bool) (c : Coverage) → coverage v ≡ c → AreSame (coverage_fault v is_good)
         at_coverage is_good (Overlap k) e = rw e (same_one _ (cause_at 4 h))
-        at_coverage is_good (Unheld n) e = rw e (told_same why other _ _ (cause_at 5 h))
+        at_coverage is_good (Unheld n) e = rw e (reported_same why other _ _ (cause_at 5 h))
 
   row_same : AgreeOn row_codes why other → (is_full : Bool) (c : SchemaCell) → AreSame (row_faults_if is_full c)
   row_same h is_full c = by_row c.row
@@ -112,8 +112,8 @@ module _ (why other : FaultCode → Cause) where
       by_row : (row : Result SchemaRow RowFault) → AreSame (row_faults_if is_full (record c { row = row }))
       by_row (Err Malformed) = same_one _ (cause_at 0 h)
       by_row (Err (Root value)) = same_one _ (cause_at 2 h)
-      by_row (Ok r) = same-append (told_if (is_none r.name) (fault S02 c.page c.item c.rowid)) _ (told_same why other _ _ (cause_at 1 h))
-          (told_same why other _ _ (cause_at 3 h))
+      by_row (Ok r) = same-append (reported_if (is_none r.name) (fault S02 c.page c.item c.rowid)) _ (reported_same why other _ _ (cause_at 1 h))
+          (reported_same why other _ _ (cause_at 3 h))
 
   -- The faults of a page for itself.
 
@@ -143,17 +143,17 @@ module _ (why other : FaultCode → Cause) where
       tree_page kind is_child h =
           let fs = tree_page_faults kind is_child r.page (usable_size file) (page_bytes file r.page) in
           let none : fs ++ depth_fault file [] r ≡ fs = ap (λ l. fs ++ l) (no_depth file r) ∙ append-nil fs in
-          ap (told_by why) none ∙ tree_same h kind is_child r.page (usable_size file) (page_bytes file r.page) ∙ sym (ap (told_by other) none)
+          ap (reported_by why) none ∙ tree_same h kind is_child r.page (usable_size file) (page_bytes file r.page) ∙ sym (ap (reported_by other) none)
 
       by_role : (role : Role) → role_of r ≡ role → AreSame (role_faults role file [] r)
       by_role (root kind) e = tree_page kind false (in_tree kind (ap tree_kind e))
       by_role (child kind) e = tree_page kind true (in_tree kind (ap tree_kind e))
-      by_role (first_overflow left) e = told_same why other _ _ chains
-      by_role (later_overflow left) e = told_same why other _ _ chains
-      by_role trunk e = told_same why other _ _ trunks
+      by_role (first_overflow left) e = reported_same why other _ _ chains
+      by_role (later_overflow left) e = reported_same why other _ _ chains
+      by_role trunk e = reported_same why other _ _ trunks
       by_role free_leaf e = refl
 
 -- those of rows of the schema go back to nothing else
 pub rows_alone : (why : FaultCode → Cause) → AgreeOn row_codes why alone → (is_full : Bool) (rows : List SchemaCell)
-    → told_by why (flat_map (row_faults_if is_full) rows) ≡ map told_alone (flat_map (row_faults_if is_full) rows)
+    → reported_by why (flat_map (row_faults_if is_full) rows) ≡ map reported_alone (flat_map (row_faults_if is_full) rows)
 rows_alone why h is_full rows = same-each why alone (row_faults_if is_full) rows (row_same why alone h is_full)

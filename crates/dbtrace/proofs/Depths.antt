@@ -7,7 +7,7 @@ use Rattle.std.proofs.lemmas.Bool.Decides.{nat_tests}
 use Rattle.std.proofs.lemmas.List.{append-nil}
 use Rattle.std.proofs.lemmas.List.Folds.{find-append}
 use Rattle.dbsurvey.specs.Address.{IsIn, Address}
-use Rattle.dbformat.specs.Tests.{told_if}
+use Rattle.dbformat.specs.Tests.{reported_if}
 use Rattle.dbformat.specs.Faults.{fault}
 use Rattle.dbformat.specs.Address.{start_of, depth}
 use Rattle.dbformat.specs.Head.{is_interior}
@@ -17,7 +17,7 @@ use Rattle.dbformat.specs.declared.Fault.{Fault}
 use Rattle.dbformat.specs.declared.FaultCode.{FaultCode}
 use Rattle.dbformat.specs.declared.FaultCode.TheVariants.{T05}
 use Rattle.dbtrace.specs.Causes.{leaf_at, leaf_cause, first_leaf, rowids_of}
-use Rattle.dbtrace.specs.Finding.{told_fault, told_by}
+use Rattle.dbtrace.specs.Finding.{reported_fault, reported_by}
 use Rattle.dbtrace.specs.Progress.{leaf_after, depth_of, depth_faults}
 use Rattle.dbtrace.specs.declared.Cause.{Cause}
 use Rattle.dbtrace.specs.declared.RowidBounds.{RowidBounds}
@@ -25,9 +25,10 @@ use Rattle.dbtrace.specs.declared.TreeLeaf.{TreeLeaf}
 use Rattle.dbtrace.specs.Starts.{IsOfEarlierStart, AreOfEarlierStarts}
 
 -- where two readings agree on a code, they report its fault alike
-pub told_same : (why other : FaultCode → Cause) (b : Bool) (f : Fault) → why f.code ≡ other f.code → told_by why (told_if b f) ≡ told_by other (told_if b f)
-told_same why other true f e = ap (λ c. told_fault f c ∷ []) e
-told_same why other false f e = refl
+pub reported_same : (why other : FaultCode → Cause) (b : Bool) (f : Fault) → why f.code ≡ other f.code
+    → reported_by why (reported_if b f) ≡ reported_by other (reported_if b f)
+reported_same why other true f e = ap (λ c. reported_fault f c ∷ []) e
+reported_same why other false f e = refl
 
 -- the first leaf after some visits, by the rowids of each
 abbrev pub leaf_from : List ℕ → (Reference → RowidBounds) → Option TreeLeaf → List Reference → Option TreeLeaf
@@ -85,18 +86,18 @@ module _ (file : List ℕ) (k : ℕ) where
     first_found = ap (λ s. find (is_leaf_of file s) U) at ∙ past_earlier W (X ++ r ∷ []) early ∙ find-append (is_leaf_of file k) X (r ∷ [])
 
     -- the depth and the cause, by the first leaf so far
-    pub depth_told : (own : RowidBounds) (why : FaultCode → Cause) → why T05 ≡ leaf_cause own (first_leaf file U r)
+    pub depth_reported : (own : RowidBounds) (why : FaultCode → Cause) → why T05 ≡ leaf_cause own (first_leaf file U r)
         → (why' : FaultCode → Cause) → why' T05 ≡ leaf_cause own (leaf_from file rowids None X)
-        → told_by why' (depth_faults file (leaf_from file rowids None X) r) ≡ told_by why (depth_fault file U r)
+        → reported_by why' (depth_faults file (leaf_from file rowids None X) r) ≡ reported_by why (depth_fault file U r)
     unfolding depth_fault
-    depth_told own why e why' e' = by_leaf (is_leaf_of file (start_of r.address) r) refl (find (is_leaf_of file k) X) refl
+    depth_reported own why e why' e' = by_leaf (is_leaf_of file (start_of r.address) r) refl (find (is_leaf_of file k) X) refl
       where
         d : ℕ
         d = depth r.address
 
         Same : Bool → Option TreeLeaf → Option Reference → Type 0
-        Same b leaf o = told_by why' (told_if (b && not (d == depth_of leaf d)) (fault T05 r.page 0 (pos d)))
-            ≡ told_by why (told_if (b && not (d == option_map_or (λ r. depth r.address) o d)) (fault T05 r.page 0 (pos d)))
+        Same b leaf o = reported_by why' (reported_if (b && not (d == depth_of leaf d)) (fault T05 r.page 0 (pos d)))
+            ≡ reported_by why (reported_if (b && not (d == option_map_or (λ r. depth r.address) o d)) (fault T05 r.page 0 (pos d)))
 
         by_leaf : (b : Bool) → is_leaf_of file (start_of r.address) r ≡ b → (o : Option Reference) → find (is_leaf_of file k) X ≡ o
             → Same (is_leaf_of file (start_of r.address) r) (leaf_from file rowids None X) (find (is_leaf_of file (start_of r.address)) U)
@@ -108,7 +109,7 @@ module _ (file : List ℕ) (k : ℕ) where
             ∙ sym (e ∙ ap (λ o. leaf_cause own (option_map_or (λ u. Some (leaf_at (rowids u) u)) o None)) first) in
             subst (λ l. Same (is_leaf_of file (start_of r.address) r) l (find (is_leaf_of file (start_of r.address)) U)) (sym kept)
             (subst (λ o. Same (is_leaf_of file (start_of r.address) r) (Some (leaf_at (rowids u) u)) o) (sym first)
-            (told_same why' why (is_leaf_of file (start_of r.address) r && not (d == depth u.address)) (fault T05 r.page 0 (pos d)) causes))
+            (reported_same why' why (is_leaf_of file (start_of r.address) r && not (d == depth u.address)) (fault T05 r.page 0 (pos d)) causes))
         by_leaf true f None g =
             let itself : find (is_leaf_of file k) (r ∷ []) ≡ Some r = ap (λ b. cond b (Some r) None) (subst (λ s. is_leaf_of file s r ≡ true) at f) in
             let first : find (is_leaf_of file (start_of r.address)) U ≡ Some r = first_found ∙ ap (λ o. option_or o (find (is_leaf_of file k) (r ∷ []))) g
@@ -118,9 +119,10 @@ module _ (file : List ℕ) (k : ℕ) where
             (subst (λ o. Same (is_leaf_of file (start_of r.address) r) None o) (sym first)
             (none why' ∙ sym (none why)))
           where
-            none : (w : FaultCode → Cause) → told_by w (told_if (is_leaf_of file (start_of r.address) r && not (d == d)) (fault T05 r.page 0 (pos d))) ≡ []
-            none w = ap (λ b. told_by w (told_if (b && not (d == d)) (fault T05 r.page 0 (pos d)))) f
-                ∙ ap (λ b. told_by w (told_if (not b) (fault T05 r.page 0 (pos d)))) (eq-eqb d d refl)
+            none : (w : FaultCode → Cause) → reported_by w (reported_if (is_leaf_of file (start_of r.address) r && not (d == d)) (fault T05 r.page 0 (pos d)))
+                ≡ []
+            none w = ap (λ b. reported_by w (reported_if (b && not (d == d)) (fault T05 r.page 0 (pos d)))) f
+                ∙ ap (λ b. reported_by w (reported_if (not b) (fault T05 r.page 0 (pos d)))) (eq-eqb d d refl)
 
 -- the faults of a page for itself, and that of its depth
 module _ (file : List ℕ) where
@@ -128,8 +130,8 @@ module _ (file : List ℕ) where
   unfolding depth_fault
   no_depth r = by_leaf (is_leaf_of file (start_of r.address) r)
     where
-      by_leaf : (b : Bool) → told_if (b && not (depth r.address == depth r.address)) (fault T05 r.page 0 (pos (depth r.address))) ≡ []
-      by_leaf true = ap (λ b. told_if (not b) (fault T05 r.page 0 (pos (depth r.address)))) (eq-eqb (depth r.address) (depth r.address) refl)
+      by_leaf : (b : Bool) → reported_if (b && not (depth r.address == depth r.address)) (fault T05 r.page 0 (pos (depth r.address))) ≡ []
+      by_leaf true = ap (λ b. reported_if (not b) (fault T05 r.page 0 (pos (depth r.address)))) (eq-eqb (depth r.address) (depth r.address) refl)
       by_leaf false = refl
 
   pub not_leaf : (k : ℕ) (r : Reference) → tree_view file r ≡ None → is_leaf_of file k r ≡ false
@@ -141,7 +143,7 @@ module _ (file : List ℕ) where
 
   pub no_leaf : (V : List Reference) (r : Reference) → tree_view file r ≡ None → depth_fault file V r ≡ []
   unfolding depth_fault
-  no_leaf V r e = ap (λ b. told_if (b && not (depth r.address == leaf_depth file V (start_of r.address) (depth r.address)))
+  no_leaf V r e = ap (λ b. reported_if (b && not (depth r.address == leaf_depth file V (start_of r.address) (depth r.address)))
       (fault T05 r.page 0 (pos (depth r.address)))) (not_leaf (start_of r.address) r e)
 
   pub page_parts : (V : List Reference) (r : Reference) → page_faults file V r ≡ page_faults file [] r ++ depth_fault file V r

@@ -9,7 +9,7 @@ use Rattle.std.proofs.lemmas.List.{append-nil, length-append}
 use Rattle.std.proofs.lemmas.List.Elements.{filter_map-append}
 use Rattle.dbsurvey.specs.Address.{IsIn, Address, IsBefore}
 use Rattle.dbsurvey.specs.Run.{run, up_to}
-use Rattle.dbsurvey.specs.Story.{Told, Go}
+use Rattle.dbsurvey.specs.Story.{Reported, Go}
 use Rattle.dbsurvey.specs.InOrder.{visits_in, read_back}
 use Rattle.dbsurvey.proofs.Composing.{named_at-step}
 use Rattle.dbsurvey.proofs.Advancing.{run_visits, run_below_visits}
@@ -36,7 +36,7 @@ use Rattle.dbformat.specs.declared.Fault.{Fault}
 use Rattle.dbformat.specs.declared.FaultCode.{FaultCode}
 use Rattle.dbformat.specs.declared.FaultCode.TheVariants.{T06}
 use Rattle.dbtrace.specs.Causes.{cell_key, first_leaf, leaf_cause, key_above, key_up_to, left_rows, refusal_of, rowids_of, top_before, visit_cause, cause_of}
-use Rattle.dbtrace.specs.Finding.{Finding, told_row, told_alone, told_by, told_at, visited_below}
+use Rattle.dbtrace.specs.Finding.{Finding, reported_row, reported_alone, reported_by, reported_at, visited_below}
 use Rattle.dbtrace.specs.declared.Cause.{Cause}
 use Rattle.dbtrace.specs.declared.Cause.TheVariants as cause
 use Rattle.dbtrace.specs.declared.RowidBounds.{RowidBounds}
@@ -45,12 +45,12 @@ use Rattle.dbtrace.specs.Item.{Item, found, given, given_cell, given_cells, root
 use Rattle.dbtrace.specs.Progress.{Progress, cause_by, key_value, leaf_after, rowids_by, rows_of, late_faults, depth_faults}
 use Rattle.dbtrace.specs.Starts.{IsOfEarlierStart, AreOfEarlierStarts}
 use Rattle.dbtrace.specs.Walk.{Walk, machine, begin, advance, run_below}
-use Rattle.dbtrace.proofs.Causing.{AgreeOn, alone, page_codes, row_codes, told_by-append, page_same, rows_alone}
-use Rattle.dbtrace.proofs.Depths.{leaf_from, told_same, depth_told, page_parts}
+use Rattle.dbtrace.proofs.Causing.{AgreeOn, alone, page_codes, row_codes, reported_by-append, page_same, rows_alone}
+use Rattle.dbtrace.proofs.Depths.{leaf_from, reported_same, depth_reported, page_parts}
 use Rattle.dbtrace.proofs.LookBack.{rowids_front}
-use Rattle.dbtrace.proofs.Keys.{greatest_is, started, top_is, above_itself, above_told, late_is}
-use Rattle.dbtrace.proofs.RowsTold.{rows_told, schema_told, rows_before}
-use Rattle.dbtrace.proofs.Told.{visited, trace, tells, IsOf, IsToldBelow, refused_as, told_as, below_start, visited_before, visited_after}
+use Rattle.dbtrace.proofs.Keys.{greatest_is, started, top_is, above_itself, above_reported, late_is}
+use Rattle.dbtrace.proofs.RowsReported.{rows_reported, schema_reported, rows_before}
+use Rattle.dbtrace.proofs.Reported.{visited, trace, reports, IsOf, IsReportedBelow, refused_as, reported_as, below_start, visited_before, visited_after}
 
 -- which codes have a cause at an event
 
@@ -80,7 +80,7 @@ pub counted-append : (roots : ℕ) (L M : List Item) → counted_findings roots 
 counted-append roots [] M = let z : roots ≡ roots + 0 = omega arith in ap (λ n. counted_findings n M) z
 counted-append roots (found f ∷ L) M = ap (λ l. f ∷ l) (counted-append roots L M)
 counted-append roots (given d ∷ L) M =
-    let here = map told_alone (row_faults_if (nat_le last_root_start roots) d) in
+    let here = map reported_alone (row_faults_if (nat_le last_root_start roots) d) in
     let one = length (rooted_rows (d ∷ [])) in
     let both : length (rooted_rows (d ∷ given_cells L)) ≡ one + roots_in L = ap length (filter_map-append (λ c. rooted c.row) (d ∷ []) (given_cells L))
     ∙ length-append (rooted_rows (d ∷ [])) (rooted_rows (given_cells L)) in
@@ -97,68 +97,70 @@ module _ (file : List ℕ) where
   counted_faults roots U p (at_refused r) = faults_at file U p (at_refused r)
 
   findings_at : (roots : ℕ) (U : List Reference) (p : Progress) (e : Event)
-      → counted_findings roots (items_at file U p e) ≡ map told_row (option_to_list (event_row file e))
-      ++ told_by (cause_by file U p e) (counted_faults roots U p e)
+      → counted_findings roots (items_at file U p e) ≡ map reported_row (option_to_list (event_row file e))
+      ++ reported_by (cause_by file U p e) (counted_faults roots U p e)
   findings_at roots U p (at_page r) = counted_found roots _
   findings_at roots U p (at_refused r) = counted_found roots _
   findings_at roots U p (at_key r v x) =
       let why = cause_by file U p (at_key r v x) in
       let R = rows_of file U r v x in
       let K = flat_map (late_faults p.greatest) (key_of r v x) in
-      counted-append roots (map given R) (map found (told_by why K))
-      ∙ ap (λ l. counted_findings roots (map given R) ++ l) (counted_found (roots + roots_in (map given R)) (told_by why K))
-      ∙ ap (λ l. l ++ told_by why K) (one_row ((start_of r.address == schema_start) && not (is_interior v.kind)) (schema_cell file U r x)
+      counted-append roots (map given R) (map found (reported_by why K))
+      ∙ ap (λ l. counted_findings roots (map given R) ++ l) (counted_found (roots + roots_in (map given R)) (reported_by why K))
+      ∙ ap (λ l. l ++ reported_by why K) (one_row ((start_of r.address == schema_start) && not (is_interior v.kind)) (schema_cell file U r x)
       ∙ sym (rows_alone why (row_of_progress file U p r v x) (nat_le last_root_start roots) R))
-      ∙ sym (told_by-append why (flat_map (row_faults_if (nat_le last_root_start roots)) R) K)
+      ∙ sym (reported_by-append why (flat_map (row_faults_if (nat_le last_root_start roots)) R) K)
     where
       one_row : (b : Bool) (d : SchemaCell) → counted_findings roots (map given (cond b (d ∷ []) []))
-          ≡ map told_alone (flat_map (row_faults_if (nat_le last_root_start roots)) (cond b (d ∷ []) []))
-      one_row true d = append-nil (map told_alone (row_faults_if (nat_le last_root_start roots) d))
-          ∙ ap (map told_alone) (sym (append-nil (row_faults_if (nat_le last_root_start roots) d)))
+          ≡ map reported_alone (flat_map (row_faults_if (nat_le last_root_start roots)) (cond b (d ∷ []) []))
+      one_row true d = append-nil (map reported_alone (row_faults_if (nat_le last_root_start roots) d))
+          ∙ ap (map reported_alone) (sym (append-nil (row_faults_if (nat_le last_root_start roots) d)))
       one_row false d = refl
 
   rows_at_item : (U : List Reference) (p : Progress) (e : Event) → given_cells (items_at file U p e) ≡ rows_at_event file U e
   rows_at_item U p e =
       let rows = rows_at_event file U e in
-      let fs = map told_row (option_to_list (event_row file e)) ++ told_by (cause_by file U p e) (faults_at file U p e) in
+      let fs = map reported_row (option_to_list (event_row file e)) ++ reported_by (cause_by file U p e) (faults_at file U p e) in
       filter_map-append given_cell (map given rows) (map found fs) ∙ ap (λ l. given_cells (map given rows) ++ l) (cells_found fs)
       ∙ append-nil (given_cells (map given rows)) ∙ cells_given rows
 
   -- the rows that were given
-  given_are : (now : Walk) (A : List (Told Event)) → given_cells (run (machine file) now A).items ≡ given_cells now.items ++ rows_told file now.visits A
+  given_are : (now : Walk) (A : List (Reported Event)) → given_cells (run (machine file) now A).items ≡ given_cells now.items ++ rows_reported file now.visits A
   given_are now [] = sym (append-nil (given_cells now.items))
   given_are now (t ∷ A) =
       let U = up_to (machine file) now t.event in
       let R = rows_at_event file U t.event in
       given_are (advance file now t.event) A
-      ∙ ap (λ l. l ++ rows_told file U A) (filter_map-append given_cell now.items (items_at file U now.state t.event)
+      ∙ ap (λ l. l ++ rows_reported file U A) (filter_map-append given_cell now.items (items_at file U now.state t.event)
       ∙ ap (λ l. given_cells now.items ++ l) (rows_at_item U now.state t.event))
-      ∙ append_assoc (given_cells now.items) R (rows_told file U A)
+      ∙ append_assoc (given_cells now.items) R (rows_reported file U A)
 
   -- what is reported of the items, event after event
   abbrev IsReadAt : Walk → Event → Type 0
-  IsReadAt now e = counted_findings (roots_in now.items) (items_at file (up_to (machine file) now e) now.state e) ≡ told_at file (up_to (machine file) now e) e
+  IsReadAt now e = counted_findings (roots_in now.items) (items_at file (up_to (machine file) now e) now.state e)
+      ≡ reported_at file (up_to (machine file) now e) e
 
-  reads : (now : Walk) (L : List (Told Event)) → ((A B : List (Told Event)) (t : Told Event) → L ≡ A ++ (t ∷ B) → IsReadAt (run (machine file) now A) t.event)
-      → counted_findings 0 (run (machine file) now L).items ≡ counted_findings 0 now.items ++ read_back own_visit (told_at file) now.visits L
+  reads : (now : Walk) (L : List (Reported Event)) → ((A B : List (Reported Event)) (t : Reported Event) → L ≡ A ++ (t ∷ B)
+      → IsReadAt (run (machine file) now A) t.event)
+      → counted_findings 0 (run (machine file) now L).items ≡ counted_findings 0 now.items ++ read_back own_visit (reported_at file) now.visits L
   reads now [] h = sym (append-nil (counted_findings 0 now.items))
   reads now (t ∷ L) h =
       let U = up_to (machine file) now t.event in
       let items = items_at file U now.state t.event in
       let z : 0 + roots_in now.items ≡ roots_in now.items = omega arith in
       reads (advance file now t.event) L (λ A B u e. h (t ∷ A) B u (ap (λ l. t ∷ l) e))
-      ∙ ap (λ l. l ++ read_back own_visit (told_at file) U L)
+      ∙ ap (λ l. l ++ read_back own_visit (reported_at file) U L)
       (counted-append 0 now.items items ∙ ap (λ n. counted_findings 0 now.items ++ counted_findings n items) z
       ∙ ap (λ l. counted_findings 0 now.items ++ l) (h [] L t refl))
-      ∙ append_assoc (counted_findings 0 now.items) (told_at file U t.event) (read_back own_visit (told_at file) U L)
+      ∙ append_assoc (counted_findings 0 now.items) (reported_at file U t.event) (read_back own_visit (reported_at file) U L)
 
   -- The rowids of each page of A are these.
-  abbrev HasRowids : (Reference → RowidBounds) → Walk → List (Told Event) → Type 0
-  HasRowids rowids now A = (M N : List (Told Event)) (t : Told Event) (r : Reference) → A ≡ M ++ (t ∷ N) → t.event ≡ at_page r
+  abbrev HasRowids : (Reference → RowidBounds) → Walk → List (Reported Event) → Type 0
+  HasRowids rowids now A = (M N : List (Reported Event)) (t : Reported Event) (r : Reference) → A ≡ M ++ (t ∷ N) → t.event ≡ at_page r
       → rowids_by (run (machine file) now M).state (key_up_to file (up_to (machine file) (run (machine file) now M) (at_page r)) r) ≡ rowids r
 
   -- the first leaf
-  leaf_is : (rowids : Reference → RowidBounds) (now : Walk) (A : List (Told Event)) → HasRowids rowids now A
+  leaf_is : (rowids : Reference → RowidBounds) (now : Walk) (A : List (Reported Event)) → HasRowids rowids now A
       → (run (machine file) now A).state.leaf ≡ leaf_from file rowids now.state.leaf (visits_in own_visit A)
   leaf_is rowids now [] h = refl
   leaf_is rowids now (t ∷ A) h = by_event t.event refl (leaf_is rowids (advance file now t.event) A (λ M N u r e. h (t ∷ M) N u r (ap (λ l. t ∷ l) e)))
@@ -189,32 +191,33 @@ none_earlier (u ∷ W) early = absurd (none u.address (early u (inl refl)))
     none (x ∷ a) h = omega arith
 
 module _ (file : List ℕ) (k : ℕ) (W : List Reference) (c : Reference) (at : c.address ≡ k ∷ []) (early : AreOfEarlierStarts k W) where
-  abbrev after : List (Told Event) → Walk
+  abbrev after : List (Reported Event) → Walk
   after A = run (machine file) (begin W) A
 
-  abbrev visits_at : List (Told Event) → Event → List Reference
+  abbrev visits_at : List (Reported Event) → Event → List Reference
   visits_at A e = up_to (machine file) (after A) e
 
-  visits_after : (A : List (Told Event)) → (after A).visits ≡ W ++ visits_in own_visit A
+  visits_after : (A : List (Reported Event)) → (after A).visits ≡ W ++ visits_in own_visit A
   visits_after A = run_visits (machine file) (begin W) A
 
   at_start : (r : Reference) → IsIn r (visited file W c) → start_of r.address ≡ k
   at_start r i = ap start_of (below_start file W c k at r i).1
 
-  is_of : (A B : List (Told Event)) (t : Told Event) → trace file W c ≡ A ++ (t ∷ B) → IsOf file (visited file W c) t.key t.event
-  is_of A B t split = told_as file W c t (((tells file W c).exact t).0 (subst (IsIn t) (sym split) (IsIn-right t A (t ∷ B) (inl refl))))
+  is_of : (A B : List (Reported Event)) (t : Reported Event) → trace file W c ≡ A ++ (t ∷ B) → IsOf file (visited file W c) t.key t.event
+  is_of A B t split = reported_as file W c t (((reports file W c).exact t).0 (subst (IsIn t) (sym split) (IsIn-right t A (t ∷ B) (inl refl))))
 
   -- the greatest key before a page
-  above_is : (A B : List (Told Event)) (t : Told Event) → trace file W c ≡ A ++ (t ∷ B) → (r : Reference) → IsIn r (visited file W c) → t.key ≡ r.address
+  above_is : (A B : List (Reported Event)) (t : Reported Event) → trace file W c ≡ A ++ (t ∷ B) → (r : Reference) → IsIn r (visited file W c)
+      → t.key ≡ r.address
       → key_value (after A).state.greatest ≡ key_above file (visits_at A (at_page r)) r.address
   above_is A B t split r i place =
       ap key_value (greatest_is file (begin W) A)
-      ∙ sym (above_told file k W c at early A B t split r place (at_start r i))
+      ∙ sym (above_reported file k W c at early A B t split r place (at_start r i))
       ∙ sym (above_itself file (W ++ visits_in own_visit A) r)
       ∙ ap (λ U. key_above file (U ++ r ∷ []) r.address) (sym (visits_after A))
 
   -- Of a page that was visited before another, the rowids by the progress then are those by all visits up to the other.
-  module _ (M N B : List (Told Event)) (u t : Told Event) (split : trace file W c ≡ (M ++ (u ∷ N)) ++ (t ∷ B)) (s r : Reference)
+  module _ (M N B : List (Reported Event)) (u t : Reported Event) (split : trace file W c ≡ (M ++ (u ∷ N)) ++ (t ∷ B)) (s r : Reference)
       (first : u.event ≡ at_page s) (other : t.event ≡ at_page r) where
     abbrev between : List Reference
     between = visits_in own_visit N ++ r ∷ []
@@ -252,7 +255,7 @@ module _ (file : List ℕ) (k : ℕ) (W : List Reference) (c : Reference) (at : 
         bounds : Option ℤ → RowidBounds
         bounds above = record { above = above; up_to = key_up_to file (visits_at M (at_page s)) s }
 
-  module _ (A B : List (Told Event)) (t : Told Event) (split : trace file W c ≡ A ++ (t ∷ B)) where
+  module _ (A B : List (Reported Event)) (t : Reported Event) (split : trace file W c ≡ A ++ (t ∷ B)) where
     abbrev X : List Reference
     X = visits_in own_visit A
 
@@ -267,27 +270,27 @@ module _ (file : List ℕ) (k : ℕ) (W : List Reference) (c : Reference) (at : 
 
     -- what is reported at an event, by the progress and by the definitions
     abbrev by_progress : Event → List Fault → List Finding
-    by_progress e fs = told_by (cause_by file (at_event e) (after A).state e) fs
+    by_progress e fs = reported_by (cause_by file (at_event e) (after A).state e) fs
 
     abbrev by_visits : Event → List Fault → List Finding
-    by_visits e fs = told_by (cause_of file (at_event e) e) fs
+    by_visits e fs = reported_by (cause_of file (at_event e) e) fs
 
     -- the start of a reference that is refused, and the greatest key before it
     refused_start : (r : Reference) → t.event ≡ at_refused r → start_of r.address ≡ k
-    refused_start r f = elim (refused_as file W c t told_here r f) [
+    refused_start r f = elim (refused_as file W c t reported_here r f) [
       | inl i ↦ (elim i [ inl e ↦ ap (λ r. start_of r.address) e ∙ ap start_of at | inr n ↦ absurd n ])
       | inr m ↦ (let s = named_at-step m.0.address ((rules_of file).links m.0.page m.0.role) r m.2 in
           ap start_of s.1 ∙ started file k W c at early m.0 s.0 m.1)
     ]
       where
-        told_here : IsToldBelow file W c t
-        told_here = ((tells file W c).exact t).0 (subst (IsIn t) (sym split) (IsIn-right t A (t ∷ B) (inl refl)))
+        reported_here : IsReportedBelow file W c t
+        reported_here = ((reports file W c).exact t).0 (subst (IsIn t) (sym split) (IsIn-right t A (t ∷ B) (inl refl)))
 
     refused_above : (r : Reference) → t.event ≡ at_refused r → t.key ≡ r.address
         → key_value (after A).state.greatest ≡ key_above file (at_event (at_refused r)) r.address
     refused_above r f place =
         ap key_value (greatest_is file (begin W) A)
-        ∙ sym (above_told file k W c at early A B t split r place (refused_start r f))
+        ∙ sym (above_reported file k W c at early A B t split r place (refused_start r f))
         ∙ ap (λ U. key_above file U r.address) (sym (append-nil (after A).visits ∙ visits_so_far))
 
     -- such a reference
@@ -295,7 +298,7 @@ module _ (file : List ℕ) (k : ℕ) (W : List Reference) (c : Reference) (at : 
         → by_progress (at_refused r) (reference_faults file (at_event (at_refused r)) r)
         ≡ by_visits (at_refused r) (reference_faults file (at_event (at_refused r)) r)
     refused r f place =
-        ap (λ above. told_by (λ code. refusal_of file (at_event (at_refused r)) r (bounds above) (tree_kind (role_of r)))
+        ap (λ above. reported_by (λ code. refusal_of file (at_event (at_refused r)) r (bounds above) (tree_kind (role_of r)))
         (reference_faults file (at_event (at_refused r)) r)) (refused_above r f place)
       where
         bounds : Option ℤ → RowidBounds
@@ -306,12 +309,12 @@ module _ (file : List ℕ) (k : ℕ) (W : List Reference) (c : Reference) (at : 
         → by_progress (at_page r) (faults_at file (at_event (at_page r)) (after A).state (at_page r))
         ≡ by_visits (at_page r) (page_faults file (at_event (at_page r)) r)
     page r f i place =
-        told_by-append (cause_by file (at_event (at_page r)) (after A).state (at_page r)) (page_faults file [] r) (depth_faults file (after A).state.leaf r)
+        reported_by-append (cause_by file (at_event (at_page r)) (after A).state (at_page r)) (page_faults file [] r) (depth_faults file (after A).state.leaf r)
         ∙ ap (λ l. l ++ by_progress (at_page r) (depth_faults file (after A).state.leaf r))
         (page_same (cause_by file (at_event (at_page r)) (after A).state (at_page r)) (cause_of file (at_event (at_page r)) (at_page r)) file refl refl r
         (λ kind in_tree. ap (λ above. map (visit_cause (bounds above) file r) page_codes) (above_is A B t split r i place)))
         ∙ ap (λ l. by_visits (at_page r) (page_faults file [] r) ++ l) depths
-        ∙ sym (told_by-append (cause_of file (at_event (at_page r)) (at_page r)) (page_faults file [] r) (depth_fault file (at_event (at_page r)) r))
+        ∙ sym (reported_by-append (cause_of file (at_event (at_page r)) (at_page r)) (page_faults file [] r) (depth_fault file (at_event (at_page r)) r))
         ∙ ap (by_visits (at_page r)) (sym (page_parts file (at_event (at_page r)) r))
       where
         bounds : Option ℤ → RowidBounds
@@ -333,7 +336,7 @@ module _ (file : List ℕ) (k : ℕ) (W : List Reference) (c : Reference) (at : 
 
         depths : by_progress (at_page r) (depth_faults file (after A).state.leaf r) ≡ by_visits (at_page r) (depth_fault file (at_event (at_page r)) r)
         depths = ap (λ l. by_progress (at_page r) (depth_faults file l r)) leaf
-            ∙ depth_told file k W X r early (λ u j. at_start u ((visited_before file W c A B t split u).0 j).0) (at_start r i) own
+            ∙ depth_reported file k W X r early (λ u j. at_start u ((visited_before file W c A B t split u).0 j).0) (at_start r i) own
             (cause_of file (at_event (at_page r)) (at_page r))
             (ap (λ U. leaf_cause own (first_leaf file U r)) all)
             (cause_by file (at_event (at_page r)) (after A).state (at_page r))
@@ -363,7 +366,7 @@ module _ (file : List ℕ) (k : ℕ) (W : List Reference) (c : Reference) (at : 
         let none : W ≡ [] = none_earlier W (subst (λ k. AreOfEarlierStarts k W) e early) in
         ap (λ W. earlier_roots file (W ++ X) t.key) none
         ∙ ap (λ l. length (rooted_rows l)) (rows_before file c (at ∙ ap (λ k. k ∷ []) e) A B t (subst (λ W. trace file W c ≡ A ++ (t ∷ B)) none split) quiet)
-        ∙ ap (λ l. length (rooted_rows l)) (ap (λ W. rows_told file W A) (sym none) ∙ sym (given_are file (begin W) A))
+        ∙ ap (λ l. length (rooted_rows l)) (ap (λ W. rows_reported file W A) (sym none) ∙ sym (given_are file (begin W) A))
 
     rows : (r : Reference) (v : View) (x : ℕ × Cell) → t.event ≡ at_key r v x → IsIn r (visited file W c) → t.key ≡ then_step r.address (key_step x.0)
         → flat_map (row_faults_if (nat_le last_root_start (roots_in (after A).items))) (rows_of file (W ++ X) r v x) ≡ row_faults_at file (W ++ X) r v x
@@ -383,16 +386,16 @@ module _ (file : List ℕ) (k : ℕ) (W : List Reference) (c : Reference) (at : 
             ∙ ap (λ n. row_faults_if (nat_le last_root_start n) d) (sym (roots (and_parts (start_of r.address == schema_start) (not (is_interior v.kind)) f).0))
 
     -- rows and keys, with their causes
-    cell_told : (r : Reference) (v : View) (x : ℕ × Cell) → t.event ≡ at_key r v x → IsIn r (visited file W c) → t.key ≡ then_step r.address (key_step x.0)
-        → told_by (cause_by file (W ++ X) (after A).state (at_key r v x))
+    cell_reported : (r : Reference) (v : View) (x : ℕ × Cell) → t.event ≡ at_key r v x → IsIn r (visited file W c) → t.key ≡ then_step r.address (key_step x.0)
+        → reported_by (cause_by file (W ++ X) (after A).state (at_key r v x))
         (flat_map (row_faults_if (nat_le last_root_start (roots_in (after A).items))) (rows_of file (W ++ X) r v x)
         ++ flat_map (late_faults (after A).state.greatest) (key_of r v x))
-        ≡ told_by (cause_of file (W ++ X) (at_key r v x)) (cell_place_faults file (W ++ X) r v x)
+        ≡ reported_by (cause_of file (W ++ X) (at_key r v x)) (cell_place_faults file (W ++ X) r v x)
     unfolding key_faults
-    cell_told r v x f i place =
-        told_by-append why' R K ∙ ap (λ l. l ++ told_by why' K) row_told
-        ∙ ap (λ l. told_by why R ++ l) (ap (told_by why') (keys r v x i place) ∙ by_keys (key_of r v x) refl)
-        ∙ ap (λ l. told_by why l ++ told_by why K') (rows r v x f i place) ∙ sym (told_by-append why (row_faults_at file (W ++ X) r v x) K')
+    cell_reported r v x f i place =
+        reported_by-append why' R K ∙ ap (λ l. l ++ reported_by why' K) row_reported
+        ∙ ap (λ l. reported_by why R ++ l) (ap (reported_by why') (keys r v x i place) ∙ by_keys (key_of r v x) refl)
+        ∙ ap (λ l. reported_by why l ++ reported_by why K') (rows r v x f i place) ∙ sym (reported_by-append why (row_faults_at file (W ++ X) r v x) K')
       where
         why : FaultCode → Cause
         why = cause_of file (W ++ X) (at_key r v x)
@@ -409,8 +412,8 @@ module _ (file : List ℕ) (k : ℕ) (W : List Reference) (c : Reference) (at : 
         K' : List Fault
         K' = flat_map (key_faults file (W ++ X)) (key_of r v x)
 
-        row_told : told_by why' R ≡ told_by why R
-        row_told = rows_alone why' (row_of_progress file (W ++ X) (after A).state r v x) (nat_le last_root_start (roots_in (after A).items))
+        row_reported : reported_by why' R ≡ reported_by why R
+        row_reported = rows_alone why' (row_of_progress file (W ++ X) (after A).state r v x) (nat_le last_root_start (roots_in (after A).items))
             (rows_of file (W ++ X) r v x)
             ∙ sym (rows_alone why (row_of_visits file (W ++ X) r v x) (nat_le last_root_start (roots_in (after A).items)) (rows_of file (W ++ X) r v x))
 
@@ -423,36 +426,38 @@ module _ (file : List ℕ) (k : ℕ) (W : List Reference) (c : Reference) (at : 
             mapped None = refl
             mapped (Some k) = refl
 
-        by_keys : (ks : List Key) → key_of r v x ≡ ks → told_by why' (flat_map (key_faults file (W ++ X)) (key_of r v x))
-            ≡ told_by why (flat_map (key_faults file (W ++ X)) (key_of r v x))
-        by_keys [] e = subst (λ ks. told_by why' (flat_map (key_faults file (W ++ X)) ks) ≡ told_by why (flat_map (key_faults file (W ++ X)) ks)) (sym e) refl
-        by_keys (key ∷ []) e = subst (λ ks. told_by why' (flat_map (key_faults file (W ++ X)) ks) ≡ told_by why (flat_map (key_faults file (W ++ X)) ks))
+        by_keys : (ks : List Key) → key_of r v x ≡ ks → reported_by why' (flat_map (key_faults file (W ++ X)) (key_of r v x))
+            ≡ reported_by why (flat_map (key_faults file (W ++ X)) (key_of r v x))
+        by_keys [] e = subst (λ ks. reported_by why' (flat_map (key_faults file (W ++ X)) ks)
+            ≡ reported_by why (flat_map (key_faults file (W ++ X)) ks)) (sym e) refl
+        by_keys (key ∷ []) e = subst (λ ks. reported_by why' (flat_map (key_faults file (W ++ X)) ks)
+            ≡ reported_by why (flat_map (key_faults file (W ++ X)) ks))
             (sym e)
-            (ap (told_by why') (append-nil (key_faults file (W ++ X) key)) ∙ told_same why' why _ _ (causes key e)
-            ∙ sym (ap (told_by why) (append-nil (key_faults file (W ++ X) key))))
+            (ap (reported_by why') (append-nil (key_faults file (W ++ X) key)) ∙ reported_same why' why _ _ (causes key e)
+            ∙ sym (ap (reported_by why) (append-nil (key_faults file (W ++ X) key))))
         by_keys (key ∷ other ∷ ks) e = absurd (one_key r v x key other ks e)
 
     faults : (e : Event) → t.event ≡ e → IsOf file (visited file W c) t.key e
         → by_progress e (counted_faults file (roots_in (after A).items) (at_event e) (after A).state e) ≡ by_visits e (event_faults file (at_event e) e)
     faults (at_page r) f h = page r f h.0 h.1
     faults (at_refused r) f h = refused r f h
-    faults (at_key r v x) f h = subst (λ U. told_by (cause_by file U (after A).state (at_key r v x))
+    faults (at_key r v x) f h = subst (λ U. reported_by (cause_by file U (after A).state (at_key r v x))
         (flat_map (row_faults_if (nat_le last_root_start (roots_in (after A).items))) (rows_of file U r v x)
         ++ flat_map (late_faults (after A).state.greatest) (key_of r v x))
-        ≡ told_by (cause_of file U (at_key r v x)) (cell_place_faults file U r v x))
+        ≡ reported_by (cause_of file U (at_key r v x)) (cell_place_faults file U r v x))
         (sym (append-nil (after A).visits ∙ visits_so_far))
-        (cell_told r v x f h.0 h.3)
+        (cell_reported r v x f h.0 h.3)
 
-    told : IsReadAt file (after A) t.event
-    told = findings_at file (roots_in (after A).items) (at_event t.event) (after A).state t.event
-        ∙ ap (λ fs. map told_row (option_to_list (event_row file t.event)) ++ fs) (faults t.event refl here)
+    reported : IsReadAt file (after A) t.event
+    reported = findings_at file (roots_in (after A).items) (at_event t.event) (after A).state t.event
+        ∙ ap (λ fs. map reported_row (option_to_list (event_row file t.event)) ++ fs) (faults t.event refl here)
 
   -- the rows of the schema are given at the schema's start alone
-  no_rows : (k == schema_start) ≡ false → rows_told file W (trace file W c) ≡ []
+  no_rows : (k == schema_start) ≡ false → rows_reported file W (trace file W c) ≡ []
   no_rows other = read_as own_visit (rows_at_event file) (λ e. []) W (trace file W c) (λ A B t split. by_event A t.key t.event (here A B t split))
       ∙ flat_map-none (λ t. []) (trace file W c) (λ t i. refl)
     where
-      by_event : (A : List (Told Event)) (place : Address) (e : Event) → IsOf file (visited file W c) place e
+      by_event : (A : List (Reported Event)) (place : Address) (e : Event) → IsOf file (visited file W c) place e
           → rows_at_event file ((W ++ visits_in own_visit A) ++ option_to_list (own_visit e)) e ≡ []
       by_event A place (at_page r) h = refl
       by_event A place (at_refused r) h = refl
@@ -462,18 +467,18 @@ module _ (file : List ℕ) (k : ℕ) (W : List Reference) (c : Reference) (at : 
   all_rows : given_cells (run_below file (begin W) (Go c ∷ [])).items ≡ cond (k == schema_start) (schema file (W ++ visited_below file W (Go c ∷ []))) []
   all_rows = given_are file (begin W) (trace file W c) ∙ by_start (k == schema_start) refl
     where
-      by_start : (b : Bool) → (k == schema_start) ≡ b → rows_told file W (trace file W c) ≡ cond b (schema file (W ++ visited file W c)) []
+      by_start : (b : Bool) → (k == schema_start) ≡ b → rows_reported file W (trace file W c) ≡ cond b (schema file (W ++ visited file W c)) []
       by_start false e = no_rows e
       by_start true e =
           let f : k ≡ schema_start = eqb-true k schema_start e in
           let none : W ≡ [] = none_earlier W (subst (λ k. AreOfEarlierStarts k W) f early) in
-          ap (λ W. rows_told file W (trace file W c)) none
-          ∙ sym (schema_told file c (at ∙ ap (λ k. k ∷ []) f))
+          ap (λ W. rows_reported file W (trace file W c)) none
+          ∙ sym (schema_reported file c (at ∙ ap (λ k. k ∷ []) f))
           ∙ ap (λ W. schema file (W ++ visited file W c)) (sym none)
 
 pub is_fold : (file : List ℕ) → IsFold file
 is_fold file = record {
-  findings_are = λ k W c at early. reads file (begin W) (trace file W c) (told file k W c at early);
+  findings_are = λ k W c at early. reads file (begin W) (trace file W c) (reported file k W c at early);
   rows_are = λ k W c at early. all_rows file k W c at early;
   visits_are = λ k W c at early. run_below_visits (rules_of file) (story_of file) (geometry file).pages (are_rules file) (machine file) (is_story file)
       (shows_visits file) (begin W) (Go c ∷ [])

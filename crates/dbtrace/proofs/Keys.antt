@@ -12,13 +12,13 @@ use Rattle.std.proofs.lemmas.List.Elements.{filter-append}
 use Rattle.dbsurvey.specs.Address.{IsIn, Address, IsBefore, IsAscending}
 use Rattle.dbsurvey.specs.Greatest.{IsOut, IsOutAfter, is_out, greatest_from}
 use Rattle.dbsurvey.specs.Run.{run}
-use Rattle.dbsurvey.specs.Story.{Told}
+use Rattle.dbsurvey.specs.Story.{Reported}
 use Rattle.dbsurvey.specs.InOrder.{is_before, visits_in}
 use Rattle.dbsurvey.proofs.Lists.{filter-from, filter-has, filter-none, any_true, any_one}
 use Rattle.dbsurvey.proofs.Order.{IsBefore-beginning, IsIn-right, IsIn-cases, EachPair-append, EachPair-left}
 use Rattle.dbsurvey.proofs.Ordering.{is_before-means, is_before-from, IsIn-map, IsIn-from_map, IsIn-flat_map, IsIn-from_flat_map}
 use Rattle.dbsurvey.proofs.Running.{running_greatest, int_line}
-use Rattle.dbformat.specs.Tests.{told_if}
+use Rattle.dbformat.specs.Tests.{reported_if}
 use Rattle.dbformat.specs.Faults.{fault}
 use Rattle.dbformat.specs.Address.{start_of, then_step, key_step}
 use Rattle.dbformat.specs.Head.{View}
@@ -36,43 +36,43 @@ use Rattle.dbtrace.specs.Starts.{IsOfEarlierStart, AreOfEarlierStarts}
 use Rattle.dbtrace.specs.Walk.{Walk, machine, advance}
 use Rattle.dbtrace.proofs.Depths.{other_start}
 use Rattle.dbtrace.proofs.Tops.{values, top_found}
-use Rattle.dbtrace.proofs.Told.{visited, trace, tells, IsOf, told_as, key_told, below_start, before, visited_before, page_before}
+use Rattle.dbtrace.proofs.Reported.{visited, trace, reports, IsOf, reported_as, key_reported, below_start, before, visited_before, page_before}
 
 -- the keys of what was reported
-abbrev pub keys_told_at : Event → List Key
-keys_told_at (at_page r) = []
-keys_told_at (at_key r v x) = key_of r v x
-keys_told_at (at_refused r) = []
+abbrev pub keys_reported_at : Event → List Key
+keys_reported_at (at_page r) = []
+keys_reported_at (at_key r v x) = key_of r v x
+keys_reported_at (at_refused r) = []
 
-abbrev pub keys_told : List (Told Event) → List Key
-keys_told A = flat_map (λ t. keys_told_at t.event) A
+abbrev pub keys_reported : List (Reported Event) → List Key
+keys_reported A = flat_map (λ t. keys_reported_at t.event) A
 
 greatest_both : (top : Option CellKey) (ks js : List Key) → greatest_after top (ks ++ js) ≡ greatest_after (greatest_after top ks) js
 greatest_both top [] js = refl
 greatest_both top (k ∷ ks) js = greatest_both (greatest_after top (k ∷ [])) ks js
 
-pub greatest_is : (file : List ℕ) (now : Walk) (A : List (Told Event)) → (run (machine file) now A).state.greatest
-    ≡ greatest_after now.state.greatest (keys_told A)
+pub greatest_is : (file : List ℕ) (now : Walk) (A : List (Reported Event)) → (run (machine file) now A).state.greatest
+    ≡ greatest_after now.state.greatest (keys_reported A)
 greatest_is file now [] = refl
 greatest_is file now (t ∷ A) = by_event t.event (λ m. greatest_is file m A)
   where
-    by_event : (e : Event) → ((m : Walk) → (run (machine file) m A).state.greatest ≡ greatest_after m.state.greatest (keys_told A))
-        → (run (machine file) (advance file now e) A).state.greatest ≡ greatest_after now.state.greatest (keys_told_at e ++ keys_told A)
+    by_event : (e : Event) → ((m : Walk) → (run (machine file) m A).state.greatest ≡ greatest_after m.state.greatest (keys_reported A))
+        → (run (machine file) (advance file now e) A).state.greatest ≡ greatest_after now.state.greatest (keys_reported_at e ++ keys_reported A)
     by_event (at_page r) h = h (advance file now (at_page r))
-    by_event (at_key r v x) h = h (advance file now (at_key r v x)) ∙ sym (greatest_both now.state.greatest (key_of r v x) (keys_told A))
+    by_event (at_key r v x) h = h (advance file now (at_key r v x)) ∙ sym (greatest_both now.state.greatest (key_of r v x) (keys_reported A))
     by_event (at_refused r) h = h (advance file now (at_refused r))
 
 -- keys that are reported at rising places, at most one at each
-ascending_keys : (A : List (Told Event)) → IsAscending (λ (t : Told Event). t.key) A
-    → ((m : Told Event) → IsIn m A → (j : Key) → IsIn j (keys_told_at m.event) → j.place ≡ m.key)
-    → IsAscending (λ (k : Key). k.place) (keys_told A)
+ascending_keys : (A : List (Reported Event)) → IsAscending (λ (t : Reported Event). t.key) A
+    → ((m : Reported Event) → IsIn m A → (j : Key) → IsIn j (keys_reported_at m.event) → j.place ≡ m.key)
+    → IsAscending (λ (k : Key). k.place) (keys_reported A)
 ascending_keys [] asc at = tt
-ascending_keys (t ∷ A) asc at = EachPair-append (λ (j : Key) (k : Key). IsBefore j.place k.place) (keys_told_at t.event) (keys_told A) (one t.event)
+ascending_keys (t ∷ A) asc at = EachPair-append (λ (j : Key) (k : Key). IsBefore j.place k.place) (keys_reported_at t.event) (keys_reported A) (one t.event)
     (ascending_keys A asc.1 (λ m i. at m (inr i)))
-    (λ j k i l. let m = IsIn-from_flat_map (λ t. keys_told_at t.event) A k l in
+    (λ j k i l. let m = IsIn-from_flat_map (λ t. keys_reported_at t.event) A k l in
     subst (λ a. IsBefore a k.place) (sym (at t (inl refl) j i)) (subst (IsBefore t.key) (sym (at m.0 (inr m.1) k m.2)) (asc.0 m.0 m.1)))
   where
-    one : (e : Event) → IsAscending (λ (k : Key). k.place) (keys_told_at e)
+    one : (e : Event) → IsAscending (λ (k : Key). k.place) (keys_reported_at e)
     one (at_page r) = tt
     one (at_refused r) = tt
     one (at_key r v (i, x)) = by_key x.key
@@ -126,7 +126,7 @@ module _ (file : List ℕ) (k : ℕ) (W : List Reference) (c : Reference) (at : 
   pub started : (r : Reference) (s : ℕ) → IsIn r (visited file W c) → start_of (then_step r.address s) ≡ k
   started r s i = let b = below_start file W c k at r i in ap (λ a. start_of (then_step a s)) b.1
 
-  module _ (A B : List (Told Event)) (t : Told Event) (split : trace file W c ≡ A ++ (t ∷ B)) (key : Key) (is_at : key.place ≡ t.key)
+  module _ (A B : List (Reported Event)) (t : Reported Event) (split : trace file W c ≡ A ++ (t ∷ B)) (key : Key) (is_at : key.place ≡ t.key)
       (start : start_of key.place ≡ k) where
     abbrev U : List Reference
     U = W ++ visits_in own_visit A
@@ -135,9 +135,9 @@ module _ (file : List ℕ) (k : ℕ) (W : List Reference) (c : Reference) (at : 
     is_earlier j = (start_of j.place == start_of key.place) && is_before j.place key.place
 
     -- a key of the visits that is of this tree and comes before the place was reported
-    was_told : (j : Key) → IsIn j (earlier_keys file U key) → IsIn j (keys_told A)
+    was_reported : (j : Key) → IsIn j (earlier_keys file U key) → IsIn j (keys_reported A)
     unfolding keys
-    was_told j i =
+    was_reported j i =
         let f = filter-from is_earlier (keys file U) j i in
         let p = and_parts (start_of j.place == start_of key.place) (is_before j.place key.place) f.1 in
         let m = IsIn-from_flat_map (keys_at file) U j f.0 in
@@ -145,7 +145,7 @@ module _ (file : List ℕ) (k : ℕ) (W : List Reference) (c : Reference) (at : 
         (subst (IsBefore j.place) is_at (is_before-means j.place key.place p.1))
       where
         by_view : (r : Reference) → IsIn r U → (o : Option View) → tree_view file r ≡ o → IsIn j (keys_of_view r o) → start_of j.place ≡ k
-            → IsBefore j.place t.key → IsIn j (keys_told A)
+            → IsBefore j.place t.key → IsIn j (keys_reported A)
         by_view r i None e h s b = absurd h
         by_view r i (Some v) e h s b =
             let m = IsIn-from_flat_map (key_of r v) (cells v) j h in
@@ -153,21 +153,21 @@ module _ (file : List ℕ) (k : ℕ) (W : List Reference) (c : Reference) (at : 
               | inl w ↦ absurd (both_ways (start_of j.place == k)
                   (other_start k j.place (subst (IsOfEarlierStart k) (sym place) (earlier_longer k r.address (key_step m.0.0 ∷ []) (early r w))))
                   (eq-eqb (start_of j.place) k s))
-              | inr w ↦ IsIn-flat_map (λ t. keys_told_at t.event) A (record { key = then_step r.address (key_step m.0.0); event = at_key r v m.0 }) j
+              | inr w ↦ IsIn-flat_map (λ t. keys_reported_at t.event) A (record { key = then_step r.address (key_step m.0.0); event = at_key r v m.0 }) j
                   ((before file W c A B t split (record { key = then_step r.address (key_step m.0.0); event = at_key r v m.0 })).1
-                  (key_told file W c r v m.0 ((visited_before file W c A B t split r).0 w).0 e m.1, subst (λ a. IsBefore a t.key) place b))
+                  (key_reported file W c r v m.0 ((visited_before file W c A B t split r).0 w).0 e m.1, subst (λ a. IsBefore a t.key) place b))
                   m.2
             ]
 
     -- and the other way
-    was_earlier : (j : Key) → IsIn j (keys_told A) → IsIn j (earlier_keys file U key)
+    was_earlier : (j : Key) → IsIn j (keys_reported A) → IsIn j (earlier_keys file U key)
     unfolding keys
     was_earlier j i =
-        let m = IsIn-from_flat_map (λ t. keys_told_at t.event) A j i in
+        let m = IsIn-from_flat_map (λ t. keys_reported_at t.event) A j i in
         let b = (before file W c A B t split m.0).0 m.1 in
-        by_event m.0.key m.0.event (told_as file W c m.0 b.0) b.1 m.2
+        by_event m.0.key m.0.event (reported_as file W c m.0 b.0) b.1 m.2
       where
-        by_event : (place : Address) (e : Event) → IsOf file (visited file W c) place e → IsBefore place t.key → IsIn j (keys_told_at e)
+        by_event : (place : Address) (e : Event) → IsOf file (visited file W c) place e → IsBefore place t.key → IsIn j (keys_reported_at e)
             → IsIn j (earlier_keys file U key)
         by_event place (at_page r) h b l = absurd l
         by_event place (at_refused r) h b l = absurd l
@@ -182,7 +182,7 @@ module _ (file : List ℕ) (k : ℕ) (W : List Reference) (c : Reference) (at : 
             (is_before-from j.place key.place (subst (IsBefore j.place) (sym is_at) (subst (λ a. IsBefore a t.key) (sym stands) b'))))
 
     abbrev top : Option CellKey
-    top = greatest_after None (keys_told A)
+    top = greatest_after None (keys_reported A)
 
     -- by the greatest key so far
     late : list_any (is_out_of_order key) (earlier_keys file U key) ≡ is_out int_lt (key_value top) (key_entry key)
@@ -192,44 +192,44 @@ module _ (file : List ℕ) (k : ℕ) (W : List Reference) (c : Reference) (at : 
         out : Option ℤ → Type 0
         out v = is_out int_lt v (key_entry key) ≡ true
 
-        by_value : out (key_value top) ↔ out (greatest_from int_lt None (map key_entry (keys_told A)))
-        by_value = (subst out (values None (keys_told A)), subst out (sym (values None (keys_told A))))
+        by_value : out (key_value top) ↔ out (greatest_from int_lt None (map key_entry (keys_reported A)))
+        by_value = (subst out (values None (keys_reported A)), subst out (sym (values None (keys_reported A))))
 
-        exact : out (greatest_from int_lt None (map key_entry (keys_told A))) ↔ IsOut int_lt (map key_entry (keys_told A)) (key_entry key)
-        exact = running_greatest int_lt int_line (map key_entry (keys_told A)) (key_entry key)
+        exact : out (greatest_from int_lt None (map key_entry (keys_reported A))) ↔ IsOut int_lt (map key_entry (keys_reported A)) (key_entry key)
+        exact = running_greatest int_lt int_line (map key_entry (keys_reported A)) (key_entry key)
 
-        there : list_any (is_out_of_order key) (earlier_keys file U key) ≡ true → IsOut int_lt (map key_entry (keys_told A)) (key_entry key)
+        there : list_any (is_out_of_order key) (earlier_keys file U key) ≡ true → IsOut int_lt (map key_entry (keys_reported A)) (key_entry key)
         there e = let m = any_one (is_out_of_order key) (earlier_keys file U key) e in
-            (key_entry m.0, IsIn-map key_entry (keys_told A) m.0 (was_told m.0 m.1), sym (same_test key m.0) ∙ m.2)
+            (key_entry m.0, IsIn-map key_entry (keys_reported A) m.0 (was_reported m.0 m.1), sym (same_test key m.0) ∙ m.2)
 
-        back : IsOut int_lt (map key_entry (keys_told A)) (key_entry key) → list_any (is_out_of_order key) (earlier_keys file U key) ≡ true
-        back h = let m = IsIn-from_map key_entry (keys_told A) h.0 h.1 in
+        back : IsOut int_lt (map key_entry (keys_reported A)) (key_entry key) → list_any (is_out_of_order key) (earlier_keys file U key) ≡ true
+        back h = let m = IsIn-from_map key_entry (keys_reported A) h.0 h.1 in
             any_true (is_out_of_order key) (earlier_keys file U key) m.0 (was_earlier m.0 m.1)
             (same_test key m.0 ∙ subst (λ d. IsOutAfter int_lt d (key_entry key)) m.2 h.2)
 
     -- the reported keys rise by place
-    rising : IsAscending (λ (k : Key). k.place) (keys_told A)
-    rising = ascending_keys A (EachPair-left (λ (s : Told Event) (t : Told Event). IsBefore s.key t.key) A (t ∷ B)
-        (subst (IsAscending (λ (t : Told Event). t.key)) split (tells file W c).ascending))
-        (λ m i j l. at_place m.key m.event (told_as file W c m ((before file W c A B t split m).0 i).0) j l)
+    rising : IsAscending (λ (k : Key). k.place) (keys_reported A)
+    rising = ascending_keys A (EachPair-left (λ (s : Reported Event) (t : Reported Event). IsBefore s.key t.key) A (t ∷ B)
+        (subst (IsAscending (λ (t : Reported Event). t.key)) split (reports file W c).ascending))
+        (λ m i j l. at_place m.key m.event (reported_as file W c m ((before file W c A B t split m).0 i).0) j l)
       where
-        at_place : (place : Address) (e : Event) → IsOf file (visited file W c) place e → (j : Key) → IsIn j (keys_told_at e) → j.place ≡ place
+        at_place : (place : Address) (e : Event) → IsOf file (visited file W c) place e → (j : Key) → IsIn j (keys_reported_at e) → j.place ≡ place
         at_place place (at_page r) h j l = absurd l
         at_place place (at_refused r) h j l = absurd l
         at_place place (at_key r v x) h j l = key_place r v x j l ∙ sym h.3
 
     -- the greatest so far is the one that no earlier key is above
     pub top_is : option_map cell_key (top_key (earlier_keys file U key)) ≡ top
-    top_is = top_found (earlier_keys file U key) (keys_told A) rising (λ j. (was_told j, was_earlier j))
+    top_is = top_found (earlier_keys file U key) (keys_reported A) rising (λ j. (was_reported j, was_earlier j))
 
     pub late_is : key_faults file U key ≡ late_faults top key
     unfolding key_faults
-    late_is = ap (λ b. told_if b (fault T06 key.page key.item key.value)) late
+    late_is = ap (λ b. reported_if b (fault T06 key.page key.item key.value)) late
 
   -- the greatest key before a page is the greatest so far
-  pub above_told : (A B : List (Told Event)) (t : Told Event) → trace file W c ≡ A ++ (t ∷ B) → (r : Reference) → t.key ≡ r.address
-      → start_of r.address ≡ k → key_above file (W ++ visits_in own_visit A) r.address ≡ key_value (greatest_after None (keys_told A))
-  above_told A B t split r place start =
+  pub above_reported : (A B : List (Reported Event)) (t : Reported Event) → trace file W c ≡ A ++ (t ∷ B) → (r : Reference) → t.key ≡ r.address
+      → start_of r.address ≡ k → key_above file (W ++ visits_in own_visit A) r.address ≡ key_value (greatest_after None (keys_reported A))
+  above_reported A B t split r place start =
       value_of (top_key (earlier_keys file (W ++ visits_in own_visit A) first)) ∙ ap key_value (top_is A B t split first (sym place) start)
     where
       first : Key

@@ -5,8 +5,8 @@ pub mod Depths
 pub mod Folding
 pub mod Keys
 pub mod LookBack
-pub mod RowsTold
+pub mod RowsReported
 pub mod SchemaOrder
 pub mod Stepping
-pub mod Told
+pub mod Reported
 pub mod Tops

@@ -5,7 +5,7 @@ use Rattle.std.specs.Prelude.{find, flat_map, option_and_then, option_map, optio
 use Rattle.std.specs.Option.{option_map_or}
 use Rattle.dbsurvey.specs.Address.{IsIn, Address, IsBefore, IsAscending}
 use Rattle.dbsurvey.specs.InOrder.{is_before, visits_in, read_back}
-use Rattle.dbsurvey.specs.Story.{Told}
+use Rattle.dbsurvey.specs.Story.{Reported}
 use Rattle.dbsurvey.proofs.Lists.{find-some}
 use Rattle.dbsurvey.proofs.Order.{IsIn-right, EachPair-across}
 use Rattle.dbsurvey.proofs.Ordering.{is_before-from}
@@ -19,27 +19,27 @@ use Rattle.dbformat.specs.Laws.{event_row}
 use Rattle.dbformat.specs.PageFaults.{is_leaf_of, depth_fault, page_faults}
 use Rattle.dbformat.specs.Reference.{Reference, role_of, bytes_left, tree_kind}
 use Rattle.dbformat.specs.Report.{event_faults}
-use Rattle.dbformat.specs.Story.{Event, at_page, at_key, at_refused, own_visit, start_errands, telling}
+use Rattle.dbformat.specs.Story.{Event, at_page, at_key, at_refused, own_visit, start_errands, reporting}
 use Rattle.dbformat.specs.Survey.{Survey}
 use Rattle.dbformat.specs.declared.Fault.{Fault}
 use Rattle.dbformat.specs.declared.FaultCode.{FaultCode}
 use Rattle.dbformat.specs.declared.FaultCode.TheVariants.{T06}
 use Rattle.dbformat.specs.declared.TreeKind.{TreeKind}
-use Rattle.dbformat.proofs.LookBack.{find_front, keys_front, tells, all_of, later, here, listed, one_of, visits-append}
+use Rattle.dbformat.proofs.LookBack.{find_front, keys_front, reports, all_of, later, here, listed, one_of, visits-append}
 use Rattle.dbformat.proofs.Places.{key_place}
-use Rattle.dbformat.proofs.Theory.{no_tell, told_in_order}
+use Rattle.dbformat.proofs.Theory.{no_due, reported_in_order}
 use Rattle.dbformat.specs.Schema.{starts}
 use Rattle.dbtrace.specs.Causes.{cell_key, leaf_at, top_key, top_before, first_leaf, leaf_cause, chain_number, head_address, is_same, chain_head, chain_of}
 use Rattle.dbtrace.specs.Causes.{chain_cause, seen_from, seen_bytes, key_from, left_rows, refusal_of, refusal_cause, rowids_of, visit_cause, cause_of}
-use Rattle.dbtrace.specs.Finding.{Finding, told_row, told_fault, told_by, told_at}
+use Rattle.dbtrace.specs.Finding.{Finding, reported_row, reported_fault, reported_by, reported_at}
 use Rattle.dbtrace.specs.LookBack.{visits_up_to, CausesLookBack, FindingsLookBack}
 use Rattle.dbtrace.specs.declared.SeenBytes.{SeenBytes}
 use Rattle.dbtrace.specs.declared.Cause.{Cause}
 use Rattle.dbtrace.specs.declared.Cause.TheVariants as cause
 use Rattle.dbtrace.specs.declared.RowidBounds.{RowidBounds}
-use Rattle.dbtrace.proofs.Causing.{page_codes, told_by-append, page_same}
-use Rattle.dbtrace.proofs.Depths.{told_same, page_parts}
-use Rattle.dbtrace.proofs.Told.{IsOf, told_of}
+use Rattle.dbtrace.proofs.Causing.{page_codes, reported_by-append, page_same}
+use Rattle.dbtrace.proofs.Depths.{reported_same, page_parts}
+use Rattle.dbtrace.proofs.Reported.{IsOf, reported_of}
 
 -- lists
 
@@ -50,20 +50,21 @@ none_after p [] (y ∷ ys) h = ap (λ b. cond b (Some y) (find p ys)) (h y (inl 
 none_after p (x ∷ xs) ys h = ap (cond (p x) (Some x)) (none_after p xs ys h)
 
 -- two readings of the codes that agree
-same_by : (why other : FaultCode → Cause) → ((code : FaultCode) → why code ≡ other code) → (fs : List Fault) → told_by why fs ≡ told_by other fs
+same_by : (why other : FaultCode → Cause) → ((code : FaultCode) → why code ≡ other code) → (fs : List Fault) → reported_by why fs ≡ reported_by other fs
 same_by why other h [] = refl
-same_by why other h (f ∷ fs) = ap₂ (λ c l. told_fault f c ∷ l) (h f.code) (same_by why other h fs)
+same_by why other h (f ∷ fs) = ap₂ (λ c l. reported_fault f c ∷ l) (h f.code) (same_by why other h fs)
 
 -- the cause that a fault is reported with
 abbrev cause_in : Cause → List Finding → Cause
-cause_in none (told_fault f why ∷ fs) = why
+cause_in none (reported_fault f why ∷ fs) = why
 cause_in none fs = none
 
 abbrev rest_of : List Finding → List Finding
 rest_of [] = []
 rest_of (f ∷ fs) = fs
 
-same_causes : (why other : FaultCode → Cause) (fs : List Fault) → told_by why fs ≡ told_by other fs → (f : Fault) → IsIn f fs → why f.code ≡ other f.code
+same_causes : (why other : FaultCode → Cause) (fs : List Fault) → reported_by why fs ≡ reported_by other fs → (f : Fault) → IsIn f fs
+    → why f.code ≡ other f.code
 same_causes why other [] e f i = absurd i
 same_causes why other (g ∷ fs) e f (inl h) = subst (λ f. why f.code ≡ other f.code) (sym h) (ap (cause_in (why g.code)) e)
 same_causes why other (g ∷ fs) e f (inr i) = same_causes why other fs (ap rest_of e) f i
@@ -155,28 +156,29 @@ module _ (file : List ℕ) (U T : List Reference) (place : Address) (after : (t 
           ∙ ap (λ o. option_map_or (λ u. Some (leaf_at (rowids_of file U u) u)) o None) (sym f)
 
   -- a page has the fault of its depth only where it is a leaf
-  depth_front : (r : Reference) → r.address ≡ place → IsIn r U → AreBefore → told_by (by_all (at_page r)) (depth_fault file U r)
-      ≡ told_by (by_front (at_page r)) (depth_fault file U r)
+  depth_front : (r : Reference) → r.address ≡ place → IsIn r U → AreBefore → reported_by (by_all (at_page r)) (depth_fault file U r)
+      ≡ reported_by (by_front (at_page r)) (depth_fault file U r)
   unfolding depth_fault
   depth_front r at i before = by_leaf (is_leaf_of file (start_of r.address) r) refl
     where
-      by_leaf : (b : Bool) → is_leaf_of file (start_of r.address) r ≡ b → told_by (by_all (at_page r)) (depth_fault file U r)
-          ≡ told_by (by_front (at_page r)) (depth_fault file U r)
-      by_leaf true e = told_same (by_all (at_page r)) (by_front (at_page r)) _ _
+      by_leaf : (b : Bool) → is_leaf_of file (start_of r.address) r ≡ b → reported_by (by_all (at_page r)) (depth_fault file U r)
+          ≡ reported_by (by_front (at_page r)) (depth_fault file U r)
+      by_leaf true e = reported_same (by_all (at_page r)) (by_front (at_page r)) _ _
           (ap₂ leaf_cause (rowids_at r at) (leaf_front r i before e))
       by_leaf false e = rw e refl
 
-  page_front : (r : Reference) → r.address ≡ place → IsIn r U → AreBefore → told_by (by_all (at_page r)) (page_faults file U r)
-      ≡ told_by (by_front (at_page r)) (page_faults file U r)
+  page_front : (r : Reference) → r.address ≡ place → IsIn r U → AreBefore → reported_by (by_all (at_page r)) (page_faults file U r)
+      ≡ reported_by (by_front (at_page r)) (page_faults file U r)
   page_front r e i before =
-      ap (told_by (by_all (at_page r))) (page_parts file U r)
-      ∙ told_by-append (by_all (at_page r)) (page_faults file [] r) (depth_fault file U r)
+      ap (reported_by (by_all (at_page r))) (page_parts file U r)
+      ∙ reported_by-append (by_all (at_page r)) (page_faults file [] r) (depth_fault file U r)
       ∙ ap₂ (λ a b. a ++ b)
       (page_same (by_all (at_page r)) (by_front (at_page r)) file (chain_front r e (bytes_left (role_of r)) 1
       (seen_bytes (usable_size file) (page_bytes file r.page))) refl r
       (λ kind in_tree. ap (λ rowids. map (visit_cause rowids file r) page_codes) (rowids_at r e)))
       (depth_front r e i before)
-      ∙ sym (ap (told_by (by_front (at_page r))) (page_parts file U r) ∙ told_by-append (by_front (at_page r)) (page_faults file [] r) (depth_fault file U r))
+      ∙ sym (ap (reported_by (by_front (at_page r))) (page_parts file U r)
+      ∙ reported_by-append (by_front (at_page r)) (page_faults file [] r) (depth_fault file U r))
 
   key_front : (r : Reference) (v : View) (x : ℕ × Cell) → then_step r.address (key_step x.0) ≡ place → (code : FaultCode) → by_all (at_key r v x) code
       ≡ by_front (at_key r v x) code
@@ -185,7 +187,7 @@ module _ (file : List ℕ) (U T : List Reference) (place : Address) (after : (t 
   key_front r v x e _ = refl
 
   event_front : (V : List Reference) (e : Event) → IsOf file V place e → ((r : Reference) → own_visit e ≡ Some r → IsIn r U) → AreBefore
-      → told_by (by_all e) (event_faults file U e) ≡ told_by (by_front e) (event_faults file U e)
+      → reported_by (by_all e) (event_faults file U e) ≡ reported_by (by_front e) (event_faults file U e)
   event_front V (at_page r) h own before = page_front r (sym h.1) (own r refl) before
   event_front V (at_key r v x) h own before = same_by (by_all (at_key r v x)) (by_front (at_key r v x)) (key_front r v x (sym h.3))
       (event_faults file U (at_key r v x))
@@ -196,40 +198,40 @@ module _ (file : List ℕ) (U T : List Reference) (place : Address) (after : (t 
 
 module _ (file : List ℕ) (V : List Reference) (s : Survey file V) where
   -- its faults with their causes
-  told_here : (A : List (Told Event)) (t : Told Event) (L : List (Told Event)) → A ++ t ∷ L ≡ telling file V
-      → told_by (cause_of file V t.event) (event_faults file V t.event)
-      ≡ told_by (cause_of file (visits_up_to A t) t.event) (event_faults file (visits_up_to A t) t.event)
-  told_here A t L e =
-      ap (told_by (cause_of file V t.event)) (here file V s A t L e)
-      ∙ ap (λ X. told_by (cause_of file X t.event) (event_faults file (visits_up_to A t) t.event)) (sym (all_of file V s A t L e))
+  reported_here : (A : List (Reported Event)) (t : Reported Event) (L : List (Reported Event)) → A ++ t ∷ L ≡ reporting file V
+      → reported_by (cause_of file V t.event) (event_faults file V t.event)
+      ≡ reported_by (cause_of file (visits_up_to A t) t.event) (event_faults file (visits_up_to A t) t.event)
+  reported_here A t L e =
+      ap (reported_by (cause_of file V t.event)) (here file V s A t L e)
+      ∙ ap (λ X. reported_by (cause_of file X t.event) (event_faults file (visits_up_to A t) t.event)) (sym (all_of file V s A t L e))
       ∙ event_front file (visits_up_to A t) (visits_in own_visit L) t.key (later file V s A t L e) V t.event
-      (told_of file (start_errands file V) V (no_tell [] (starts file V)) t
-      (((tells file V s).exact t).0 (subst (λ l. IsIn t l) e (IsIn-right t A (t ∷ L) (inl refl)))))
+      (reported_of file (start_errands file V) V (no_due [] (starts file V)) t
+      (((reports file V s).exact t).0 (subst (λ l. IsIn t l) e (IsIn-right t A (t ∷ L) (inl refl)))))
       (λ r f. IsIn-right r (visits_in own_visit A) (option_to_list (own_visit t.event)) (listed (own_visit t.event) r f))
       (λ u w i j. EachPair-across (λ (u : Reference) (w : Reference). IsBefore u.address w.address) (visits_up_to A t) (visits_in own_visit L)
       (subst (IsAscending (λ (u : Reference). u.address)) (sym (all_of file V s A t L e)) s.ascending) u w i j)
 
   -- its row, and these
-  pub findings_here : (A : List (Told Event)) (t : Told Event) (L : List (Told Event)) → A ++ t ∷ L ≡ telling file V → told_at file V t.event
-      ≡ told_at file (visits_up_to A t) t.event
-  findings_here A t L e = ap (λ fs. map told_row (option_to_list (event_row file t.event)) ++ fs) (told_here A t L e)
+  pub findings_here : (A : List (Reported Event)) (t : Reported Event) (L : List (Reported Event)) → A ++ t ∷ L ≡ reporting file V → reported_at file V t.event
+      ≡ reported_at file (visits_up_to A t) t.event
+  findings_here A t L e = ap (λ fs. map reported_row (option_to_list (event_row file t.event)) ++ fs) (reported_here A t L e)
 
   -- the visits before the rest
-  pub visits_more : (A : List (Told Event)) (t : Told Event) → visits_in own_visit (A ++ t ∷ []) ≡ visits_up_to A t
+  pub visits_more : (A : List (Reported Event)) (t : Reported Event) → visits_in own_visit (A ++ t ∷ []) ≡ visits_up_to A t
   visits_more A t = visits-append A (t ∷ []) ∙ ap (λ l. visits_in own_visit A ++ l) (one_of (own_visit t.event))
 
-  from_here : (A L : List (Told Event)) → A ++ L ≡ telling file V → flat_map (λ t. told_at file V t.event) L
-      ≡ read_back own_visit (told_at file) (visits_in own_visit A) L
+  from_here : (A L : List (Reported Event)) → A ++ L ≡ reporting file V → flat_map (λ t. reported_at file V t.event) L
+      ≡ read_back own_visit (reported_at file) (visits_in own_visit A) L
   from_here A [] e = refl
   from_here A (t ∷ L) e =
-      ap (λ l. l ++ flat_map (λ t. told_at file V t.event) L) (findings_here A t L e)
-      ∙ ap (λ l. told_at file (visits_up_to A t) t.event ++ l)
-      (from_here (A ++ t ∷ []) L (append_assoc A (t ∷ []) L ∙ e) ∙ ap (λ X. read_back own_visit (told_at file) X L) (visits_more A t))
+      ap (λ l. l ++ flat_map (λ t. reported_at file V t.event) L) (findings_here A t L e)
+      ∙ ap (λ l. reported_at file (visits_up_to A t) t.event ++ l)
+      (from_here (A ++ t ∷ []) L (append_assoc A (t ∷ []) L ∙ e) ∙ ap (λ X. read_back own_visit (reported_at file) X L) (visits_more A t))
 
 pub causes_look_back : (file : List ℕ) → CausesLookBack file
 causes_look_back file V s A L t e f i =
     same_causes (cause_of file V t.event) (cause_of file (visits_up_to A t) t.event) (event_faults file V t.event)
-    (told_here file V s A t L e ∙ ap (told_by (cause_of file (visits_up_to A t) t.event)) (sym (here file V s A t L e))) f i
+    (reported_here file V s A t L e ∙ ap (reported_by (cause_of file (visits_up_to A t) t.event)) (sym (here file V s A t L e))) f i
 
 pub findings_look_back : (file : List ℕ) → FindingsLookBack file
-findings_look_back file V s = from_here file V s [] (telling file V) refl ∙ ap (read_back own_visit (told_at file) []) (told_in_order file V s).1
+findings_look_back file V s = from_here file V s [] (reporting file V) refl ∙ ap (read_back own_visit (reported_at file) []) (reported_in_order file V s).1

@@ -25,7 +25,7 @@ use Rattle.dbformat.specs.Schema.{SchemaCell, schema_cell, leaf_rows, rows_at, s
 use Rattle.dbformat.specs.Survey.{rules_of}
 use Rattle.dbformat.specs.declared.TreeKind.{TreeKind}
 use Rattle.dbformat.proofs.Cells.{cells_rise, rise_pairs, is_of_kind}
-use Rattle.dbtrace.proofs.Told.{visited, part, below_start}
+use Rattle.dbtrace.proofs.Reported.{visited, part, below_start}
 
 -- a row of the schema on a page: it is an undamaged leaf, and the row that of a cell
 pub record IsRowOf (file : List ℕ) (V : List Reference) (r : Reference) (d : SchemaCell) : Type 0 where

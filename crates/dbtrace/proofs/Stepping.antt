@@ -1,7 +1,7 @@
 -- A walk step by step.
 use Rattle.std.proofs.Common.{ℕ, List}
 use Rattle.dbsurvey.proofs.Advancing.{run_items, run_state, run_none, run_event, run_refused, run_visit, run_below_visits, run_join}
-use Rattle.dbsurvey.specs.Story.{telling_of}
+use Rattle.dbsurvey.specs.Story.{reporting_of}
 use Rattle.dbformat.specs.File.{geometry}
 use Rattle.dbformat.specs.Story.{story_of}
 use Rattle.dbformat.specs.Survey.{rules_of}
@@ -21,6 +21,6 @@ has_steps file = record {
       es fs q;
   visits = λ now es q. run_below_visits (rules_of file) (story_of file) (geometry file).pages (are_rules file) (machine file) (is_story file)
       (shows_visits file) now es q;
-  items = λ now es. run_items (machine file) now (telling_of (rules_of file) (story_of file) (geometry file).pages now.visits es);
-  state = λ now es. run_state (machine file) now (telling_of (rules_of file) (story_of file) (geometry file).pages now.visits es);
+  items = λ now es. run_items (machine file) now (reporting_of (rules_of file) (story_of file) (geometry file).pages now.visits es);
+  state = λ now es. run_state (machine file) now (reporting_of (rules_of file) (story_of file) (geometry file).pages now.visits es);
 }

@@ -115,9 +115,10 @@ top_from before (e ∷ keys) top h asc = subst (λ l. IsTop l (greatest_after (g
     (subst (λ l. IsAscending (λ (k : Key). k.place) l) (sym (append_assoc before (e ∷ []) keys)) asc))
 
 -- Of a list with the same keys in another order, it is the one that no other is above.
-pub top_found : (keys told : List Key) → IsAscending (λ (k : Key). k.place) told → ((j : Key) → IsIn j keys ↔ IsIn j told) → option_map cell_key (top_key keys)
-    ≡ greatest_after None told
-top_found keys told asc same = by_top (greatest_after None told) (top_from [] told None refl asc)
+pub top_found : (keys reported : List Key) → IsAscending (λ (k : Key). k.place) reported → ((j : Key) → IsIn j keys ↔ IsIn j reported)
+    → option_map cell_key (top_key keys)
+    ≡ greatest_after None reported
+top_found keys reported asc same = by_top (greatest_after None reported) (top_from [] reported None refl asc)
   where
     none_above : Key → Bool
     none_above k = not (list_any (λ j. is_above j k) keys)
@@ -126,7 +127,7 @@ top_found keys told asc same = by_top (greatest_after None told) (top_from [] to
     no_keys [] h = refl
     no_keys (x ∷ l) h = absurd (h x (inl refl))
 
-    by_top : (top : Option CellKey) → IsTop told top → option_map cell_key (top_key keys) ≡ top
+    by_top : (top : Option CellKey) → IsTop reported top → option_map cell_key (top_key keys) ≡ top
     by_top None h = ap (λ l. option_map cell_key (top_key l)) (no_keys keys (λ j i. subst (λ l. IsIn j l) h ((same j).0 i)))
     by_top (Some top) h = by_find (find none_above keys) refl
       where
@@ -151,7 +152,7 @@ top_found keys told asc same = by_top (greatest_after None told) (top_from [] to
             above_d = above_parts (int_lt d.value k.value) (int_lt k.value d.value) (is_before k.place d.place) (h.3 k ((same k).0 found.0))
 
             one : k ≡ d
-            one = one_at_key (λ (k : Key). k.place) told asc k d ((same k).0 found.0) h.1 (elim (cases_before k.place d.place) [
+            one = one_at_key (λ (k : Key). k.place) reported asc k d ((same k).0 found.0) h.1 (elim (cases_before k.place d.place) [
               | inl e ↦ e
               | inr b ↦ (elim b [
                 | inl b ↦ absurd (is_before-not k.place d.place (above_d.1 above_k.0) b)

@@ -19,24 +19,24 @@ use Rattle.std.specs.Prelude.{ℕ}
 
 -- a row, or a fault with its cause
 pub data Finding : Type 0 where
-  told_row : StatRow → Finding
-  told_fault : Fault → Cause → Finding
+  reported_row : StatRow → Finding
+  reported_fault : Fault → Cause → Finding
 
 -- a fault that goes back to nothing else
-abbrev pub told_alone : Fault → Finding
-told_alone f = told_fault f Itself
+abbrev pub reported_alone : Fault → Finding
+reported_alone f = reported_fault f Itself
 
 -- faults, with the cause that their codes have
-abbrev pub told_by : (FaultCode → Cause) → List Fault → List Finding
-told_by why fs = map (λ f. told_fault f (why f.code)) fs
+abbrev pub reported_by : (FaultCode → Cause) → List Fault → List Finding
+reported_by why fs = map (λ f. reported_fault f (why f.code)) fs
 
 -- what is reported at an event, where the visits so far are those of U: its row, if it has one, and then its faults
-abbrev pub told_at : List ℕ → List Reference → Event → List Finding
-told_at file U event = map told_row (option_to_list (event_row file event)) ++ told_by (cause_of file U event) (event_faults file U event)
+abbrev pub reported_at : List ℕ → List Reference → Event → List Finding
+reported_at file U event = map reported_row (option_to_list (event_row file event)) ++ reported_by (cause_of file U event) (event_faults file U event)
 
 -- what is reported below some errands, after the visits of W
-abbrev pub told_below : List ℕ → List Reference → List (Errand Way Event) → List Finding
-told_below file W errands = read_below (rules_of file) (story_of file) (geometry file).pages own_visit (told_at file) W errands
+abbrev pub reported_below : List ℕ → List Reference → List (Errand Way Event) → List Finding
+reported_below file W errands = read_below (rules_of file) (story_of file) (geometry file).pages own_visit (reported_at file) W errands
 
 -- what is visited below them
 abbrev pub visited_below : List ℕ → List Reference → List (Errand Way Event) → List Reference

@@ -11,7 +11,7 @@ use Rattle.dbformat.specs.ReferenceFaults.{reference_faults}
 use Rattle.dbformat.specs.Story.{Event, at_page, at_key, at_refused}
 use Rattle.dbformat.specs.Laws.{event_row}
 use Rattle.dbformat.specs.declared.Fault.{Fault}
-use Rattle.dbtrace.specs.Finding.{Finding, told_row, told_alone, told_by}
+use Rattle.dbtrace.specs.Finding.{Finding, reported_row, reported_alone, reported_by}
 use Rattle.dbtrace.specs.Progress.{Progress, cause_by, depth_faults, late_faults, rows_of}
 
 -- A finding for the report, or a row of the schema. What is reported of a row is by what its taker answers.
@@ -40,7 +40,7 @@ roots_in items = length (rooted_rows (given_cells items))
 abbrev pub counted_findings : ℕ → List Item → List Finding
 counted_findings roots [] = []
 counted_findings roots (found f ∷ items) = f ∷ counted_findings roots items
-counted_findings roots (given c ∷ items) = map told_alone (row_faults_if (nat_le last_root_start roots) c)
+counted_findings roots (given c ∷ items) = map reported_alone (row_faults_if (nat_le last_root_start roots) c)
     ++ counted_findings (roots + length (rooted_rows (c ∷ []))) items
 
 -- The faults of an event by the progress so far, where U has the visits up to it, but for those of a row of the schema. Those
@@ -59,4 +59,4 @@ rows_at_event file U (at_refused r) = []
 -- the items of an event: the row of the schema comes first
 abbrev pub items_at : List ℕ → List Reference → Progress → Event → List Item
 items_at file U p event = map given (rows_at_event file U event)
-    ++ map found (map told_row (option_to_list (event_row file event)) ++ told_by (cause_by file U p event) (faults_at file U p event))
+    ++ map found (map reported_row (option_to_list (event_row file event)) ++ reported_by (cause_by file U p event) (faults_at file U p event))

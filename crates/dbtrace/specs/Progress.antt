@@ -2,7 +2,7 @@
 use Rattle.std.specs.Prelude.{ℕ, not, ◌&&◌, List, [], ◌∷◌, Option, Some, None, option_map, ℤ, int_lt, pos, ◌==◌, if◌then◌else◌}
 use Rattle.std.specs.Option.{option_map_or}
 use Rattle.dbsurvey.specs.Greatest.{OrderedKey, is_out}
-use Rattle.dbformat.specs.Tests.{told_if}
+use Rattle.dbformat.specs.Tests.{reported_if}
 use Rattle.dbformat.specs.Faults.{fault}
 use Rattle.dbformat.specs.Address.{start_of, depth, schema_start}
 use Rattle.dbformat.specs.Head.{View, is_interior}
@@ -51,7 +51,7 @@ key_value top = option_map (λ k. k.value) top
 
 -- a key out of order, by the greatest so far
 abbrev pub late_faults : Option CellKey → Key → List Fault
-late_faults top key = told_if (is_out int_lt (key_value top) (key_entry key)) (fault T06 key.page key.item key.value)
+late_faults top key = reported_if (is_out int_lt (key_value top) (key_entry key)) (fault T06 key.page key.item key.value)
 
 -- the first leaf after a visit with these rowids
 abbrev pub leaf_after : List ℕ → Option TreeLeaf → RowidBounds → Reference → Option TreeLeaf
@@ -64,7 +64,7 @@ depth_of leaf d = option_map_or (λ l. l.depth) leaf d
 
 -- a leaf at another depth than the first, by the depth of the first
 abbrev pub depth_faults : List ℕ → Option TreeLeaf → Reference → List Fault
-depth_faults file leaf r = told_if (is_leaf_of file (start_of r.address) r && not (depth r.address == depth_of leaf (depth r.address)))
+depth_faults file leaf r = reported_if (is_leaf_of file (start_of r.address) r && not (depth r.address == depth_of leaf (depth r.address)))
     (fault T05 r.page 0 (pos (depth r.address)))
 
 -- the rowids of a page, where the bound by the cells above it is known

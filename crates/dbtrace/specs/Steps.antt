@@ -1,12 +1,12 @@
 -- A walk step by step, for a program with a list of errands that are still to be done.
 use Rattle.std.specs.Prelude.{◌≡◌, ℕ, true, false, List, [], ◌∷◌, ◌++◌, map, None}
 use Rattle.dbsurvey.specs.InOrder.{AreQuiet}
-use Rattle.dbsurvey.specs.Story.{Told, Errand, Go, Tell, errands_of}
+use Rattle.dbsurvey.specs.Story.{Reported, Errand, Go, Due, errands_of}
 use Rattle.dbsurvey.specs.Traverse.{is_followed}
 use Rattle.dbformat.specs.Reference.{Way, Reference, role_of, tree_kind}
 use Rattle.dbformat.specs.Story.{Event, at_page, at_refused, own_visit, story_of}
 use Rattle.dbformat.specs.Survey.{rules_of}
-use Rattle.dbtrace.specs.Finding.{told_below, visited_below}
+use Rattle.dbtrace.specs.Finding.{reported_below, visited_below}
 use Rattle.dbtrace.specs.Item.{found}
 use Rattle.dbtrace.specs.Walk.{Walk, bare, advance, run_below}
 
@@ -14,8 +14,8 @@ use Rattle.dbtrace.specs.Walk.{Walk, bare, advance, run_below}
 -- and errands that are done in one go.
 pub record HasSteps (file : List ℕ) : Type 0 where
   pub none : (now : Walk) → run_below file now [] ≡ now
-  pub event : (now : Walk) (t : Told Event) (es : List (Errand Way Event)) → own_visit t.event ≡ None
-      → run_below file now (Tell t ∷ es) ≡ run_below file (advance file now t.event) es
+  pub event : (now : Walk) (t : Reported Event) (es : List (Errand Way Event)) → own_visit t.event ≡ None
+      → run_below file now (Due t ∷ es) ≡ run_below file (advance file now t.event) es
   pub refused : (now : Walk) (c : Reference) (es : List (Errand Way Event)) → is_followed (rules_of file) now.visits c ≡ false
       → run_below file now (Go c ∷ es) ≡ run_below file (advance file now (at_refused c)) es
   pub visit : (now : Walk) (c : Reference) (es : List (Errand Way Event)) → is_followed (rules_of file) now.visits c ≡ true
@@ -32,7 +32,7 @@ pub record HasSteps (file : List ℕ) : Type 0 where
 -- it is, gives no row, and reports what the definitions give by the visits.
 pub record IsAside (file : List ℕ) (now : Walk) (c : Reference) : Type 0 where
   pub state : (run_below file now (Go c ∷ [])).state ≡ now.state
-  pub items : (run_below file now (Go c ∷ [])).items ≡ now.items ++ map found (told_below file now.visits (Go c ∷ []))
+  pub items : (run_below file now (Go c ∷ [])).items ≡ now.items ++ map found (reported_below file now.visits (Go c ∷ []))
 
 -- so it is below each
 abbrev pub AreAside : List ℕ → Type 0

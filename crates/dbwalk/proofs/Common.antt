@@ -4,7 +4,7 @@ pub use Rattle.dbformat.specs.Address.{cell_of_step, chain_on, chain_place, chil
 pub use Rattle.dbformat.specs.Address.{schema_start, start_of, then_step}
 pub use Rattle.dbformat.specs.Cell.{Cell, cell, child_number, count, overflow_size, right_child}
 unfoldable pub use Rattle.dbformat.specs.Cell.{cells}
-pub use Rattle.dbformat.specs.Errands.{cell_errands, errands_before, errands_in, go, leaf_errands, tell_cell}
+pub use Rattle.dbformat.specs.Errands.{cell_errands, errands_before, errands_in, go, leaf_errands, report_cell}
 pub use Rattle.dbformat.specs.Faults.{fault}
 pub use Rattle.dbformat.specs.File.{geometry}
 unfoldable pub use Rattle.dbformat.specs.File.{page_bytes}
@@ -24,7 +24,7 @@ pub use Rattle.dbformat.specs.SchemaRow.{SchemaRow}
 pub use Rattle.dbformat.specs.Story.{Event, at_key, at_page, at_refused, own_visit}
 unfoldable pub use Rattle.dbformat.specs.Story.{story_of}
 pub use Rattle.dbformat.specs.Survey.{is_too_deep, rules_of}
-pub use Rattle.dbformat.specs.Tests.{told_if}
+pub use Rattle.dbformat.specs.Tests.{reported_if}
 pub use Rattle.dbformat.specs.declared.CellFault.{CellFault}
 pub use Rattle.dbformat.specs.declared.FaultCode.{FaultCode}
 pub use Rattle.dbformat.specs.declared.FaultCode.TheVariants.{L01, T06}
@@ -43,11 +43,11 @@ pub use Rattle.dbsource.specs.declared.error.RunError.TheVariants.{OutOfMemory, 
 pub use Rattle.dbsurvey.specs.Address.{Address, IsBefore, IsIn, IsLeftOf}
 pub use Rattle.dbsurvey.specs.InOrder.{AreQuiet, IsPast}
 pub use Rattle.dbsurvey.specs.Moves.{Moves, MovesBySome, Stops}
-pub use Rattle.dbsurvey.specs.Story.{Errand, Go, Tell, Told, errand_key, errands_of, step_of}
+pub use Rattle.dbsurvey.specs.Story.{Errand, Go, Due, Reported, errand_key, errands_of, step_of}
 pub use Rattle.dbsurvey.specs.Traverse.{is_followed}
 pub use Rattle.dbtrace.specs.Causes.{cause_of, cell_rowid, chain_cause, is_same, key_before, key_from, key_up_to, left_key, left_rows, no_rowids, page_cause}
 pub use Rattle.dbtrace.specs.Causes.{refusal_cause, refusal_of, root_of, rowids_of, seen_bytes, seen_from, visit_cause}
-pub use Rattle.dbtrace.specs.Finding.{Finding, told_alone, told_at, told_below, told_by, told_fault, told_row, visited_below}
+pub use Rattle.dbtrace.specs.Finding.{Finding, reported_alone, reported_at, reported_below, reported_by, reported_fault, reported_row, visited_below}
 pub use Rattle.dbtrace.specs.Item.{Item, counted_findings, found, given, given_cells, items_at}
 pub use Rattle.dbtrace.specs.Progress.{Progress, cause_by, depth_faults, key_value, leaf_after, rowids_by, rows_of}
 pub use Rattle.dbtrace.specs.Walk.{Walk, advance, bare, begin, run_below}
@@ -57,14 +57,15 @@ pub use Rattle.dbtrace.specs.declared.RowidBounds.{RowidBounds}
 pub use Rattle.dbwalk.specs.Beside.{EntersBeside, Opens, Turns, WalksBeside}
 pub use Rattle.dbwalk.specs.Chains.{Feeds, FeedsChain, FeedsPages, IsChainOf, IsOnChain, IsPlace, next_of, walked_chain}
 pub use Rattle.dbwalk.specs.Done.{IsDone, IsLeft, IsTreeDone}
-pub use Rattle.dbwalk.specs.Entered.{Enters, IsNext, refused_told}
+pub use Rattle.dbwalk.specs.Entered.{Enters, IsNext, refused_reported}
 pub use Rattle.dbwalk.specs.Found.{HasPageAt, damaged_row, inner_cause, page_findings, view_cause, view_row, with_leaf}
-pub use Rattle.dbwalk.specs.LeafCells.{AreBefore, AreRisingFrom, HasCell, HasCells, HasSpan, is_late, key_cause, late_told, order_told, overflow_errands}
+pub use Rattle.dbwalk.specs.LeafCells.{AreBefore, AreRisingFrom, HasCell, HasCells, HasSpan, is_late, key_cause, late_reported, order_reported,
+    overflow_errands}
 pub use Rattle.dbwalk.specs.LeafCells.{placed, top_after}
 pub use Rattle.dbwalk.specs.Points.{IsAtTurn}
 pub use Rattle.dbwalk.specs.Steps.{AreEmpty, HasLeft, HasNext, IsEmptyAt, IsNextStep, no_chain, no_child, without_key}
-pub use Rattle.dbwalk.specs.Taking.{FeedsPayload, HasFed, HoldsCell, TellsRow}
-pub use Rattle.dbwalk.specs.Telling.{IsReadOrWrite, IsReportedTo, IsWriteOrMemory, SinkAfter, SinkMoves, SinkState, SinkWalks, Tells}
+pub use Rattle.dbwalk.specs.Taking.{FeedsPayload, HasFed, HoldsCell, ReportsRow}
+pub use Rattle.dbwalk.specs.Reporting.{IsReadOrWrite, IsReportedTo, IsWriteOrMemory, SinkAfter, SinkMoves, SinkState, SinkWalks, Reports}
 pub use Rattle.dbwalk.specs.Trunks.{IsFirstTrunk, IsOnTrunks, leaves_from, next_step, trunk_step}
 pub use Rattle.dbwalk.specs.Underway.{HasDone, IsAt, IsEntered, IsInterior, IsUnderway, IsWalkingOn, done_below, entered, tree_walk}
 pub use Rattle.dbwalk.specs.Walked.{IsTreeError, SaysOfFiles, Walked}

@@ -1,18 +1,19 @@
 -- The leaves of a trunk, one after another.
 use Rattle.std.proofs.Common.{◌≡◌, ℕ, zero, suc, ◌+◌, ◌-◌, ◌*◌, ◌<◌, true, false, inl, inr, Bool, List, [], ◌∷◌, ◌++◌, map, Ok, sym, ap, subst, arith, ◌≤◌}
 use Rattle.std.proofs.Common.{cond, Some, None, Result, refl, ◌∙◌, option_to_list, nat_le, nat_lt, ◌==◌, pos}
-use Rattle.dbwalk.proofs.Common.{Errand, Go, errands_of, Told, Tell, AreQuiet, then_step, role_faults, page_faults, row_in, Moves, free_leaf, Way, Reference}
+use Rattle.dbwalk.proofs.Common.{Errand, Go, errands_of, Reported, Due, AreQuiet, then_step, role_faults, page_faults, row_in, Moves, free_leaf, Way, Reference}
 use Rattle.dbwalk.proofs.Common.{role_of, Role, bytes_left, tree_kind, trunk, link, next_trunk, leaf_count, most_leaves, Event, at_page, own_visit, story_of}
-use Rattle.dbwalk.proofs.Common.{Mark, EntersBeside, Turns, IsNext, Enters, cause_of, refusal_cause, Finding, told_row, told_alone, told_by, told_at}
+use Rattle.dbwalk.proofs.Common.{Mark, EntersBeside, Turns, IsNext, Enters, cause_of, refusal_cause, Finding, reported_row, reported_alone, reported_by,
+    reported_at}
 use Rattle.dbwalk.proofs.Common.{leaves_from, IsFirstTrunk, IsOnTrunks, trunk_step, next_step, IsLeft, IsIn, is_followed, go, leaf_errands, fault, page_bytes}
 use Rattle.dbwalk.proofs.Common.{usable_size, rules_of, is_too_deep, L01, RunError, role_mark, AreMarksOf}
 use Rattle.dbformat.specs.Address.{freelist_start}
 use Rattle.dbformat.specs.Numbers.{u32_at}
 use Rattle.dbformat.proofs.Looping.{none_at_free_leaf, by_leaf, all_quiet}
-use Rattle.dbwalk.proofs.Telling.Besides.{turn_ended, turn_entered, turn_on}
+use Rattle.dbwalk.proofs.Reporting.Besides.{turn_ended, turn_entered, turn_on}
 use Rattle.dbtrace.specs.declared.Cause.TheVariants.{Itself}
 use Rattle.dbwalk.specs.Trunks.{OpensTrunk}
-use Rattle.dbwalk.proofs.Telling.Lefts.{left_refused, left_visit, left_start, left_none, no_chain_refusal}
+use Rattle.dbwalk.proofs.Reporting.Lefts.{left_refused, left_visit, left_start, left_none, no_chain_refusal}
 use Rattle.std.specs.List.{range_with_len}
 use Rattle.std.proofs.lemmas.Bool.Decides.{nat_tests}
 use Rattle.std.proofs.lemmas.List.{append-nil}
@@ -29,9 +30,10 @@ leaves_more d page j zero h = absurd (omega arith)
 leaves_more d page j (suc n) h = let e : n ≡ suc n - 1 = omega arith in ap (λ k. Go (leaf_of d page j) ∷ leaves_from d page (j + 1) k) e
 
 -- nothing is reported of a free leaf
-told_free : (file : List ℕ) (V : List Reference) (c : Reference) → role_of c ≡ free_leaf → told_at file V (at_page c) ≡ []
+reported_free : (file : List ℕ) (V : List Reference) (c : Reference) → role_of c ≡ free_leaf → reported_at file V (at_page c) ≡ []
 unfolding page_faults
-told_free file V c r = ap (λ role. map told_row (option_to_list (row_in role file c)) ++ told_by (cause_of file V (at_page c)) (role_faults role file V c)) r
+reported_free file V c r = ap (λ role. map reported_row (option_to_list (row_in role file c))
+    ++ reported_by (cause_of file V (at_page c)) (role_faults role file V c)) r
 
 module _ {S : Type 0} (takes : S → Finding → S → Type 0) (file : List ℕ) (W : List Reference) (errands : List (Errand Way Event)) (before : S)
     (U : List Reference) (c : Reference) (es : List (Errand Way Event)) (marks marks' : List Mark) (s t : S)
@@ -49,13 +51,13 @@ module _ {S : Type 0} (takes : S → Finding → S → Type 0) (file : List ℕ)
         U ++ (c ∷ []),
         subst (λ fs. IsLeft takes file W errands before (U ++ (c ∷ [])) (fs ++ es) (marks', t)) none
             (left_visit takes file W errands before U marks s t marks' c es left e.0 (subst (λ fs. AreQuiet own_visit fs) (sym none) (λ d i. absurd i)) e.1
-            (subst (λ l. Moves takes s l t) (sym (told_free file (U ++ (c ∷ [])) c r)) e.2)),
+            (subst (λ l. Moves takes s l t) (sym (reported_free file (U ++ (c ∷ [])) c r)) e.2)),
       )
 
 -- The trunks of the freelist, one after another.
 
 -- none of its errands is an event
-no_leaf_own : (d : Reference) (page : List ℕ) (js : List ℕ) (e : Told Event) → IsIn (Tell e) (map (leaf_errand d page) js) → ⊥
+no_leaf_own : (d : Reference) (page : List ℕ) (js : List ℕ) (e : Reported Event) → IsIn (Due e) (map (leaf_errand d page) js) → ⊥
 no_leaf_own d page [] e h = h
 no_leaf_own d page (j ∷ js) e (inl k) = cc
 no_leaf_own d page (j ∷ js) e (inr h) = no_leaf_own d page js e h
@@ -65,12 +67,12 @@ module _ (file : List ℕ) (d : Reference) (role : role_of d ≡ trunk) where
   page = page_bytes file d.page
 
   -- what is reported of a trunk, by whether its leaves are too many
-  told_by_count : (V : List Reference) (b : Bool) → nat_lt (most_leaves (usable_size file)) (leaf_count page) ≡ b
-      → told_at file V (at_page d) ≡ told_by (cause_of file V (at_page d)) (cond b (fault L01 d.page 0 (pos (leaf_count page)) ∷ []) [])
+  reported_by_count : (V : List Reference) (b : Bool) → nat_lt (most_leaves (usable_size file)) (leaf_count page) ≡ b
+      → reported_at file V (at_page d) ≡ reported_by (cause_of file V (at_page d)) (cond b (fault L01 d.page 0 (pos (leaf_count page)) ∷ []) [])
   unfolding page_faults
-  told_by_count V b e =
-      ap (λ role. map told_row (option_to_list (row_in role file d)) ++ told_by (cause_of file V (at_page d)) (role_faults role file V d)) role
-      ∙ ap (λ b. told_by (cause_of file V (at_page d)) (cond b (fault L01 d.page 0 (pos (leaf_count page)) ∷ []) [])) e
+  reported_by_count V b e =
+      ap (λ role. map reported_row (option_to_list (row_in role file d)) ++ reported_by (cause_of file V (at_page d)) (role_faults role file V d)) role
+      ∙ ap (λ b. reported_by (cause_of file V (at_page d)) (cond b (fault L01 d.page 0 (pos (leaf_count page)) ∷ []) [])) e
 
   -- what it leads to, by whether they fit
   abbrev leads_to : Bool → List (Errand Way Event)
@@ -79,7 +81,7 @@ module _ (file : List ℕ) (d : Reference) (role : role_of d ≡ trunk) where
 
   quiet_trunk : (b : Bool) → AreQuiet own_visit (leads_to b)
   quiet_trunk false e h = all_quiet.2 d (next_trunk d.page page 0) e h
-  quiet_trunk true e h = elim (IsIn-cases (Tell e) (leaf_errands d page (leaf_count page)) (map (go d) (next_trunk d.page page (leaf_count page))) h) [
+  quiet_trunk true e h = elim (IsIn-cases (Due e) (leaf_errands d page (leaf_count page)) (map (go d) (next_trunk d.page page (leaf_count page))) h) [
     | inl k ↦ absurd (no_leaf_own d page (range_with_len 0 (leaf_count page)) e k)
     | inr k ↦ all_quiet.2 d (next_trunk d.page page (leaf_count page)) e k
   ]
@@ -87,7 +89,7 @@ module _ (file : List ℕ) (d : Reference) (role : role_of d ≡ trunk) where
   module _ {S : Type 0} (takes : S → Finding → S → Type 0) (W : List Reference) (c : Reference) (before : S) (U : List Reference) (old marks : List Mark)
       (s : S) (followed : is_followed (rules_of file) U d ≡ true) (marked : AreMarksOf file (U ++ d ∷ []) marks)
       (left : IsLeft takes file W (Go c ∷ []) before U (Go d ∷ []) (old, s)) where
-    opened : (t : S) → Moves takes s (told_at file (U ++ d ∷ []) (at_page d)) t → (b : Bool) → nat_le (leaf_count page) (most_leaves (usable_size file)) ≡ b
+    opened : (t : S) → Moves takes s (reported_at file (U ++ d ∷ []) (at_page d)) t → (b : Bool) → nat_le (leaf_count page) (most_leaves (usable_size file)) ≡ b
         → IsLeft takes file W (Go c ∷ []) before (U ++ d ∷ []) (leads_to b) (marks, t)
     opened t m b e = subst (λ es. IsLeft takes file W (Go c ∷ []) before (U ++ d ∷ []) es (marks, t))
         (append-nil (errands_of (story_of file) d) ∙ by_leaf file d role ∙ ap leads_to e)
@@ -99,15 +101,15 @@ module _ (file : List ℕ) (d : Reference) (role : role_of d ≡ trunk) where
         → IsLeft takes file W (Go c ∷ []) before (U ++ d ∷ []) (leads_to true) (marks, s)
     opened_fitting l =
         let few : nat_lt (most_leaves (usable_size file)) (leaf_count page) ≡ false = grind (arith, nat_tests) in
-        opened s (subst (λ L. Moves takes s L s) (sym (told_by_count (U ++ d ∷ []) false few)) refl) true (grind (arith, nat_tests))
+        opened s (subst (λ L. Moves takes s L s) (sym (reported_by_count (U ++ d ∷ []) false few)) refl) true (grind (arith, nat_tests))
 
     -- a trunk with too many leaves, which was reported: the next trunk is left
     pub opened_crowded : (t : S) → most_leaves (usable_size file) < leaf_count page
-        → Moves takes s (told_alone (fault L01 d.page 0 (pos (leaf_count page))) ∷ []) t
+        → Moves takes s (reported_alone (fault L01 d.page 0 (pos (leaf_count page))) ∷ []) t
         → IsLeft takes file W (Go c ∷ []) before (U ++ d ∷ []) (leads_to false) (marks, t)
     opened_crowded t l m =
         let many : nat_lt (most_leaves (usable_size file)) (leaf_count page) ≡ true = grind (arith, nat_tests) in
-        opened t (subst (λ L. Moves takes s L t) (sym (told_by_count (U ++ d ∷ []) true many)) m) false (grind (arith, nat_tests))
+        opened t (subst (λ L. Moves takes s L t) (sym (reported_by_count (U ++ d ∷ []) true many)) m) false (grind (arith, nat_tests))
 
 -- it is in no tree
 pub trunk_shallow : (c : Reference) → role_of c ≡ trunk → is_too_deep c ≡ false

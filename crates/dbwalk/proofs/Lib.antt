@@ -1,5 +1,5 @@
 pub mod Common
-pub mod Telling
+pub mod Reporting
 pub mod Chaining
 pub mod FreeTrunks
 pub mod Pages

@@ -1,4 +1,4 @@
 -- The check of a page of a tree.
-pub mod PageTellings
+pub mod PageReportings
 pub mod PageVisits
 pub mod Levels

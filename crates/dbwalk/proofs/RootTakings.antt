@@ -1,9 +1,10 @@
 -- What a taker with room for 65536 roots answers, row after row of the schema.
 use Rattle.std.proofs.Common.{zero, suc, map, take, ◌≡◌, ℕ, ◌+◌, ◌≤◌, Bool, true, false, cond, not, ◌&&◌, inl, inr, List, [], ◌∷◌, ◌++◌, length, refl, sym, ap}
 use Rattle.std.proofs.Common.{◌∙◌, arith, Some, None, Result, Ok, Err, subst, nat_lt, nat_le, ◌==◌, is_none, pos, if◌then◌else◌, OnOk}
-use Rattle.dbwalk.proofs.Common.{Moves, Stops, MovesBySome, Go, schema_start, start_of, fault, Reference, SchemaCell, schema, SchemaRow, told_if, RunError}
-use Rattle.dbwalk.proofs.Common.{Refused, WriteFailed, OutOfMemory, Finding, told_alone, visited_below, Item, found, given, given_cells, counted_findings, Mark}
-use Rattle.dbwalk.proofs.Common.{IsDone, IsTreeDone, Tells, tree_walk, watches, fails, row_at, Handed, Taken}
+use Rattle.dbwalk.proofs.Common.{Moves, Stops, MovesBySome, Go, schema_start, start_of, fault, Reference, SchemaCell, schema, SchemaRow, reported_if, RunError}
+use Rattle.dbwalk.proofs.Common.{Refused, WriteFailed, OutOfMemory, Finding, reported_alone, visited_below, Item, found, given, given_cells, counted_findings,
+    Mark}
+use Rattle.dbwalk.proofs.Common.{IsDone, IsTreeDone, Reports, tree_walk, watches, fails, row_at, Handed, Taken}
 use Rattle.std.specs.List.{cons_option}
 use Rattle.std.specs.Result.{result_ok}
 use Rattle.std.proofs.lemmas.Bool.{cases_Bool, eq-eqb, eqb-true}
@@ -23,7 +24,7 @@ use Rattle.dbtrace.specs.Starts.{AreOfEarlierStarts}
 use Rattle.dbtrace.proofs.Folding.{is_fold}
 use Rattle.dbwalk.specs.Taking.{answer_to, held_after, is_full, HasRootRoom, StartsEmpty, roots_after, ListTakes, first_roots, gives, readable_rows, fault_of}
 use Rattle.dbwalk.specs.Taking.{HandsRow, FailsRow}
-use Rattle.dbwalk.specs.Telling.{findings}
+use Rattle.dbwalk.specs.Reporting.{findings}
 use Rattle.dbwalk.specs.declared.taker.Taken.TheVariants as answer
 
 -- how many roots it holds after this many rows with a root
@@ -143,17 +144,17 @@ module _ {E : Type 0} (entry : SchemaRow → E) (rows : List SchemaRow) where
 
 -- A taker that has this room, and that holds as many as came, 65536 at most: what is reported of a row is by the count.
 
-module _ {S T : Type 0} (keeps : T → SchemaRow → Taken → T → Type 0) (held : T → ℕ) (room : HasRootRoom keeps held) (tells : S → List Finding → S → Type 0)
+module _ {S T : Type 0} (keeps : T → SchemaRow → Taken → T → Type 0) (held : T → ℕ) (room : HasRootRoom keeps held) (reports : S → List Finding → S → Type 0)
     (roots : ℕ) (c : SchemaCell) (w x : S × T) (holds : held w.1 ≡ held_of roots) where
   -- reported, taken, and held
   abbrev IsCounted : SchemaCell → Type 0
-  IsCounted c = tells w.0 (map told_alone (row_faults_if (nat_le last_root_start roots) c)) x.0 × Moves (gives keeps) w.1 (readable (c ∷ [])) x.1
+  IsCounted c = reports w.0 (map reported_alone (row_faults_if (nat_le last_root_start roots) c)) x.0 × Moves (gives keeps) w.1 (readable (c ∷ [])) x.1
       × (held x.1 ≡ held_of (roots + length (rooted_rows (c ∷ []))))
 
   abbrev with_row : Result SchemaRow RowFault → SchemaCell
   with_row row = record { place = c.place; page = c.page; item = c.item; rowid = c.rowid; row = row }
 
-  row_counted : HandsRow tells keeps (row_at c) w x → IsCounted c
+  row_counted : HandsRow reports keeps (row_at c) w x → IsCounted c
   row_counted h = by_row c.row h
     where
       bad_row : (f : RowFault) → fault_of (row_at c).0 f ∷ [] ≡ row_faults_if (nat_le last_root_start roots) (with_row (Err f))
@@ -164,11 +165,12 @@ module _ {S T : Type 0} (keeps : T → SchemaRow → Taken → T → Type 0) (he
       by_root row true = refl
       by_root row false = refl
 
-      by_row : (row : Result SchemaRow RowFault) → HandsRow tells keeps ((row_at c).0, row) w x → IsCounted (with_row row)
+      by_row : (row : Result SchemaRow RowFault) → HandsRow reports keeps ((row_at c).0, row) w x → IsCounted (with_row row)
       by_row (Err f) h = let z : roots ≡ roots + 0 = omega arith in
-          (subst (λ fs. tells w.0 (map told_alone fs) x.0) (bad_row f) h.0, h.1, ap held (sym h.1) ∙ holds ∙ ap held_of z)
+          (subst (λ fs. reports w.0 (map reported_alone fs) x.0) (bad_row f) h.0, h.1, ap held (sym h.1) ∙ holds ∙ ap held_of z)
       by_row (Ok row) h = (
-        subst (λ b. tells w.0 (findings (told_if (is_none row.name) (fault S02 c.page c.item c.rowid) ++ told_if b (fault S04 c.page c.item (pos row.root))))
+        subst (λ b. reports w.0 (findings (reported_if (is_none row.name) (fault S02 c.page c.item c.rowid)
+            ++ reported_if b (fault S04 c.page c.item (pos row.root))))
             x.0) (answer_full keeps held room w.1 x.1 row h.0 h.1 roots holds) h.2,
         (x.1, (h.0, h.1), refl),
         held_next keeps held room w.1 x.1 row h.0 h.1 roots holds ∙ ap (λ n. held_of (roots + n)) (by_root row (row.root == 0)),
@@ -179,7 +181,7 @@ module _ {S T : Type 0} (keeps : T → SchemaRow → Taken → T → Type 0) (he
 module _ {S T : Type 0} (takes : S → Finding → S → Type 0) (keeps : T → SchemaRow → Taken → T → Type 0) (refuses : T → SchemaRow → T → Type 0)
     (held : T → ℕ) (room : HasRootRoom keeps held) where
   abbrev faults_of : ℕ → SchemaCell → List Finding
-  faults_of roots c = map told_alone (row_faults_if (nat_le last_root_start roots) c)
+  faults_of roots c = map reported_alone (row_faults_if (nat_le last_root_start roots) c)
 
   abbrev more : ℕ → SchemaCell → ℕ
   more roots c = roots + length (rooted_rows (c ∷ []))
@@ -227,13 +229,13 @@ module _ {S T : Type 0} (takes : S → Finding → S → Type 0) (keeps : T → 
       some_after takes w.0 h.0.0 x.0 (faults_of roots c) (counted_findings (more roots c) items) o.0 (counted_refused (more roots c) items h.0 x o.2 h.2)
 
   -- from a taker that holds none
-  pub counted_told : {A : Type 0} (r : Result A RunError) (items : List Item) (w x : S × T) → held w.1 ≡ 0
-      → Handed (watches takes keeps) (fails refuses) r w items x → Tells takes r w.0 (counted_findings 0 items) x.0
-  counted_told (Ok a) items w x none h = (counted_moves 0 items w x none h).0
-  counted_told (Err (Refused e)) items w x none h = counted_some 0 items w x none h
-  counted_told (Err ReadFailed) items w x none h = counted_some 0 items w x none h
-  counted_told (Err WriteFailed) items w x none h = counted_some 0 items w x none h
-  counted_told (Err OutOfMemory) items w x none h = counted_refused 0 items w x none h
+  pub counted_reported : {A : Type 0} (r : Result A RunError) (items : List Item) (w x : S × T) → held w.1 ≡ 0
+      → Handed (watches takes keeps) (fails refuses) r w items x → Reports takes r w.0 (counted_findings 0 items) x.0
+  counted_reported (Ok a) items w x none h = (counted_moves 0 items w x none h).0
+  counted_reported (Err (Refused e)) items w x none h = counted_some 0 items w x none h
+  counted_reported (Err ReadFailed) items w x none h = counted_some 0 items w x none h
+  counted_reported (Err WriteFailed) items w x none h = counted_some 0 items w x none h
+  counted_reported (Err OutOfMemory) items w x none h = counted_refused 0 items w x none h
 
 -- The walk over a tree with such a taker reports what the definitions report; and if the tree is the schema's, the taker was
 -- given the rows that can be read.
@@ -242,13 +244,13 @@ module _ {S T : Type 0} (takes : S → Finding → S → Type 0) (keeps : T → 
     (at : c.address ≡ k ∷ []) (early : AreOfEarlierStarts k W) (r : Result (Unit {0}) RunError) (marks : List Mark) (before after : S × T)
     (done : IsTreeDone takes keeps refuses file W c r marks before after)
     (held : T → ℕ) (empty : start_of c.address ≡ schema_start → StartsEmpty keeps held before.1) where
-  pub tree_told : IsDone takes file W (Go c ∷ []) r marks before.0 after.0
-  tree_told = record {
+  pub tree_reported : IsDone takes file W (Go c ∷ []) r marks before.0 after.0
+  tree_reported = record {
     marked = done.marked;
-    told = elim (cases_Bool (start_of c.address == schema_start)) [
-      | inl e ↦ (let first = empty (eqb-true (start_of c.address) schema_start e) in subst (λ L. Tells takes r before.0 L after.0)
+    reported = elim (cases_Bool (start_of c.address == schema_start)) [
+      | inl e ↦ (let first = empty (eqb-true (start_of c.address) schema_start e) in subst (λ L. Reports takes r before.0 L after.0)
           ((is_fold file).findings_are k W c at early)
-          (counted_told takes keeps refuses held first.room r (tree_walk file W c).items before after first.none done.handed))
+          (counted_reported takes keeps refuses held first.room r (tree_walk file W c).items before after first.none done.handed))
       | inr e ↦ done.others (later (start_of c.address) e)
     ];
   }

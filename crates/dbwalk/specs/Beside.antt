@@ -17,7 +17,7 @@ use Rattle.dbtrace.specs.Finding.{Finding}
 use Rattle.dbtrace.specs.declared.Cause.{Cause}
 use Rattle.dbwalk.specs.Done.{IsDone, IsLeft}
 use Rattle.dbwalk.specs.Entered.{Enters, IsNext, IsStepOf}
-use Rattle.dbwalk.specs.Telling.{IsReadOrWrite, SinkState, SinkWalks}
+use Rattle.dbwalk.specs.Reporting.{IsReadOrWrite, SinkState, SinkWalks}
 use Rattle.dbwalk.specs.declared.entering.Step.{Step}
 
 -- What it leaves of what it borrows. The source failed exactly where ReadFailed is answered, and a sink that failed is shut; there is no

@@ -13,7 +13,7 @@ use Rattle.dbtrace.specs.declared.Cause.{Cause}
 use Rattle.dbtrace.specs.declared.Cause.TheVariants as cause
 use Rattle.dbtrace.specs.declared.CellChain.{CellChain}
 use Rattle.dbtrace.specs.declared.SeenBytes.{SeenBytes}
-use Rattle.dbtrace.specs.Finding.{visited_below, Finding, told_at}
+use Rattle.dbtrace.specs.Finding.{visited_below, Finding, reported_at}
 use Rattle.dbformat.specs.Address.{start_of, then_step, child_path, chain_place}
 use Rattle.dbformat.specs.FixedPages.{IsPageNumber}
 use Rattle.dbformat.specs.Header.{usable_size}
@@ -96,8 +96,8 @@ seen_before usable number here = if number == 0 then nothing_seen else seen_byte
 -- What the visit of the page at a place of a chain leaves: what was reported, and what a sieve was fed.
 pub record IsOverflowVisited {S : Type 0} (takes : S → Finding → S → Type 0) (file : List ℕ) (chain : Chain) (place : ChainPlace)
     (old new : Option RowSieve) (before after : S) : Type 0 where
-  pub told : (U : List Reference) (c : Reference) → c.page ≡ place.step.page → bytes_left (role_of c) ≡ Some place.left → IsOnChain chain place.number c
-      → HasHead file chain U c → Moves takes before (told_at file U (at_page c)) after
+  pub reported : (U : List Reference) (c : Reference) → c.page ≡ place.step.page → bytes_left (role_of c) ≡ Some place.left → IsOnChain chain place.number c
+      → HasHead file chain U c → Moves takes before (reported_at file U (at_page c)) after
   pub fed : (c : Reference) → c.page ≡ place.step.page → bytes_left (role_of c) ≡ Some place.left → Feeds old (held_bytes file c) new
 
 -- what the fault of the reference at a place of a chain goes back to, where the page before it has these bytes; and at no place

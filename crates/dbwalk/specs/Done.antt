@@ -8,8 +8,8 @@ use Rattle.dbformat.specs.Story.{Event}
 use Rattle.dbsource.specs.declared.error.RunError.{RunError}
 use Rattle.dbmarks.specs.declared.marks.Mark.{Mark}
 use Rattle.dbmarks.specs.Marking.{AreMarksOf}
-use Rattle.dbtrace.specs.Finding.{Finding, told_below, visited_below}
-use Rattle.dbwalk.specs.Telling.{Tells}
+use Rattle.dbtrace.specs.Finding.{Finding, reported_below, visited_below}
+use Rattle.dbwalk.specs.Reporting.{Reports}
 use Rattle.dbwalk.specs.Underway.{tree_walk}
 use Rattle.dbwalk.specs.Watching.{Handed, fails, watches}
 use Rattle.dbwalk.specs.declared.taker.Taken.{Taken}
@@ -21,7 +21,7 @@ use Rattle.dbsurvey.specs.InOrder.{IsPast}
 pub record IsDone {S A : Type 0} (takes : S → Finding → S → Type 0) (file : List ℕ) (W : List Reference) (errands : List (Errand Way Event))
     (r : Result A RunError) (marks : List Mark) (before after : S) : Type 0 where
   pub marked : OnOk r (AreMarksOf file (W ++ visited_below file W errands) marks)
-  pub told : Tells takes r before (told_below file W errands) after
+  pub reported : Reports takes r before (reported_below file W errands) after
 
 -- What the walk over a whole tree leaves. At Ok the marks are those of W and of all that is visited below the root. The items of
 -- the walk (`IsFold` says what they are) were handed to sink and taker: all of them at Ok, after an error a beginning. So in a
@@ -31,7 +31,7 @@ pub record IsTreeDone {S T : Type 0} (takes : S → Finding → S → Type 0) (k
     (marks : List Mark) (before after : S × T) : Type 0 where
   pub marked : OnOk r (AreMarksOf file (W ++ visited_below file W (Go c ∷ [])) marks)
   pub handed : Handed (watches takes keeps) (fails refuses) r before (tree_walk file W c).items after
-  pub others : 1 ≤ start_of c.address → Tells takes r before.0 (told_below file W (Go c ∷ [])) after.0
+  pub others : 1 ≤ start_of c.address → Reports takes r before.0 (reported_below file W (Go c ∷ [])) after.0
 
 -- Of all that is below the errands, after the visits of W, what is below the errands `left`, after those of U, is still to be
 -- done. The rest was reported, and the marks are those of U.
@@ -42,5 +42,5 @@ pub record IsLeft {S : Type 0} (takes : S → Finding → S → Type 0) (file : 
   pub apart : AreErrandsApart left
   pub visits : U ++ visited_below file U left ≡ W ++ visited_below file W errands
   pub items : List Finding
-  pub told : Moves takes before items now.1
-  pub rest : items ++ told_below file U left ≡ told_below file W errands
+  pub reported : Moves takes before items now.1
+  pub rest : items ++ reported_below file U left ≡ reported_below file W errands

@@ -20,7 +20,7 @@ use Rattle.dbformat.specs.Rows.{StatRow}
 use Rattle.dbformat.specs.declared.Fault.{Fault}
 use Rattle.dbformat.specs.declared.PageType.TheVariants.{Tree, Damaged}
 use Rattle.dbtrace.specs.Causes.{leaf_cause, page_cause, visit_cause}
-use Rattle.dbtrace.specs.Finding.{Finding, told_row, told_by}
+use Rattle.dbtrace.specs.Finding.{Finding, reported_row, reported_by}
 use Rattle.dbtrace.specs.Progress.{depth_faults}
 use Rattle.dbtrace.specs.declared.RowidBounds.{RowidBounds}
 use Rattle.dbtrace.specs.declared.TreeLeaf.{TreeLeaf}
@@ -106,7 +106,7 @@ inner_cause page _ = page
 
 -- what is reported of an undamaged page: its row, and then the faults within it
 abbrev pub undamaged_findings : ℕ → List ℕ → RowidBounds → View → Bool → List Finding
-undamaged_findings start path rowids v is_child = told_row (view_row start path v) ∷ told_by (view_cause rowids v) (inner_faults v is_child)
+undamaged_findings start path rowids v is_child = reported_row (view_row start path v) ∷ reported_by (view_cause rowids v) (inner_faults v is_child)
 
 -- the causes of a page, and that of a leaf at another depth, by its rowids and the first leaf before it
 abbrev pub with_leaf : (FaultCode → Cause) → RowidBounds → Option TreeLeaf → FaultCode → Cause
@@ -121,10 +121,10 @@ damage_fault p page damage.ContentStart = fault P03 p 0 (pos (content_start p pa
 
 -- what is reported of a damaged page: its row, and its one fault, by its bytes
 abbrev pub damaged_findings : ℕ → List ℕ → RowidBounds → ℕ → ℕ → List ℕ → Fault → List Finding
-damaged_findings start path rowids page usable bytes damage = told_row (damaged_row start path page)
-    ∷ told_by (page_cause rowids page usable bytes None) (damage ∷ [])
+damaged_findings start path rowids page usable bytes damage = reported_row (damaged_row start path page)
+    ∷ reported_by (page_cause rowids page usable bytes None) (damage ∷ [])
 
 -- what is reported of the visit of a page of a tree: its row, and its faults, by its rowids and the first leaf before it
 abbrev pub page_findings : List ℕ → RowidBounds → Option TreeLeaf → Reference → List Finding
-page_findings file rowids leaf c = map told_row (option_to_list (event_row file (at_page c)))
-    ++ told_by (with_leaf (visit_cause rowids file c) rowids leaf) (page_faults file [] c ++ depth_faults file leaf c)
+page_findings file rowids leaf c = map reported_row (option_to_list (event_row file (at_page c)))
+    ++ reported_by (with_leaf (visit_cause rowids file c) rowids leaf) (page_faults file [] c ++ depth_faults file leaf c)

@@ -17,9 +17,9 @@ use Rattle.dbformat.specs.Address.{overflow_step}
 use Rattle.dbformat.specs.Errands.{go}
 use Rattle.dbformat.specs.Faults.{fault}
 use Rattle.dbformat.specs.Story.{Event}
-use Rattle.dbformat.specs.Tests.{told_if}
+use Rattle.dbformat.specs.Tests.{reported_if}
 use Rattle.dbtrace.specs.Causes.{leaf_cause}
-use Rattle.dbtrace.specs.Finding.{Finding, told_fault}
+use Rattle.dbtrace.specs.Finding.{Finding, reported_fault}
 use Rattle.dbtrace.specs.Progress.{key_value, greater_key, depth_of}
 use Rattle.dbtrace.specs.declared.CellKey.{CellKey}
 use Rattle.dbtrace.specs.declared.RowidBounds.{RowidBounds}
@@ -96,22 +96,23 @@ abbrev pub key_cause : Option RowidBounds → Option CellKey → Cause
 key_cause left top = option_map_or (λ k. cause.Key k left) top cause.Itself
 
 -- the fault of a key, or of a rowid, after keys of which this is the greatest, with its cause
-abbrev pub order_told : Bool → Option RowidBounds → Option CellKey → ℕ → ℕ → ℤ → List Finding
-order_told is_rowid left top page item key = told_if (is_late is_rowid (key_value top) key) (told_fault (fault T06 page item key) (key_cause left top))
+abbrev pub order_reported : Bool → Option RowidBounds → Option CellKey → ℕ → ℕ → ℤ → List Finding
+order_reported is_rowid left top page item key = reported_if (is_late is_rowid (key_value top) key)
+    (reported_fault (fault T06 page item key) (key_cause left top))
 
 -- that of the rowid of a cell, if it has one
-abbrev pub late_told : Option CellKey → ℕ → ℕ → Option ℤ → List Finding
-late_told top page item None = []
-late_told top page item (Some key) = order_told true None top page item key
+abbrev pub late_reported : Option CellKey → ℕ → ℕ → Option ℤ → List Finding
+late_reported top page item None = []
+late_reported top page item (Some key) = order_reported true None top page item key
 
 -- the first leaf of a tree, after a leaf with these rowids, this page and this depth
 abbrev pub first_of : RowidBounds → Option TreeLeaf → ℕ → ℕ → TreeLeaf
 first_of rowids leaf page depth = option_map_or (λ l. l) leaf (record { page = page; depth = depth; rowids = rowids })
 
 -- the fault of a leaf whose depth differs from that of the first leaf, with its cause
-abbrev pub depth_told : RowidBounds → Option TreeLeaf → ℕ → ℕ → List Finding
-depth_told rowids leaf page depth =
-    told_if (not (depth == depth_of leaf depth)) (told_fault (fault T05 page 0 (pos depth)) (leaf_cause rowids leaf))
+abbrev pub depth_reported : RowidBounds → Option TreeLeaf → ℕ → ℕ → List Finding
+depth_reported rowids leaf page depth =
+    reported_if (not (depth == depth_of leaf depth)) (reported_fault (fault T05 page 0 (pos depth)) (leaf_cause rowids leaf))
 
 -- the greatest key after that of a cell
 abbrev pub top_after : Option CellKey → ℕ → ℕ → Option ℤ → Option CellKey

@@ -9,7 +9,7 @@ pub mod Roots
 pub mod Rows
 pub mod Steps
 pub mod Taking
-pub mod Telling
+pub mod Reporting
 pub mod Trunks
 pub mod Underway
 pub mod Walked

@@ -20,12 +20,12 @@ use Rattle.dbsurvey.specs.Moves.{Moves}
 use Rattle.dbsource.specs.declared.error.RunError.{RunError}
 use Rattle.dbsource.specs.declared.error.RunError.TheVariants.{OutOfMemory, WriteFailed}
 use Rattle.dbformat.specs.Faults.{fault}
-use Rattle.dbformat.specs.Tests.{told_if}
+use Rattle.dbformat.specs.Tests.{reported_if}
 use Rattle.dbformat.specs.declared.Fault.{Fault}
 use Rattle.dbformat.specs.declared.FaultCode.TheVariants.{S01, S02, S03, S04}
 use Rattle.dbformat.specs.declared.RowFault.{RowFault}
 use Rattle.dbformat.specs.declared.RowFault.TheVariants.{Malformed, Root}
-use Rattle.dbwalk.specs.Telling.{findings}
+use Rattle.dbwalk.specs.Reporting.{findings}
 use Rattle.dbwalk.specs.declared.schema_row.RowPlace.{RowPlace}
 
 -- the answer to a row with this root, where `held` roots are held
@@ -106,14 +106,15 @@ fault_of at (Root value) = fault S03 at.page at.item value
 
 -- the faults of one that can be read, by what the taker answers
 abbrev pub taken_faults : RowPlace → SchemaRow → Taken → List Fault
-taken_faults at row a = told_if (is_none row.name) (fault S02 at.page at.item at.rowid) ++ told_if (is_full a) (fault S04 at.page at.item (pos row.root))
+taken_faults at row a = reported_if (is_none row.name) (fault S02 at.page at.item at.rowid)
+    ++ reported_if (is_full a) (fault S04 at.page at.item (pos row.root))
 
 -- The taker gets a row that can be read, and then its faults are reported, S04 exactly if it answered Full. Of another row only
 -- the fault is reported. `tells` says what reporting findings leaves.
 abbrev pub HandsRow : {S T : Type 0} → (S → List Finding → S → Type 0) → (T → SchemaRow → Taken → T → Type 0) → RowPlace × Result SchemaRow RowFault
     → S × T → S × T → Type 0
-HandsRow tells keeps (at, Err f) before after = tells before.0 (findings (fault_of at f ∷ [])) after.0 × (before.1 ≡ after.1)
-HandsRow tells keeps (at, Ok row) before after = (a : Taken) × keeps before.1 row a after.1 × tells before.0 (findings (taken_faults at row a)) after.0
+HandsRow reports keeps (at, Err f) before after = reports before.0 (findings (fault_of at f ∷ [])) after.0 × (before.1 ≡ after.1)
+HandsRow reports keeps (at, Ok row) before after = (a : Taken) × keeps before.1 row a after.1 × reports before.0 (findings (taken_faults at row a)) after.0
 
 -- The sink was found shut, and nothing was done with the row; or the taker was refused memory for it, and nothing was reported.
 abbrev pub FailsRow : {S T : Type 0} → (T → SchemaRow → T → Type 0) → RunError → RowPlace × Result SchemaRow RowFault → S × T → S × T → Type 0
@@ -122,6 +123,7 @@ FailsRow refuses OutOfMemory (at, Ok row) before after = refuses before.1 row af
 FailsRow refuses _ row before after = ⊥
 
 -- what was done with a row
-abbrev pub TellsRow : {S T A : Type 0} → (S → Finding → S → Type 0) → (T → SchemaRow → Taken → T → Type 0) → (T → SchemaRow → T → Type 0)
+abbrev pub ReportsRow : {S T A : Type 0} → (S → Finding → S → Type 0) → (T → SchemaRow → Taken → T → Type 0) → (T → SchemaRow → T → Type 0)
     → RowPlace × Result SchemaRow RowFault → Result A RunError → S × T → S × T → Type 0
-TellsRow takes keeps refuses row r before after = MatchResult r (λ _. HandsRow (Moves takes) keeps row before after) (λ e. FailsRow refuses e row before after)
+ReportsRow takes keeps refuses row r before after = MatchResult r (λ _. HandsRow (Moves takes) keeps row before after) (λ e.
+    FailsRow refuses e row before after)

@@ -12,7 +12,7 @@ use Rattle.dbsource.specs.declared.error.RunError.{RunError}
 use Rattle.dbsource.specs.declared.error.RunError.TheVariants.{OutOfMemory}
 use Rattle.dbtrace.specs.Item.{Item}
 use Rattle.dbtrace.specs.Walk.{Walk}
-use Rattle.dbwalk.specs.Telling.{IsReadOrWrite, SinkWalks, SinkState}
+use Rattle.dbwalk.specs.Reporting.{IsReadOrWrite, SinkWalks, SinkState}
 use Rattle.dbmarks.specs.Reads.{Reads}
 use Rattle.dbwalk.specs.Underway.{HasDone}
 use Rattle.dbwalk.specs.declared.tree_walk.TreeWalk.{TreeWalk}

@@ -12,13 +12,13 @@ ghost use Rattle.dbwalk.specs.Done.{IsDone};
 ghost use Rattle.dbwalk.specs.Entered.{IsNext};
 ghost use Rattle.dbmarks.specs.Marking.{AreMarksOf};
 ghost use Rattle.dbwalk.specs.Beside.{LeavesBeside, Turns, WalksBeside};
-ghost use Rattle.dbwalk.specs.Telling.{SinkMoves};
+ghost use Rattle.dbwalk.specs.Reporting.{SinkMoves};
 ghost use Rattle.dbmarks.specs.Reads.{Reads};
 ghost use Rattle.dbsource.specs.Sources.{HasLog};
 
 use crate::beside::enter_beside;
 use crate::entering::Step;
-use crate::overflow::{feed_page, last_fault, next_page, overflow_row, tell};
+use crate::overflow::{feed_page, last_fault, next_page, overflow_row, report};
 use crate::{Mark, Marks, Sink};
 use dbbytes::RowSieve;
 use dbsource::{Bench, RunError, Source};
@@ -84,7 +84,7 @@ fn visit_overflow<K: Sink>(
     feed_page(bytes, usable, left, sieve);
     let row = overflow_row(at.chain, at.place, usable);
     let fault = last_fault(usable, left, page, next);
-    tell(&row, fault, at, usable, bytes, sink);
+    report(&row, fault, at, usable, bytes, sink);
     next
 }
 

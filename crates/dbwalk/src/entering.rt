@@ -9,7 +9,7 @@ ghost use Rattle.dbwalk.specs.Entered.{IsNext, IsStepOf, Enters};
 ghost use Rattle.dbtrace.specs.Causes.{no_rowids};
 ghost use Rattle.dbtrace.specs.declared.Cause.{Cause};
 ghost use Rattle.dbtrace.specs.declared.Cause.TheVariants as cause;
-ghost use Rattle.dbwalk.specs.Telling.{SinkWalks};
+ghost use Rattle.dbwalk.specs.Reporting.{SinkWalks};
 
 use crate::{Cause, Fault, Mark, Marks, RowidBounds, Sink};
 use dbsource::RunError;

@@ -15,7 +15,7 @@ ghost use Rattle.dbwalk.specs.Done.{IsDone, IsLeft};
 ghost use Rattle.dbwalk.specs.Entered.{IsNext};
 ghost use Rattle.dbwalk.specs.Trunks.{LeavesErrands, IsFirstTrunk, IsOnTrunks, OpensTrunk, next_step};
 ghost use Rattle.dbmarks.specs.Marking.{AreMarksOf, KeepsMarks, unmarked_pages};
-ghost use Rattle.dbwalk.specs.Telling.{IsReadOrWrite, SinkAfter, SinkWalks};
+ghost use Rattle.dbwalk.specs.Reporting.{IsReadOrWrite, SinkAfter, SinkWalks};
 ghost use Rattle.dbmarks.specs.Reads.{Reads};
 ghost use Rattle.dbmarks.specs.declared.marks.Mark.{Mark};
 ghost use Rattle.dbmarks.specs.declared.marks.Mark.TheVariants as use_mark;

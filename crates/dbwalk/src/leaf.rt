@@ -11,16 +11,16 @@ ghost use Rattle.dbformat.specs.Errands.{cell_errands};
 ghost use Rattle.dbformat.specs.Payload.{most_payload};
 ghost use Rattle.dbformat.specs.File.{geometry as shape_of};
 ghost use Rattle.dbsource.specs.Sources.{HasLog};
-ghost use Rattle.dbwalk.specs.LeafCells.{overflow_errands, late_told, top_after};
+ghost use Rattle.dbwalk.specs.LeafCells.{overflow_errands, late_reported, top_after};
 ghost use Rattle.dbwalk.specs.Taking.{FeedsPayload};
 ghost use Rattle.dbwalk.specs.Beside.{LeavesBeside};
-ghost use Rattle.dbwalk.specs.Telling.{IsReportedTo};
+ghost use Rattle.dbwalk.specs.Reporting.{IsReportedTo};
 ghost use Rattle.dbwalk.specs.Done.{IsDone};
 ghost use Rattle.dbmarks.specs.Reads.{Reads};
 
 use crate::cells::{LeafCell, leaf_cell, leaf_cells, pass_cells};
 use crate::chain::{Chain, walk_chain};
-use crate::schema_row::{RowPlace, begin_row, tell_row};
+use crate::schema_row::{RowPlace, begin_row, report_row};
 use crate::state::Tree;
 use crate::tree_walk::TreeWalk;
 use crate::{CellKey, Marks, Sink, Taker};
@@ -89,8 +89,8 @@ impl<A: Allocator, S: Source, K: Sink, T: Taker> TreeWalk<'_, '_, '_, '_, A, S, 
         };
         walk_overflow(self.source, bench, self.marks, at, sieve, self.sink)?;
         let place = RowPlace::new(page, i, cell.key);
-        tell_row(sieve, place, self.taker, self.sink)?;
-        tell_rowid(&mut self.tree, page, i, cell.key, self.sink);
+        report_row(sieve, place, self.taker, self.sink)?;
+        report_rowid(&mut self.tree, page, i, cell.key, self.sink);
         Ok(())
     }
 }
@@ -143,14 +143,14 @@ pub(crate) fn walk_overflow<A: Allocator, S: Source, K: Sink>(
 }
 
 /// Reports a key of a leaf's cell that is out of order, and keeps the key if it is the greatest so far.
-pub(crate) fn tell_rowid<K: Sink>(
+pub(crate) fn report_rowid<K: Sink>(
     tree: &mut Tree,
     page: u32,
     i: u32,
     key: Option<i64>,
     sink: &mut K,
 )
-    ensures told { IsReportedTo K.takes K.held sink.old (late_told tree.old.greatest page i key) sink.new }
+    ensures reported { IsReportedTo K.takes K.held sink.old (late_reported tree.old.greatest page i key) sink.new }
     ensures greatest { tree.new.greatest ≡ top_after tree.old.greatest page i key }
     ensures others { IsSameButGreatest tree.old tree.new }
 {
@@ -160,6 +160,6 @@ pub(crate) fn tell_rowid<K: Sink>(
             item: i,
             value: key,
         };
-        tree.tell_key(at, true, None, sink);
+        tree.report_key(at, true, None, sink);
     }
 }

@@ -5,12 +5,12 @@ ghost use Rattle.dbformat.specs.Faults.{fault};
 ghost use Rattle.dbtrace.specs.Causes.{seen_bytes};
 ghost use Rattle.dbtrace.specs.declared.Cause.TheVariants as cause;
 ghost use Rattle.dbformat.specs.Payload.{most_payload, overflow_bytes, overflow_next};
-ghost use Rattle.dbformat.specs.Tests.{told_if};
+ghost use Rattle.dbformat.specs.Tests.{reported_if};
 ghost use Rattle.dbformat.specs.declared.FaultCode.TheVariants as fault_code;
 ghost use Rattle.dbformat.specs.declared.PageType.TheVariants as page_type;
 ghost use Rattle.dbwalk.specs.Chains.{Feeds, seen_before, walked_chain};
-ghost use Rattle.dbtrace.specs.Finding.{told_row, told_fault};
-ghost use Rattle.dbwalk.specs.Telling.{IsReportedTo};
+ghost use Rattle.dbtrace.specs.Finding.{reported_row, reported_fault};
+ghost use Rattle.dbwalk.specs.Reporting.{IsReportedTo};
 ghost use Rattle.dbwalk.specs.Rows.{row_of};
 
 use crate::chain::{Chain, ChainPage, ChainPlace};
@@ -87,7 +87,7 @@ pub(crate) fn overflow_row<'a>(chain: &Chain<'a>, place: ChainPlace, usable: u32
 // The fault of the last page of a chain that names a next one.
 pub(crate) fn last_fault(usable: u32, left: u32, page: u32, next: u32) -> Option<Fault>
     requires { 4 ≤ usable }
-    ensures { option_to_list result ≡ told_if (nat_le left (usable - 4) && not (next == 0)) (fault fault_code.O01 page 0 (pos next)) }
+    ensures { option_to_list result ≡ reported_if (nat_le left (usable - 4) && not (next == 0)) (fault fault_code.O01 page 0 (pos next)) }
 {
     if left <= usable - 4 && next != 0 {
         Some(Fault::new(FaultCode::O01, page, 0, next))
@@ -115,7 +115,7 @@ pub(crate) fn chain_cause(at: ChainPage<'_>, usable: u32, found: u32, seen: Seen
 }
 
 // Reports the row of the page at a place of a chain, which has these bytes, and then its fault with the cause, if there is one.
-pub(crate) fn tell<K: Sink>(
+pub(crate) fn report<K: Sink>(
     row: &Row<'_>,
     fault: Option<Fault>,
     at: ChainPage<'_>,
@@ -126,8 +126,8 @@ pub(crate) fn tell<K: Sink>(
     requires usable { (480 ≤ usable) × (usable ≤ 65536) }
     requires whole { usable ≤ length bytes.now }
     requires counted { at.place.number + at.place.left ≤ most_payload }
-    ensures { IsReportedTo K.takes K.held sink.old (told_row (row_of row.now)
-        ∷ map (λ f. told_fault f (cause.Chain (walked_chain at.entry.chain.now at.entry.place.number usable at.entry.place.left (at.entry.place.number + 1)
+    ensures { IsReportedTo K.takes K.held sink.old (reported_row (row_of row.now)
+        ∷ map (λ f. reported_fault f (cause.Chain (walked_chain at.entry.chain.now at.entry.place.number usable at.entry.place.left (at.entry.place.number + 1)
         (seen_bytes usable bytes.now)))) (option_to_list fault)) sink.new }
 {
     sink.row(row);

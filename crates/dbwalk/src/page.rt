@@ -9,10 +9,10 @@ ghost use Rattle.dbformat.specs.PageFaults.{fragment_fault, cell_fault, cell_fau
 ghost use Rattle.dbformat.specs.PageFaults.{coverage_fault, empty_fault, inner_faults, tree_page_faults};
 ghost use Rattle.dbformat.specs.Runs.{content_run};
 ghost use Rattle.dbtrace.specs.Causes.{page_cause, page_facts};
-ghost use Rattle.dbtrace.specs.Finding.{told_by};
+ghost use Rattle.dbtrace.specs.Finding.{reported_by};
 ghost use Rattle.dbtrace.specs.declared.Cause.TheVariants as cause;
 ghost use Rattle.dbwalk.specs.Found.{IsPlaceOf, IsUsable, damage_fault, inner_cause, rows_of, view_cause};
-ghost use Rattle.dbwalk.specs.Telling.{IsReportedTo};
+ghost use Rattle.dbwalk.specs.Reporting.{IsReportedTo};
 
 use crate::{Cause, PageFacts, RowidBounds, Sink};
 use dbformat::{
@@ -150,7 +150,7 @@ fn is_of_tree(page: PageKind, tree: TreeKind) -> bool
 /// Reports the faults within an undamaged page. `uses` is room to work in, a byte for each usable byte of the page.
 // Most pages are packed and do not reach this call.
 #[inline(never)]
-pub(crate) fn tell_inner<K: Sink>(
+pub(crate) fn report_inner<K: Sink>(
     view: &PageView<'_>,
     place: &PagePlace<'_>,
     is_child: bool,
@@ -158,22 +158,22 @@ pub(crate) fn tell_inner<K: Sink>(
     sink: &mut K,
 )
     requires { IsPlaceOf place.now view.now (length uses.old) }
-    ensures { IsReportedTo K.takes K.held sink.old (told_by (view_cause place.now.rowids view.now) (inner_faults view.now is_child)) sink.new }
+    ensures { IsReportedTo K.takes K.held sink.old (reported_by (view_cause place.now.rowids view.now) (inner_faults view.now is_child)) sink.new }
 {
     let number = place.page;
     let cause = cause_within(view, place);
-    tell_found(fragment_fault(view, number), &cause, sink);
-    let are_cells_good = tell_cells(view, number, &cause, sink);
+    report_found(fragment_fault(view, number), &cause, sink);
+    let are_cells_good = report_cells(view, number, &cause, sink);
     let freeblock = freeblock_fault(view, number);
     let is_good = are_cells_good & freeblock.is_none();
     let coverage = coverage_fault(view, number, is_good, uses);
     let empty = empty_fault(view, number, is_child);
-    tell_each(&[freeblock, coverage, empty], &cause, sink);
+    report_each(&[freeblock, coverage, empty], &cause, sink);
 }
 
 /// Reports the faults within an undamaged page whose cells are all readable and of which no byte is held twice. `unheld` is the
 /// number of bytes that no item holds.
-pub(crate) fn tell_readable<K: Sink>(
+pub(crate) fn report_readable<K: Sink>(
     view: &PageView<'_>,
     place: &PagePlace<'_>,
     is_child: bool,
@@ -184,7 +184,7 @@ pub(crate) fn tell_readable<K: Sink>(
     requires cells { (i : ℕ) → i < count view.now → IsOk (cell view.now i) }
     requires unheld { coverage view.now ≡ Coverage.Unheld unheld }
     requires most { view.now.usable ≤ 65536 }
-    ensures { IsReportedTo K.takes K.held sink.old (told_by (view_cause place.now.rowids view.now) (inner_faults view.now is_child)) sink.new }
+    ensures { IsReportedTo K.takes K.held sink.old (reported_by (view_cause place.now.rowids view.now) (inner_faults view.now is_child)) sink.new }
 {
     let number = place.page;
     let fragments = fragment_fault(view, number);
@@ -193,7 +193,7 @@ pub(crate) fn tell_readable<K: Sink>(
     let empty = empty_fault(view, number, is_child);
     let found = [fragments, freeblock, coverage, empty];
     if !are_none(&found) {
-        tell_each(&found, &cause_within(view, place), sink);
+        report_each(&found, &cause_within(view, place), sink);
     }
 }
 
@@ -209,11 +209,11 @@ fn are_none(faults: &[Option<Fault>; 4]) -> bool
 }
 
 // Reports those of these faults that are there.
-fn tell_each<K: Sink>(faults: &[Option<Fault>], cause: &Cause, sink: &mut K)
-    ensures { IsReportedTo K.takes K.held sink.old (told_by (inner_cause cause.now) (flat_map option_to_list faults.now)) sink.new }
+fn report_each<K: Sink>(faults: &[Option<Fault>], cause: &Cause, sink: &mut K)
+    ensures { IsReportedTo K.takes K.held sink.old (reported_by (inner_cause cause.now) (flat_map option_to_list faults.now)) sink.new }
 {
     for found in faults {
-        tell_found(*found, cause, sink);
+        report_found(*found, cause, sink);
     }
 }
 
@@ -228,8 +228,8 @@ fn rows_of(cause: &Cause) -> Cause
 }
 
 // Reports a fault within a page, if there is one. That there are no cells goes back to nothing else.
-fn tell_found<K: Sink>(found: Option<Fault>, cause: &Cause, sink: &mut K)
-    ensures { IsReportedTo K.takes K.held sink.old (told_by (inner_cause cause.now) (option_to_list found)) sink.new }
+fn report_found<K: Sink>(found: Option<Fault>, cause: &Cause, sink: &mut K)
+    ensures { IsReportedTo K.takes K.held sink.old (reported_by (inner_cause cause.now) (option_to_list found)) sink.new }
 {
     let Some(fault) = found else {
         return;
@@ -253,23 +253,23 @@ fn fragment_fault(view: &PageView<'_>, number: u32) -> Option<Fault>
 }
 
 // Reports each cell that is not readable; true if all are.
-fn tell_cells<K: Sink>(view: &PageView<'_>, number: u32, cause: &Cause, sink: &mut K) -> bool
+fn report_cells<K: Sink>(view: &PageView<'_>, number: u32, cause: &Cause, sink: &mut K) -> bool
     requires { number ≡ view.now.number }
-    ensures told { IsReportedTo K.takes K.held sink.old (told_by (inner_cause cause.now) (cell_faults view.now)) sink.new }
+    ensures reported { IsReportedTo K.takes K.held sink.old (reported_by (inner_cause cause.now) (cell_faults view.now)) sink.new }
     ensures good { result ≡ (length (cell_faults view.now) == 0) }
 {
     let mut good = true;
     for i in 0..view.cells() {
-        good &= tell_cell(view, number, i, cause, sink);
+        good &= report_cell(view, number, i, cause, sink);
     }
     good
 }
 
 // Reports cell `i` if it is not readable; true if it is.
-fn tell_cell<K: Sink>(view: &PageView<'_>, number: u32, i: u32, cause: &Cause, sink: &mut K) -> bool
+fn report_cell<K: Sink>(view: &PageView<'_>, number: u32, i: u32, cause: &Cause, sink: &mut K) -> bool
     requires number { number ≡ view.now.number }
     requires cell { i < count view.now }
-    ensures told { IsReportedTo K.takes K.held sink.old (told_by (inner_cause cause.now) (cell_fault view.now i)) sink.new }
+    ensures reported { IsReportedTo K.takes K.held sink.old (reported_by (inner_cause cause.now) (cell_fault view.now i)) sink.new }
     ensures good { result ≡ (length (cell_fault view.now i) == 0) }
 {
     let code = match view.cell(i) {
@@ -278,7 +278,7 @@ fn tell_cell<K: Sink>(view: &PageView<'_>, number: u32, i: u32, cause: &Cause, s
         Err(CellFault::Unreadable) => FaultCode::P06,
     };
     let fault = Fault::new(code, number, i, view.pointer(i));
-    tell_found(Some(fault), cause, sink);
+    report_found(Some(fault), cause, sink);
     false
 }
 

@@ -12,7 +12,7 @@ ghost use Rattle.dbmarks.specs.Marking.{IsUse, named_page};
 ghost use Rattle.dbwalk.specs.Points.{AtPage};
 
 use crate::entering::Step;
-use crate::page_report::{PageFound, tell_page};
+use crate::page_report::{PageFound, report_page};
 use crate::tree_walk::TreeWalk;
 use crate::{Mark, Sink, Taker};
 use dbsource::{Bench, RunError, Source};
@@ -66,7 +66,7 @@ impl<A: Allocator, S: Source, K: Sink, T: Taker> TreeWalk<'_, '_, '_, '_, A, S, 
         ensures open { IfOk result (λ yes. IsTrue yes
             → IsOpen bench.new.geometry.usable self.new.tree.kind bench.new.levels (length self.old.tree.path.items) page 0) }
     {
-        match tell_page(bench, &mut self.tree, page, up_to, self.sink) {
+        match report_page(bench, &mut self.tree, page, up_to, self.sink) {
             PageFound::Interior => Ok(true),
             PageFound::Damaged => Ok(false),
             PageFound::Leaf(keys) => {

@@ -2,12 +2,12 @@
 ghost use Rattle.std.specs.Prelude.{◌≡◌, ◌<◌, length};
 ghost use Rattle.dbformat.specs.FixedPages.{IsPageNumber};
 ghost use Rattle.dbwalk.specs.Found.{IsFound, page_findings};
-ghost use Rattle.dbwalk.specs.Telling.{IsReportedTo, SinkMoves};
+ghost use Rattle.dbwalk.specs.Reporting.{IsReportedTo, SinkMoves};
 ghost use Rattle.dbtrace.specs.Progress.{key_value, leaf_after};
 ghost use Rattle.dbwalk.specs.Points.{AtRead, IsSameButLeaf};
 
 use crate::page::{PagePlace, undamaged};
-use crate::page_row::{tell_damaged, tell_undamaged};
+use crate::page_row::{report_damaged, report_undamaged};
 use crate::state::{KeySpan, Tree, key_value};
 use crate::{RowidBounds, Sink};
 use dbsource::Bench;
@@ -24,7 +24,7 @@ pub(crate) enum PageFound {
 
 /// Reports the row of a page that was read at the level of the tree's path, and its faults; `up_to` is the key of the innermost
 /// cell whose left child leads to it. Of a leaf it also reports that its depth differs from that of the first leaf.
-pub(crate) fn tell_page<A: Allocator, K: Sink>(
+pub(crate) fn report_page<A: Allocator, K: Sink>(
     bench: &mut Bench<A>,
     tree: &mut Tree,
     page: u32,
@@ -38,7 +38,7 @@ pub(crate) fn tell_page<A: Allocator, K: Sink>(
     ensures open { IsFound bench.new.geometry.usable tree.new.kind bench.new.levels (length tree.old.path.items) page result }
     ensures writes { SinkMoves (K.held sink.old) (K.held sink.new) }
     // For each file in which the bytes at the level are those of the page.
-    ensures told { AtRead bench.old.geometry tree.old bench.old.levels page (λ file c.
+    ensures reported { AtRead bench.old.geometry tree.old bench.old.levels page (λ file c.
         IsReportedTo K.takes K.held sink.old
         (page_findings file (record { above = key_value tree.old.greatest; up_to = up_to }) tree.old.leaf c) sink.new
         × (tree.new.leaf ≡ leaf_after file tree.old.leaf (record { above = key_value tree.old.greatest; up_to = up_to }) c)) }
@@ -59,17 +59,17 @@ pub(crate) fn tell_page<A: Allocator, K: Sink>(
     let (bytes, uses) = bench.uses(level);
     let keys = match undamaged(bytes, page, usable, tree.kind) {
         Ok(view) => {
-            let keys = tell_undamaged(&view, &place, depth > 1, uses, sink);
+            let keys = report_undamaged(&view, &place, depth > 1, uses, sink);
             if view.kind().is_interior() {
                 return PageFound::Interior;
             }
             keys
         }
         Err(damage) => {
-            tell_damaged(&place, bytes, usable, damage, sink);
+            report_damaged(&place, bytes, usable, damage, sink);
             return PageFound::Damaged;
         }
     };
-    tree.tell_depth(page, depth, rowids, sink);
+    tree.report_depth(page, depth, rowids, sink);
     PageFound::Leaf(keys)
 }

@@ -2,11 +2,11 @@
 ghost use Rattle.std.specs.Prelude.{◌≡◌, ◌≤◌, length, IfSome};
 ghost use Rattle.dbwalk.specs.LeafCells.{HasSpan};
 ghost use Rattle.dbwalk.specs.Found.{IsPlaceOf, IsUsable, damage_fault, undamaged_findings, damaged_findings};
-ghost use Rattle.dbwalk.specs.Telling.{IsReportedTo};
+ghost use Rattle.dbwalk.specs.Reporting.{IsReportedTo};
 ghost use Rattle.dbformat.specs.Cell.{cells};
 ghost use Rattle.dbpage.specs.Packed.{payload_of, greatest_of};
 
-use crate::page::{Damage, PagePlace, damage_cause, damage_fault, tell_inner, tell_readable};
+use crate::page::{Damage, PagePlace, damage_cause, damage_fault, report_inner, report_readable};
 use crate::state::KeySpan;
 use crate::{Row, Sink};
 use dbformat::{Counts, PageType};
@@ -14,7 +14,7 @@ use dbpage::PageView;
 
 /// Reports the row of an undamaged page, and then the faults within it. Answers with the span of its keys, if these rise and no
 /// cell has an overflow page. `uses` is room to work in, a byte for each usable byte of the page.
-pub(crate) fn tell_undamaged<K: Sink>(
+pub(crate) fn report_undamaged<K: Sink>(
     view: &PageView<'_>,
     place: &PagePlace<'_>,
     is_child: bool,
@@ -22,7 +22,7 @@ pub(crate) fn tell_undamaged<K: Sink>(
     sink: &mut K,
 ) -> Option<KeySpan>
     requires { IsPlaceOf place.now view.now (length uses.old) }
-    ensures told { IsReportedTo K.takes K.held sink.old (undamaged_findings place.now.start place.now.path.now place.now.rowids
+    ensures reported { IsReportedTo K.takes K.held sink.old (undamaged_findings place.now.start place.now.path.now place.now.rowids
         view.now is_child) sink.new }
     ensures keys { IfSome result (HasSpan view.now) }
 {
@@ -48,10 +48,10 @@ pub(crate) fn tell_undamaged<K: Sink>(
         },
     });
     let Some(page) = packed else {
-        tell_inner(view, place, is_child, uses, sink);
+        report_inner(view, place, is_child, uses, sink);
         return None;
     };
-    tell_readable(view, place, is_child, page.unheld, sink);
+    report_readable(view, place, is_child, page.unheld, sink);
     if page.sums.has_overflow {
         return None;
     }
@@ -63,7 +63,7 @@ pub(crate) fn tell_undamaged<K: Sink>(
 }
 
 /// Reports the row of a damaged page of these bytes, and then its one fault.
-pub(crate) fn tell_damaged<K: Sink>(
+pub(crate) fn report_damaged<K: Sink>(
     place: &PagePlace<'_>,
     bytes: &[u8],
     usable: u32,

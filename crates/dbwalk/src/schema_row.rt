@@ -2,12 +2,12 @@
 ghost use Rattle.std.specs.Prelude.{◌≡◌, ℕ, List, None, Ok, IfErr, ◌<◌, ◌≤◌, length};
 ghost use Rattle.dbformat.specs.Faults.{fault};
 ghost use Rattle.dbformat.specs.SchemaRow.{schema_row};
-ghost use Rattle.dbformat.specs.Tests.{told_if};
+ghost use Rattle.dbformat.specs.Tests.{reported_if};
 ghost use Rattle.dbformat.specs.declared.Encoding.{Encoding};
 ghost use Rattle.dbbytes.specs.Row.{seen};
-ghost use Rattle.dbwalk.specs.Telling.{IsWriteOrMemory, IsReportedTo, findings, SinkWalks};
+ghost use Rattle.dbwalk.specs.Reporting.{IsWriteOrMemory, IsReportedTo, findings, SinkWalks};
 ghost use Rattle.dbwalk.specs.Rows.{schema_row_of};
-ghost use Rattle.dbwalk.specs.Taking.{row_place, fault_of, taken_faults, TellsRow, HasFed, HasSieve};
+ghost use Rattle.dbwalk.specs.Taking.{row_place, fault_of, taken_faults, ReportsRow, HasFed, HasSieve};
 ghost use Rattle.dbsource.specs.Errors.{is_out_of_memory};
 ghost use Rattle.dbsource.specs.Failures.{failures_after};
 ghost use Rattle.dbformat.specs.Address.{schema_start};
@@ -65,8 +65,8 @@ impl RowPlace {
 }
 
 // Reports a fault, if there is one.
-fn tell_if<K: Sink>(is_fault: bool, fault: &Fault, sink: &mut K)
-    ensures { IsReportedTo K.takes K.held sink.old (findings (told_if is_fault fault.now)) sink.new }
+fn report_if<K: Sink>(is_fault: bool, fault: &Fault, sink: &mut K)
+    ensures { IsReportedTo K.takes K.held sink.old (findings (reported_if is_fault fault.now)) sink.new }
 {
     if is_fault {
         sink.fault(fault, &Cause::Itself);
@@ -74,13 +74,13 @@ fn tell_if<K: Sink>(is_fault: bool, fault: &Fault, sink: &mut K)
 }
 
 // Reports what is wrong with a row that was taken.
-fn tell_taken<K: Sink>(row: &SchemaRow<'_>, taken: Taken, place: RowPlace, sink: &mut K)
+fn report_taken<K: Sink>(row: &SchemaRow<'_>, taken: Taken, place: RowPlace, sink: &mut K)
     ensures { IsReportedTo K.takes K.held sink.old (findings (taken_faults place (schema_row_of row.now) taken)) sink.new }
 {
     let nameless = place.fault(FaultCode::S02, place.rowid);
-    tell_if(row.name.is_none(), &nameless, sink);
+    report_if(row.name.is_none(), &nameless, sink);
     let left_out = place.fault(FaultCode::S04, i64::from(row.root));
-    tell_if(taken == Taken::Full, &left_out, sink);
+    report_if(taken == Taken::Full, &left_out, sink);
 }
 
 // While the sink is open, hands a row to the taker, and then reports what is wrong with it. Of a row that cannot be read, only the
@@ -94,14 +94,14 @@ fn take_row<K: Sink, T: Taker>(
     ensures writes { SinkWalks result (K.held sink.old) (K.held sink.new) }
     ensures refusals { T.refusals taker.new ≡ failures_after is_out_of_memory result (T.refusals taker.old) }
     ensures only { IfErr result IsWriteOrMemory }
-    ensures told { TellsRow K.takes T.takes T.refuses (place, seen row.entry) result (sink.old, taker.old) (sink.new, taker.new) }
+    ensures reported { ReportsRow K.takes T.takes T.refuses (place, seen row.entry) result (sink.old, taker.old) (sink.new, taker.new) }
 {
     ask(sink)?;
     match row {
         Err(fault) => sink.fault(&place.row_fault(fault), &Cause::Itself),
         Ok(row) => {
             let taken = taker.take(&row)?;
-            tell_taken(&row, taken, place, sink);
+            report_taken(&row, taken, place, sink);
         }
     }
     Ok(())
@@ -114,7 +114,7 @@ fn take_row<K: Sink, T: Taker>(
 ///
 /// [`RunError::OutOfMemory`] exactly where the taker was refused memory, [`RunError::WriteFailed`] exactly where there is a sieve
 /// and the sink was shut: nothing was reported then.
-pub(crate) fn tell_row<K: Sink, T: Taker>(
+pub(crate) fn report_row<K: Sink, T: Taker>(
     sieve: &Option<RowSieve>,
     place: RowPlace,
     taker: &mut T,
@@ -124,8 +124,8 @@ pub(crate) fn tell_row<K: Sink, T: Taker>(
     ensures refusals { T.refusals taker.new ≡ failures_after is_out_of_memory result (T.refusals taker.old) }
     ensures only { IfErr result IsWriteOrMemory }
     ensures none { sieve.now ≡ None → (result ≡ Ok tt) × (sink.new ≡ sink.old) × (taker.new ≡ taker.old) }
-    ensures told { (size : ℕ) (e : Encoding) (bytes : List ℕ) → HasFed sieve.now size e bytes
-        → TellsRow K.takes T.takes T.refuses (place, schema_row bytes size e) result (sink.old, taker.old) (sink.new, taker.new) }
+    ensures reported { (size : ℕ) (e : Encoding) (bytes : List ℕ) → HasFed sieve.now size e bytes
+        → ReportsRow K.takes T.takes T.refuses (place, schema_row bytes size e) result (sink.old, taker.old) (sink.new, taker.new) }
 {
     match sieve {
         None => Ok(()),

@@ -1,8 +1,8 @@
 // The sink of rows and faults.
 ghost use Rattle.std.specs.Prelude.{◌≡◌};
-ghost use Rattle.dbtrace.specs.Finding.{Finding, told_row, told_fault};
+ghost use Rattle.dbtrace.specs.Finding.{Finding, reported_row, reported_fault};
 ghost use Rattle.dbwalk.specs.Rows.{row_of};
-ghost use Rattle.dbwalk.specs.Telling.{SinkMoves};
+ghost use Rattle.dbwalk.specs.Reporting.{SinkMoves};
 
 use crate::{Cause, Fault, PageType};
 use dbformat::Counts;
@@ -64,7 +64,7 @@ pub struct Row<'a> {
 /// `held = { λ s. record { lent = []; failures = s.failures ∷ []; is_shut = s.is_shut } }`, where `◌∷◌` is brought in beside `[]`.
 pub trait Sink {
     ghost use Rattle.dbtrace.specs.Finding.{Finding};
-    ghost use Rattle.dbwalk.specs.Telling.{SinkState};
+    ghost use Rattle.dbwalk.specs.Reporting.{SinkState};
 
     // The state after an item: it was taken, or not whole, or it came to a sink that was shut.
     ghost takes: { Self → Finding → Self → Type 0 };
@@ -74,13 +74,13 @@ pub trait Sink {
     /// Takes a fault, with its cause. A sink that is shut takes nothing. Where the fault is not taken whole, this counts as one
     /// failure, and the sink is shut.
     fn fault(&mut self, fault: &Fault, cause: &Cause)
-        ensures item { takes self.old (told_fault fault.now cause.now) self.new }
+        ensures item { takes self.old (reported_fault fault.now cause.now) self.new }
         ensures count { SinkMoves (held self.old) (held self.new) };
 
     /// Takes a row of the statistics. A sink that is shut takes nothing. Where the row is not taken whole, this counts as one
     /// failure, and the sink is shut.
     fn row(&mut self, row: &Row<'_>)
-        ensures item { takes self.old (told_row (row_of row.now)) self.new }
+        ensures item { takes self.old (reported_row (row_of row.now)) self.new }
         ensures count { SinkMoves (held self.old) (held self.new) };
 
     /// Whether an item was not taken whole. It stays so.

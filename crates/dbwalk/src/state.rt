@@ -1,14 +1,14 @@
 // What the walk over one tree keeps beside marks, buffers and frames.
 ghost use Rattle.dbformat.specs.Faults.{fault};
 ghost use Rattle.dbformat.specs.declared.FaultCode.TheVariants as fault_code;
-ghost use Rattle.dbtrace.specs.Finding.{told_fault};
+ghost use Rattle.dbtrace.specs.Finding.{reported_fault};
 ghost use Rattle.dbtrace.specs.declared.Cause.TheVariants as cause;
 ghost use Rattle.std.specs.Prelude.{◌≡◌, [], ◌∷◌, Some, None, false, pos, IsTrue, IsSomeAnd};
 ghost use Rattle.dbtrace.specs.Causes.{go_on_from, leaf_rows};
-ghost use Rattle.dbwalk.specs.LeafCells.{ArePassed, depth_told, first_of, is_late, order_told};
+ghost use Rattle.dbwalk.specs.LeafCells.{ArePassed, depth_reported, first_of, is_late, order_reported};
 ghost use Rattle.dbtrace.specs.Progress.{greater_key, key_value};
 ghost use Rattle.dbwalk.specs.Points.{IsSameButGreatest, IsSameButLeaf};
-ghost use Rattle.dbwalk.specs.Telling.{IsReportedTo};
+ghost use Rattle.dbwalk.specs.Reporting.{IsReportedTo};
 
 use crate::{Cause, CellKey, RowidBounds, Sink, TreeLeaf};
 use arrayvec::ArrayVec;
@@ -48,8 +48,8 @@ pub(crate) fn key_value(key: Option<CellKey>) -> Option<i64>
 
 // Reports that a key is out of order, after the greatest key before it. Most keys are in order and do not reach this call.
 #[inline(never)]
-fn tell_late<K: Sink>(top: CellKey, at: CellKey, left: Option<RowidBounds>, sink: &mut K)
-    ensures { IsReportedTo K.takes K.held sink.old (told_fault (fault fault_code.T06 at.page at.item at.value) (cause.Key top left) ∷ []) sink.new }
+fn report_late<K: Sink>(top: CellKey, at: CellKey, left: Option<RowidBounds>, sink: &mut K)
+    ensures { IsReportedTo K.takes K.held sink.old (reported_fault (fault fault_code.T06 at.page at.item at.value) (cause.Key top left) ∷ []) sink.new }
 {
     let fault = Fault {
         code: FaultCode::T06,
@@ -87,7 +87,7 @@ fn leaf_rows(first: RowidBounds, own: RowidBounds) -> RowidBounds
 
 // Reports that a leaf has another depth than the first leaf. Few leaves have, and reach this call.
 #[inline(never)]
-fn tell_other_depth<K: Sink>(
+fn report_other_depth<K: Sink>(
     first: &TreeLeaf,
     page: u32,
     depth: u32,
@@ -95,7 +95,7 @@ fn tell_other_depth<K: Sink>(
     sink: &mut K,
 )
     ensures { IsReportedTo K.takes K.held sink.old
-        (told_fault (fault fault_code.T05 page 0 (pos depth)) (cause.Leaf first.now.page (leaf_rows first.now.rowids rowids)) ∷ []) sink.new }
+        (reported_fault (fault fault_code.T05 page 0 (pos depth)) (cause.Leaf first.now.page (leaf_rows first.now.rowids rowids)) ∷ []) sink.new }
 {
     let fault = Fault {
         code: FaultCode::T05,
@@ -133,14 +133,14 @@ impl Tree {
     }
 
     /// Reports a key that is out of order, with the rows of its left child, and keeps the key if it is the greatest so far.
-    pub(crate) fn tell_key<K: Sink>(
+    pub(crate) fn report_key<K: Sink>(
         &mut self,
         at: CellKey,
         is_rowid: bool,
         left: Option<RowidBounds>,
         sink: &mut K,
     )
-        ensures told { IsReportedTo K.takes K.held sink.old (order_told is_rowid left self.old.greatest at.page at.item at.value) sink.new }
+        ensures reported { IsReportedTo K.takes K.held sink.old (order_reported is_rowid left self.old.greatest at.page at.item at.value) sink.new }
         ensures greatest { self.new.greatest ≡ greater_key self.old.greatest at }
         ensures others { IsSameButGreatest self.old self.new }
     {
@@ -151,7 +151,7 @@ impl Tree {
                 at.value < top.value
             };
             if is_late {
-                tell_late(top, at, left, sink);
+                report_late(top, at, left, sink);
                 return;
             }
         }
@@ -190,14 +190,14 @@ impl Tree {
 
     /// Reports a leaf whose depth differs from that of the first leaf of the tree, with the rows of both as far as they go on from
     /// one another. If there was no leaf before, this is the first.
-    pub(crate) fn tell_depth<K: Sink>(
+    pub(crate) fn report_depth<K: Sink>(
         &mut self,
         page: u32,
         depth: u32,
         rowids: RowidBounds,
         sink: &mut K,
     )
-        ensures told { IsReportedTo K.takes K.held sink.old (depth_told rowids self.old.leaf page depth) sink.new }
+        ensures reported { IsReportedTo K.takes K.held sink.old (depth_reported rowids self.old.leaf page depth) sink.new }
         ensures leaf { self.new.leaf ≡ Some (first_of rowids self.old.leaf page depth) }
         ensures others { IsSameButLeaf self.old self.new }
     {
@@ -210,7 +210,7 @@ impl Tree {
             return;
         };
         if depth != first.depth {
-            tell_other_depth(first, page, depth, rowids, sink);
+            report_other_depth(first, page, depth, rowids, sink);
         }
     }
 }

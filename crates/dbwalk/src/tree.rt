@@ -8,7 +8,7 @@ ghost use Rattle.dbformat.specs.Reference.{Reference};
 ghost use Rattle.dbsource.specs.Errors.{is_out_of_memory, is_read_failed, is_write_failed};
 ghost use Rattle.dbsource.specs.Failures.{failures_after};
 ghost use Rattle.dbsource.specs.Sources.{Asks};
-ghost use Rattle.dbwalk.specs.Telling.{IsReadOrWrite, IsReadWriteOrMemory, SinkAfter};
+ghost use Rattle.dbwalk.specs.Reporting.{IsReadOrWrite, IsReadWriteOrMemory, SinkAfter};
 ghost use Rattle.dbmarks.specs.Reads.{Reads};
 ghost use Rattle.dbwalk.specs.Roots.{IsRootAfter};
 ghost use Rattle.dbwalk.specs.Points.{AtRoot};

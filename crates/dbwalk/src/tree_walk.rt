@@ -119,7 +119,7 @@ impl<A: Allocator, S: Source, K: Sink, T: Taker> TreeWalk<'_, '_, '_, '_, A, S, 
                     item: frame.next / 3,
                     value: key,
                 };
-                self.tree.tell_key(at, false, Some(left), self.sink);
+                self.tree.report_key(at, false, Some(left), self.sink);
                 Ok(())
             }
             Next::Chain { first, left, rowid } => {

@@ -114,14 +114,14 @@ fn fills_second(
     let mut err = SmallOut::new(room);
     let command = command_of("pages");
     let answer = run(alloc, command, &mut source, &mut out, &mut err);
-    let is_told = Some(err.bytes()) == told.as_bytes().get(..room.min(told.len()));
+    let is_reported = Some(err.bytes()) == told.as_bytes().get(..room.min(told.len()));
     if room < told.len() {
-        is_told
+        is_reported
             && answer == Err(RunError::WriteFailed)
             && begins(rows, out.bytes())
             && lines(out.bytes()) == lines(err.bytes()).wrapping_add(*first)
     } else {
-        is_told && answer == Ok(verdict_of(told)) && is_text(rows, out.bytes())
+        is_reported && answer == Ok(verdict_of(told)) && is_text(rows, out.bytes())
     }
 }
 

@@ -6,7 +6,7 @@ ghost use Rattle.dbformat.specs.Rows.{StatRow};
 ghost use Rattle.dbsource.specs.Failures.{failures_after, is_any};
 ghost use Rattle.dbsource.specs.Outs.{Puts};
 ghost use Rattle.dbwalk.specs.Rows.{row_of};
-ghost use Rattle.dbscan.specs.Notices.{ended, heard_fault, heard_row, marked};
+ghost use Rattle.dbscan.specs.Notices.{ended, received_fault, received_row, marked};
 ghost use Rattle.dbreport.specs.StatReporter.{Writes, tree_end_text};
 ghost use Rattle.dbreport.specs.Sums.{sums_of};
 ghost use Rattle.dbreport.specs.TreeNames.{tree_label_text};
@@ -83,11 +83,11 @@ impl<'a, O: Out, E: Out> StatReporter<'a, O, E> {
     }
 
     // Writes the line of a fault, and counts it.
-    fn fault(&mut self, told: &TracedFault) -> Result<(), WriteFailed>
-        ensures { Writes O.held E.held result self.old (heard_fault told.now) self.new }
+    fn fault(&mut self, reported: &TracedFault) -> Result<(), WriteFailed>
+        ensures { Writes O.held E.held result self.old (received_fault reported.now) self.new }
     {
         self.out.flush()?;
-        put_fault(self.err, &told.fault)?;
+        put_fault(self.err, &reported.fault)?;
         self.found = self.found.saturating_add(1);
         Ok(())
     }
@@ -95,7 +95,7 @@ impl<'a, O: Out, E: Out> StatReporter<'a, O, E> {
     // Writes a row of the tree of a start, or counts it for the row of the tree.
     #[tactic(auto, using(dbsource::proofs::Beginnings::begins_nothing))]
     fn row(&mut self, start: &Start<'_>, row: &Row<'_>) -> Result<(), WriteFailed>
-        ensures { Writes O.held E.held result self.old (heard_row start.now (row_of row.now)) self.new }
+        ensures { Writes O.held E.held result self.old (received_row start.now (row_of row.now)) self.new }
     {
         if !self.form.aggregate {
             self.err.flush()?;
@@ -141,18 +141,18 @@ impl<'a, O: Out, E: Out> StatReporter<'a, O, E> {
 }
 
 impl<O: Out, E: Out> Reporter for StatReporter<'_, O, E> {
-    ghost use Rattle.dbreport.specs.StatReporter.{HearsOpen, stat_held};
+    ghost use Rattle.dbreport.specs.StatReporter.{ReceivesOpen, stat_held};
 
-    ghost hears = { HearsOpen O.held E.held };
+    ghost receives = { ReceivesOpen O.held E.held };
 
     ghost held = { stat_held O.held E.held };
 
-    fn hear(&mut self, notice: &Notice<'_>) {
+    fn receive(&mut self, notice: &Notice<'_>) {
         if self.is_shut {
             return;
         }
         let taken = match notice {
-            Notice::Fault(told) => self.fault(told),
+            Notice::Fault(reported) => self.fault(reported),
             Notice::Row(start, row) => self.row(start, row),
             Notice::Ended(start) => self.end_tree(start),
             Notice::Page(geometry, page, mark) => self.page(geometry, *page, *mark),

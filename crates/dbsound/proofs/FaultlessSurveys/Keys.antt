@@ -21,7 +21,7 @@ use Rattle.dbformat.specs.Terms.{IsAbove, IsUpTo}
 use Rattle.dbformat.proofs.NoFaults.{follows_all}
 use Rattle.dbsurvey.proofs.Lists.{filter-has, both_empty, none_of, list_any-false}
 use Rattle.dbformat.proofs.Places.{same_start, cell_key}
-use Rattle.dbformat.proofs.TestsLemmas.{untold}
+use Rattle.dbformat.proofs.TestsLemmas.{unreported}
 
 in_view : (r : Reference) (o : Option View) (k : Key) → IsIn k (keys_of_view r o) → (v : View) × (o ≡ Some v) × (x : ℕ × Cell) × IsIn x (cells v)
     × IsIn k (key_of r v x)
@@ -43,7 +43,8 @@ module _ (file : List ℕ) (V : List Reference) (s : Survey file V) (none : walk
       ≡ false
   unfolding key_faults keys
   in_order key k i j same before =
-      list_any-false (is_out_of_order key) (earlier_keys file V key) (untold (list_any (is_out_of_order key) (earlier_keys file V key)) _ (no_key_fault key i))
+      list_any-false (is_out_of_order key) (earlier_keys file V key) (unreported (list_any (is_out_of_order key) (earlier_keys file V key)) _
+      (no_key_fault key i))
       k
       (filter-has (λ k. (start_of k.place == start_of key.place) && is_before k.place key.place) (keys file V) k (IsIn-flat_map (keys_at file) V j.0 k j.1 j.2)
       (and_from (start_of k.place == start_of key.place) (is_before k.place key.place) (eq-eqb (start_of k.place) (start_of key.place) same)

@@ -11,7 +11,7 @@ use Rattle.dbsurvey.proofs.Composing.{named_at-step}
 use Rattle.dbformat.specs.Address.{start_of, depth}
 use Rattle.dbformat.specs.Header.{usable_size}
 use Rattle.dbformat.specs.File.{geometry, page_bytes}
-use Rattle.dbformat.specs.Tests.{told_if}
+use Rattle.dbformat.specs.Tests.{reported_if}
 use Rattle.dbformat.specs.Faults.{fault}
 use Rattle.dbformat.specs.FixedPages.{is_page, is_fixed}
 use Rattle.dbformat.specs.Head.{View, undamaged, is_interior}
@@ -54,9 +54,9 @@ module _ (file : List ℕ) (V : List Reference) (s : Survey file V) (faultless :
       let c : nat_lt most_depth (depth t.address) ≡ false = sym (ap (λ o. is_some o && nat_lt most_depth (depth t.address)) e) ∙ b in
       ltb-false most_depth (depth t.address) c
 
-  told_none : (b : Bool) (f : Fault) → told_if b f ≡ [] → b ≡ false
-  told_none true f e = cc
-  told_none false f e = refl
+  reported_none : (b : Bool) (f : Fault) → reported_if b f ≡ [] → b ≡ false
+  reported_none true f e = cc
+  reported_none false f e = refl
 
   -- a leaf has the depth of the first of its tree
   leaf_deep : (t : Reference) (v : View) → IsIn t V → tree_view file t ≡ Some v → is_interior v.kind ≡ false → is_leaf_of file (start_of t.address) t ≡ true
@@ -70,7 +70,7 @@ module _ (file : List ℕ) (V : List Reference) (s : Survey file V) (faultless :
   deep_as_first t i is_leaf none =
       let k = start_of t.address in
       let d = depth t.address in
-      let e = told_none (is_leaf_of file k t && not (d == leaf_depth file V k d)) (fault T05 t.page 0 (pos d)) none in
+      let e = reported_none (is_leaf_of file k t && not (d == leaf_depth file V k d)) (fault T05 t.page 0 (pos d)) none in
       let f : not (d == leaf_depth file V k d) ≡ false = sym (ap (λ b. b && not (d == leaf_depth file V k d)) is_leaf) ∙ e in
       eqb-true d (leaf_depth file V k d) (not-false (d == leaf_depth file V k d) f) ∙ by_case (find (is_leaf_of file k) V) refl
     where

@@ -25,7 +25,7 @@ use Rattle.dbsurvey.proofs.Once.{page_or_fixed}
 use Rattle.dbsound.proofs.TermVisits.Roles.{root_pages, root_pages-append, tree_root, forest_roots, freelist_no_root, freelist_free, tree_not_free}
 use Rattle.dbsound.proofs.TermVisits.Roles.{forest_not_free, free_pages-append, none_free, all_free}
 use Rattle.dbsound.proofs.SoundFiles.Survey.{first_visits, root_visits, free_visits, later_visits, all_visits, all_uses, uses_are, pages_are}
-use Rattle.dbformat.proofs.TestsLemmas.{told_none}
+use Rattle.dbformat.proofs.TestsLemmas.{reported_none}
 
 module _ (file : List ℕ) (s : Sound file) where
   abbrev V : List Reference
@@ -46,7 +46,8 @@ module _ (file : List ℕ) (s : Sound file) where
 
   pub root_none : greatest_root_fault file V ≡ []
   unfolding has_pointer_map
-  root_none = told_none (not (greatest_root file == 0) && not (greatest_root file == greatest_root_reached V)) (fault H09 1 0 (pos (greatest_root_reached V)))
+  root_none = reported_none (not (greatest_root file == 0) && not (greatest_root file == greatest_root_reached V))
+      (fault H09 1 0 (pos (greatest_root_reached V)))
       (by_map (greatest_root file == 0) refl)
     where
       itself : (n m : ℕ) → n ≡ m → not (n == m) ≡ false
@@ -76,7 +77,7 @@ module _ (file : List ℕ) (s : Sound file) where
       long = sym (length-map (free_visits file s) use_of) ∙ ap (λ l. length l) (freelist_uses s.freelist 0 freelist_start (freelist_start ∷ []))
 
   pub freelist_none : freelist_fault file V ≡ []
-  freelist_none = told_none (not (freelist_count file == free_pages V)) (fault H10 1 0 (pos (free_pages V)))
+  freelist_none = reported_none (not (freelist_count file == free_pages V)) (fault H10 1 0 (pos (free_pages V)))
       (itself (freelist_count file) (free_pages V) (s.freelist_size ∙ sym free_are))
     where
       itself : (n m : ℕ) → n ≡ m → not (n == m) ≡ false
@@ -86,7 +87,7 @@ module _ (file : List ℕ) (s : Sound file) where
 
   entry_none : (p : ℕ) (o : Option MapEntry) (r : Reference) → IfSome o (λ e. e ≡ entry_of (role_of r) (from_of r)) → entry_fault p o r ≡ []
   entry_none p None r h = refl
-  entry_none p (Some e) r h = told_none (not (is_same_entry e (entry_of (role_of r) (from_of r)))) (fault M01 p e.type (pos e.number))
+  entry_none p (Some e) r h = reported_none (not (is_same_entry e (entry_of (role_of r) (from_of r)))) (fault M01 p e.type (pos e.number))
       (subst (λ f. not (is_same_entry e f) ≡ false) h (same e))
     where
       itself : (n : ℕ) → (n == n) ≡ true
@@ -123,7 +124,7 @@ module _ (file : List ℕ) (s : Sound file) where
       ]
 
       by_visit : (o : Option Reference) → visit_of V p ≡ o → use_fault file V p ≡ []
-      by_visit None e = rw e (told_none (not (is_fixed (geometry file) p)) (fault N01 p 0 (pos 0)) (ap not (free_of e)))
+      by_visit None e = rw e (reported_none (not (is_fixed (geometry file) p)) (fault N01 p 0 (pos 0)) (ap not (free_of e)))
       by_visit (Some r) e =
           let h = find-some (λ r. r.page == p) V r e in
           rw e (entry_none p (map_entry file p) r (subst (λ q. IfSome (map_entry file q) (λ e. e ≡ entry_of (role_of r) (from_of r))) (eqb-true r.page p h.1)

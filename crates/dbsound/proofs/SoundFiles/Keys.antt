@@ -18,7 +18,7 @@ use Rattle.dbsurvey.proofs.Lists.{flat_map-none, filter-from, any_none}
 use Rattle.dbsound.proofs.TermKeys.CellKeys.{view_place}
 use Rattle.dbsound.proofs.SoundFiles.Survey.{all_visits}
 use Rattle.dbsound.proofs.SoundFiles.Pages.{all_started, all_good}
-use Rattle.dbformat.proofs.TestsLemmas.{told_none}
+use Rattle.dbformat.proofs.TestsLemmas.{reported_none}
 
 module _ (file : List ℕ) (s : Sound file) where
   abbrev V : List Reference
@@ -32,7 +32,7 @@ module _ (file : List ℕ) (s : Sound file) where
 
   key_none : (r : Reference) → IsIn r V → (k : Key) → IsIn k (keys_at file r) → key_faults file V k ≡ []
   unfolding key_faults keys
-  key_none r i k j = told_none (list_any (is_out_of_order k) (earlier_keys file V k)) (fault T06 k.page k.item k.value)
+  key_none r i k j = reported_none (list_any (is_out_of_order k) (earlier_keys file V k)) (fault T06 k.page k.item k.value)
       (any_none (is_out_of_order k) (earlier_keys file V k) (λ x m.
       let f = filter-from (λ x. (start_of x.place == start_of k.place) && is_before x.place k.place) (flat_map (keys_at file) V) x m in
       let p = and_parts (start_of x.place == start_of k.place) (is_before x.place k.place) f.1 in

@@ -16,7 +16,7 @@ use Rattle.dbsound.specs.Below.{use_of}
 use Rattle.dbsurvey.proofs.Lists.{filter-from, any_one}
 use Rattle.dbsound.proofs.SoundFiles.Survey.{all_visits, all_uses, uses_are}
 use Rattle.dbsurvey.proofs.Elements.{contains}
-use Rattle.dbformat.proofs.TestsLemmas.{told_none}
+use Rattle.dbformat.proofs.TestsLemmas.{reported_none}
 use Rattle.dbsound.proofs.TermVisits.Uses.{root_use}
 use Rattle.dbsurvey.proofs.Least.{reduced_in}
 
@@ -54,5 +54,5 @@ module _ (file : List ℕ) (s : Sound file) where
 
       by_least : (o : Option ℕ) → least_other_page V ≡ o → late_root_fault file V p ≡ []
       by_least None e = rw e refl
-      by_least (Some least) e = rw e (told_none (has_pointer_map file && is_root_page V p && nat_lt least p) (fault M02 p 0 (pos least))
+      by_least (Some least) e = rw e (reported_none (has_pointer_map file && is_root_page V p && nat_lt least p) (fault M02 p 0 (pos least))
           (test_none least e (has_pointer_map file) (is_root_page V p) refl refl))

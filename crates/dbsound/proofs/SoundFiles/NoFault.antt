@@ -34,7 +34,7 @@ use Rattle.dbsound.proofs.SoundFiles.Ends.{root_none, freelist_none, use_none}
 use Rattle.dbsound.proofs.SoundFiles.LateRoots.{late_none}
 use Rattle.dbformat.proofs.FaultParts.{none_by_parts}
 use Rattle.dbsurvey.proofs.Lists.{any_one}
-use Rattle.dbformat.proofs.TestsLemmas.{told_none}
+use Rattle.dbformat.proofs.TestsLemmas.{reported_none}
 
 -- a clean page of a tree is one without a fault within it
 clean_whole : (file : List ℕ) (r : Reference) (v : View) → IsClean file r → tree_view file r ≡ Some v
@@ -73,7 +73,7 @@ module _ (file : List ℕ) (s : Sound file) (survey : Survey file (all_visits fi
       (t.0, t.1)
 
   format_none : format_fault file (all_visits file s) ≡ []
-  format_none = told_none (((schema_format file == 0) || (encoding_number file == 0)) && has_rows file (all_visits file s))
+  format_none = reported_none (((schema_format file == 0) || (encoding_number file == 0)) && has_rows file (all_visits file s))
       (fault H08 1 (schema_format file) (pos (encoding_number file)))
       (by_rows (has_rows file (all_visits file s)) refl)
     where

@@ -18,7 +18,7 @@ use Rattle.dbsound.proofs.TermVisits.OwnFaults.{IsClean, clean_page, tree_clean,
 use Rattle.dbsound.proofs.TermVisits.Starts.{IsStarted, Alike, alike_both, AreGood, tree_good, forest_good, freelist_good, started_under, started_within}
 use Rattle.dbsound.proofs.TermVisits.Starts.{tree_started, forest_started, freelist_under}
 use Rattle.dbsound.proofs.SoundFiles.Survey.{first_visits, root_visits, free_visits, later_visits, all_visits}
-use Rattle.dbformat.proofs.TestsLemmas.{told_none}
+use Rattle.dbformat.proofs.TestsLemmas.{reported_none}
 
 module _ (file : List ℕ) (s : Sound file) where
   abbrev V : List Reference
@@ -71,7 +71,7 @@ module _ (file : List ℕ) (s : Sound file) where
 
   depth_none : (r : Reference) → IsIn r V → depth_fault file V r ≡ []
   unfolding depth_fault
-  depth_none r i = told_none (is_leaf_of file (start_of r.address) r && not (depth r.address == leaf_depth file V (start_of r.address) (depth r.address)))
+  depth_none r i = reported_none (is_leaf_of file (start_of r.address) r && not (depth r.address == leaf_depth file V (start_of r.address) (depth r.address)))
       (fault T05 r.page 0 (pos (depth r.address))) (by_leaf (is_leaf_of file (start_of r.address) r) refl)
     where
       itself : (n : ℕ) → not (n == n) ≡ false

@@ -8,7 +8,7 @@ use Rattle.dbsurvey.specs.Address.{IsIn}
 use Rattle.dbsurvey.specs.InOrder.{is_before}
 use Rattle.dbsurvey.proofs.Ordering.{IsIn-map, IsIn-from_map, IsIn-flat_map, is_before-itself}
 use Rattle.dbformat.specs.Faults.{fault}
-use Rattle.dbformat.specs.Tests.{told_if}
+use Rattle.dbformat.specs.Tests.{reported_if}
 use Rattle.dbformat.specs.Address.{start_of, schema_start, last_root_start}
 use Rattle.dbformat.specs.Head.{View, is_interior}
 use Rattle.dbformat.specs.Cell.{Cell, cells}
@@ -23,7 +23,7 @@ use Rattle.dbformat.proofs.LookBack.{by_starts}
 use Rattle.dbsurvey.proofs.Each.{each_of}
 use Rattle.dbsound.proofs.TermRows.Spelled.{row_of}
 use Rattle.dbsound.proofs.SoundFiles.Survey.{all_visits, first_is, schema_first, rooted_are}
-use Rattle.dbformat.proofs.TestsLemmas.{told_none}
+use Rattle.dbformat.proofs.TestsLemmas.{reported_none}
 use Rattle.dbsurvey.proofs.Lists.{cons-longer, cons-longer-lt, cons-at-least, cons-at-least-lt}
 
 some_named : (o : Option (List ℕ)) → IsSome o → is_none o ≡ false
@@ -58,9 +58,9 @@ fewer p (d ∷ cs) c q (inr i) f e = by_case (p d) (fewer p cs c q i f e)
 row_none : (is_full : Bool) (c : SchemaCell) (q : SchemaRow) → c.row ≡ Ok q → IsSome q.name → (not (q.root == 0) && is_full) ≡ false → row_faults_if is_full c
     ≡ []
 row_none is_full c q e n f = rw e (
-    ap (λ l. l ++ told_if (not (q.root == 0) && is_full) (fault S04 c.page c.item (pos q.root)))
-    (told_none (is_none q.name) (fault S02 c.page c.item c.rowid) (some_named q.name n))
-    ∙ told_none (not (q.root == 0) && is_full) (fault S04 c.page c.item (pos q.root)) f)
+    ap (λ l. l ++ reported_if (not (q.root == 0) && is_full) (fault S04 c.page c.item (pos q.root)))
+    (reported_none (is_none q.name) (fault S02 c.page c.item c.rowid) (some_named q.name n))
+    ∙ reported_none (not (q.root == 0) && is_full) (fault S04 c.page c.item (pos q.root)) f)
 
 module _ (file : List ℕ) (s : Sound file) (survey : Survey file (all_visits file s)) where
   schema_all : map row_of (schema file (all_visits file s)) ≡ map Ok s.rows

@@ -3,12 +3,12 @@ use Rattle.std.proofs.Common.{◌≡◌, ℕ, inl, inr, Option, Some, None, List
 use Rattle.std.specs.Prelude.{option_and_then, flat_map}
 use Rattle.dbsurvey.specs.Address.{IsIn, Address}
 use Rattle.dbsurvey.specs.Survey.{IsNamed, named_at}
-use Rattle.dbsurvey.specs.Story.{Told, PageStep, Follow, Place, Errand, Go, Tell, errands_at, goes, IsTold, of_errand, of_page, of_place, of_refused}
+use Rattle.dbsurvey.specs.Story.{Reported, PageStep, Follow, Place, Errand, Go, Due, errands_at, goes, IsReported, of_errand, of_page, of_place, of_refused}
 use Rattle.dbsurvey.proofs.Order.{IsIn-cases}
 use Rattle.dbsurvey.proofs.Ordering.{IsIn-from_flat_map}
 use Rattle.dbsurvey.proofs.Unfolding.{whole_none_refused}
 use Rattle.dbsurvey.proofs.Starting.{survey_from_first}
-use Rattle.dbsurvey.proofs.Tellings.{goes-errands}
+use Rattle.dbsurvey.proofs.Reportings.{goes-errands}
 use Rattle.dbformat.specs.File.{geometry, page_bytes}
 use Rattle.dbformat.specs.Address.{key_step}
 use Rattle.dbformat.specs.Head.{View, undamaged}
@@ -18,12 +18,12 @@ use Rattle.dbformat.specs.Reference.{cell_links, right_links, overflow_links, tr
 use Rattle.dbformat.specs.Header.{usable_size}
 use Rattle.dbformat.specs.Schema.{schema_link, later_starts, starts}
 use Rattle.dbformat.specs.Survey.{Survey, rules_of}
-use Rattle.dbformat.specs.Story.{Event, at_key, cell_items, page_items, role_items, story_of, start_errands, telling}
+use Rattle.dbformat.specs.Story.{Event, at_key, cell_items, page_items, role_items, story_of, start_errands, reporting}
 use Rattle.dbformat.specs.KeyFaults.{key_of, key_faults, cell_place_faults}
 use Rattle.dbformat.specs.Report.{walk_faults, event_faults}
 use Rattle.dbformat.specs.Sound.{Sound}
 use Rattle.dbformat.specs.declared.TreeKind.{TreeKind}
-use Rattle.dbformat.proofs.Theory.{are_rules, told_in_order, links-follows, no_place, no_tell}
+use Rattle.dbformat.proofs.Theory.{are_rules, reported_in_order, links-follows, no_place, no_due}
 use Rattle.dbformat.proofs.Rising.{starts_rise}
 use Rattle.dbsurvey.proofs.Lists.{flat_map-none}
 use Rattle.dbsound.proofs.SoundFiles.Survey.{first_visits, all_visits, first_is, all_whole}
@@ -92,7 +92,7 @@ key_of_role file r role step event e h = by_role role e h
     by_role trunk e h = absurd (no_place (trunk_links r.page (usable_size file) (page_bytes file r.page)) step event h)
     by_role free_leaf e h = absurd h
 
-placed_in : (a : Address) (items : List (PageStep Way Event)) (e : Told Event) → IsIn (Tell e) (errands_at a items) → (step : ℕ)
+placed_in : (a : Address) (items : List (PageStep Way Event)) (e : Reported Event) → IsIn (Due e) (errands_at a items) → (step : ℕ)
     × IsIn (Place step e.event) items
 placed_in a [] e h = absurd h
 placed_in a (Follow l ∷ is) e (inl k) = cc
@@ -101,22 +101,22 @@ placed_in a (Place step event ∷ is) e (inl k) = (step, inl (ap (λ x. Place st
   where
     event_in : Errand Way Event → Event
     event_in (Go c) = event
-    event_in (Tell x) = x.event
+    event_in (Due x) = x.event
 placed_in a (Place step event ∷ is) e (inr h) = let m = placed_in a is e h in (m.0, inr m.1)
 
 module _ (file : List ℕ) (s : Sound file) (survey : Survey file (all_visits file s)) where
-  told_none_at : (e : Told Event) → IsTold (rules_of file) (story_of file) (start_errands file (all_visits file s)) (all_visits file s) e
+  reported_none_at : (e : Reported Event) → IsReported (rules_of file) (story_of file) (start_errands file (all_visits file s)) (all_visits file s) e
       → event_faults file (all_visits file s) e.event ≡ []
   unfolding story_of
-  told_none_at e (of_errand i) = absurd (no_tell [] (starts file (all_visits file s)) e i)
-  told_none_at e (of_page r i f) = subst (λ x. event_faults file (all_visits file s) x.event ≡ []) (sym f) (pages_none file s r i)
-  told_none_at e (of_place r i j) =
+  reported_none_at e (of_errand i) = absurd (no_due [] (starts file (all_visits file s)) e i)
+  reported_none_at e (of_page r i f) = subst (λ x. event_faults file (all_visits file s) x.event ≡ []) (sym f) (pages_none file s r i)
+  reported_none_at e (of_place r i j) =
       let p = placed_in r.address (role_items (role_of r) r (usable_size file) (page_bytes file r.page)) e j in
       let k = key_of_role file r (role_of r) p.0 e.event refl p.1 in
       subst (λ x. event_faults file (all_visits file s) x ≡ []) (sym k.4) (places_none file s survey r k.0 k.1 i k.2 k.3)
-  told_none_at e (of_refused c n out f) = absurd (out (none_refused file s survey c n))
+  reported_none_at e (of_refused c n out f) = absurd (out (none_refused file s survey c n))
 
   pub walk_none : walk_faults file (all_visits file s) ≡ []
   unfolding walk_faults
-  walk_none = flat_map-none (λ t. event_faults file (all_visits file s) t.event) (telling file (all_visits file s))
-      (λ t i. told_none_at t (((told_in_order file (all_visits file s) survey).0.exact t).0 i))
+  walk_none = flat_map-none (λ t. event_faults file (all_visits file s) t.event) (reporting file (all_visits file s))
+      (λ t i. reported_none_at t (((reported_in_order file (all_visits file s) survey).0.exact t).0 i))

@@ -24,7 +24,7 @@ use Rattle.dbformat.proofs.Chains.{IsOverflow}
 use Rattle.dbsurvey.proofs.Each.{Each, Each-none, Each-cons, Each-one, Each-append}
 use Rattle.dbsound.proofs.TermVisits.{visit_at, chain_visits, payload_visits, payloads_visits, tree_visits, children_visits, leaf_visits, freelist_visits}
 use Rattle.dbsound.proofs.TermVisits.{forest_visits}
-use Rattle.dbformat.proofs.TestsLemmas.{told_none}
+use Rattle.dbformat.proofs.TestsLemmas.{reported_none}
 
 -- the faults of a page in a role, apart from other pages
 abbrev pub own_faults : Role → List ℕ → ℕ → List Fault
@@ -65,7 +65,7 @@ full_clean : (usable left p : ℕ) (page : List ℕ) → usable - 4 < left → o
 full_clean usable left p page h = let e : nat_le left (usable - 4) ≡ false = grind (arith, nat_tests) in rw e refl
 
 last_clean : (usable left p : ℕ) (page : List ℕ) → overflow_next page ≡ 0 → overflow_fault usable left p page ≡ []
-last_clean usable left p page h = told_none (nat_le left (usable - 4) && not (overflow_next page == 0)) (fault O01 p 0 (pos (overflow_next page)))
+last_clean usable left p page h = reported_none (nat_le left (usable - 4) && not (overflow_next page == 0)) (fault O01 p 0 (pos (overflow_next page)))
     (ap (λ n. nat_le left (usable - 4) && not (n == 0)) h ∙ and-false (nat_le left (usable - 4)))
 
 chain_clean : {file : List ℕ} {role : Role} {from p left : ℕ} {uses : List Use} {bytes : List ℕ} (t : Chain file role from p left uses bytes)
@@ -121,7 +121,7 @@ not_less : (m n : ℕ) → n ≤ m → nat_lt m n ≡ false
 not_less m n h = grind (arith, nat_tests)
 
 trunk_clean : (usable p : ℕ) (page : List ℕ) → leaf_count page ≤ most_leaves usable → trunk_fault usable p page ≡ []
-trunk_clean usable p page h = told_none (nat_lt (most_leaves usable) (leaf_count page)) (fault L01 p 0 (pos (leaf_count page)))
+trunk_clean usable p page h = reported_none (nat_lt (most_leaves usable) (leaf_count page)) (fault L01 p 0 (pos (leaf_count page)))
     (not_less (most_leaves usable) (leaf_count page) h)
 
 pub freelist_clean : {file : List ℕ} {p : ℕ} {uses : List Use} (t : Freelist file p uses) (from item : ℕ) (a : Address)

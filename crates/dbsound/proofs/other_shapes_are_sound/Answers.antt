@@ -20,7 +20,7 @@ use Rattle.dbformat.specs.Reference.{tree_view}
 use Rattle.dbformat.specs.Report.{faults, walk_faults}
 use Rattle.dbformat.specs.Schema.{later_starts, payload, schema}
 use Rattle.dbformat.specs.SchemaRow.{schema_row}
-use Rattle.dbformat.specs.Story.{story_of, telling}
+use Rattle.dbformat.specs.Story.{story_of, reporting}
 use Rattle.dbformat.specs.Survey.{refused, rules_of}
 use Rattle.dbformat.specs.Varint.{varint}
 use Rattle.dbsound.proofs.Broken.{sound_by}
@@ -31,7 +31,7 @@ pub returns : goal.returns
 unfolding cell cell_count cell_pointer cells change_counter content_start coverage depth_fault encoding encoding_number faults first_freeblock first_trunk
     fixed_use fragmented_bytes freeblocks freelist_count greatest_root has_pointer_map header_faults incremental_vacuum is_size_valid items key_faults keys
     late_root_fault later_starts local_len map_entry map_page_of own_kind page_bytes page_count page_faults page_size payload record_values refusal_of refused
-    reserved_bytes right_number row_faults rules_of schema schema_format schema_row serial_len stated_pages story_of sum_faults telling tree_page_faults
+    reserved_bytes right_number row_faults rules_of schema schema_format schema_row serial_len stated_pages story_of sum_faults reporting tree_page_faults
     tree_view type_byte unused usable_size use_fault varint version_valid_for view walk_faults whole_pages is_utf8 chars utf16_chars encode
 returns c = record {
   index = sound_by refl refl;

@@ -3,7 +3,8 @@ use Rattle.std.proofs.Common.{◌≡◌, ℕ, ◌+◌, ◌-◌, ◌≤◌, ◌<�
 use Rattle.std.proofs.Common.{append_assoc, arith, cond, ◌==◌, IfSome}
 use Rattle.dbwalk.proofs.Common.{Moves, Go, errands_of, AreQuiet, page_bytes, usable_size, overflow_next, first_overflow, Reference, role_of, from_of}
 use Rattle.dbwalk.proofs.Common.{bytes_left, at_page, own_visit, story_of, RowSieve, Mark, FirstOverflow, LaterOverflow, seen_bytes, seen_from, EntersBeside}
-use Rattle.dbwalk.proofs.Common.{Opens, Turns, is_followed, rules_of, IsChainOf, next_of, FeedsPages, FeedsChain, IsLeft, IsNext, Finding, told_at, role_mark}
+use Rattle.dbwalk.proofs.Common.{Opens, Turns, is_followed, rules_of, IsChainOf, next_of, FeedsPages, FeedsChain, IsLeft, IsNext, Finding, reported_at,
+    role_mark}
 use Rattle.dbwalk.proofs.Common.{AreMarksOf}
 use Rattle.std.proofs.lemmas.Bool.Decides.{nat_tests}
 use Rattle.std.proofs.lemmas.List.{append-nil}
@@ -12,10 +13,10 @@ use Rattle.dbformat.proofs.Looping.{by_chain, all_quiet}
 use Rattle.dbwalk.specs.declared.chain.Chain.{Chain}
 use Rattle.dbwalk.specs.declared.chain.ChainPlace.{ChainPlace}
 use Rattle.dbtrace.specs.Causes.{nothing_seen}
-use Rattle.dbwalk.proofs.Telling.Besides.{turn_ended, turn_entered}
+use Rattle.dbwalk.proofs.Reporting.Besides.{turn_ended, turn_entered}
 use Rattle.dbwalk.specs.Chains.{IsOnWay, IsOverflowVisited, seen_before, place_cause}
 use Rattle.dbwalk.proofs.Chaining.Feedings.{feeds_none, feeds_page, fed_whole, fed_refused}
-use Rattle.dbwalk.proofs.Telling.Lefts.{left_start, left_visit, left_none}
+use Rattle.dbwalk.proofs.Reporting.Lefts.{left_start, left_visit, left_none}
 use Rattle.dbwalk.proofs.Chaining.Heads.{head_next, head_start, head_visited, chain_few, refusal_here}
 use Rattle.dbwalk.proofs.Chaining.Overflows.{more_errands, last_errands, next_on_chain, overflow_shallow}
 
@@ -56,8 +57,8 @@ module _ {S : Type 0} {takes : S → Finding → S → Type 0} {file : List ℕ}
     left : IsLeft takes file W (Go c ∷ []) before (on.at.visited ++ (on.at.d ∷ [])) (errands_of (story_of file) on.at.d ++ []) (marks', t)
     left = left_visit takes file W (Go c ∷ []) before on.at.visited marks s t marks' on.at.d [] on.at.rest entered.0.0
         (quiet_chain file on.at.d place.left on.left) entered.0.1
-        (subst (λ y. Moves takes y (told_at file (on.at.visited ++ (on.at.d ∷ [])) (at_page on.at.d)) t) (sym entered.0.2)
-        (visited.told (on.at.visited ++ (on.at.d ∷ [])) on.at.d on.at.is.page on.left on.on
+        (subst (λ y. Moves takes y (reported_at file (on.at.visited ++ (on.at.d ∷ [])) (at_page on.at.d)) t) (sym entered.0.2)
+        (visited.reported (on.at.visited ++ (on.at.d ∷ [])) on.at.d on.at.is.page on.left on.on
         (head_visited file chain on.at.visited place.number on.at.d on.on on.head)))
 
     fed_more : FeedsPages file first (on.pages ++ on.at.d ∷ []) new

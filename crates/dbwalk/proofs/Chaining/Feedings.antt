@@ -13,7 +13,7 @@ use Rattle.dbformat.specs.Schema.{chain, held_bytes}
 use Rattle.dbformat.specs.declared.Encoding.{Encoding}
 use Rattle.dbbytes.specs.Sieve.{HasTaken}
 use Rattle.std.proofs.lemmas.Grind.{flat_map-append}
-use Rattle.dbwalk.proofs.Telling.Belows.{below_begins, visited_none, visited_refused}
+use Rattle.dbwalk.proofs.Reporting.Belows.{below_begins, visited_none, visited_refused}
 use Rattle.dbsurvey.proofs.Beginnings.{begins}
 use Rattle.dbsurvey.proofs.Lists.{filter-all, filter-none}
 

@@ -3,8 +3,9 @@ use Rattle.std.proofs.Common.{◌≡◌, ℕ, ◌+◌, ◌-◌, ◌*◌, ◌≤�
 use Rattle.std.proofs.Common.{None, refl, sym, ap, ◌∙◌, arith, option_to_list, nat_le, nat_lt, ◌==◌, pos}
 use Rattle.dbwalk.proofs.Common.{Go, errands_of, start_of, then_step, is_child_step, cell_of_step, children_on, chain_on, child_path, chain_place, go, fault}
 use Rattle.dbwalk.proofs.Common.{geometry, page_bytes, usable_size, overflow_next, role_faults, page_faults, Role, root, first_overflow, later_overflow, trunk}
-use Rattle.dbwalk.proofs.Common.{free_leaf, Reference, role_of, bytes_left, link, row_in, at_page, story_of, is_too_deep, told_if, IsOnChain, next_of, cause_of}
-use Rattle.dbwalk.proofs.Common.{Cause, told_row, told_fault, told_by, told_at}
+use Rattle.dbwalk.proofs.Common.{free_leaf, Reference, role_of, bytes_left, link, row_in, at_page, story_of, is_too_deep, reported_if, IsOnChain, next_of,
+    cause_of}
+use Rattle.dbwalk.proofs.Common.{Cause, reported_row, reported_fault, reported_by, reported_at}
 use Rattle.std.proofs.lemmas.Bool.Decides.{nat_tests}
 use Rattle.std.proofs.lemmas.List.{length-append, append-nil}
 use Rattle.dbformat.specs.Counts.{overflow_counts}
@@ -30,19 +31,19 @@ page_read file bytes size p l h e =
     h.1 ∙ ap (λ n. take n (drop ((p - 1) * size) file)) l ∙ ap (λ n. take n (drop ((p - 1) * n) file)) (sym e)
 
 -- what is reported of it
-pub told_overflow : (file : List ℕ) (U : List Reference) (c : Reference) (left : ℕ) → bytes_left (role_of c) ≡ Some left
-    → told_at file U (at_page c) ≡ told_row (overflow_page_row c (usable_size file) left)
-    ∷ told_by (cause_of file U (at_page c)) (overflow_fault (usable_size file) left c.page (page_bytes file c.page))
+pub reported_overflow : (file : List ℕ) (U : List Reference) (c : Reference) (left : ℕ) → bytes_left (role_of c) ≡ Some left
+    → reported_at file U (at_page c) ≡ reported_row (overflow_page_row c (usable_size file) left)
+    ∷ reported_by (cause_of file U (at_page c)) (overflow_fault (usable_size file) left c.page (page_bytes file c.page))
 unfolding page_faults
-told_overflow file U c left h = by_role (role_of c) h
+reported_overflow file U c left h = by_role (role_of c) h
   where
     same : (l : ℕ) → Some l ≡ Some left → l ≡ left
     same l e = cc
 
-    by_role : (role : Role) → bytes_left role ≡ Some left → map told_row (option_to_list (row_in role file c))
-        ++ told_by (cause_of file U (at_page c)) (role_faults role file U c)
-        ≡ told_row (overflow_page_row c (usable_size file) left)
-        ∷ told_by (cause_of file U (at_page c)) (overflow_fault (usable_size file) left c.page (page_bytes file c.page))
+    by_role : (role : Role) → bytes_left role ≡ Some left → map reported_row (option_to_list (row_in role file c))
+        ++ reported_by (cause_of file U (at_page c)) (role_faults role file U c)
+        ≡ reported_row (overflow_page_row c (usable_size file) left)
+        ∷ reported_by (cause_of file U (at_page c)) (overflow_fault (usable_size file) left c.page (page_bytes file c.page))
     by_role (root kind) e = cc
     by_role (child kind) e = cc
     by_role (first_overflow l) e = rw (same l e) refl
@@ -57,32 +58,32 @@ pub row_is : (start start' : ℕ) (path path' : List ℕ) (chain chain' : Option
 row_is start start' path path' chain chain' page page' type type' counts counts' a b c d e f = cc
 
 -- a row and a fault that were made of these numbers are what is reported of the page
-pub told_is : (file : List ℕ) (U : List Reference) (d : Reference) (chain : Chain) (number page usable left next : ℕ) (row : Row) (f : Option Fault)
+pub reported_is : (file : List ℕ) (U : List Reference) (d : Reference) (chain : Chain) (number page usable left next : ℕ) (row : Row) (f : Option Fault)
     → usable ≡ usable_size file → next ≡ overflow_next (page_bytes file page) → d.page ≡ page → bytes_left (role_of d) ≡ Some left → IsOnChain chain number d
     → row.start ≡ chain.start → row.path.now ≡ chain.path.now → row.chain ≡ Some (chain.cell, number)
     → row.page ≡ page → row.pagetype ≡ Overflow → row.counts ≡ overflow_counts usable left
-    → option_to_list f ≡ told_if (nat_le left (usable - 4) && not (next == 0)) (fault O01 page 0 (pos next))
+    → option_to_list f ≡ reported_if (nat_le left (usable - 4) && not (next == 0)) (fault O01 page 0 (pos next))
     → (why : Cause) → why ≡ cause_of file U (at_page d) O01
-    → told_row (row_of row) ∷ map (λ f. told_fault f why) (option_to_list f) ≡ told_at file U (at_page d)
-told_is file U d chain number page usable left next row f u n p l on a b c e g h m why causes =
+    → reported_row (row_of row) ∷ map (λ f. reported_fault f why) (option_to_list f) ≡ reported_at file U (at_page d)
+reported_is file U d chain number page usable left next row f u n p l on a b c e g h m why causes =
     let same : row_of row ≡ overflow_page_row d (usable_size file) left =
     row_is row.start (start_of d.address) row.path.now (child_path d.address) row.chain (chain_place d.address) row.page d.page row.pagetype Overflow row.counts
     (overflow_counts (usable_size file) left)
     (a ∙ sym on.start) (b ∙ sym on.path) (c ∙ sym on.place) (e ∙ sym p) g (h ∙ ap (λ x. overflow_counts x left) u) in
     let faults : option_to_list f ≡ overflow_fault (usable_size file) left d.page (page_bytes file d.page) =
-    m ∙ ap (λ x. told_if (nat_le left (x - 4) && not (next == 0)) (fault O01 page 0 (pos next))) u
-    ∙ ap (λ x. told_if (nat_le left (usable_size file - 4) && not (x == 0)) (fault O01 page 0 (pos x))) n
+    m ∙ ap (λ x. reported_if (nat_le left (x - 4) && not (next == 0)) (fault O01 page 0 (pos next))) u
+    ∙ ap (λ x. reported_if (nat_le left (usable_size file - 4) && not (x == 0)) (fault O01 page 0 (pos x))) n
     ∙ ap (λ x. overflow_fault (usable_size file) left x (page_bytes file x)) (sym p) in
-    ap (λ r. told_row r ∷ map (λ f. told_fault f why) (option_to_list f)) same
-    ∙ ap (λ fs. told_row (overflow_page_row d (usable_size file) left) ∷ map (λ f. told_fault f why) fs) faults
-    ∙ ap (λ w. told_row (overflow_page_row d (usable_size file) left)
-    ∷ map (λ f. told_fault f w) (overflow_fault (usable_size file) left d.page (page_bytes file d.page))) causes
-    ∙ ap (λ L. told_row (overflow_page_row d (usable_size file) left) ∷ L)
+    ap (λ r. reported_row r ∷ map (λ f. reported_fault f why) (option_to_list f)) same
+    ∙ ap (λ fs. reported_row (overflow_page_row d (usable_size file) left) ∷ map (λ f. reported_fault f why) fs) faults
+    ∙ ap (λ w. reported_row (overflow_page_row d (usable_size file) left)
+    ∷ map (λ f. reported_fault f w) (overflow_fault (usable_size file) left d.page (page_bytes file d.page))) causes
+    ∙ ap (λ L. reported_row (overflow_page_row d (usable_size file) left) ∷ L)
     (once (nat_le left (usable_size file - 4) && not (overflow_next (page_bytes file d.page) == 0)) _)
-    ∙ sym (told_overflow file U d left l)
+    ∙ sym (reported_overflow file U d left l)
   where
-    once : (b : Bool) (n : ℕ) → map (λ f. told_fault f (cause_of file U (at_page d) O01)) (told_if b (fault O01 d.page 0 (pos n)))
-        ≡ told_by (cause_of file U (at_page d)) (told_if b (fault O01 d.page 0 (pos n)))
+    once : (b : Bool) (n : ℕ) → map (λ f. reported_fault f (cause_of file U (at_page d) O01)) (reported_if b (fault O01 d.page 0 (pos n)))
+        ≡ reported_by (cause_of file U (at_page d)) (reported_if b (fault O01 d.page 0 (pos n)))
     once true n = refl
     once false n = refl
 

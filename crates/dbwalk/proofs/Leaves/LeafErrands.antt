@@ -3,7 +3,7 @@ use Rattle.std.proofs.Common.{◌≡◌, ℕ, ◌+◌, ◌*◌, ◌%◌, ◌/◌
 use Rattle.std.proofs.Common.{Ok, Err, ℤ, refl, sym, ap, ap₂, subst, arith, ◌∙◌, option_map, option_and_then, option_to_list, slice_get, ◌==◌}
 use Rattle.dbwalk.proofs.Common.{IsBefore, AreQuiet, IsPast, Moves, Errand, errand_key, errands_of, start_of, then_step, overflow_step, child_step}
 use Rattle.dbwalk.proofs.Common.{is_child_step, cell_of_step, children_on, chain_on, child_path, chain_place, View, if_of_tree, is_interior, is_same_tree}
-use Rattle.dbwalk.proofs.Common.{tree_of, undamaged, view, Cell, cell, count, overflow_size, go, tell_cell, errands_in, cell_errands, errands_before}
+use Rattle.dbwalk.proofs.Common.{tree_of, undamaged, view, Cell, cell, count, overflow_size, go, report_cell, errands_in, cell_errands, errands_before}
 use Rattle.dbwalk.proofs.Common.{page_bytes, usable_size, first_overflow, Way, Reference, link, role_of, tree_kind, tree_view, right_links, Event, own_visit}
 use Rattle.dbwalk.proofs.Common.{story_of, CellFault, InteriorIndex, InteriorTable, LeafIndex, LeafTable, TreeKind, cell_rowid, Finding, IsOnChain, IsChainOf}
 use Rattle.dbwalk.proofs.Common.{IsDone, HasCells, HasCell, overflow_errands, AreBefore, AreMarksOf, IsLeafAt, Mark}
@@ -17,8 +17,8 @@ use Rattle.dbformat.proofs.Looping.{by_cell}
 use Rattle.dbformat.specs.declared.HeadFault.{HeadFault}
 use Rattle.dbformat.specs.declared.PageKind.{PageKind}
 use Rattle.dbwalk.specs.declared.chain.Chain.{Chain}
-use Rattle.dbwalk.proofs.Pages.PageTellings.{view_is}
-use Rattle.dbwalk.proofs.Telling.Belows.{visited_none, told_none}
+use Rattle.dbwalk.proofs.Pages.PageReportings.{view_is}
+use Rattle.dbwalk.proofs.Reporting.Belows.{visited_none, reported_none}
 use Rattle.dbformat.proofs.CellParts.{Fits, at_offset, cell_fits}
 use Rattle.dbwalk.proofs.Chaining.Overflows.{child_by, place_by, steps_then}
 
@@ -61,7 +61,7 @@ chain_first steps i h =
 
 abbrev pub own_errands : Reference → View → ℕ → Option Cell → List (Errand Way Event)
 own_errands c v i None = []
-own_errands c v i (Some x) = tell_cell c v i x ∷ []
+own_errands c v i (Some x) = report_cell c v i x ∷ []
 
 abbrev pub read_overflow : Option Cell → Option (ℕ × ℕ)
 read_overflow o = option_and_then (λ c. option_map (λ p. (p, overflow_size c)) c.overflow) o
@@ -81,10 +81,10 @@ errands_split c kind v i overflow leaf e = by_cell (cell v i) refl ∙ ap (λ w.
     by_cell (Err f) e = refl
     by_cell (Ok x) e =
         let A = map (go c) (option_to_list (option_map (link c.page (overflow_step i) i (first_overflow (overflow_size x))) x.overflow)) in
-        ap (λ o. (A ++ map (go c) (option_to_list (option_map (link c.page (child_step i) i (child kind)) o))) ++ (tell_cell c v i x ∷ []))
+        ap (λ o. (A ++ map (go c) (option_to_list (option_map (link c.page (child_step i) i (child kind)) o))) ++ (report_cell c v i x ∷ []))
         (leaf_left v i x leaf e)
-        ∙ ap (λ l. l ++ (tell_cell c v i x ∷ [])) (append-nil A)
-        ∙ ap (λ l. l ++ (tell_cell c v i x ∷ [])) (by_overflow x x.overflow)
+        ∙ ap (λ l. l ++ (report_cell c v i x ∷ [])) (append-nil A)
+        ∙ ap (λ l. l ++ (report_cell c v i x ∷ [])) (by_overflow x x.overflow)
 
 pub quiet_overflow : (c : Reference) (i : ℕ) (overflow : Option (ℕ × ℕ)) → AreQuiet own_visit (overflow_errands c i overflow)
 quiet_overflow c i None e h = absurd h
@@ -97,7 +97,7 @@ pub none_done : {S : Type 0} (takes : S → Finding → S → Type 0) (file : Li
 none_done takes file U c i overflow marks s e m =
     subst (λ o. IsDone {A = Unit {0}} takes file U (overflow_errands c i o) (Ok tt) marks s s) (sym e) (record {
       marked = subst (λ V. AreMarksOf file V marks) (sym (ap (λ V. U ++ V) (visited_none file U) ∙ append-nil U)) m;
-      told = subst (λ L. Moves takes s L s) (sym (told_none file U)) refl;
+      reported = subst (λ L. Moves takes s L s) (sym (reported_none file U)) refl;
     })
 
 -- the first reference of a chain

@@ -1,8 +1,9 @@
 -- What is reported of a page, by what a program finds of it.
 use Rattle.std.proofs.Common.{◌≡◌, ℕ, ◌+◌, true, false, not, ◌&&◌, cond, List, [], ◌∷◌, ◌++◌, length, map, Option, Some, None, refl, sym, ap, ap₂, arith, ◌∙◌}
 use Rattle.std.proofs.Common.{Bool, subst, ◌-◌, nat_lt, pos, ◌==◌, slice_get}
-use Rattle.dbwalk.proofs.Common.{usable_size, page_bytes, start_of, View, undamaged, is_interior, fault, told_if, Reference, role_of, tree_kind, tree_view}
-use Rattle.dbwalk.proofs.Common.{inner_faults, tree_page_faults, tree_page_row, TreeKind, page_cause, visit_cause, told_row, told_fault, told_by, Finding}
+use Rattle.dbwalk.proofs.Common.{usable_size, page_bytes, start_of, View, undamaged, is_interior, fault, reported_if, Reference, role_of, tree_kind, tree_view}
+use Rattle.dbwalk.proofs.Common.{inner_faults, tree_page_faults, tree_page_row, TreeKind, page_cause, visit_cause, reported_row, reported_fault, reported_by,
+    Finding}
 use Rattle.dbwalk.proofs.Common.{Cause, RowidBounds, FaultCode, leaf_after, depth_faults, damaged_row, view_cause, with_leaf, page_findings, HasPageAt}
 use Rattle.dbwalk.proofs.Common.{IsReportedTo, SinkState, IsCandidate, role_at, IsOpen, IsLeafAt, is_followed, rules_of, Walk, IsInterior}
 use Rattle.std.specs.Option.{option_map_or}
@@ -15,16 +16,16 @@ use Rattle.dbformat.specs.declared.FaultCode.TheVariants.{T05}
 use Rattle.dbtrace.specs.Causes.{leaf_at}
 use Rattle.dbtrace.specs.declared.TreeLeaf.{TreeLeaf}
 use Rattle.dbtrace.specs.Progress.{depth_of}
-use Rattle.dbwalk.specs.LeafCells.{first_of, depth_told}
+use Rattle.dbwalk.specs.LeafCells.{first_of, depth_reported}
 use Rattle.dbwalk.specs.Found.{undamaged_findings, damaged_findings, IsDamagedAt, IsOpenLeaf}
 use Rattle.dbtrace.proofs.Causing.{inner_codes, inner_same}
-use Rattle.dbwalk.proofs.Pages.PageTellings.{is_child, page_told, view_is, row_of_view, row_of_damage, told_then}
+use Rattle.dbwalk.proofs.Pages.PageReportings.{is_child, page_reported, view_is, row_of_view, row_of_damage, reported_then}
 
 -- a page that is no leaf has no fault of its depth, and leaves the depth of the first leaf
 no_leaf : (file : List ℕ) (rowids : RowidBounds) (leaf : Option TreeLeaf) (c : Reference) → is_leaf_of file (start_of c.address) c ≡ false
     → (depth_faults file leaf c ≡ []) × (leaf_after file leaf rowids c ≡ leaf)
 no_leaf file rowids leaf c e = (
-  ap (λ b. told_if (b && not (depth c.address == depth_of leaf (depth c.address))) (fault T05 c.page 0 (pos (depth c.address)))) e,
+  ap (λ b. reported_if (b && not (depth c.address == depth_of leaf (depth c.address))) (fault T05 c.page 0 (pos (depth c.address)))) e,
   by_first leaf,
 )
   where
@@ -33,22 +34,22 @@ no_leaf file rowids leaf c e = (
     by_first None = ap (λ b. cond b (Some (leaf_at rowids c)) None) e
 
 -- a fault that is reported, where a test holds
-pub told_once : (why : FaultCode → Cause) (b : Bool) (f : Fault) → told_by why (told_if b f) ≡ told_if b (told_fault f (why f.code))
-told_once why true f = refl
-told_once why false f = refl
+pub reported_once : (why : FaultCode → Cause) (b : Bool) (f : Fault) → reported_by why (reported_if b f) ≡ reported_if b (reported_fault f (why f.code))
+reported_once why true f = refl
+reported_once why false f = refl
 
 -- a leaf has one if its depth is not that of the first leaf; if there is none yet, it is the first itself
 at_leaf : (file : List ℕ) (why : FaultCode → Cause) (rowids : RowidBounds) (leaf : Option TreeLeaf) (c : Reference) (n : ℕ)
     → is_leaf_of file (start_of c.address) c ≡ true
     → depth c.address ≡ n
-    → (told_by (with_leaf why rowids leaf) (depth_faults file leaf c) ≡ depth_told rowids leaf c.page n)
+    → (reported_by (with_leaf why rowids leaf) (depth_faults file leaf c) ≡ depth_reported rowids leaf c.page n)
     × (leaf_after file leaf rowids c ≡ Some (first_of rowids leaf c.page n))
 at_leaf file why rowids leaf c n e d = by_first leaf
   where
-    by_first : (leaf : Option TreeLeaf) → (told_by (with_leaf why rowids leaf) (depth_faults file leaf c) ≡ depth_told rowids leaf c.page n)
+    by_first : (leaf : Option TreeLeaf) → (reported_by (with_leaf why rowids leaf) (depth_faults file leaf c) ≡ depth_reported rowids leaf c.page n)
         × (leaf_after file leaf rowids c ≡ Some (first_of rowids leaf c.page n))
-    by_first (Some m) = (told_once (with_leaf why rowids (Some m)) _ _ ∙ rw (e, d) refl, refl)
-    by_first None = (told_once (with_leaf why rowids None) _ _ ∙ rw (e, d) refl, rw (e, d) refl)
+    by_first (Some m) = (reported_once (with_leaf why rowids (Some m)) _ _ ∙ rw (e, d) refl, refl)
+    by_first None = (reported_once (with_leaf why rowids None) _ _ ∙ rw (e, d) refl, rw (e, d) refl)
 
 module _ (file : List ℕ) (kind : TreeKind) (k : ℕ) (path : List ℕ) (p from item : ℕ) (c : Reference) (candidate : IsCandidate kind k path p from item c) where
   role_is : role_of c ≡ role_at kind path
@@ -97,20 +98,20 @@ module _ (file : List ℕ) (kind : TreeKind) (k : ℕ) (path : List ℕ) (p from
 
   module _ (rowids : RowidBounds) (leaf : Option TreeLeaf) where
     -- a damaged page: its row, and its one fault
-    pub told_damaged : (f : Fault) → undamaged kind p (usable_size file) bytes ≡ None
+    pub reported_damaged : (f : Fault) → undamaged kind p (usable_size file) bytes ≡ None
         → tree_page_faults kind (nat_lt 1 (length path + 1)) p (usable_size file) bytes ≡ f ∷ []
         → page_findings file rowids leaf c ≡ damaged_findings k path rowids p (usable_size file) bytes f
-    told_damaged f e g =
+    reported_damaged f e g =
         let why = page_cause rowids c.page (usable_size file) (page_bytes file c.page) None in
-        page_told file c kind kind_is rowids leaf None (viewed_as None e)
-        ∙ ap (λ fs. (told_row (tree_page_row c None) ∷ told_by why fs) ++ told_by (with_leaf (visit_cause rowids file c) rowids leaf)
+        page_reported file c kind kind_is rowids leaf None (viewed_as None e)
+        ∙ ap (λ fs. (reported_row (tree_page_row c None) ∷ reported_by why fs) ++ reported_by (with_leaf (visit_cause rowids file c) rowids leaf)
         (depth_faults file leaf c))
         (faults_as (f ∷ []) g)
-        ∙ ap (λ fs. (told_row (tree_page_row c None) ∷ told_by why (f ∷ [])) ++ told_by (with_leaf (visit_cause rowids file c) rowids leaf) fs)
+        ∙ ap (λ fs. (reported_row (tree_page_row c None) ∷ reported_by why (f ∷ [])) ++ reported_by (with_leaf (visit_cause rowids file c) rowids leaf) fs)
         (no_leaf file rowids leaf c (leaf_is None e)).0
-        ∙ append-nil (told_row (tree_page_row c None) ∷ told_by why (f ∷ []))
-        ∙ ap (λ r. told_row r ∷ told_by why (f ∷ [])) (sym (row_of_damage c p k path candidate.start candidate.path candidate.chain candidate.page))
-        ∙ ap (λ q. told_row (damaged_row k path p) ∷ told_by (page_cause rowids q (usable_size file) (page_bytes file q) None) (f ∷ [])) candidate.page
+        ∙ append-nil (reported_row (tree_page_row c None) ∷ reported_by why (f ∷ []))
+        ∙ ap (λ r. reported_row r ∷ reported_by why (f ∷ [])) (sym (row_of_damage c p k path candidate.start candidate.path candidate.chain candidate.page))
+        ∙ ap (λ q. reported_row (damaged_row k path p) ∷ reported_by (page_cause rowids q (usable_size file) (page_bytes file q) None) (f ∷ [])) candidate.page
 
     -- it is no leaf
     pub leaf_after_damaged : undamaged kind p (usable_size file) bytes ≡ None → leaf_after file leaf rowids c ≡ leaf
@@ -119,25 +120,25 @@ module _ (file : List ℕ) (kind : TreeKind) (k : ℕ) (path : List ℕ) (p from
     module _ (v : View) (viewed : undamaged kind p (usable_size file) bytes ≡ Some v) (number : v.number ≡ p)
         (within : tree_page_faults kind (nat_lt 1 (length path + 1)) p (usable_size file) bytes ≡ inner_faults v (nat_lt 1 (length path + 1))) where
       pub row_and_faults : page_findings file rowids leaf c ≡ undamaged_findings k path rowids v (nat_lt 1 (length path + 1))
-          ++ told_by (with_leaf (visit_cause rowids file c) rowids leaf) (depth_faults file leaf c)
+          ++ reported_by (with_leaf (visit_cause rowids file c) rowids leaf) (depth_faults file leaf c)
       row_and_faults =
           let why = page_cause rowids c.page (usable_size file) (page_bytes file c.page) (Some v) in
-          let last = told_by (with_leaf (visit_cause rowids file c) rowids leaf) (depth_faults file leaf c) in
+          let last = reported_by (with_leaf (visit_cause rowids file c) rowids leaf) (depth_faults file leaf c) in
           let child = nat_lt 1 (length path + 1) in
-          page_told file c kind kind_is rowids leaf (Some v) (viewed_as (Some v) viewed)
-          ∙ ap (λ fs. (told_row (tree_page_row c (Some v)) ∷ told_by why fs) ++ last) (faults_as (inner_faults v child) within)
-          ∙ ap (λ L. (told_row (tree_page_row c (Some v)) ∷ L) ++ last) (inner_same why (view_cause rowids v)
+          page_reported file c kind kind_is rowids leaf (Some v) (viewed_as (Some v) viewed)
+          ∙ ap (λ fs. (reported_row (tree_page_row c (Some v)) ∷ reported_by why fs) ++ last) (faults_as (inner_faults v child) within)
+          ∙ ap (λ L. (reported_row (tree_page_row c (Some v)) ∷ L) ++ last) (inner_same why (view_cause rowids v)
           (ap of_page (candidate.page ∙ sym number)) v child)
-          ∙ ap (λ r. (told_row r ∷ told_by (view_cause rowids v) (inner_faults v child)) ++ last)
+          ∙ ap (λ r. (reported_row r ∷ reported_by (view_cause rowids v) (inner_faults v child)) ++ last)
           (sym (row_of_view c v k path candidate.start candidate.path candidate.chain (number ∙ sym candidate.page)))
         where
           of_page : ℕ → List Cause
           of_page q = map (page_cause rowids q (usable_size file) (page_bytes file c.page) (Some v)) inner_codes
 
       -- an interior page: its row, and the faults within it
-      pub told_interior : is_interior v.kind ≡ true → page_findings file rowids leaf c ≡ undamaged_findings k path rowids v (nat_lt 1 (length path + 1))
-      told_interior e = row_and_faults
-          ∙ ap (λ fs. undamaged_findings k path rowids v (nat_lt 1 (length path + 1)) ++ told_by (with_leaf (visit_cause rowids file c) rowids leaf) fs)
+      pub reported_interior : is_interior v.kind ≡ true → page_findings file rowids leaf c ≡ undamaged_findings k path rowids v (nat_lt 1 (length path + 1))
+      reported_interior e = row_and_faults
+          ∙ ap (λ fs. undamaged_findings k path rowids v (nat_lt 1 (length path + 1)) ++ reported_by (with_leaf (visit_cause rowids file c) rowids leaf) fs)
           (no_leaf file rowids leaf c (leaf_is (Some v) viewed ∙ ap not e)).0
           ∙ append-nil (undamaged_findings k path rowids v (nat_lt 1 (length path + 1)))
 
@@ -145,12 +146,12 @@ module _ (file : List ℕ) (kind : TreeKind) (k : ℕ) (path : List ℕ) (p from
       leaf_after_interior e = (no_leaf file rowids leaf c (leaf_is (Some v) viewed ∙ ap not e)).1
 
       -- a leaf: then that its depth is not that of the first
-      pub told_leaf : is_interior v.kind ≡ false → page_findings file rowids leaf c ≡ undamaged_findings k path rowids v (nat_lt 1 (length path + 1))
-          ++ depth_told rowids leaf p (length path + 1)
-      told_leaf e = row_and_faults
+      pub reported_leaf : is_interior v.kind ≡ false → page_findings file rowids leaf c ≡ undamaged_findings k path rowids v (nat_lt 1 (length path + 1))
+          ++ depth_reported rowids leaf p (length path + 1)
+      reported_leaf e = row_and_faults
           ∙ ap (λ L. undamaged_findings k path rowids v (nat_lt 1 (length path + 1)) ++ L)
           ((at_leaf file (visit_cause rowids file c) rowids leaf c (length path + 1) (leaf_is (Some v) viewed ∙ ap not e) candidate.depth).0
-          ∙ ap (λ q. depth_told rowids leaf q (length path + 1)) candidate.page)
+          ∙ ap (λ q. depth_reported rowids leaf q (length path + 1)) candidate.page)
 
       pub leaf_after_leaf : is_interior v.kind ≡ false → leaf_after file leaf rowids c ≡ Some (first_of rowids leaf p (length path + 1))
       leaf_after_leaf e = (at_leaf file (visit_cause rowids file c) rowids leaf c (length path + 1) (leaf_is (Some v) viewed ∙ ap not e) candidate.depth).1
@@ -167,24 +168,24 @@ module _ {S : Type 0} (takes : S → Finding → S → Type 0) (held : S → Sin
   Exit t new = IsReportedTo takes held s (page_findings file rowids leaf c) t × (new ≡ leaf_after file leaf rowids c)
 
   module _ (f : Fault) (none : undamaged kind p usable bytes ≡ None) (one : (b : Bool) → tree_page_faults kind b p usable bytes ≡ f ∷ []) (t : S)
-      (told : IsReportedTo takes held s (damaged_findings k path' rowids' p usable bytes f) t) where
+      (reported : IsReportedTo takes held s (damaged_findings k path' rowids' p usable bytes f) t) where
     pub exit_damaged : Exit t leaf
     exit_damaged =
         let e = rw (usable_is, bytes_are) at none in
         let faults = rw (usable_is, bytes_are) at (one (nat_lt 1 (length path + 1))) in (
-          subst (λ L. IsReportedTo takes held s L t) (sym (told_damaged file kind k path p from item c candidate rowids leaf f e faults))
-              (rw (path_is, rowids_are, usable_is, bytes_are) at told),
+          subst (λ L. IsReportedTo takes held s L t) (sym (reported_damaged file kind k path p from item c candidate rowids leaf f e faults))
+              (rw (path_is, rowids_are, usable_is, bytes_are) at reported),
           sym (leaf_after_damaged file kind k path p from item c candidate rowids leaf e),
         )
 
   module _ (v : View) (viewed : undamaged kind p usable bytes ≡ Some v) (number : v.number ≡ p)
       (within : (b : Bool) → tree_page_faults kind b p usable bytes ≡ inner_faults v b) (t : S)
-      (told : IsReportedTo takes held s (undamaged_findings k path' rowids' v (nat_lt 1 depth)) t) where
-    abbrev first_told : List Finding
-    first_told = undamaged_findings k path rowids v (nat_lt 1 (length path + 1))
+      (reported : IsReportedTo takes held s (undamaged_findings k path' rowids' v (nat_lt 1 depth)) t) where
+    abbrev first_reported : List Finding
+    first_reported = undamaged_findings k path rowids v (nat_lt 1 (length path + 1))
 
-    told_first : IsReportedTo takes held s first_told t
-    told_first = rw (path_is, rowids_are, depth_is) at told
+    reported_first : IsReportedTo takes held s first_reported t
+    reported_first = rw (path_is, rowids_are, depth_is) at reported
 
     there : undamaged kind p (usable_size file) (page_bytes file p) ≡ Some v
     there = rw (usable_is, bytes_are) at viewed
@@ -195,22 +196,22 @@ module _ {S : Type 0} (takes : S → Finding → S → Type 0) (held : S → Sin
     pub exit_interior : is_interior v.kind ≡ true → Exit t leaf
     exit_interior i = (
       subst (λ L. IsReportedTo takes held s L t)
-          (sym (told_interior file kind k path p from item c candidate rowids leaf v there number inner i)) told_first,
+          (sym (reported_interior file kind k path p from item c candidate rowids leaf v there number inner i)) reported_first,
       sym (leaf_after_interior file kind k path p from item c candidate rowids leaf v there number inner i),
     )
 
-    module _ (is_leaf : is_interior v.kind ≡ false) (t1 : S) (last : IsReportedTo takes held t (depth_told rowids' leaf p depth) t1) where
-      abbrev last_told : List Finding
-      last_told = depth_told rowids leaf p (length path + 1)
+    module _ (is_leaf : is_interior v.kind ≡ false) (t1 : S) (last : IsReportedTo takes held t (depth_reported rowids' leaf p depth) t1) where
+      abbrev last_reported : List Finding
+      last_reported = depth_reported rowids leaf p (length path + 1)
 
-      told_last : IsReportedTo takes held t last_told t1
-      told_last = rw (rowids_are, depth_is) at last
+      reported_last : IsReportedTo takes held t last_reported t1
+      reported_last = rw (rowids_are, depth_is) at last
 
       pub exit_leaf : (new : Option TreeLeaf) → new ≡ Some (first_of rowids' leaf p depth) → Exit t1 new
       exit_leaf new n = (
         subst (λ L. IsReportedTo takes held s L t1)
-            (sym (told_leaf file kind k path p from item c candidate rowids leaf v there number inner is_leaf))
-            (told_then first_told last_told told_first told_last),
+            (sym (reported_leaf file kind k path p from item c candidate rowids leaf v there number inner is_leaf))
+            (reported_then first_reported last_reported reported_first reported_last),
         n ∙ ap₂ (λ w n. Some (first_of w leaf p n)) rowids_are depth_is
             ∙ sym (leaf_after_leaf file kind k path p from item c candidate rowids leaf v there number inner is_leaf),
       )

@@ -14,7 +14,7 @@ use Rattle.dbsurvey.proofs.Order.{IsBefore-beginning}
 use Rattle.dbsurvey.proofs.Ordering.{is_before-from, is_before-itself}
 use Rattle.dbformat.specs.declared.HeadFault.{HeadFault}
 use Rattle.dbtrace.specs.Causes.{bound_along, sound_page}
-use Rattle.dbwalk.proofs.Pages.PageTellings.{view_is}
+use Rattle.dbwalk.proofs.Pages.PageReportings.{view_is}
 
 -- an undamaged page has a sound head
 pub sound_in : (file : List ℕ) (kind : TreeKind) (p : ℕ) (v : View) → undamaged kind p (usable_size file) (page_bytes file p) ≡ Some v

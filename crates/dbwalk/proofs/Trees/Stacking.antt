@@ -3,7 +3,7 @@ use Rattle.std.proofs.Common.{◌≡◌, ℕ, suc, ◌<◌, ◌≤◌, inl, inr,
 use Rattle.std.proofs.Common.{◌++◌, map, Result, Ok, Err, append_assoc, option_map, filter, flat_map, nat_le, option_to_list, option_and_then, ◌==◌}
 use Rattle.dbwalk.proofs.Common.{IsIn, View, Cell, cell, cells, count, overflow_size, child_number, right_child, CellFault, step_of, Go, errands_of, then_step}
 use Rattle.dbwalk.proofs.Common.{overflow_step, child_step, key_step, cell_of_step, first_overflow, Way, Reference, role_of, tree_kind, tree_view, link}
-use Rattle.dbwalk.proofs.Common.{right_links, Event, at_key, story_of, go, tell_cell, TreeKind, errands_from, child_at, top_visit, left_over, StackFrame}
+use Rattle.dbwalk.proofs.Common.{right_links, Event, at_key, story_of, go, report_cell, TreeKind, errands_from, child_at, top_visit, left_over, StackFrame}
 use Rattle.std.specs.Prelude.{unwrap_or}
 use Rattle.std.specs.List.{range_with_len}
 use Rattle.std.specs.Result.{result_ok}
@@ -165,13 +165,13 @@ module _ (file : List ℕ) (r : Reference) (kind : TreeKind) (v : View) (role : 
       ∙ ap (λ es. go r k ∷ es) (behind (suc (overflow_step n)))
 
   -- the place of a cell's key
-  pub step_key : (n : ℕ) (x : Cell) → n < count v → cell v n ≡ Ok x → errands_from file r (key_step n) ≡ tell_cell r v n x
+  pub step_key : (n : ℕ) (x : Cell) → n < count v → cell v n ≡ Ok x → errands_from file r (key_step n) ≡ report_cell r v n x
       ∷ errands_from file r (suc (key_step n))
   step_key n x l e =
       next_item (key_step n) (Place (key_step n) (at_key r v (n, x)))
       (in_cell n x (Place (key_step n) (at_key r v (n, x))) l e
       (IsIn-right (Place (key_step n) (at_key r v (n, x))) (map Follow (cell_links r.page kind (n, x))) _ (inl refl))) refl
-      ∙ ap (λ es. tell_cell r v n x ∷ es) (behind (suc (key_step n)))
+      ∙ ap (λ es. report_cell r v n x ∷ es) (behind (suc (key_step n)))
 
   -- the left child of a cell
   step_left : (n : ℕ) (x : Cell) (p : ℕ) → n < count v → cell v n ≡ Ok x → x.left ≡ Some p

@@ -4,10 +4,12 @@
 use Rattle.std.proofs.Common.{◌≡◌, ℕ, ℤ, int_lt, Bool, true, false, cond, not, ◌&&◌, List, [], ◌∷◌, ◌++◌, map, Option, Some, None, refl, sym, ap, ◌∙◌, zero}
 use Rattle.std.proofs.Common.{suc, ◌+◌, ◌<◌, ◌≤◌, ◌<ℤ◌, arith, Ok, Err, Result, subst, flat_map, int_le, ◌==◌, option_and_then}
 use Rattle.dbwalk.proofs.Common.{start_of, schema_start, Cell, cell, count, View, is_interior, Reference, role_of, tree_kind, tree_view, SchemaCell}
-use Rattle.dbwalk.proofs.Common.{schema_cell, at_key, own_visit, story_of, told_if, fault, T06, FaultCode, left_rows, RowidBounds, Finding, told_fault, told_by}
+use Rattle.dbwalk.proofs.Common.{schema_cell, at_key, own_visit, story_of, reported_if, fault, T06, FaultCode, left_rows, RowidBounds, Finding, reported_fault,
+    reported_by}
 use Rattle.dbwalk.proofs.Common.{Cause, CellKey, Item, found, given, items_at, Progress, cause_by, rows_of, key_value, Walk, advance, run_below, bare, is_late}
-use Rattle.dbwalk.proofs.Common.{key_cause, order_told, placed, top_after, AreRisingFrom, IsIn, Address, AreQuiet, Tell, errands_of, errands_in, cell_errands}
-use Rattle.dbwalk.proofs.Common.{tell_cell, CellFault, TreeKind, IsAboveLast, IsAllLocal, key_at, IsAt, HasDone, done_below, Mark, Tree}
+use Rattle.dbwalk.proofs.Common.{key_cause, order_reported, placed, top_after, AreRisingFrom, IsIn, Address, AreQuiet, Due, errands_of, errands_in,
+    cell_errands}
+use Rattle.dbwalk.proofs.Common.{report_cell, CellFault, TreeKind, IsAboveLast, IsAllLocal, key_at, IsAt, HasDone, done_below, Mark, Tree}
 use Rattle.std.proofs.lemmas.List.{append-nil}
 use Rattle.dbformat.specs.KeyFaults.{key_of}
 use Rattle.dbformat.proofs.Places.{cell_key}
@@ -22,30 +24,30 @@ use Rattle.dbsurvey.proofs.Ordering.{IsIn-from_flat_map}
 use Rattle.dbformat.proofs.Cells.{is_of_kind}
 use Rattle.dbformat.proofs.Looping.{range-more, all_quiet}
 use Rattle.dbtrace.proofs.Stepping.{has_steps}
-use Rattle.dbwalk.proofs.Pages.PageVisits.{told_once}
+use Rattle.dbwalk.proofs.Pages.PageVisits.{reported_once}
 use Rattle.dbwalk.proofs.Trees.Stacking.{cells_in}
 use Rattle.std.proofs.lemmas.Bool.Decides.{nat_tests}
 use Rattle.dbwalk.proofs.Leaves.LeafErrands.{leaf_errands_are}
 
 -- the fault of a cell's key, if it has one, as the program reports it
-abbrev pub order_told_of : Bool → Option RowidBounds → Option CellKey → ℕ → ℕ → Option ℤ → List Finding
-order_told_of is_rowid left top page item None = []
-order_told_of is_rowid left top page item (Some value) = order_told is_rowid left top page item value
+abbrev pub order_reported_of : Bool → Option RowidBounds → Option CellKey → ℕ → ℕ → Option ℤ → List Finding
+order_reported_of is_rowid left top page item None = []
+order_reported_of is_rowid left top page item (Some value) = order_reported is_rowid left top page item value
 
 module _ (file : List ℕ) (r : Reference) (v : View) (n : ℕ) (x : Cell) where
   key_faults_are : (why : FaultCode → Cause) (top : Option CellKey) → why T06 ≡ key_cause (left_rows v (n, x)) top
-      → told_by why (flat_map (late_faults top) (key_of r v (n, x)))
-      ≡ order_told_of (not (is_interior v.kind)) (left_rows v (n, x)) top r.page n x.key
+      → reported_by why (flat_map (late_faults top) (key_of r v (n, x)))
+      ≡ order_reported_of (not (is_interior v.kind)) (left_rows v (n, x)) top r.page n x.key
   key_faults_are why top e = by_key x.key top e
     where
       by_key : (o : Option ℤ) (top : Option CellKey) → why T06 ≡ key_cause (left_rows v (n, x)) top
-          → told_by why (flat_map (late_faults top) (key_of r v (n, record x { key = o })))
-          ≡ order_told_of (not (is_interior v.kind)) (left_rows v (n, x)) top r.page n o
+          → reported_by why (flat_map (late_faults top) (key_of r v (n, record x { key = o })))
+          ≡ order_reported_of (not (is_interior v.kind)) (left_rows v (n, x)) top r.page n o
       by_key None top e = refl
       by_key (Some value) None e = refl
-      by_key (Some value) (Some m) e = ap (told_by why) (append-nil (late_faults (Some m) (cell_key r v n value))) ∙ told_once why _ _
-          ∙ ap (λ late. told_if late (told_fault (fault T06 r.page n value) (why T06))) (sym (by_rowid (not (is_interior v.kind))))
-          ∙ ap (λ c. told_if (is_late (not (is_interior v.kind)) (Some m.value) value) (told_fault (fault T06 r.page n value) c)) e
+      by_key (Some value) (Some m) e = ap (reported_by why) (append-nil (late_faults (Some m) (cell_key r v n value))) ∙ reported_once why _ _
+          ∙ ap (λ late. reported_if late (reported_fault (fault T06 r.page n value) (why T06))) (sym (by_rowid (not (is_interior v.kind))))
+          ∙ ap (λ c. reported_if (is_late (not (is_interior v.kind)) (Some m.value) value) (reported_fault (fault T06 r.page n value) c)) e
         where
           by_rowid : (b : Bool) → cond b (int_le value m.value) (int_lt value m.value) ≡ cond b (not (int_lt m.value value)) (int_lt value m.value)
           by_rowid true = le_is value m.value
@@ -60,10 +62,10 @@ module _ (file : List ℕ) (r : Reference) (v : View) (n : ℕ) (x : Cell) where
 
   -- what the cell hands out, where these are its rows of the schema: the rows, and then the key's fault
   pub cell_items : (U : List Reference) (p : Progress) (rows : List SchemaCell) → rows_of file U r v (n, x) ≡ rows
-      → items_at file U p (at_key r v (n, x)) ≡ map given rows ++ map found (order_told_of (not (is_interior v.kind)) (left_rows v
+      → items_at file U p (at_key r v (n, x)) ≡ map given rows ++ map found (order_reported_of (not (is_interior v.kind)) (left_rows v
       (n, x)) p.greatest r.page n x.key)
   cell_items U p rows are = ap (λ l. map given l ++ map found
-      (told_by (cause_by file U p (at_key r v (n, x))) (flat_map (late_faults p.greatest) (key_of r v (n, x))))) are
+      (reported_by (cause_by file U p (at_key r v (n, x))) (flat_map (late_faults p.greatest) (key_of r v (n, x))))) are
       ∙ ap (λ l. map given rows ++ map found l) (key_faults_are (cause_by file U p (at_key r v (n, x))) p.greatest refl)
 
   -- the greatest key after it
@@ -89,9 +91,9 @@ with_greatest now top = record { visits = now.visits; state = record { greatest 
 module _ (file : List ℕ) (r : Reference) (kind : TreeKind) (v : View) (leaf : is_interior v.kind ≡ false)
     (other : (start_of r.address == schema_start) ≡ false) where
   pub quiet : (is : List ℕ) → AreQuiet own_visit (flat_map (cell_errands r kind v) is)
-  quiet is e h = let m = IsIn-from_flat_map (cell_errands r kind v) is (Tell e) h in by_cell m.0 (cell v m.0) m.2
+  quiet is e h = let m = IsIn-from_flat_map (cell_errands r kind v) is (Due e) h in by_cell m.0 (cell v m.0) m.2
     where
-      by_cell : (i : ℕ) (o : Result Cell CellFault) → IsIn (Tell e) (option_map_or (errands_in r kind v i) (result_ok o) []) → own_visit e.event ≡ None
+      by_cell : (i : ℕ) (o : Result Cell CellFault) → IsIn (Due e) (option_map_or (errands_in r kind v i) (result_ok o) []) → own_visit e.event ≡ None
       by_cell i (Ok c) h = all_quiet.0 r kind v i c e h
       by_cell i (Err f) h = absurd h
 
@@ -115,13 +117,13 @@ module _ (file : List ℕ) (r : Reference) (kind : TreeKind) (v : View) (leaf : 
       let x = w.whole in
       let at : key_at v i ≡ x.key = ap (λ o. option_and_then (λ c. c.key) (result_ok o)) w.readable in
       let rise = rises now.state.greatest i x (subst (IsAboveLast (key_value now.state.greatest)) at h) in
-      let alone : cell_errands r kind v i ≡ tell_cell r v i x ∷ [] = ap (λ o. option_map_or (errands_in r kind v i) (result_ok o) []) w.readable
+      let alone : cell_errands r kind v i ≡ report_cell r v i x ∷ [] = ap (λ o. option_map_or (errands_in r kind v i) (result_ok o) []) w.readable
       ∙ no_links x w.here ((is_of_kind v (i, x) (cells_in v i x l w.readable)).leaf leaf) in
       let none : rows_of file (now.visits ++ []) r v (i, x) ≡ [] = rw other refl in
       ap (run_below file now) alone ∙ (has_steps file).event now _ [] refl ∙ (has_steps file).none (advance file now (at_key r v (i, x)))
       ∙ walk_is (append-nil now.visits) (rise.1 ∙ ap (λ o. option_or (placed r.page i o) now.state.greatest) (sym at)) none rise.0
     where
-      no_links : (x : Cell) → x.overflow ≡ None → x.left ≡ None → errands_in r kind v i x ≡ tell_cell r v i x ∷ []
+      no_links : (x : Cell) → x.overflow ≡ None → x.left ≡ None → errands_in r kind v i x ≡ report_cell r v i x ∷ []
       no_links x e f = rw (e, f) refl
 
       walk_is : now.visits ++ [] ≡ now.visits → greatest_after now.state.greatest (key_of r v (i, w.whole))

@@ -1,16 +1,16 @@
 -- Items that are handed to a sink and a taker, one list after another.
 use Rattle.std.proofs.Common.{◌≡◌, Bool, inl, inr, List, [], ◌∷◌, ◌++◌, map, Result, Ok, Err, refl, sym, ap, subst, ℕ, ◌∙◌, IfErr, OnOk}
 use Rattle.dbwalk.proofs.Common.{Moves, Stops, MovesBySome, SchemaCell, SchemaRow, RunError, Refused, WriteFailed, OutOfMemory, Finding, Item, found, given}
-use Rattle.dbwalk.proofs.Common.{given_cells, counted_findings, IsReadOrWrite, Tells, TellsRow, watches, fails, row_at, StopsAt, Handed, Taken, AreQuiet}
+use Rattle.dbwalk.proofs.Common.{given_cells, counted_findings, IsReadOrWrite, Reports, ReportsRow, watches, fails, row_at, StopsAt, Handed, Taken, AreQuiet}
 use Rattle.dbwalk.proofs.Common.{Errand, geometry, rules_of, Way, Event, own_visit, story_of, Walk, bare, run_below, AreMarksOf, IsAt, HasDone, done_below}
 use Rattle.dbwalk.proofs.Common.{Mark, Tree}
 use Rattle.dbsurvey.proofs.Moving.{Moves-append, some_first, some_after, stops_first, stops_after}
 use Rattle.dbsource.specs.declared.error.RunError.TheVariants.{ReadFailed}
-use Rattle.dbsurvey.specs.Story.{telling_of}
+use Rattle.dbsurvey.specs.Story.{reporting_of}
 use Rattle.dbsurvey.proofs.Advancing.{run_visits}
 use Rattle.dbtrace.specs.Walk.{machine}
 use Rattle.dbtrace.proofs.Stepping.{has_steps}
-use Rattle.dbwalk.proofs.Telling.Sinks.{asked, asked_both, moves_some}
+use Rattle.dbwalk.proofs.Reporting.Sinks.{asked, asked_both, moves_some}
 
 -- items that give no row
 pub only_found : (items : List Item) → given_cells items ≡ [] → items ≡ map found (counted_findings 0 items)
@@ -76,7 +76,7 @@ module _ {S T : Type 0} (takes : S → Finding → S → Type 0) (keeps : T → 
   found_some (f ∷ fs) s s' t (inr h) = inr ((h.0, t), (h.1, refl), found_some fs h.0 s' t h.2)
 
   -- at Ok and after an error of reading or writing
-  pub found_handed : {A : Type 0} (r : Result A RunError) (fs : List Finding) (s s' : S) (t : T) → (r ≡ Err OutOfMemory → ⊥) → Tells takes r s fs s'
+  pub found_handed : {A : Type 0} (r : Result A RunError) (fs : List Finding) (s s' : S) (t : T) → (r ≡ Err OutOfMemory → ⊥) → Reports takes r s fs s'
       → Handed (watches takes keeps) (fails refuses) r (s, t) (map found fs) (s', t)
   found_handed (Ok a) fs s s' t quiet h = found_moves fs s s' t h
   found_handed (Err (Refused e)) fs s s' t quiet h = found_some fs s s' t h
@@ -101,7 +101,7 @@ module _ {S T : Type 0} (takes : S → Finding → S → Type 0) (keeps : T → 
   never_refused (f ∷ fs) w x (inr h) = never_refused fs h.0 x h.2
 
   pub handed_found : {A : Type 0} (r : Result A RunError) (fs : List Finding) (w x : S × T)
-      → Handed (watches takes keeps) (fails refuses) r w (map found fs) x → Tells takes r w.0 fs x.0
+      → Handed (watches takes keeps) (fails refuses) r w (map found fs) x → Reports takes r w.0 fs x.0
   handed_found (Ok a) fs w x h = moves_found fs w x h
   handed_found (Err (Refused e)) fs w x h = some_found fs w x h
   handed_found (Err ReadFailed) fs w x h = some_found fs w x h
@@ -109,7 +109,7 @@ module _ {S T : Type 0} (takes : S → Finding → S → Type 0) (keeps : T → 
   handed_found (Err OutOfMemory) fs w x h = absurd (never_refused fs w x h)
 
   -- a row of the schema alone, and none
-  pub row_handed : (r : Result (Unit {0}) RunError) (c : SchemaCell) (w x : S × T) → TellsRow takes keeps refuses (row_at c) r w x
+  pub row_handed : (r : Result (Unit {0}) RunError) (c : SchemaCell) (w x : S × T) → ReportsRow takes keeps refuses (row_at c) r w x
       → Handed (watches takes keeps) (fails refuses) r w (given c ∷ []) x
   row_handed (Ok a) c w x h = (x, h, refl)
   row_handed (Err (Refused e)) c w x h = absurd h
@@ -122,7 +122,7 @@ module _ {S T : Type 0} (takes : S → Finding → S → Type 0) (keeps : T → 
 -- the visits do not look at the items
 pub bare_visits : (file : List ℕ) (m : Walk) (es : List (Errand Way Event)) → (run_below file m es).visits ≡ (done_below file m es).visits
 bare_visits file m es =
-    let L = telling_of (rules_of file) (story_of file) (geometry file).pages m.visits es in
+    let L = reporting_of (rules_of file) (story_of file) (geometry file).pages m.visits es in
     run_visits (machine file) m L ∙ sym (run_visits (machine file) (bare m) L)
 
 module _ {P : Type 0} (moves : P → Item → P → Type 0) (stops : P → Item → P → Type 0) (file : List ℕ) (m : Walk) (es : List (Errand Way Event)) where

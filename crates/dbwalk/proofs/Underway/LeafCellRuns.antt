@@ -3,8 +3,8 @@ use Rattle.std.proofs.Common.{◌≡◌, ℕ, ℤ, ◌≤◌, arith, true, false
 use Rattle.std.proofs.Common.{cond, subst, ◌∙◌, OnOk, IfErr, is_some, option_and_then, ◌==◌}
 use Rattle.dbwalk.proofs.Common.{Moves, Errand, start_of, then_step, overflow_step, schema_start, Cell, cell, cell_errands, View, is_interior, encoding, Way}
 use Rattle.dbwalk.proofs.Common.{Reference, SchemaCell, payload, schema_cell, SchemaRow, Event, at_key, TreeKind, RowSieve, RunError, key_before, left_rows}
-use Rattle.dbwalk.proofs.Common.{Finding, told_below, visited_below, CellKey, Item, found, given, rows_of, Walk, bare, advance, IsDone, overflow_errands}
-use Rattle.dbwalk.proofs.Common.{late_told, top_after, AreBefore, AreMarksOf, IsReadOrWrite, TellsRow, HasFed, HoldsCell, FeedsPayload, IsAt, done_below}
+use Rattle.dbwalk.proofs.Common.{Finding, reported_below, visited_below, CellKey, Item, found, given, rows_of, Walk, bare, advance, IsDone, overflow_errands}
+use Rattle.dbwalk.proofs.Common.{late_reported, top_after, AreBefore, AreMarksOf, IsReadOrWrite, ReportsRow, HasFed, HoldsCell, FeedsPayload, IsAt, done_below}
 use Rattle.dbwalk.proofs.Common.{watches, fails, StopsAt, Handed, Mark, Tree, Taken}
 use Rattle.std.specs.Result.{result_ok}
 use Rattle.std.proofs.lemmas.Bool.{cases_Bool, eqb-true}
@@ -17,8 +17,8 @@ use Rattle.dbtrace.proofs.Stepping.{has_steps}
 use Rattle.dbwalk.specs.Taking.{row_place}
 use Rattle.dbwalk.specs.declared.schema_row.RowPlace.{RowPlace}
 use Rattle.dbwalk.proofs.Leaves.LeafErrands.{own_errands, read_overflow, errands_split, quiet_overflow}
-use Rattle.dbwalk.proofs.Telling.Belows.{told_none}
-use Rattle.dbwalk.proofs.Underway.CellSteps.{order_told_of, cell_items, greatest_behind, no_row_elsewhere}
+use Rattle.dbwalk.proofs.Reporting.Belows.{reported_none}
+use Rattle.dbwalk.proofs.Underway.CellSteps.{order_reported_of, cell_items, greatest_behind, no_row_elsewhere}
 use Rattle.dbwalk.proofs.Underway.Handing.{HasEnded, bare_visits, done_then, done_stops, found_handed, no_memory, handed_after, stop_first, row_handed}
 
 -- there is no sieve
@@ -48,16 +48,16 @@ module _ (file : List ℕ) (from : Walk) (c : Reference) (kind : TreeKind) (v : 
   rows = rows_behind file m.visits c v i (result_ok (cell v i))
 
   abbrev key_items : List Item
-  key_items = map found (late_told from.state.greatest c.page i key)
+  key_items = map found (late_reported from.state.greatest c.page i key)
 
   -- the chain leaves the progress, and gives no row
-  chained : (m.state ≡ from.state) × (m.items ≡ map found (told_below file from.visits chain))
+  chained : (m.state ≡ from.state) × (m.items ≡ map found (reported_below file from.visits chain))
   chained = by_chain overflow
     where
       by_chain : (o : Option (ℕ × ℕ)) → ((done_below file from (overflow_errands c i o)).state ≡ from.state)
-          × ((done_below file from (overflow_errands c i o)).items ≡ map found (told_below file from.visits (overflow_errands c i o)))
+          × ((done_below file from (overflow_errands c i o)).items ≡ map found (reported_below file from.visits (overflow_errands c i o)))
       by_chain None = let none = (has_steps file).none (bare from) in
-          (ap (λ w. w.state) none, ap (λ w. w.items) none ∙ ap (map found) (sym (told_none file from.visits)))
+          (ap (λ w. w.state) none, ap (λ w. w.items) none ∙ ap (map found) (sym (reported_none file from.visits)))
       by_chain (Some o) =
           let aside = are_aside file (bare from) _ refl in
           (aside.state, aside.items)
@@ -72,7 +72,7 @@ module _ (file : List ℕ) (from : Walk) (c : Reference) (kind : TreeKind) (v : 
     leaf_is : w.state.leaf ≡ from.state.leaf
     items : w.items ≡ map given (rows_behind file m.visits c v i o) ++ key_items
 
-  same_faults : (top : Option CellKey) (o : Option ℤ) → order_told_of true None top c.page i o ≡ late_told top c.page i o
+  same_faults : (top : Option CellKey) (o : Option ℤ) → order_reported_of true None top c.page i o ≡ late_reported top c.page i o
   same_faults top None = refl
   same_faults top (Some value) = refl
 
@@ -84,7 +84,7 @@ module _ (file : List ℕ) (from : Walk) (c : Reference) (kind : TreeKind) (v : 
         visits = refl;
         greatest_is = ap (λ p. p.greatest) chained.0 ∙ sym (ap (top_after from.state.greatest c.page i) e);
         leaf_is = ap (λ p. p.leaf) chained.0;
-        items = sym (ap (λ k. map found (late_told from.state.greatest c.page i k)) e);
+        items = sym (ap (λ k. map found (late_reported from.state.greatest c.page i k)) e);
       })
       by_cell (Some x) e =
           let U = m.visits ++ [] in
@@ -97,12 +97,12 @@ module _ (file : List ℕ) (from : Walk) (c : Reference) (kind : TreeKind) (v : 
             leaf_is = ap (λ p. p.leaf) chained.0;
             items = cell_items file c v i x U m.state (rows_of file m.visits c v (i, x)) here
                 ∙ ap (λ p. map given (rows_of file m.visits c v (i, x)) ++ map found
-                (order_told_of (not (is_interior v.kind)) (left_rows v (i, x)) p.greatest c.page i x.key))
+                (order_reported_of (not (is_interior v.kind)) (left_rows v (i, x)) p.greatest c.page i x.key))
                 chained.0
                 ∙ ap (λ b. map given (rows_of file m.visits c v (i, x)) ++ map found
-                (order_told_of (not b) (cond b (Some (record { above = key_before v i; up_to = x.key })) None) from.state.greatest c.page i x.key)) leaf
+                (order_reported_of (not b) (cond b (Some (record { above = key_before v i; up_to = x.key })) None) from.state.greatest c.page i x.key)) leaf
                 ∙ ap (λ fs. map given (rows_of file m.visits c v (i, x)) ++ map found fs)
-                (same_faults from.state.greatest x.key ∙ ap (late_told from.state.greatest c.page i) (sym e));
+                (same_faults from.state.greatest x.key ∙ ap (late_reported from.state.greatest c.page i) (sym e));
           })
 
   split : cell_errands c kind v i ≡ chain ++ own
@@ -125,7 +125,7 @@ module _ (file : List ℕ) (from : Walk) (c : Reference) (kind : TreeKind) (v : 
     chain_done r marks tree s s' t only top depth done = record {
       at = by_ok r done.marked;
       handed = subst (λ l. Handed (watches takes keeps) (fails refuses) r (s, t) l (s', t)) (sym chained.1)
-          (found_handed takes keeps refuses r (told_below file from.visits chain) s s' t (no_memory r only) done.told);
+          (found_handed takes keeps refuses r (reported_below file from.visits chain) s s' t (no_memory r only) done.reported);
     }
       where
         by_ok : (r : Result (Unit {0}) RunError) → OnOk r (AreMarksOf file (from.visits ++ visited_below file from.visits chain) marks)
@@ -189,8 +189,8 @@ module _ (file : List ℕ) (from : Walk) (c : Reference) (kind : TreeKind) (v : 
       cell_row_handed : (start_of c.address == schema_start) ≡ true → (old : Option RowSieve) → HoldsCell old e (result_ok (cell v i))
           → AreBefore from.visits (then_step c.address (overflow_step i)) → FeedsPayload file from.visits c i overflow old new
           → is_some new ≡ is_some old → ((size : ℕ) (e : Encoding) (bytes : List ℕ) → HasFed new size e bytes
-          → TellsRow takes keeps refuses (place, schema_row bytes size e) r (s, t) (s', t')) → Rows rows
-      cell_row_handed schema old holds before fed kept told = by_cell (result_ok (cell v i)) key_is holds
+          → ReportsRow takes keeps refuses (place, schema_row bytes size e) r (s, t) (s', t')) → Rows rows
+      cell_row_handed schema old holds before fed kept reported = by_cell (result_ok (cell v i)) key_is holds
         where
           by_cell : (o : Option Cell) → key ≡ option_and_then (λ c. c.key) o → HoldsCell old e o → Rows (rows_behind file m.visits c v i o)
           by_cell None key_is h = none_handed (gone new (kept ∙ ap is_some h))
@@ -200,16 +200,17 @@ module _ (file : List ℕ) (from : Walk) (c : Reference) (kind : TreeKind) (v : 
               let one : rows_of file m.visits c v (i, x) ≡ schema_cell file m.visits c (i, x) ∷ [] = rw (schema, leaf) refl in
               let here : place ≡ row_place c.page i x.key = place_is ∙ ap (λ q. row_place q i key) (sym page) ∙ ap (row_place c.page i) key_is in
               subst Rows (sym one) (row_handed takes keeps refuses r (schema_cell file m.visits c (i, x)) (s, t) (s', t')
-              (rw (bytes, coded, here) at (told x.size e _ (fed.fed x e before h))))
+              (rw (bytes, coded, here) at (reported x.size e _ (fed.fed x e before h))))
 
       -- by the start of the tree
-      pub row_told : (k : ℕ) → start_of c.address ≡ k → (old : Option RowSieve) → (k ≡ schema_start → HoldsCell old e (result_ok (cell v i)))
+      pub row_reported : (k : ℕ) → start_of c.address ≡ k → (old : Option RowSieve) → (k ≡ schema_start → HoldsCell old e (result_ok (cell v i)))
           → (1 ≤ k → old ≡ None)
           → AreBefore from.visits (then_step c.address (overflow_step i)) → FeedsPayload file from.visits c i overflow old new → is_some new ≡ is_some old
           → ((size : ℕ) (e : Encoding) (bytes : List ℕ) → HasFed new size e bytes
-          → TellsRow takes keeps refuses (place, schema_row bytes size e) r (s, t) (s', t')) → Rows rows
-      row_told k start old holds other before fed kept told = elim (cases_Bool (start_of c.address == schema_start)) [
-        | inl f ↦ (let z : k ≡ schema_start = sym start ∙ eqb-true (start_of c.address) schema_start f in cell_row_handed f old (holds z) before fed kept told)
+          → ReportsRow takes keeps refuses (place, schema_row bytes size e) r (s, t) (s', t')) → Rows rows
+      row_reported k start old holds other before fed kept reported = elim (cases_Bool (start_of c.address == schema_start)) [
+        | inl f ↦ (let z : k ≡ schema_start = sym start ∙ eqb-true (start_of c.address) schema_start f in cell_row_handed f old
+            (holds z) before fed kept reported)
         | inr f ↦ no_row_handed f (gone new (kept ∙ ap is_some (other (later start f))))
       ]
         where

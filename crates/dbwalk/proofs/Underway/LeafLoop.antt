@@ -14,7 +14,7 @@ use Rattle.dbtrace.proofs.Stepping.{has_steps}
 use Rattle.dbwalk.specs.LeafCells.{ArePassedAt}
 use Rattle.dbwalk.proofs.Leaves.LeafErrands.{read_overflow}
 use Rattle.dbwalk.proofs.Underway.Visits.{before_next, before_later}
-use Rattle.dbwalk.proofs.Telling.Belows.{visited_none, below_begins}
+use Rattle.dbwalk.proofs.Reporting.Belows.{visited_none, below_begins}
 use Rattle.dbwalk.proofs.Underway.Handing.{HasEnded, bare_visits, done_none, done_then, done_stops}
 use Rattle.dbwalk.proofs.Underway.LeafCellRuns.{cell_visits}
 use Rattle.dbwalk.proofs.Underway.CellSteps.{with_greatest, passed}

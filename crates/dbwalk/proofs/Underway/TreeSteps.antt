@@ -1,11 +1,11 @@
 -- One turn of the loop over the interior pages of a tree.
 use Rattle.std.proofs.Common.{◌≡◌, ℕ, suc, ◌+◌, ◌-◌, ◌*◌, ◌<◌, ◌≤◌, true, false, not, inl, inr, List, [], ◌∷◌, ◌++◌, map, length, Some, Ok, Err, refl, sym, ap}
 use Rattle.std.proofs.Common.{cond, subst, arith, ◌∙◌, append_assoc, None, Result, slice_get, OnOk, IfErr}
-use Rattle.dbwalk.proofs.Common.{AreQuiet, Moves, Errand, Go, errands_of, child_step, Cell, count, tell_cell, page_bytes, Way, Reference, role_of, tree_kind}
+use Rattle.dbwalk.proofs.Common.{AreQuiet, Moves, Errand, Go, errands_of, child_step, Cell, count, report_cell, page_bytes, Way, Reference, role_of, tree_kind}
 use Rattle.dbwalk.proofs.Common.{Event, at_page, at_key, own_visit, story_of, TreeKind, RunError, key_from, root_of, key_before, RowidBounds, Item, found, Walk}
 use Rattle.dbwalk.proofs.Common.{advance, run_below, bare, IsNext, top_after, AreMarksOf, errands_from, child_at, top_visit, left_over, IsStepped}
 use Rattle.dbwalk.proofs.Common.{AreOpenFrames, AreRead, IsReadOrWrite, IsUnderway, HasDone, IsInterior, done_below, entered, IsAt, IsWalkingOn, tree_walk}
-use Rattle.dbwalk.proofs.Common.{StopsAt, watches, fails, Handed, StackFrame, Mark, Tree, SchemaRow, Finding, told_below, visited_below, IsDone, Taken}
+use Rattle.dbwalk.proofs.Common.{StopsAt, watches, fails, Handed, StackFrame, Mark, Tree, SchemaRow, Finding, reported_below, visited_below, IsDone, Taken}
 use Rattle.std.proofs.lemmas.List.{append-nil}
 use Rattle.dbtrace.specs.Steps.{IsAside}
 use Rattle.dbtrace.proofs.Stepping.{has_steps}
@@ -13,7 +13,7 @@ use Rattle.dbwalk.specs.Walking.{IsOpenFrame}
 use Rattle.dbwalk.proofs.Trees.Bounds.{root_stays}
 use Rattle.dbwalk.proofs.Trees.Stacking.{left-push, top-push, from_first}
 use Rattle.dbwalk.proofs.Trees.Frames.{read_front, read_push, read_kept, calls_front, calls_on, calls_push}
-use Rattle.dbwalk.proofs.Underway.CellSteps.{order_told_of, cell_items, no_row_inside, greatest_behind}
+use Rattle.dbwalk.proofs.Underway.CellSteps.{order_reported_of, cell_items, no_row_inside, greatest_behind}
 use Rattle.dbwalk.proofs.Underway.Underways.{items_of, under_event, under_visit, under_call, stop_call}
 use Rattle.dbtrace.proofs.Asides.{are_aside}
 use Rattle.dbwalk.proofs.Underway.Handing.{found_handed, no_memory}
@@ -126,30 +126,30 @@ module _ {P : Type 0} {moves : P → Item → P → Type 0} {file : List ℕ} {W
     on_skip e = turn on.now marks tree w refl on.root (first_errands [] e)
 
     -- the place of a readable cell's key, whether it has one or not
-    module _ (n : ℕ) (cell : Cell) (x : P) (e : errands_from file top f.next ≡ tell_cell top frames.1.view n cell ∷ errands_from file top (suc f.next)) where
+    module _ (n : ℕ) (cell : Cell) (x : P) (e : errands_from file top f.next ≡ report_cell top frames.1.view n cell ∷ errands_from file top (suc f.next)) where
       abbrev event : Event
       event = at_key top frames.1.view (n, cell)
 
       abbrev pub left : RowidBounds
       left = record { above = key_before frames.1.view n; up_to = cell.key }
 
-      abbrev told : List Item
-      told = map found (order_told_of false (Some left) tree.greatest top.page n cell.key)
+      abbrev reported : List Item
+      reported = map found (order_reported_of false (Some left) tree.greatest top.page n cell.key)
 
-      items_are : items_of file on.now event ≡ told
+      items_are : items_of file on.now event ≡ reported
       items_are =
           let v = frames.1.view in
           let U = (advance file on.now event).visits in
           cell_items file top v n cell U on.now.state [] (no_row_inside file U top v (n, cell) frames.1.interior)
-          ∙ ap (λ b. map found (order_told_of (not b) (cond b (Some left) None) on.now.state.greatest top.page n cell.key)) frames.1.interior
-          ∙ ap (λ top_key. map found (order_told_of false (Some left) top_key top.page n cell.key)) (sym on.under.at.1)
+          ∙ ap (λ b. map found (order_reported_of (not b) (cond b (Some left) None) on.now.state.greatest top.page n cell.key)) frames.1.interior
+          ∙ ap (λ top_key. map found (order_reported_of false (Some left) top_key top.page n cell.key)) (sym on.under.at.1)
 
       pub on_cell : (tree' : Tree) → tree'.kind ≡ tree.kind → tree'.greatest ≡ top_after tree.greatest top.page n cell.key → tree'.leaf ≡ tree.leaf
-          → Moves moves w told x
+          → Moves moves w reported x
           → IsWalkingOn moves file W c before (on_frames, levels) (marks, tree') x
       on_cell tree' kinds tops leafs m = turn (advance file on.now event) marks tree' x kinds (root_stays on.now.visits [] c.address c on.root)
           (under_event moves file (tree_walk file W c) before on.now (marks, tree) (marks, tree') w x (record { key = _; event = event }) rest
-          (first_errands (tell_cell top frames.1.view n cell ∷ []) e) refl (
+          (first_errands (report_cell top frames.1.view n cell ∷ []) e) refl (
             subst (λ U. AreMarksOf file U marks) (sym (append-nil on.now.visits)) on.under.at.0,
             tops ∙ ap (λ top_key. top_after top_key top.page n cell.key) on.under.at.1 ∙ sym (greatest_behind file top frames.1.view n cell on.now),
             leafs ∙ on.under.at.2,
@@ -228,7 +228,7 @@ module _ {S T A : Type 0} (takes : S → Finding → S → Type 0) (keeps : T �
   aside_done r marks marks' tree s s' t only at done = record {
     at = on_ok r done.marked;
     handed = subst (λ items. Handed (watches takes keeps) (fails refuses) r (s, t) items (s', t)) (sym aside.items)
-        (found_handed takes keeps refuses r (told_below file from.visits (Go c ∷ [])) s s' t (no_memory r only) done.told);
+        (found_handed takes keeps refuses r (reported_below file from.visits (Go c ∷ [])) s s' t (no_memory r only) done.reported);
   }
     where
       aside : IsAside file (bare from) c

@@ -1,10 +1,13 @@
 -- One turn of the loop over the interior pages of a tree, by what the last frame's page has at its step.
 use Rattle.std.proofs.Common.{◌≡◌, ℕ, suc, ◌+◌, ◌-◌, ◌*◌, ◌/◌, ◌<◌, ◌≤◌, false, true, List, [], ◌∷◌, ◌++◌, map, length, Option, Some, Ok, Err, Result, ℤ, refl}
 use Rattle.std.proofs.Common.{sym, ap, ap₂, subst, arith, ◌∙◌, Bool, option_and_then, slice_get, OnOk, IfErr}
-use Rattle.dbwalk.proofs.Common.{Moves, Go, then_step, overflow_step, child_step, cell_of_step, count, overflow_size, child_number, tell_cell, page_bytes, View}
-use Rattle.dbwalk.proofs.Common.{undamaged, usable_size, first_overflow, Reference, role_of, tree_kind, tree_view, RunError, fault, told_if, T06, key_before}
-use Rattle.dbwalk.proofs.Common.{key_from, key_up_to, left_key, Finding, told_fault, key_value, RowidBounds, Item, found, IsChainOf, IsNext, is_late, key_cause}
-use Rattle.dbwalk.proofs.Common.{order_told, top_after, errands_from, child_at, top_visit, IsCandidate, IsLeafAt, IsStepped, path_of, IsEmptyAt, no_chain}
+use Rattle.dbwalk.proofs.Common.{Moves, Go, then_step, overflow_step, child_step, cell_of_step, count, overflow_size, child_number, report_cell, page_bytes,
+    View}
+use Rattle.dbwalk.proofs.Common.{undamaged, usable_size, first_overflow, Reference, role_of, tree_kind, tree_view, RunError, fault, reported_if, T06,
+    key_before}
+use Rattle.dbwalk.proofs.Common.{key_from, key_up_to, left_key, Finding, reported_fault, key_value, RowidBounds, Item, found, IsChainOf, IsNext, is_late,
+    key_cause}
+use Rattle.dbwalk.proofs.Common.{order_reported, top_after, errands_from, child_at, top_visit, IsCandidate, IsLeafAt, IsStepped, path_of, IsEmptyAt, no_chain}
 use Rattle.dbwalk.proofs.Common.{no_child, without_key, HasLeft, IsNextStep, HasNext, HasDone, IsInterior, done_below, entered, IsWalkingOn, tree_walk, StopsAt}
 use Rattle.dbwalk.proofs.Common.{StackFrame, Mark, Tree, Next, End, Nothing}
 use Rattle.std.specs.Prelude.{unwrap_or}
@@ -15,13 +18,13 @@ use Rattle.dbwalk.specs.Steps.{IsChainAt, IsChildAt, IsKeyAt, unreadable}
 use Rattle.dbwalk.specs.Underway.{HasTurned}
 use Rattle.dbwalk.specs.declared.chain.Chain.{Chain}
 use Rattle.dbwalk.proofs.Leaves.LeafErrands.{chain_start, rowid_in}
-use Rattle.dbwalk.proofs.Pages.PageTellings.{view_is}
+use Rattle.dbwalk.proofs.Pages.PageReportings.{view_is}
 use Rattle.dbwalk.proofs.Pages.PageVisits.{kind_is}
 use Rattle.dbwalk.proofs.Trees.Bounds.{child_key, child_up_to, root_address}
 use Rattle.dbwalk.proofs.Trees.Frames.{path_length, read_last, step_within}
 use Rattle.dbwalk.proofs.Trees.Stacking.{top_kind, step_no_chain, step_no_child, step_key, step_no_key, step_chain, step_child, step_end}
 use Rattle.dbwalk.proofs.Trees.TreeWays.{IsOnWay, child_candidate, top_candidate}
-use Rattle.dbwalk.proofs.Underway.CellSteps.{order_told_of}
+use Rattle.dbwalk.proofs.Underway.CellSteps.{order_reported_of}
 use Rattle.dbwalk.proofs.Underway.TreeSteps.{turned}
 use Rattle.dbwalk.specs.declared.steps.Next.TheVariants as step
 use Rattle.dbwalk.proofs.Underway.TreeSteps as steps
@@ -91,10 +94,10 @@ module _ {P : Type 0} {moves : P → Item → P → Type 0} {file : List ℕ} {W
         by_case (unreadable n b step l bad) = steps.on_skip fs f on stepped within
             (subst (λ s. errands_from file top s ≡ errands_from file top (suc s)) (sym step) (step_no_key file top tree.kind v role viewed n b bad))
         by_case (without_key n x step l read none) = steps.on_cell fs f on stepped within n x w
-            (subst (λ s. errands_from file top s ≡ tell_cell top v n x ∷ errands_from file top (suc s)) (sym step)
+            (subst (λ s. errands_from file top s ≡ report_cell top v n x ∷ errands_from file top (suc s)) (sym step)
             (step_key file top tree.kind v role viewed n x l read))
             tree refl (ap (λ o. top_after tree.greatest top.page n o) (sym none)) refl
-            (subst (λ o. Moves moves w (map found (order_told_of false (Some (record { above = key_before v n; up_to = o })) tree.greatest top.page n o)) w)
+            (subst (λ o. Moves moves w (map found (order_reported_of false (Some (record { above = key_before v n; up_to = o })) tree.greatest top.page n o)) w)
             (sym none) refl)
 
     -- a key
@@ -105,8 +108,8 @@ module _ {P : Type 0} {moves : P → Item → P → Type 0} {file : List ℕ} {W
           other : step.Key value ≡ End → ⊥
           other e = cc
 
-      key_errand : errands_from file top f.next ≡ tell_cell top v h.n h.x ∷ errands_from file top (suc f.next)
-      key_errand = subst (λ s. errands_from file top s ≡ tell_cell top v h.n h.x ∷ errands_from file top (suc s)) (sym h.step)
+      key_errand : errands_from file top f.next ≡ report_cell top v h.n h.x ∷ errands_from file top (suc f.next)
+      key_errand = subst (λ s. errands_from file top s ≡ report_cell top v h.n h.x ∷ errands_from file top (suc s)) (sym h.step)
           (step_key file top tree.kind v role viewed h.n h.x h.low h.read)
 
       at_cell : f.next / 3 ≡ h.n
@@ -119,20 +122,20 @@ module _ {P : Type 0} {moves : P → Item → P → Type 0} {file : List ℕ} {W
       abbrev between : Option ℤ → RowidBounds
       between up_to = record { above = key_before v h.n; up_to = up_to }
 
-      told_key : (left : RowidBounds) → (is_late false (key_value tree.greatest) value ≡ true → left ≡ between (Some value))
-          → order_told false (Some left) tree.greatest f.page (f.next / 3) value
-          ≡ order_told_of false (Some (between h.x.key)) tree.greatest top.page h.n h.x.key
-      told_key left are =
+      reported_key : (left : RowidBounds) → (is_late false (key_value tree.greatest) value ≡ true → left ≡ between (Some value))
+          → order_reported false (Some left) tree.greatest f.page (f.next / 3) value
+          ≡ order_reported_of false (Some (between h.x.key)) tree.greatest top.page h.n h.x.key
+      reported_key left are =
           by_late (is_late false (key_value tree.greatest) value) are
-          ∙ ap (λ p. order_told false (Some (between (Some value))) tree.greatest p (f.next / 3) value) on_page
-          ∙ ap (λ i. order_told false (Some (between (Some value))) tree.greatest top.page i value) at_cell
-          ∙ ap (λ o. order_told_of false (Some (between o)) tree.greatest top.page h.n o) (sym h.key)
+          ∙ ap (λ p. order_reported false (Some (between (Some value))) tree.greatest p (f.next / 3) value) on_page
+          ∙ ap (λ i. order_reported false (Some (between (Some value))) tree.greatest top.page i value) at_cell
+          ∙ ap (λ o. order_reported_of false (Some (between o)) tree.greatest top.page h.n o) (sym h.key)
         where
-          told_with : Bool → RowidBounds → List Finding
-          told_with late rows = told_if late (told_fault (fault T06 f.page (f.next / 3) value) (key_cause (Some rows) tree.greatest))
+          reported_with : Bool → RowidBounds → List Finding
+          reported_with late rows = reported_if late (reported_fault (fault T06 f.page (f.next / 3) value) (key_cause (Some rows) tree.greatest))
 
-          by_late : (late : Bool) → (late ≡ true → left ≡ between (Some value)) → told_with late left ≡ told_with late (between (Some value))
-          by_late true e = ap (told_with true) (e refl)
+          by_late : (late : Bool) → (late ≡ true → left ≡ between (Some value)) → reported_with late left ≡ reported_with late (between (Some value))
+          by_late true e = ap (reported_with true) (e refl)
           by_late false e = refl
 
       -- what is read of the cell before it
@@ -150,12 +153,12 @@ module _ {P : Type 0} {moves : P → Item → P → Type 0} {file : List ℕ} {W
 
       pub turned_key : (left : RowidBounds) → (is_late false (key_value tree.greatest) value ≡ true → left ≡ between (Some value))
           → (tree' : Tree) → tree'.kind ≡ tree.kind → tree'.greatest ≡ top_after tree.greatest f.page (f.next / 3) (Some value) → tree'.leaf
-          ≡ tree.leaf → Moves moves w (map found (order_told false (Some left) tree.greatest f.page (f.next / 3) value)) x
+          ≡ tree.leaf → Moves moves w (map found (order_reported false (Some left) tree.greatest f.page (f.next / 3) value)) x
           → IsWalkingOn moves file W c before (fs ++ (g ∷ []), levels) (marks, tree') x
       turned_key left are tree' kinds tops leafs m = steps.on_cell fs f on stepped within_key h.n h.x x key_errand tree' kinds
           (tops ∙ ap (λ p. top_after tree.greatest p (f.next / 3) (Some value)) on_page ∙ ap (λ i. top_after tree.greatest top.page i (Some value)) at_cell
           ∙ ap (top_after tree.greatest top.page h.n) (sym h.key)) leafs
-          (subst (λ l. Moves moves w (map found l) x) (told_key left are) m)
+          (subst (λ l. Moves moves w (map found l) x) (reported_key left are) m)
 
     -- an overflow chain
     module _ {first left : ℕ} {rowid : Option ℤ} (h : IsChainAt v f.next first left rowid) where

@@ -1,6 +1,6 @@
 -- A walk under way, step by step.
 use Rattle.std.proofs.Common.{◌≡◌, ℕ, inr, List, [], ◌∷◌, ◌++◌, None, Ok, Err, sym, ap, subst, ◌∙◌, append_assoc, true, option_to_list}
-use Rattle.dbwalk.proofs.Common.{IsLeftOf, AreQuiet, IsPast, Moves, Told, Errand, Go, Tell, errand_key, errands_of, is_followed, geometry, Way, Reference}
+use Rattle.dbwalk.proofs.Common.{IsLeftOf, AreQuiet, IsPast, Moves, Reported, Errand, Go, Due, errand_key, errands_of, is_followed, geometry, Way, Reference}
 use Rattle.dbwalk.proofs.Common.{Event, at_page, own_visit, story_of, rules_of, RunError, Item, items_at, Walk, bare, advance, run_below, AreMarksOf, IsAt}
 use Rattle.dbwalk.proofs.Common.{IsUnderway, HasDone, done_below, StopsAt, Mark, Tree}
 use Rattle.std.proofs.lemmas.List.{append-nil}
@@ -9,7 +9,7 @@ use Rattle.dbsurvey.proofs.Order.{IsIn-right, EachPair-left, EachPair-right}
 use Rattle.dbsurvey.proofs.Past.{past_join}
 use Rattle.dbformat.proofs.Theory.{are_rules}
 use Rattle.dbtrace.proofs.Stepping.{has_steps}
-use Rattle.dbwalk.proofs.Telling.Lefts.{visit_apart, past_visit_all}
+use Rattle.dbwalk.proofs.Reporting.Lefts.{visit_apart, past_visit_all}
 use Rattle.dbwalk.proofs.Underway.Handing.{stop_first, stop_after}
 
 -- the items of an event, after the visits and the state so far
@@ -31,10 +31,10 @@ module _ {P : Type 0} (moves : P → Item → P → Type 0) (file : List ℕ) (w
         handed = Moves-append moves before w x now.items (items_of file now event) h.handed m;
       }
 
-  pub under_event : (t : Told Event) (es : List (Errand Way Event)) → IsUnderway moves file whole before now (Tell t ∷ es) state w → own_visit t.event ≡ None
+  pub under_event : (t : Reported Event) (es : List (Errand Way Event)) → IsUnderway moves file whole before now (Due t ∷ es) state w → own_visit t.event ≡ None
       → IsAt file (advance file now t.event) state'.0 state'.1 → Moves moves w (items_of file now t.event) x
       → IsUnderway moves file whole before (advance file now t.event) es state' x
-  under_event t es h q at m = quiet (Tell t) t.event es h q ((has_steps file).event now t es q) at m
+  under_event t es h q at m = quiet (Due t) t.event es h q ((has_steps file).event now t es q) at m
 
   -- a visit: what its page leads to is to be done next
   pub under_visit : (c : Reference) (es : List (Errand Way Event)) → IsUnderway moves file whole before now (Go c ∷ es) state w

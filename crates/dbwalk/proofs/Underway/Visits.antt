@@ -2,9 +2,11 @@
 use Rattle.std.proofs.Common.{ℕ, ℤ, ◌<◌, inl, inr, List, [], ◌∷◌, ◌++◌, refl, sym, subst, ◌≡◌, Bool, true, false, map, Option, Some, Result, Ok, Err, ap, ap₂}
 use Rattle.std.proofs.Common.{◌∙◌, OnOk, option_to_list}
 use Rattle.dbwalk.proofs.Common.{Address, IsBefore, Reference, role_of, tree_kind, TreeKind, CellKey, AreBefore, Moves, Go, errands_of, is_followed, then_step}
-use Rattle.dbwalk.proofs.Common.{SchemaRow, at_page, at_refused, story_of, rules_of, RunError, WriteFailed, OutOfMemory, Finding, told_by, told_row, Item}
+use Rattle.dbwalk.proofs.Common.{SchemaRow, at_page, at_refused, story_of, rules_of, RunError, WriteFailed, OutOfMemory, Finding, reported_by, reported_row,
+    Item}
 use Rattle.dbwalk.proofs.Common.{found, key_up_to, refusal_of, key_value, leaf_after, rowids_by, Cause, FaultCode, Walk, bare, advance, run_below, IsNext}
-use Rattle.dbwalk.proofs.Common.{refused_told, AreMarksOf, Tells, page_findings, IsAt, HasDone, done_below, entered, IsEntered, watches, fails, Handed, Mark}
+use Rattle.dbwalk.proofs.Common.{refused_reported, AreMarksOf, Reports, page_findings, IsAt, HasDone, done_below, entered, IsEntered, watches, fails, Handed,
+    Mark}
 use Rattle.dbwalk.proofs.Common.{Tree, Taken}
 use Rattle.dbsurvey.proofs.Order.{IsIn-cases, IsBefore-trans, IsBefore-beginning}
 use Rattle.dbformat.specs.Laws.{event_row}
@@ -15,7 +17,7 @@ use Rattle.dbsource.specs.declared.error.RunError.TheVariants.{ReadFailed}
 use Rattle.dbformat.specs.ReferenceFaults.{reference_faults}
 use Rattle.dbwalk.proofs.Trees.Bounds.{key_up_to_itself}
 use Rattle.dbtrace.proofs.Stepping.{has_steps}
-use Rattle.dbwalk.proofs.Pages.PageTellings.{page_causes}
+use Rattle.dbwalk.proofs.Pages.PageReportings.{page_causes}
 use Rattle.dbwalk.proofs.Underway.Handing.{done_none, done_on, found_moves, found_handed}
 use Rattle.dbtrace.specs.declared.Cause.TheVariants as cause
 
@@ -124,22 +126,22 @@ rows_below top up_to = cause.Rows (record { above = key_value top; up_to = up_to
 -- the reason against a reference, as the items of its refusal
 pub refused_items : (file : List ℕ) (from : Walk) (c : Reference) {kind : TreeKind} → tree_kind (role_of c) ≡ Some kind
     → {top : Option CellKey} → top ≡ from.state.greatest → {up_to : Option ℤ} → key_up_to file (from.visits ++ (c ∷ [])) c ≡ up_to
-    → (refused file from c).items ≡ map found (refused_told file from.visits c (rows_below top up_to))
+    → (refused file from c).items ≡ map found (refused_reported file from.visits c (rows_below top up_to))
 refused_items file from c {kind} role {top} top_is {up_to} bound =
-    ap (λ U. map found (told_by (λ (code : FaultCode). refusal_of file U c (rowids_by from.state (key_up_to file U c)) (tree_kind (role_of c)))
+    ap (λ U. map found (reported_by (λ (code : FaultCode). refusal_of file U c (rowids_by from.state (key_up_to file U c)) (tree_kind (role_of c)))
     (reference_faults file U c))) (append-nil from.visits)
-    ∙ ap (λ k. map found (told_by (λ (code : FaultCode). refusal_of file from.visits c (rowids_by from.state (key_up_to file from.visits c)) k)
+    ∙ ap (λ k. map found (reported_by (λ (code : FaultCode). refusal_of file from.visits c (rowids_by from.state (key_up_to file from.visits c)) k)
     (reference_faults file from.visits c))) role
-    ∙ ap₂ (λ t u. map found (refused_told file from.visits c (rows_below t u))) (sym top_is) (sym (key_up_to_itself file from.visits c) ∙ bound)
+    ∙ ap₂ (λ t u. map found (refused_reported file from.visits c (rows_below t u))) (sym top_is) (sym (key_up_to_itself file from.visits c) ∙ bound)
 
 pub refused_handed : {S T A : Type 0} (takes : S → Finding → S → Type 0) (keeps : T → SchemaRow → Taken → T → Type 0)
     (refuses : T → SchemaRow → T → Type 0) (file : List ℕ) (from : Walk) (c : Reference) {kind : TreeKind} → tree_kind (role_of c) ≡ Some kind
     → {top : Option CellKey} → top ≡ from.state.greatest → {up_to : Option ℤ} → key_up_to file (from.visits ++ (c ∷ [])) c ≡ up_to
-    → (r : Result A RunError) (s s' : S) (t : T) → (r ≡ Err OutOfMemory → ⊥) → Tells takes r s (refused_told file from.visits c (rows_below top up_to)) s'
+    → (r : Result A RunError) (s s' : S) (t : T) → (r ≡ Err OutOfMemory → ⊥) → Reports takes r s (refused_reported file from.visits c (rows_below top up_to)) s'
     → Handed (watches takes keeps) (fails refuses) r (s, t) (refused file from c).items (s', t)
 refused_handed takes keeps refuses file from c role {top} top_is {up_to} bound r s s' t quiet h =
     subst (λ items. Handed (watches takes keeps) (fails refuses) r (s, t) items (s', t)) (sym (refused_items file from c role top_is bound))
-    (found_handed takes keeps refuses r (refused_told file from.visits c (rows_below top up_to)) s s' t quiet h)
+    (found_handed takes keeps refuses r (refused_reported file from.visits c (rows_below top up_to)) s s' t quiet h)
 
 -- what was before a page is before what it leads to, and so is the page
 pub visited_before : (file : List ℕ) (from : Walk) (c : Reference) → IsNext from.visits c → AreBefore (visited file from c).visits (then_step c.address 0)
@@ -149,22 +151,22 @@ visited_before file from c next = before_more from.visits c (then_step c.address
 module _ (file : List ℕ) (from : Walk) (c : Reference) {leaf : Option TreeLeaf} (leaf_is : leaf ≡ from.state.leaf) where
   -- and by the greatest key so far, and that of the innermost cell whose left child leads to it
   module _ {top : Option CellKey} (top_is : top ≡ from.state.greatest) {up_to : Option ℤ} (bound : key_up_to file (from.visits ++ (c ∷ [])) c ≡ up_to) where
-    abbrev told : List Finding
-    told = page_findings file (record { above = key_value top; up_to = up_to }) leaf c
+    abbrev reported : List Finding
+    reported = page_findings file (record { above = key_value top; up_to = up_to }) leaf c
 
     -- its findings are its items
-    page_items : {kind : TreeKind} → tree_kind (role_of c) ≡ Some kind → (visited file from c).items ≡ map found told
+    page_items : {kind : TreeKind} → tree_kind (role_of c) ≡ Some kind → (visited file from c).items ≡ map found reported
     page_items role =
         let U = from.visits ++ c ∷ [] in
-        ap (λ L. map found (map told_row (option_to_list (event_row file (at_page c))) ++ L)) (page_causes file U from.state c role)
+        ap (λ L. map found (map reported_row (option_to_list (event_row file (at_page c))) ++ L)) (page_causes file U from.state c role)
         ∙ ap₂ (λ t u. map found (page_findings file (record { above = key_value t; up_to = u }) from.state.leaf c)) (sym top_is) bound
         ∙ ap (λ l. map found (page_findings file (record { above = key_value top; up_to = up_to }) l c)) (sym leaf_is)
 
     pub page_moves : {kind : TreeKind} → tree_kind (role_of c) ≡ Some kind
         → {S T : Type 0} (takes : S → Finding → S → Type 0) (keeps : T → SchemaRow → Taken → T → Type 0) (refuses : T → SchemaRow → T → Type 0)
-        (s s' : S) (t : T) → Moves takes s told s' → Moves (watches takes keeps) (s, t) (visited file from c).items (s', t)
+        (s s' : S) (t : T) → Moves takes s reported s' → Moves (watches takes keeps) (s, t) (visited file from c).items (s', t)
     page_moves role takes keeps refuses s s' t h =
-        subst (λ items. Moves (watches takes keeps) (s, t) items (s', t)) (sym (page_items role)) (found_moves takes keeps refuses told s s' t h)
+        subst (λ items. Moves (watches takes keeps) (s, t) items (s', t)) (sym (page_items role)) (found_moves takes keeps refuses reported s s' t h)
 
     -- and this is the point of the walk after it
     pub visited_at : {marks : List Mark} (tree : Tree) → AreMarksOf file (from.visits ++ (c ∷ [])) marks → tree.greatest ≡ from.state.greatest

@@ -2,9 +2,9 @@
 use Rattle.std.proofs.Common.{◌≡◌, ℕ, [], ◌∷◌, length, ap, arith, ◌<◌, ◌≤◌, true, false, inl, inr, List, Option, Some, None, refl, sym, subst, ◌↔◌, ◌-◌, cond}
 use Rattle.std.proofs.Common.{◌++◌, map, Result, Ok, Err, ◌∙◌, Bool, ◌==◌, IsSome, OnOk, IfErr, slice_get}
 use Rattle.dbwalk.proofs.Common.{Address, IsIn, IsBefore, start_of, schema_start, errand_key, Go, errands_of, Reference, role_of, tree_kind, TreeKind, IsNext}
-use Rattle.dbwalk.proofs.Common.{refused_told, IsCandidate, left_over, is_followed, geometry, page_bytes, schema, SchemaRow, at_page, at_refused, story_of}
-use Rattle.dbwalk.proofs.Common.{rules_of, RunError, WriteFailed, Finding, told_below, visited_below, Item, found, given_cells, no_rowids, begin, advance}
-use Rattle.dbwalk.proofs.Common.{AreMarksOf, Tells, IsReadOrWrite, IsAt, HasDone, IsUnderway, IsEntered, entered, IsWalkingOn, tree_walk, IsTreeDone, watches}
+use Rattle.dbwalk.proofs.Common.{refused_reported, IsCandidate, left_over, is_followed, geometry, page_bytes, schema, SchemaRow, at_page, at_refused, story_of}
+use Rattle.dbwalk.proofs.Common.{rules_of, RunError, WriteFailed, Finding, reported_below, visited_below, Item, found, given_cells, no_rowids, begin, advance}
+use Rattle.dbwalk.proofs.Common.{AreMarksOf, Reports, IsReadOrWrite, IsAt, HasDone, IsUnderway, IsEntered, entered, IsWalkingOn, tree_walk, IsTreeDone, watches}
 use Rattle.dbwalk.proofs.Common.{fails, Handed, StackFrame, Mark, Tree, Taken}
 use Rattle.dbtrace.specs.Starts.{IsOfEarlierStart, AreOfEarlierStarts}
 use Rattle.std.proofs.lemmas.Bool.Decides.{nat_tests}
@@ -70,7 +70,7 @@ module _ {S T : Type 0} (takes : S → Finding → S → Type 0) (keeps : T → 
         let items = (tree_walk file W c).items in
         let none : given_cells items ≡ [] = (is_fold file).rows_are k W c at early
         ∙ ap (λ b. cond b (schema file (W ++ visited_below file W (Go c ∷ []))) []) (other (start_of c.address) l (ap start_of at)) in
-        handed_found takes keeps refuses r (told_below file W (Go c ∷ [])) before after
+        handed_found takes keeps refuses r (reported_below file W (Go c ∷ [])) before after
         (subst (λ L. Handed (watches takes keeps) (fails refuses) r before L after)
         (only_found items none ∙ ap (map found) ((is_fold file).findings_are k W c at early)) h);
   }
@@ -92,14 +92,14 @@ module _ {S T : Type 0} (takes : S → Finding → S → Type 0) (keeps : T → 
   pub tree_refused : {kind : TreeKind} → tree_kind (role_of c) ≡ Some kind
       → (r : Result (Unit {0}) RunError) (marks : List Mark) (s s' : S) (t : T) → IfErr r IsReadOrWrite → is_followed (rules_of file) W c ≡ false
       → AreMarksOf file W marks
-      → Tells takes r s (refused_told file W c (cause.Rows no_rowids)) s' → IsTreeDone takes keeps refuses file W c r marks (s, t) (s', t)
-  tree_refused role r marks s s' t only refused m told =
+      → Reports takes r s (refused_reported file W c (cause.Rows no_rowids)) s' → IsTreeDone takes keeps refuses file W c r marks (s, t) (s', t)
+  tree_refused role r marks s s' t only refused m reported =
       let whole : tree_walk file W c ≡ advance file (begin W) (at_refused c) = (has_steps file).refused (begin W) c [] refused
       ∙ (has_steps file).none (advance file (begin W) (at_refused c)) in
       tree_handed r marks (s, t) (s', t) (on_ok r (sym (ap (λ m. m.visits) whole ∙ append-nil W)))
       (subst (λ items. Handed (watches takes keeps) (fails refuses) r (s, t) items (s', t))
       (sym (refused_items file (begin W) c role refl (no_key_up_to file (W ++ (c ∷ [])) c (ap length at))) ∙ sym (ap (λ m. m.items) whole))
-      (found_handed takes keeps refuses r (refused_told file W c (cause.Rows no_rowids)) s s' t (no_memory r only) told))
+      (found_handed takes keeps refuses r (refused_reported file W c (cause.Rows no_rowids)) s s' t (no_memory r only) reported))
     where
       on_ok : (r : Result (Unit {0}) RunError) → W ≡ (tree_walk file W c).visits → OnOk r (AreMarksOf file (tree_walk file W c).visits marks)
       on_ok (Ok u) e = subst (λ U. AreMarksOf file U marks) e m

@@ -4,8 +4,8 @@ use Rattle.dbwalk.proofs.Common.{is_read_failed, failures_after, SourceState, Ru
 use Rattle.dbwalk.proofs.Common.{Walked, Tree}
 use Rattle.dbformat.specs.declared.Geometry.{Geometry}
 use Rattle.dbsource.specs.Errors.{is_out_of_memory}
-use Rattle.dbwalk.specs.Telling.{IsReadWriteOrMemory}
-use Rattle.dbwalk.proofs.Telling.Sinks.{asked, asked_both, asked_walks, walks_after, walks_as, walks_ok}
+use Rattle.dbwalk.specs.Reporting.{IsReadWriteOrMemory}
+use Rattle.dbwalk.proofs.Reporting.Sinks.{asked, asked_both, asked_walks, walks_after, walks_as, walks_ok}
 use Rattle.dbwalk.specs.declared.tree_walk.TreeWalk.{TreeWalk}
 
 -- what is no error of memory is one of the walk over any tree

@@ -1,6 +1,6 @@
 use Rattle.std.proofs.Common.{ap}
 use Rattle.dbsource.proofs.Runs.{read_weaker}
-use Rattle.dbcli.proofs.Exits.{finish_of, known, refused_at_3, untold, unwritten_at_3}
+use Rattle.dbcli.proofs.Exits.{finish_of, known, refused_at_3, unreported, unwritten_at_3}
 use Rattle.dbcli.proofs.Handing.{failed_at_6, first_at_error, line_at_error, quiet_at_verdict, second_at_error, second_few, second_kept, source_failures}
 use Rattle.dbcli.proofs.Handing.{still_for, still_refused, still_unwritten, tried_of, whole_at_verdict}
 use Rattle.dbcli.proofs.finishing.finish.Goals as goal
@@ -22,7 +22,7 @@ returns-clause-read g c =
         t.0,
         finish_of c.args.request file r out out2 err err2 err3
             (still_for out1 out2 err1 err2 c.args.request file o r out err h t.1)
-            (untold (λ x. (g.O.Out.held x).bytes) r c.args.out.now c.hand_on-outcome.new.out
+            (unreported (λ x. (g.O.Out.held x).bytes) r c.args.out.now c.hand_on-outcome.new.out
             (still_unwritten out1 out2 err1 err2 o r c.args.out.now c.run_request-outcome.new.out c.hand_on-outcome.new.out h
             c.run_request-outcome.ensures.refused.first c.hand_on-outcome.ensures.refused))
             (λ w. second_kept out err out1 err1 out2 err2 err3 o r h (ap g.E.Out.held (c.run_request-outcome.ensures.second w)))

@@ -20,6 +20,6 @@ pub returns-in-Err : goal.returns-in-Err
 returns-in-Err g c = inr (
   c.in-Err.error,
   c.in-Err.ensures.refused,
-  c.tell.ensures,
+  c.report_error.ensures,
   record { files = refl; first = refl; second = refl; notes_kept = refl },
 )

@@ -2,7 +2,7 @@ use Rattle.std.proofs.Common.{◌≡◌, ◌++◌, ℕ, List, rules, take, flat_
 use Rattle.dbformat.specs.Reference.{Reference}
 use Rattle.dbformat.specs.Report.{more_text}
 use Rattle.dblines.proofs.Writing.{of_all, of_as, of_known, of_then, put_of}
-use Rattle.dbscan.specs.Placed.{told_faults}
+use Rattle.dbscan.specs.Placed.{reported_faults}
 use Rattle.dbinjuries.specs.Listed.{listed_injuries}
 use Rattle.dbexplain.specs.Explained.{injury_text}
 use Rattle.dbexplain.specs.Keeping.{HasAll}
@@ -21,16 +21,16 @@ returns g c =
     let owners = λ (file : List ℕ) (V : List Reference) (h : HasAll c.args.desk.now k file V).
     of_desk _ c.args.desk.now file V c.header.ensures.value c.marks.ensures c.roots.ensures h.desk h.trees in
     let wrote = of_as (λ (file : List ℕ) (V : List Reference) (h : HasAll c.args.desk.now k file V).
-    ap₂ (λ es m. es ++ (more_text m ++ summary file V (told_faults file V)))
+    ap₂ (λ es m. es ++ (more_text m ++ summary file V (reported_faults file V)))
     (kept_texts file V _ _ (c.listed.ensures ∙ h.listing.listed)) c.rest.ensures
-    ∙ ap (λ r. flat_map (injury_text file V) (take n (listed_injuries file V)) ++ (r ++ summary file V (told_faults file V)))
+    ∙ ap (λ r. flat_map (injury_text file V) (take n (listed_injuries file V)) ++ (r ++ summary file V (reported_faults file V)))
     (rest_line n (listed_injuries file V) k.listing h.listing)
     ∙ report_text n file V h.some)
     (of_then (of_known owners c.put_injuries.ensures) (of_then (of_all c.put_rest.ensures) (of_known (λ file V h. record {
       owners = owners file V h;
       tally = h.tally;
       zeros = h.zeros;
-      ranges = subst (AreAllKept (told_faults file V)) (sym c.close.ensures) (all_closed (told_faults file V) k.ranges h.ranges);
+      ranges = subst (AreAllKept (reported_faults file V)) (sym c.close.ensures) (all_closed (reported_faults file V) k.ranges h.ranges);
       indexes = h.indexes;
     }) c.put_summary.ensures))) in
     let same = wrote.wrote.same_out in

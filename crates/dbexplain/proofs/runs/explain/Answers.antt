@@ -13,7 +13,7 @@ use Rattle.dbsource.specs.declared.error.RunError.{RunError}
 use Rattle.dbsource.specs.declared.error.RunError.TheVariants.{OutOfMemory}
 use Rattle.dbsource.proofs.Runs.{read_weaker}
 use Rattle.dbscan.proofs.AfterHeader.{after_weaker}
-use Rattle.dbscan.proofs.Tellers.{first}
+use Rattle.dbscan.proofs.Notifiers.{first}
 use Rattle.dbreport.proofs.Openings.{memory_refused, opened, unopened}
 use Rattle.dbreport.proofs.ReporterStates.{lent_same, one_failed}
 use Rattle.dbreport.proofs.RunAnswers.{read_unwritten, refused_unwritten}
@@ -95,7 +95,7 @@ returns-clause-read g c =
     let last = held c.end.new.self.out.now in
     rw c.answer_with.ensures (rw k (opened g.S.Source c.args.source.now {Says = λ file. ExplainsFile limit file (answer_with r n) (held old) last}
     c.in_ok-desk.desk.header c.open_in.new.source c.run_over-answer.new.source c.in_ok-desk.ensures r
-    (after_weaker _ _ ran.read (λ file is told.
+    (after_weaker _ _ ran.read (λ file is reported.
     let empty = subst (λ (g : Geometry). IsEmpty limit g c.in_ok-kept.kept) (c.geometry.ensures.shape ∙ is.shape) c.in_ok-kept.ensures in
     let here : IsFresh limit file c.new-reporter.result = record {
       kept = subst (λ (k : Kept _). IsEmpty limit (geometry file) k) (sym new.kept) empty;
@@ -105,10 +105,10 @@ returns-clause-read g c =
     } in (
       subst (λ (x : Result Verdict RunError). IsExplained limit file x (held old) last) (sym (verdict_with r n))
           (is_explained limit file r (held old) last ran.keeps.desk.only is.is_read (λ V s.
-          explained held limit file V is.is_read c.new-reporter.result c.run_over-answer.new.reporter c.end.new.self r old s here new.out (told V s)
+          explained held limit file V is.is_read c.new-reporter.result c.run_over-answer.new.reporter c.end.new.self r old s here new.out (reported V s)
           c.end.ensures.lines)),
       λ V s. counts_with r n (counted (references_after_end file V)) (references_counted held limit file V is.is_read c.new-reporter.result
-          c.run_over-answer.new.reporter c.end.new.self r s here (told V s) c.end.ensures.after_end),
+          c.run_over-answer.new.reporter c.end.new.self r s here (reported V s) c.end.ensures.after_end),
     ))) ran.reads ran.keeps.desk.only).read)
 
 pub returns-clause-ok : goal.returns-clause-ok

@@ -2,7 +2,7 @@ use Rattle.std.proofs.Common.{ap, ap₂, ◌∙◌}
 use Rattle.std.specs.Prelude.{codes}
 use Rattle.std.specs.List.{flat_map}
 use Rattle.dblines.proofs.Writing.{wrote_as, wrote_then}
-use Rattle.dbscan.specs.Placed.{told_faults}
+use Rattle.dbscan.specs.Placed.{reported_faults}
 use Rattle.dbscan.specs.Roots.{Listed}
 use Rattle.dbexplain.specs.Summary.{count_text, sum_line}
 use Rattle.dbexplain.specs.Sums.{code_sum, rows_sum}
@@ -27,7 +27,7 @@ returns g c =
           c.zero_runs.result
           (rows_sum c.args.rows.now.ranges.now c.args.rows.now.indexes.now roots.rows)
           o.header (ap (λ (l : Listed). l.rows) c.names-names.ensures.roots ∙ o.rows) c.names-names.ensures.encoding
-          (c.count_pages.ensures file V (told_faults file V) o h.tally)
+          (c.count_pages.ensures file V (reported_faults file V) o h.tally)
           (known_zeros file V c.geometry-shape.result c.args.listing.now.zeros c.zero_runs.result (c.geometry-shape.ensures.shape ∙ o.header.shape)
           h.zeros c.zero_runs.ensures)
           (known_rows file V roots.rows c.args.rows.now.ranges.now c.args.rows.now.indexes.now

@@ -3,12 +3,12 @@ use Rattle.std.proofs.lemmas.Result.{err_from_is_err_and}
 use Rattle.dbformat.specs.declared.Geometry.{Geometry}
 use Rattle.dbsource.specs.declared.error.RunError.TheVariants.{OutOfMemory}
 use Rattle.dbscan.proofs.AfterHeader.{after_weaker}
-use Rattle.dbscan.proofs.Tellers.{first}
+use Rattle.dbscan.proofs.Notifiers.{first}
 use Rattle.dbreport.proofs.NotBegun.{no_failure}
 use Rattle.dbreport.proofs.Openings.{memory_refused, opened, unopened}
 use Rattle.dbreport.proofs.ReporterStates.{lent_same, one_failed}
 use Rattle.dbreport.proofs.RunAnswers.{read_unwritten, refused_unwritten}
-use Rattle.dbpicture.specs.Keeping.{HearsNone}
+use Rattle.dbpicture.specs.Keeping.{ReceivesNone}
 use Rattle.dbmap.specs.Maps.{IsMapOf}
 use Rattle.dbmap.proofs.Counting.{map_left}
 use Rattle.dbmap.proofs.MapAnswers.{map_of, no_map}
@@ -70,7 +70,7 @@ returns-clause-read g c =
     rw k (opened g.S.Source c.args.source.now {Says = λ file. IsMapOf name file r (held old).bytes (held new.out.now).bytes} c.in_ok-desk.desk.header
     c.open_in.new.source c.run_over.new.source c.in_ok-desk.ensures r
     (after_weaker _ _ ran.read (λ file is left. map_of name file r ran.keeps.desk.only is.is_read (held old).bytes (held new.out.now).bytes (λ V s.
-    map_left file V s _ new (subst (λ (g : Geometry). HearsNone g c.in_ok-kept.kept) (c.geometry.ensures.shape ∙ is.shape) c.in_ok-kept.ensures)
+    map_left file V s _ new (subst (λ (g : Geometry). ReceivesNone g c.in_ok-kept.kept) (c.geometry.ensures.shape ∙ is.shape) c.in_ok-kept.ensures)
     held r (left V s)))) ran.reads ran.keeps.desk.only).read
 
 pub returns-clause-failed : goal.returns-clause-failed

@@ -3,7 +3,7 @@ use Rattle.dbreport.proofs.Common.{Check, Stat, is_write_failed, failures_after,
 use Rattle.dbformat.specs.Header.{encoding as encoding_of}
 use Rattle.dbsource.proofs.Runs.{of_told_after}
 use Rattle.dbscan.proofs.AfterHeader.{after_weaker}
-use Rattle.dbscan.proofs.Tellers.{first}
+use Rattle.dbscan.proofs.Notifiers.{first}
 use Rattle.dbreport.proofs.Checked.{check_reported}
 use Rattle.dbreport.proofs.ReporterStates.{lent_same, one_failed, second}
 use Rattle.dbreport.proofs.RunAnswers.{IsSoundAnswer, first_failures, run_of}
@@ -21,11 +21,11 @@ returns-in-Check-clause-read g c =
     let new = c.new-reporter.ensures in
     let same = ap first (lent_same r _ _ ran.keeps.writes) in
     let k : c.out-1.given.0 ≡ c.run_over.new.reporter.out.now = search (rules, same) in
-    rw c.in-Check.is (after_weaker _ _ ran.read (λ file is told.
+    rw c.in-Check.is (after_weaker _ _ ran.read (λ file is reported.
     run_of (Check limit) file r (g.O.Out.held c.args.out.now).bytes (g.O.Out.held c.out-1.given.0).bytes
     (g.E.Out.held c.args.err.now).bytes (g.E.Out.held c.args.err.now).bytes ran.keeps.desk.only is.is_read (λ V s.
     let by = check_reported g.O.Out.held file V s r c.new-reporter.result c.run_over.new.reporter c.args.out.now c.out-1.given.0 limit new.out
-    new.«open» new.limit new.shown new.more k is.is_read (told V s) in record {
+    new.«open» new.limit new.shown new.more k is.is_read (reported V s) in record {
       out = by.0;
       err = check_err limit file V is.is_read r (g.E.Out.held c.args.err.now).bytes;
       verdict = by.1;
@@ -65,13 +65,13 @@ returns-in-Stat-clause-read g c =
     let same' = ap second (lent_same r _ _ ran.keeps.writes) in
     let k : c.out-in-Stat-1.given.0 ≡ c.run_over-in-Stat.new.reporter.out.now = search (rules, same) in
     let k' : c.err-1.given.0 ≡ c.run_over-in-Stat.new.reporter.err.now = search (rules, same') in
-    rw c.in-Stat.is (after_weaker _ _ ran.read (λ file is told.
+    rw c.in-Stat.is (after_weaker _ _ ran.read (λ file is reported.
     run_of (Stat c.in-Stat.aggregate c.in-Stat.all) file r (g.O.Out.held c.args.out.now).bytes (g.O.Out.held c.out-in-Stat-1.given.0).bytes
     (g.E.Out.held c.args.err.now).bytes (g.E.Out.held c.err-1.given.0).bytes ran.keeps.desk.only is.is_read (λ V v.
     let for = for_file file c.args.desk.now.header c.geometry-page_size.result s is (c.geometry-page_size.ensures.shape ∙ is.shape)
     (new.encoding ∙ c.encoding-encoding.ensures ∙ ap (λ (h : HeaderBytes). encoding_of h.bytes) c.header.ensures.value) new.page_size new.sums in
     stat_reported g.O.Out.held g.E.Out.held file V v r s c.run_over-in-Stat.new.reporter c.args.out.now c.out-in-Stat-1.given.0 c.args.err.now c.err-1.given.0
-    (record { aggregate = c.in-Stat.aggregate; all = c.in-Stat.all }) new.out new.err new.form new.found new.«open» for k k' is.is_read (told V v))))
+    (record { aggregate = c.in-Stat.aggregate; all = c.in-Stat.all }) new.out new.err new.form new.found new.«open» for k k' is.is_read (reported V v))))
 
 pub returns-in-Stat-clause-sound : goal.returns-in-Stat-clause-sound
 returns-in-Stat-clause-sound g c = after_weaker _ _ (returns-in-Stat-clause-read g c) (λ file is t. t.run.sound)

@@ -2,13 +2,13 @@ use Rattle.std.proofs.Common.{◌+◌, ◌≤◌, cond, max, ap, ap₂, ◌∙�
 use Rattle.std.specs.Option.{option_or}
 use Rattle.dbmarks.specs.EndMarks.{is_free_mark, is_root_mark, is_other_mark}
 use Rattle.dbscan.proofs.CountedMarks.{bit_most, count_more, greatest_more, least_more}
-use Rattle.dbwalk.proofs.Telling.Sinks.{moves_then}
-use Rattle.dbscan.proofs.PagesHeard.{all_pages, one_page}
+use Rattle.dbwalk.proofs.Reporting.Sinks.{moves_then}
+use Rattle.dbscan.proofs.PagesReceived.{all_pages, one_page}
 use Rattle.dbscan.proofs.counts.count_marks.Goals as goal
 
 pub loop-index-init : goal.loop-index-init
 loop-index-init g c = record {
-  heard = λ t h. h;
+  received = λ t h. h;
   moves = inl refl;
   free = refl;
   most = omega arith;
@@ -16,10 +16,10 @@ loop-index-init g c = record {
   least = refl;
 }
 
-pub returns-clause-told : goal.returns-clause-told
-returns-clause-told g c = record {
-  items = all_pages g.K.Reporter.hears c.args.geometry.now c.args.marks.now c.loop-index.index c.args.reporter.now c.loop-index.reporter
-      c.loop-index.invariant.heard (omega arith);
+pub returns-clause-reported : goal.returns-clause-reported
+returns-clause-reported g c = record {
+  items = all_pages g.K.Reporter.receives c.args.geometry.now c.args.marks.now c.loop-index.index c.args.reporter.now c.loop-index.reporter
+      c.loop-index.invariant.received (omega arith);
   count = c.loop-index.invariant.moves;
 }
 
@@ -30,9 +30,9 @@ loop-index-preserved g c =
     let mark = c.get-mark.result in
     let one = c.free_page-free.ensures in
     let most : c.free_page-free.result ≤ 1 = bit_most (is_free_mark mark) c.free_page-free.result one in record {
-      heard = one_page g.K.Reporter.hears c.args.geometry.now marks i c.args.reporter.now c.loop-index.reporter c.loop-index.invariant.heard mark
-          c.hear.new.self c.get-mark.ensures c.hear.ensures.notice;
-      moves = moves_then c.loop-index.invariant.moves c.hear.ensures.count;
+      received = one_page g.K.Reporter.receives c.args.geometry.now marks i c.args.reporter.now c.loop-index.reporter c.loop-index.invariant.received mark
+          c.receive.new.self c.get-mark.ensures c.receive.ensures.notice;
+      moves = moves_then c.loop-index.invariant.moves c.receive.ensures.count;
       free = ap₂ (λ a b. a + b) c.loop-index.invariant.free one ∙ sym (count_more is_free_mark marks i mark c.get-mark.ensures);
       most = let k = c.loop-index.invariant.most in omega arith;
       greatest = c.greater_root-greatest_root.ensures ∙ ap (λ n. cond (is_root_mark mark) (max n (i + 1)) n) c.loop-index.invariant.greatest

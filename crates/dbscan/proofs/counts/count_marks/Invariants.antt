@@ -1,12 +1,12 @@
 use Rattle.std.proofs.Common.{◌≡◌, ◌≤◌, take, filter, count_by, fold, max, find}
 use Rattle.dbscan.proofs.Common.{is_free_mark, is_root_mark, is_other_mark, is_marked, SinkMoves}
 use Rattle.std.specs.List.{range_with_len}
-use Rattle.dbscan.proofs.PagesHeard.{HasHeardPages}
+use Rattle.dbscan.proofs.PagesReceived.{HasReceivedPages}
 use Rattle.dbscan.proofs.counts.count_marks.Given as goal
 
 abbrev pub invariant-loop-index : goal.invariant-loop-index
 invariant-loop-index g l = record {
-  heard : HasHeardPages g.K.Reporter.hears l.geometry l.marks l.index l.initial.reporter l.reporter;
+  received : HasReceivedPages g.K.Reporter.receives l.geometry l.marks l.index l.initial.reporter l.reporter;
   moves : SinkMoves (g.K.Reporter.held l.initial.reporter) (g.K.Reporter.held l.reporter);
   free : l.free_pages ≡ count_by is_free_mark (take l.index l.marks);
   most : l.free_pages ≤ l.index;

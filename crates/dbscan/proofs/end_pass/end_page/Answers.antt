@@ -1,5 +1,5 @@
 use Rattle.std.proofs.Common.{◌≡◌, true, false, Some, Ok, Err, refl, sym, ap, ◌∙◌, subst, inl, inr, option_map}
-use Rattle.dbscan.proofs.Common.{Moves, geometry, fixed_use, is_fixed, Geometry, mark_fault, late_fault, Tells, is_fixed_mark, page_notices, HasMapFor}
+use Rattle.dbscan.proofs.Common.{Moves, geometry, fixed_use, is_fixed, Geometry, mark_fault, late_fault, Reports, is_fixed_mark, page_notices, HasMapFor}
 use Rattle.dbscan.proofs.Common.{IsMapInUse}
 use Rattle.std.proofs.lemmas.Bool.{both_ways, not-true}
 use Rattle.dbformat.specs.declared.Fixed.TheVariants.{Map}
@@ -13,7 +13,7 @@ use Rattle.dbsurvey.proofs.Moving.{some_none}
 use Rattle.dbwalk.proofs.Chaining.Overflows.{page_read}
 use Rattle.dbmarks.proofs.Readings.{log_load}
 use Rattle.dbscan.proofs.MapPlaces.{next_read, next_kept, not_map, on_ok, not_in_use}
-use Rattle.dbwalk.proofs.Telling.Sinks.{err_is}
+use Rattle.dbwalk.proofs.Reporting.Sinks.{err_is}
 use Rattle.dbscan.proofs.end_pass.end_page.Goals as goal
 
 pub returns-in_err-load-clause-asks : goal.returns-in_err-load-clause-asks
@@ -25,7 +25,7 @@ returns-in_err-load-clause-asks g c =
       log = has_weaker _ _ (log_load size c.args.page level.bytes (Err c.in_err-load.field-0.0) c.in_err-load.ensures.told level.size level.holds)
           (λ log l. inr (l, used))
           (λ file bytes mark m e ok same chain. (
-            some_none g.K.Reporter.hears c.args.reporter.now (page_notices file c.args.least_other c.args.page mark),
+            some_none g.K.Reporter.receives c.args.reporter.now (page_notices file c.args.least_other c.args.page mark),
             tt,
           ));
       count = c.in_err-load.ensures.count;
@@ -46,7 +46,8 @@ returns-in_ok-load-clause-asks g c =
           ap (λ (g : Geometry). fixed_use g c.args.page) (sym (c.geometry-geometry.ensures.value ∙ e))
           ∙ used.0 in
           let read : c.load.new.self.chain ≡ level.bytes = ap (λ (b : Pages). b.chain) level.only in (
-            subst (λ l. Moves g.K.Reporter.hears c.args.reporter.now l c.args.reporter.now) (sym (fixed_items file c.args.least_other c.args.page mark fixed))
+            subst (λ l. Moves g.K.Reporter.receives c.args.reporter.now l c.args.reporter.now)
+                (sym (fixed_items file c.args.least_other c.args.page mark fixed))
                 refl,
             next_read file c.load.new.self.chain c.args.page map
                 (read ∙ page_read file level.bytes size c.args.page level.size bytes (ap (λ (g : Geometry). g.page_size) (sym e))),
@@ -61,7 +62,8 @@ returns-else-is_map_in_use-clause-asks g c = asks_nothing g.S.Source.step _ _ _ 
     let shape = c.geometry-geometry.ensures.value ∙ e in
     let last = not_in_use (geometry file) c.args.page (λ u. both_ways c.is_map_in_use.result c.if-is_map_in_use.false
     (c.is_map_in_use.ensures.1 (subst (λ (g : Geometry). IsMapInUse g c.args.page) (sym shape) u))) in (
-      subst (λ l. Moves g.K.Reporter.hears c.args.reporter.now l c.args.reporter.now) (sym (fixed_items file c.args.least_other c.args.page mark fixed)) refl,
+      subst (λ l. Moves g.K.Reporter.receives c.args.reporter.now l c.args.reporter.now)
+          (sym (fixed_items file c.args.least_other c.args.page mark fixed)) refl,
       next_kept file c.args.bench.now.chain c.args.page ok c.requires.page.0 last chain,
     ))
 
@@ -72,12 +74,13 @@ returns-then-not-is_unmarked-clause-asks g c = asks_nothing g.S.Source.step _ _ 
     let off : (geometry file).has_map ≡ false = ap (λ (g : Geometry). g.has_map) (sym (c.geometry-geometry.ensures.value ∙ e))
     ∙ not-true _ c.if-not-geometry.true in
     let used : is_none mark ≡ false = ap is_none k ∙ sym c.if-not-is_unmarked.ensures in (
-      subst (λ l. Moves g.K.Reporter.hears c.args.reporter.now l c.args.reporter.now) (sym (used_items file c.args.least_other c.args.page mark off used)) refl,
+      subst (λ l. Moves g.K.Reporter.receives c.args.reporter.now l c.args.reporter.now)
+          (sym (used_items file c.args.least_other c.args.page mark off used)) refl,
       next_kept file c.args.bench.now.chain c.args.page ok c.requires.page.0 (λ z. absurd (not_map (geometry file) c.args.page free z)) chain,
     ))
 
 pub returns-clause-asks : goal.returns-clause-asks
-returns-clause-asks g c = asks_nothing g.S.Source.step _ c.tell_all.result _ c.tell_all.ensures.only (inl refl) (λ file mark m e ok same chain.
+returns-clause-asks g c = asks_nothing g.S.Source.step _ c.report_all.result _ c.report_all.ensures.only (inl refl) (λ file mark m e ok same chain.
     let k : mark ≡ c.get-mark.result = let q = c.get-mark.ensures in cc in
     let free : is_fixed (geometry file) c.args.page ≡ false = sym same ∙ ap is_fixed_mark k ∙ sym c.is_fixed.ensures ∙ c.if-is_fixed.false in
     let entry = c.entry_of-entry.ensures file e (subst (λ g. HasMapFor file g c.args.page c.args.bench.now.chain) (sym e) chain) in
@@ -86,7 +89,8 @@ returns-clause-asks g c = asks_nothing g.S.Source.step _ c.tell_all.result _ c.t
     (ap (λ (g : Geometry). g.has_map) (c.geometry-geometry.ensures.value ∙ e))
     (c.use_fault.ensures ∙ ap (λ m. mark_fault c.args.page (option_map entry_value c.entry_of-entry.result) m) (sym k))
     (c.late_fault.ensures ∙ ap (λ m. late_fault c.geometry-geometry.result.has_map c.args.page m c.args.least_other) (sym k)) in (
-      subst (λ l. Tells g.K.Reporter.hears c.tell_all.result c.args.reporter.now l c.tell_all.new.reporter) items c.tell_all.ensures.told,
-      on_ok c.tell_all.result (next_kept file c.args.bench.now.chain c.args.page ok c.requires.page.0 (λ z. absurd (not_map (geometry file) c.args.page free z))
+      subst (λ l. Reports g.K.Reporter.receives c.report_all.result c.args.reporter.now l c.report_all.new.reporter) items c.report_all.ensures.reported,
+      on_ok c.report_all.result (next_kept file c.args.bench.now.chain c.args.page ok c.requires.page.0 (λ z.
+          absurd (not_map (geometry file) c.args.page free z))
           chain),
     ))

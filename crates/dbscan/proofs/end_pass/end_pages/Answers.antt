@@ -7,7 +7,7 @@ use Rattle.dbmarks.proofs.Markings.{page_mark-in, marks_of-length}
 use Rattle.dbscan.specs.MapReads.{IsMapTurn}
 use Rattle.dbscan.proofs.EndItems.{items_one_more, items_begin, fixed_by_mark}
 use Rattle.dbscan.proofs.MapLogs.{reads_none, reads_more}
-use Rattle.dbwalk.proofs.Telling.Sinks.{err_is}
+use Rattle.dbwalk.proofs.Reporting.Sinks.{err_is}
 use Rattle.dbscan.proofs.end_pass.end_pages.Goals as goal
 
 pub loop-index-init : goal.loop-index-init
@@ -39,13 +39,13 @@ returns-in_err-end_page-clause-asks g c =
     let mark = mark_of (geometry file) V (i + 1) in
     let at = ap (λ l. page_mark l (i + 1)) m ∙ page_mark-in (geometry file) V (i + 1) (omega arith) (omega arith) in
     let t = turn mark at (same ∙ e) ok (fixed_by_mark (geometry file) V (i + 1)) k.1 in
-    let some = some_after g.K.Reporter.hears c.args.reporter.now c.loop-index.reporter c.end_page.new.reporter
+    let some = some_after g.K.Reporter.receives c.args.reporter.now c.loop-index.reporter c.end_page.new.reporter
     (pages_items file V c.args.least_other i) (page_notices file c.args.least_other (i + 1) mark) k.0 t.0 in
-    let more = subst (λ l. MovesBySome g.K.Reporter.hears c.args.reporter.now l c.end_page.new.reporter)
+    let more = subst (λ l. MovesBySome g.K.Reporter.receives c.args.reporter.now l c.end_page.new.reporter)
     (sym (items_one_more file V c.args.least_other i)) some in
     let rest = items_begin file V c.args.least_other (i + 1) (geometry file).pages (omega arith) in
-    subst (λ l. MovesBySome g.K.Reporter.hears c.args.reporter.now l c.end_page.new.reporter) rest.1
-    (some_first g.K.Reporter.hears c.args.reporter.now c.end_page.new.reporter
+    subst (λ l. MovesBySome g.K.Reporter.receives c.args.reporter.now l c.end_page.new.reporter) rest.1
+    (some_first g.K.Reporter.receives c.args.reporter.now c.end_page.new.reporter
     (pages_items file V c.args.least_other (i + 1)) rest.0 more)))
 
 pub loop-index-preserved : goal.loop-index-preserved
@@ -64,8 +64,8 @@ loop-index-preserved g c =
           let mark = mark_of (geometry file) V (i + 1) in
           let at = ap (λ l. page_mark l (i + 1)) m ∙ page_mark-in (geometry file) V (i + 1) (omega arith) (omega arith) in
           let t = turn mark at (same ∙ e) ok (fixed_by_mark (geometry file) V (i + 1)) k.1 in (
-            subst (λ l. Moves g.K.Reporter.hears c.args.reporter.now l c.end_page.new.reporter) (sym (items_one_more file V c.args.least_other i))
-                (Moves-append g.K.Reporter.hears c.args.reporter.now c.loop-index.reporter c.end_page.new.reporter (pages_items file V c.args.least_other i)
+            subst (λ l. Moves g.K.Reporter.receives c.args.reporter.now l c.end_page.new.reporter) (sym (items_one_more file V c.args.least_other i))
+                (Moves-append g.K.Reporter.receives c.args.reporter.now c.loop-index.reporter c.end_page.new.reporter (pages_items file V c.args.least_other i)
                 (page_notices file c.args.least_other (i + 1) mark) k.0 t.0),
             t.1,
           ));
@@ -81,4 +81,4 @@ returns-clause-asks g c = asks_weaker (MapReadsBefore c.args.bench.now.geometry 
     let len : length c.args.marks.now ≡ (geometry file).pages = ap length m ∙ marks_of-length (geometry file) V in
     let n = c.pages-index-end.ensures.count in
     let all : c.loop-index.index ≡ (geometry file).pages = omega arith in
-    subst (λ n. Moves g.K.Reporter.hears c.args.reporter.now (pages_items file V c.args.least_other n) c.loop-index.reporter) all k.0)
+    subst (λ n. Moves g.K.Reporter.receives c.args.reporter.now (pages_items file V c.args.least_other n) c.loop-index.reporter) all k.0)

@@ -1,5 +1,5 @@
 use Rattle.std.proofs.Common.{rules, ◌≡◌, ◌+◌, ◌-◌, ℕ, List, [], drop, length, Err, Ok, refl, sym, ap, subst, ◌∙◌, arith, option_map, slice_get}
-use Rattle.dbscan.proofs.Common.{geometry, encoding, Reference, Survey, Geometry, DeskView, desk_view, Listed, IsBetweenStarts, StopsTelling}
+use Rattle.dbscan.proofs.Common.{geometry, encoding, Reference, Survey, Geometry, DeskView, desk_view, Listed, IsBetweenStarts, StopsReporting}
 use Rattle.std.specs.List.{enumerate_from}
 use Rattle.std.proofs.lemmas.Option.{none-some}
 use Rattle.dbformat.proofs.HeaderPrefix.{encoding_within}
@@ -8,9 +8,9 @@ use Rattle.dbmarks.proofs.Readings.{asks_then, log_none}
 use Rattle.dbwalk.specs.Rows.{schema_row_of}
 use Rattle.dbscan.proofs.DeskWalks.{desk_asks}
 use Rattle.dbscan.proofs.Starts.{drop_none, row_there}
-use Rattle.dbscan.proofs.Tellers.{unread}
+use Rattle.dbscan.proofs.Notifiers.{unread}
 use Rattle.dbscan.proofs.TreeWalks.{from_ended, from_stopped, next_row}
-use Rattle.dbwalk.proofs.Telling.Sinks.{err_is}
+use Rattle.dbwalk.proofs.Reporting.Sinks.{err_is}
 use Rattle.dbscan.proofs.walks.walk_roots.Goals as goal
 
 pub loop-index-init : goal.loop-index-init
@@ -41,23 +41,23 @@ returns-in_err-walk_tree-clause-asks g c =
     let marks = c.walk_tree.new.marks in
     let end = c.walk_tree.new.sink in
     let e = c.in_err-walk_tree.field-0.0 in
-    let hears = g.K.Reporter.hears in
+    let receives = g.K.Reporter.receives in
     let stops = λ (u : g.row.K.Denot) (o : DeskView) (file : List ℕ). (V : List Reference) → Survey file V → (before : g.row.K.Denot)
-    → IsBetweenStarts hears file V before (enumerate_from 1 o.roots.rows) o.marks c.args.reporter.now
-    → StopsTelling hears file V before [] (Err e) marks u in
+    → IsBetweenStarts receives file V before (enumerate_from 1 o.roots.rows) o.marks c.args.reporter.now
+    → StopsReporting receives file V before [] (Err e) marks u in
     rw (err_is c.from_residual.ensures.1) (asks_weaker {A = Unit {0}} _ _ (Err e) (λ n. refl)
     (desk_asks {B = Unit {0}} g.S.Source.step d c.args.desk.now marks
     (λ file. c.encoding-encoding.result ≡ encoding file → stops end.reporter.now (desk_view d) file)
     (stops end.reporter.now) (Err e) c.desk.invariant c.desk.view_is (λ n. refl)
     (asks_then _ _ (ap (λ (s : Geometry). s.page_size) at.invariant.shape) at.invariant.asks c.in_err-walk_tree.ensures.asks
     (λ file left walked same code V s before h.
-    next_row hears file V s before at.desk-inside.marks marks at.reporter _ d.roots.rows at.index (Err e) c.encoding-encoding.result
-    (schema_row_of c.in-Some.row) c.root_of-root.result c.new-teller.result end _ _ (omega arith) (left same code V s before h) code
+    next_row receives file V s before at.desk-inside.marks marks at.reporter _ d.roots.rows at.index (Err e) c.encoding-encoding.result
+    (schema_row_of c.in-Some.row) c.root_of-root.result c.new-notifier.result end _ _ (omega arith) (left same code V s before h) code
     (ap (λ (l : Listed). slice_get l.rows (at.index + 1 - 1)) (sym at.invariant.roots) ∙ sym c.get.ensures ∙ ap (option_map schema_row_of) c.in-Some.is)
-    c.root_of-root.ensures.root (c.new-teller.ensures.start ∙ c.tree-start.ensures) c.new-teller.ensures.reporter
-    (from_stopped hears _ _ file c.root_of-root.result at.desk-inside.marks marks c.new-teller.result end _ _ c.root_of-root.ensures.own e
+    c.root_of-root.ensures.root (c.new-notifier.ensures.start ∙ c.tree-start.ensures) c.new-notifier.ensures.reporter
+    (from_stopped receives _ _ file c.root_of-root.result at.desk-inside.marks marks c.new-notifier.result end _ _ c.root_of-root.ensures.own e
     (walked (at.invariant.shape ∙ same)))))
-    (λ file is told. told (c.encoding-encoding.ensures ∙ ap encoding is.begins ∙ encoding_within file)))
+    (λ file is reported. reported (c.encoding-encoding.ensures ∙ ap encoding is.begins ∙ encoding_within file)))
     (λ log r. r) (λ file done is. subst (λ u. stops u c.args.desk.now file) (search rules) (done is)))
 
 pub returns-in_err-end-clause-asks : goal.returns-in_err-end-clause-asks
@@ -67,10 +67,10 @@ returns-in_err-end-clause-asks g c =
     let marks = c.walk_tree.new.marks in
     let end = c.end.new.self in
     let e = c.in_err-end.field-0.0 in
-    let hears = g.K.Reporter.hears in
+    let receives = g.K.Reporter.receives in
     let stops = λ (u : g.row.K.Denot) (o : DeskView) (file : List ℕ). (V : List Reference) → Survey file V → (before : g.row.K.Denot)
-    → IsBetweenStarts hears file V before (enumerate_from 1 o.roots.rows) o.marks c.args.reporter.now
-    → StopsTelling hears file V before [] (Err e) marks u in
+    → IsBetweenStarts receives file V before (enumerate_from 1 o.roots.rows) o.marks c.args.reporter.now
+    → StopsReporting receives file V before [] (Err e) marks u in
     rw (err_is c.from_residual-in_err-end.ensures.1) (asks_weaker {A = Unit {0}} _ _ (Err e) (λ n. refl)
     (desk_asks {B = Unit {0}} g.S.Source.step d c.args.desk.now marks
     (λ file. c.encoding-encoding.result ≡ encoding file → stops end.reporter.now (desk_view d) file)
@@ -79,14 +79,14 @@ returns-in_err-end-clause-asks g c =
     (asks_weaker {A = Unit {0}} _ _ (Err e) (unread {A = Unit {0}} (Err e) c.in_err-end.ensures.only) c.in_ok-walk_tree.ensures.asks
     (λ log reads. reads) (λ file done. done))
     (λ file left walked same code V s before h.
-    next_row hears file V s before at.desk-inside.marks marks at.reporter _ d.roots.rows at.index (Err e) c.encoding-encoding.result
-    (schema_row_of c.in-Some.row) c.root_of-root.result c.new-teller.result end _ _ (omega arith) (left same code V s before h) code
+    next_row receives file V s before at.desk-inside.marks marks at.reporter _ d.roots.rows at.index (Err e) c.encoding-encoding.result
+    (schema_row_of c.in-Some.row) c.root_of-root.result c.new-notifier.result end _ _ (omega arith) (left same code V s before h) code
     (ap (λ (l : Listed). slice_get l.rows (at.index + 1 - 1)) (sym at.invariant.roots) ∙ sym c.get.ensures ∙ ap (option_map schema_row_of) c.in-Some.is)
-    c.root_of-root.ensures.root (c.new-teller.ensures.start ∙ c.tree-start.ensures) c.new-teller.ensures.reporter
-    (from_ended hears _ _ file c.root_of-root.result at.desk-inside.marks marks c.new-teller.result c.walk_tree.new.sink _ _ c.root_of-root.ensures.own
+    c.root_of-root.ensures.root (c.new-notifier.ensures.start ∙ c.tree-start.ensures) c.new-notifier.ensures.reporter
+    (from_ended receives _ _ file c.root_of-root.result at.desk-inside.marks marks c.new-notifier.result c.walk_tree.new.sink _ _ c.root_of-root.ensures.own
     end c.in_err-end.ensures.ends c.in_err-end.ensures.rows (Err e)
     (walked (at.invariant.shape ∙ same)))))
-    (λ file is told. told (c.encoding-encoding.ensures ∙ ap encoding is.begins ∙ encoding_within file)))
+    (λ file is reported. reported (c.encoding-encoding.ensures ∙ ap encoding is.begins ∙ encoding_within file)))
     (λ log r. r) (λ file done is. subst (λ u. stops u c.args.desk.now file) (search rules) (done is)))
 
 pub loop-index-preserved : goal.loop-index-preserved
@@ -94,7 +94,7 @@ loop-index-preserved g c =
     let at = c.loop-index in
     let marks = c.walk_tree.new.marks in
     let end = c.end.new.self in
-    let hears = g.K.Reporter.hears in
+    let receives = g.K.Reporter.receives in
     let d = c.desk.inside in
     record {
       header = at.invariant.header;
@@ -103,19 +103,19 @@ loop-index-preserved g c =
       marks = search rules;
       asks = asks_weaker {A = Unit {0}} _ _ (Ok tt) (λ n. refl)
           (asks_then _ _ {T = λ file. d.bench.geometry ≡ geometry file → c.encoding-encoding.result ≡ encoding file → (V : List Reference) → Survey file V
-          → (before : g.row.K.Denot) → IsBetweenStarts hears file V before (enumerate_from 1 d.roots.rows) d.marks c.args.reporter.now
-          → IsBetweenStarts hears file V before (enumerate_from (at.index + 1 + 1) (drop (at.index + 1) d.roots.rows)) marks end.reporter.now}
+          → (before : g.row.K.Denot) → IsBetweenStarts receives file V before (enumerate_from 1 d.roots.rows) d.marks c.args.reporter.now
+          → IsBetweenStarts receives file V before (enumerate_from (at.index + 1 + 1) (drop (at.index + 1) d.roots.rows)) marks end.reporter.now}
           (ap (λ (s : Geometry). s.page_size) at.invariant.shape) at.invariant.asks c.in_ok-walk_tree.ensures.asks
           (λ file left walked same code V s before h.
-          next_row hears file V s before at.desk-inside.marks marks at.reporter _ d.roots.rows at.index (Ok tt) c.encoding-encoding.result
-          (schema_row_of c.in-Some.row) c.root_of-root.result c.new-teller.result end _ _ (omega arith) (left same code V s before h) code
+          next_row receives file V s before at.desk-inside.marks marks at.reporter _ d.roots.rows at.index (Ok tt) c.encoding-encoding.result
+          (schema_row_of c.in-Some.row) c.root_of-root.result c.new-notifier.result end _ _ (omega arith) (left same code V s before h) code
           (ap (λ (l : Listed). slice_get l.rows (at.index + 1 - 1)) (sym at.invariant.roots) ∙ sym c.get.ensures ∙ ap (option_map schema_row_of) c.in-Some.is)
-          c.root_of-root.ensures.root (c.new-teller.ensures.start ∙ c.tree-start.ensures) c.new-teller.ensures.reporter
-          (from_ended hears _ _ file c.root_of-root.result at.desk-inside.marks marks c.new-teller.result c.walk_tree.new.sink _ _
+          c.root_of-root.ensures.root (c.new-notifier.ensures.start ∙ c.tree-start.ensures) c.new-notifier.ensures.reporter
+          (from_ended receives _ _ file c.root_of-root.result at.desk-inside.marks marks c.new-notifier.result c.walk_tree.new.sink _ _
           c.root_of-root.ensures.own end c.in_ok-end.ensures.ends c.in_ok-end.ensures.rows (Ok tt)
           (walked (at.invariant.shape ∙ same)))))
           (λ log r. r) (λ file done same code V s before h.
-          subst (λ u. IsBetweenStarts hears file V before (enumerate_from (at.index + 1 + 1) (drop (at.index + 1) d.roots.rows)) marks u) (search rules)
+          subst (λ u. IsBetweenStarts receives file V before (enumerate_from (at.index + 1 + 1) (drop (at.index + 1) d.roots.rows)) marks u) (search rules)
           (done same code V s before h));
       writes = search rules;
     }
@@ -125,12 +125,12 @@ returns-clause-asks g c =
     let at = c.loop-index in
     desk_asks g.S.Source.step c.desk.inside c.args.desk.now at.desk-inside.marks _
     (λ o file. (V : List Reference) → Survey file V → (before : g.row.K.Denot)
-    → IsBetweenStarts g.K.Reporter.hears file V before (enumerate_from 1 o.roots.rows) o.marks c.args.reporter.now
-    → IsBetweenStarts g.K.Reporter.hears file V before [] at.desk-inside.marks at.reporter)
+    → IsBetweenStarts g.K.Reporter.receives file V before (enumerate_from 1 o.roots.rows) o.marks c.args.reporter.now
+    → IsBetweenStarts g.K.Reporter.receives file V before [] at.desk-inside.marks at.reporter)
     (Ok tt) c.desk.invariant c.desk.view_is (λ n. refl) at.invariant.asks
     (λ file is left V s before h.
     let rows = c.desk.inside.roots.rows in
     let count : at.index ≡ length rows = omega arith in
     let none : drop at.index rows ≡ [] = drop_none rows at.index (omega (arith, count)) in
-    subst (λ l. IsBetweenStarts g.K.Reporter.hears file V before (enumerate_from (at.index + 1) l) at.desk-inside.marks at.reporter) none
+    subst (λ l. IsBetweenStarts g.K.Reporter.receives file V before (enumerate_from (at.index + 1) l) at.desk-inside.marks at.reporter) none
     (left (c.encoding-encoding.ensures ∙ ap encoding is.begins ∙ encoding_within file) V s before h))

@@ -4,8 +4,8 @@ use Rattle.dbmarks.proofs.Readings.{log_load, log_none, log_page, put_count}
 use Rattle.dbwalk.specs.Chains.{known_cause}
 use Rattle.dbwalk.specs.declared.chain.ChainPage.{ChainPage}
 use Rattle.dbwalk.proofs.Chaining.Overflows.{page_read}
-use Rattle.dbwalk.proofs.Telling.Besides.{beside_read, beside_shut, beside_told, beside_unread}
-use Rattle.dbwalk.proofs.Telling.Sinks.{err_is, walks_as}
+use Rattle.dbwalk.proofs.Reporting.Besides.{beside_read, beside_shut, beside_reported, beside_unread}
+use Rattle.dbwalk.proofs.Reporting.Sinks.{err_is, walks_as}
 use Rattle.dbwalk.proofs.beside.enter_beside.Goals as goal
 
 -- the cause by what the program has
@@ -34,7 +34,7 @@ returns-then-not-branch-clause-walks g c = record {
             rw c.if-not-branch.true at (c.in_ok-enter.ensures.entered file W d (refusal_cause file W d) step next m
             (λ made p. same_cause c.args.at (ap (λ s. s.usable) (c.geometry.ensures.value ∙ s)) c.page-here.ensures.bytes w p));
       });
-  beside = beside_told c.in_ok-enter.ensures.writes.moves;
+  beside = beside_reported c.in_ok-enter.ensures.writes.moves;
 }
 
 pub returns-in_err-load-clause-walks : goal.returns-in_err-load-clause-walks

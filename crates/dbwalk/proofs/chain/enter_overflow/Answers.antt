@@ -1,8 +1,8 @@
 use Rattle.std.proofs.Common.{rules, arith, refl, ℕ, ◌+◌, ◌-◌, ap, ◌∙◌, ◌≤◌, ◌<◌, inl}
 use Rattle.dbformat.specs.Payload.{overflow_next}
 use Rattle.dbwalk.proofs.Chaining.ChainTurns.{fed_so_far, turn_last, turn_more}
-use Rattle.dbwalk.proofs.Telling.Besides.{turn_on, turn_refused, turn_stopped, walk_as, walk_told}
-use Rattle.dbwalk.proofs.Telling.Sinks.{err_is}
+use Rattle.dbwalk.proofs.Reporting.Besides.{turn_on, turn_refused, turn_stopped, walk_as, walk_reported}
+use Rattle.dbwalk.proofs.Reporting.Sinks.{err_is}
 use Rattle.dbwalk.proofs.chain.enter_overflow.Goals as goal
 
 -- the next place in a chain that goes on
@@ -16,13 +16,13 @@ returns-in_err-enter_beside-clause-walks g c =
     walk_as q c.in_err-enter_beside.ensures.walks (λ file opens W d before first on. turn_stopped on.at q opens)
 
 pub returns-then-not-branch-clause-walks : goal.returns-then-not-branch-clause-walks
-returns-then-not-branch-clause-walks g c = walk_told c.in_ok-enter_beside.ensures.walks (inl refl)
+returns-then-not-branch-clause-walks g c = walk_reported c.in_ok-enter_beside.ensures.walks (inl refl)
     (λ file e opens W d before first on. turn_refused on.at opens c.if-not-branch.true (fed_so_far on))
 
 pub returns-then-place-room-clause-walks : goal.returns-then-place-room-clause-walks
 returns-then-place-room-clause-walks g c =
     let walks = c.in_ok-enter_beside.ensures.walks in
-    walk_told walks c.visit_overflow-next.ensures.moves (λ file e opens W d before first on.
+    walk_reported walks c.visit_overflow-next.ensures.moves (λ file e opens W d before first on.
     let u = ap (λ s. s.usable) (c.geometry-usable.ensures.value ∙ ap (λ b. b.geometry) walks.beside.bench ∙ e) in
     turn_last on c.if-not-branch.false opens (λ k. c.visit_overflow-next.ensures.visited file (c.page.ensures.bytes ∙ k) u) (ap (λ s. s - 4) u)
     c.if-place-room.true)
@@ -30,7 +30,7 @@ returns-then-place-room-clause-walks g c =
 pub returns-clause-walks : goal.returns-clause-walks
 returns-clause-walks g c =
     let walks = c.in_ok-enter_beside.ensures.walks in
-    walk_told walks c.visit_overflow-next.ensures.moves (λ file e opens W d before first on.
+    walk_reported walks c.visit_overflow-next.ensures.moves (λ file e opens W d before first on.
     let u = ap (λ s. s.usable) (c.geometry-usable.ensures.value ∙ ap (λ b. b.geometry) walks.beside.bench ∙ e) in
     turn_on (turn_more on c.if-not-branch.false opens (λ k. c.visit_overflow-next.ensures.visited file (c.page.ensures.bytes ∙ k) u) (ap (λ s. s - 4) u)
     c.if-place-room.false (c.visit_overflow-next.ensures.next ∙ ap overflow_next c.page.ensures.bytes)))

@@ -2,13 +2,13 @@ use Rattle.std.proofs.Common.{rules, ◌<◌, inl, refl, subst, ◌∙◌, arith
 use Rattle.dbwalk.proofs.Common.{IsPlace}
 use Rattle.dbmarks.proofs.Readings.{keeps_same}
 use Rattle.dbwalk.proofs.Chaining.ChainTurns.{way_start}
-use Rattle.dbwalk.proofs.Telling.Besides.{beside_as, beside_ok, beside_then, beside_told, turned_on, walk_then, walk_told, walk_unread}
-use Rattle.dbwalk.proofs.Telling.Sinks.{err_is}
+use Rattle.dbwalk.proofs.Reporting.Besides.{beside_as, beside_ok, beside_then, beside_reported, turned_on, walk_then, walk_reported, walk_unread}
+use Rattle.dbwalk.proofs.Reporting.Sinks.{err_is}
 use Rattle.dbwalk.proofs.chain.walk_chain.Goals as goal
 
 pub loop-next-init : goal.loop-next-init
 loop-next-init g c = record {
-  walks = walk_unread (beside_told (inl refl)) (keeps_same c.args.marks.now) (λ file W d h next m. way_start g.K.Sink.takes file W d c.args.chain.now
+  walks = walk_unread (beside_reported (inl refl)) (keeps_same c.args.marks.now) (λ file W d h next m. way_start g.K.Sink.takes file W d c.args.chain.now
       c.args.marks.now c.args.sink.now c.args.sieve.now c.args.bench.now.chain h next m);
   kept = refl;
   place = record { named = c.requires.0; used = record { some = refl; cleared = refl }; counted = omega arith };
@@ -21,7 +21,7 @@ returns-in_err-next-clause-log g c =
 
 pub loop-next-preserved : goal.loop-next-preserved
 loop-next-preserved g c = record {
-  walks = walk_told (walk_then c.loop-next.invariant.walks c.in_ok-next.ensures.walks (λ file e way turned W d h next m.
+  walks = walk_reported (walk_then c.loop-next.invariant.walks c.in_ok-next.ensures.walks (λ file e way turned W d h next m.
       turned_on (turned W d c.args.sink.now c.args.sieve.now (way W d h next m)) c.in-Some.is)) (inl refl) (λ file e way. way);
   kept = c.enter_overflow.ensures.kept ∙ c.loop-next.invariant.kept;
   place = (subst (λ o. IfSome o (λ next. IsPlace next × (next.left < c.loop-next.place.left))) c.in-Some.is c.in_ok-next.ensures.next).0;

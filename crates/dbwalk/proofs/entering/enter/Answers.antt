@@ -1,8 +1,8 @@
 use Rattle.std.proofs.Common.{rules, [], ◌∷◌, ◌++◌, refl, sym, ap, subst, ◌∙◌}
-use Rattle.dbwalk.proofs.Common.{Moves, AreMarksOf, told_fault}
+use Rattle.dbwalk.proofs.Common.{Moves, AreMarksOf, reported_fault}
 use Rattle.dbmarks.specs.Marking.{followed}
-use Rattle.dbwalk.proofs.Telling.Lefts.{refusal_none, entered_yes, entered_no}
-use Rattle.dbwalk.proofs.Telling.Sinks.{err_is}
+use Rattle.dbwalk.proofs.Reporting.Lefts.{refusal_none, entered_yes, entered_no}
+use Rattle.dbwalk.proofs.Reporting.Sinks.{err_is}
 use Rattle.dbwalk.proofs.entering.enter.Goals as goal
 
 pub returns-in-None-clause-entered : goal.returns-in-None-clause-entered
@@ -22,7 +22,7 @@ returns-in-Some-clause-entered g c = λ file W d why is next m causes.
       subst (λ l. AreMarksOf file W l) (sym (c.follow.ensures.marks ∙ ap (followed c.args.marks.now c.args.step.page c.args.step.mark) c.in-Some.is)) m,
       subst (λ l. Moves g.K.Sink.takes c.args.sink.now l c.fault.new.self) (sym k.1) (
         c.fault.new.self,
-        subst (λ f. g.K.Sink.takes c.args.sink.now (told_fault f c.cause.result) c.fault.new.self) c.new-fault.ensures
+        subst (λ f. g.K.Sink.takes c.args.sink.now (reported_fault f c.cause.result) c.fault.new.self) c.new-fault.ensures
             c.fault.ensures.item,
         refl,
       ),

@@ -4,8 +4,9 @@ use Rattle.std.proofs.lemmas.Bool.{cond_both}
 use Rattle.dbformat.specs.Numbers.{u32_at}
 use Rattle.dbwalk.proofs.Chaining.ChainTurns.{if_some_all}
 use Rattle.dbwalk.proofs.FreeTrunks.{trunk_read, trunk_opened, next_turned}
-use Rattle.dbwalk.proofs.Telling.Sinks.{err_is, walks_as}
-use Rattle.dbwalk.proofs.Telling.Besides.{beside_shut, beside_told, turn_failed, turn_refused, turn_stopped, walk_as, walk_told, walk_then, walk_unread}
+use Rattle.dbwalk.proofs.Reporting.Sinks.{err_is, walks_as}
+use Rattle.dbwalk.proofs.Reporting.Besides.{beside_shut, beside_reported, turn_failed, turn_refused, turn_stopped, walk_as, walk_reported, walk_then,
+    walk_unread}
 use Rattle.dbwalk.proofs.Pages.Levels.{keeps_fewer}
 use Rattle.dbwalk.proofs.freelist.enter_trunk.Goals as goal
 
@@ -21,7 +22,7 @@ returns-in_err-enter_beside-clause-walks g c =
     walk_as q c.in_err-enter_beside.ensures.walks (λ file opens W d before on. turn_stopped on.at q opens)
 
 pub returns-then-not-branch-clause-walks : goal.returns-then-not-branch-clause-walks
-returns-then-not-branch-clause-walks g c = walk_told c.in_ok-enter_beside.ensures.walks (inl refl)
+returns-then-not-branch-clause-walks g c = walk_reported c.in_ok-enter_beside.ensures.walks (inl refl)
     (λ file e opens W d before on. turn_refused on.at opens c.if-not-branch.true (λ f. tt))
 
 pub returns-in_err-item-clause-walks : goal.returns-in_err-item-clause-walks
@@ -40,7 +41,7 @@ returns-in_err-item-clause-walks g c =
 pub returns-clause-walks : goal.returns-clause-walks
 returns-clause-walks g c =
     let walks = c.in_ok-enter_beside.ensures.walks in
-    walk_then walks (walk_unread {T = λ file. Unit {0}} (beside_told c.in_ok-item.ensures.writes.moves) c.open_trunk.ensures.keeps (λ file. tt))
+    walk_then walks (walk_unread {T = λ file. Unit {0}} (beside_reported c.in_ok-item.ensures.writes.moves) c.open_trunk.ensures.keeps (λ file. tt))
     (λ file e opens none W d before on.
     let u = ap (λ s. s.usable) (c.geometry-usable.ensures.value ∙ ap (λ b. b.geometry) walks.beside.bench ∙ e) in
     let b = c.page-bytes.ensures.bytes ∙ trunk_read on opens c.if-not-branch.false in

@@ -1,8 +1,8 @@
 use Rattle.std.proofs.Common.{rules, ◌-◌, ◌/◌, ◌<◌, ◌≤◌, [], ◌∷◌, ◌++◌, map, refl, sym, ap, subst, ◌∙◌, pos}
-use Rattle.dbwalk.proofs.Common.{Go, go, fault, page_bytes, usable_size, next_trunk, leaf_count, most_leaves, L01, told_alone, IsLeft}
+use Rattle.dbwalk.proofs.Common.{Go, go, fault, page_bytes, usable_size, next_trunk, leaf_count, most_leaves, L01, reported_alone, IsLeft}
 use Rattle.dbformat.specs.Numbers.{u32_at}
 use Rattle.dbwalk.proofs.FreeTrunks.{opened_fitting, opened_crowded}
-use Rattle.dbwalk.proofs.Telling.Sinks.{err_is, walks_as, walks_ok}
+use Rattle.dbwalk.proofs.Reporting.Sinks.{err_is, walks_as, walks_ok}
 use Rattle.dbwalk.proofs.freelist.open_trunk.Goals as goal
 
 pub returns-in_err-walk_leaves-clause-opened : goal.returns-in_err-walk_leaves-clause-opened
@@ -37,7 +37,7 @@ returns-else-count-usable-clause-opened g c = λ file W d before U e old p r b u
     let w = c.new-fault.ensures ∙ ap (λ p. fault L01 p 0 (pos c.u32_at-count.result)) (sym p) ∙ ap (λ n. fault L01 e.page 0 (pos n)) n in (
       U ++ e ∷ [],
       opened_crowded file e r g.K.Sink.takes W d before U old c.args.marks.now c.args.sink.now f m h c.fault.new.self l
-          (c.fault.new.self, subst (λ x. g.K.Sink.takes c.args.sink.now (told_alone x) c.fault.new.self) w c.fault.ensures.item, refl),
+          (c.fault.new.self, subst (λ x. g.K.Sink.takes c.args.sink.now (reported_alone x) c.fault.new.self) w c.fault.ensures.item, refl),
     )
 
 pub returns-in_ok-walk_leaves-clause-only : goal.returns-in_ok-walk_leaves-clause-only

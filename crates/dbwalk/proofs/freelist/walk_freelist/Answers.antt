@@ -1,14 +1,14 @@
 use Rattle.std.proofs.Common.{◌≡◌, ◌<◌, inl, [], ◌∷◌, refl, subst, IfSome}
-use Rattle.dbwalk.proofs.Common.{Go, is_read_failed, failures_after, IsDone, unmarked_pages, Trunk, told_below}
+use Rattle.dbwalk.proofs.Common.{Go, is_read_failed, failures_after, IsDone, unmarked_pages, Trunk, reported_below}
 use Rattle.dbmarks.proofs.Readings.{keeps_same}
 use Rattle.dbwalk.proofs.FreeTrunks.{trunks_start}
-use Rattle.dbwalk.proofs.Telling.Sinks.{err_is, asked_both, asked_open, asked_walks, moves_some, walks_as, walks_end}
-use Rattle.dbwalk.proofs.Telling.Besides.{beside_as, beside_then, beside_told, turned_on, walk_then, walk_told, walk_unread}
+use Rattle.dbwalk.proofs.Reporting.Sinks.{err_is, asked_both, asked_open, asked_walks, moves_some, walks_as, walks_end}
+use Rattle.dbwalk.proofs.Reporting.Besides.{beside_as, beside_then, beside_reported, turned_on, walk_then, walk_reported, walk_unread}
 use Rattle.dbwalk.proofs.freelist.walk_freelist.Goals as goal
 
 pub loop-next-init : goal.loop-next-init
 loop-next-init g c = record {
-  walks = walk_unread (beside_told (inl refl)) (keeps_same c.args.marks.now) (λ file W d h next m.
+  walks = walk_unread (beside_reported (inl refl)) (keeps_same c.args.marks.now) (λ file W d h next m.
       trunks_start g.K.Sink.takes file W d c.args.first c.args.marks.now c.args.sink.now h next m);
   trunk = refl;
 }
@@ -22,7 +22,7 @@ returns-in_err-next-clause-asks g c =
 
 pub loop-next-preserved : goal.loop-next-preserved
 loop-next-preserved g c = record {
-  walks = walk_told (walk_then c.loop-next.invariant.walks c.in_ok-next.ensures.walks (λ file e way turned W d h next m.
+  walks = walk_reported (walk_then c.loop-next.invariant.walks c.in_ok-next.ensures.walks (λ file e way turned W d h next m.
       turned_on (turned W d c.args.sink.now (way W d h next m)) c.in-Some.is)) (inl refl) (λ file e way. way);
   trunk = subst (λ o. IfSome o (λ next. next.mark ≡ Trunk)) c.in-Some.is c.in_ok-next.ensures.trunk;
 }
@@ -33,7 +33,8 @@ returns-clause-asks g c =
     let walks = walk_then c.loop-next.invariant.walks c.in_ok-next.ensures.walks (λ file e way turned W d h next m.
     let done = ((turned W d c.args.sink.now (way W d h next m)).ended c.in_default.is).0 in
     asked_both (λ r. IsDone g.K.Sink.takes file W (Go d ∷ []) r c.enter_trunk.new.marks c.args.sink.now c.enter_trunk.new.sink) shut c.ask.ensures
-    done (record { marked = tt; told = moves_some g.K.Sink.takes c.args.sink.now c.enter_trunk.new.sink (told_below file W (Go d ∷ [])) done.told })) in
+    done (record { marked = tt; reported = moves_some g.K.Sink.takes c.args.sink.now c.enter_trunk.new.sink
+        (reported_below file W (Go d ∷ [])) done.reported })) in
     record {
       log = walks.log;
       count = asked_both (λ r. (g.S.Source.held c.enter_trunk.new.source).failures

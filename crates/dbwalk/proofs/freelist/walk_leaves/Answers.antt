@@ -2,9 +2,9 @@ use Rattle.std.proofs.Common.{◌≡◌, ◌+◌, ◌-◌, ◌<◌, inl, inr, �
 use Rattle.dbwalk.proofs.Common.{refusal_cause, IsLeft, leaves_from, KeepsMarks, Go}
 use Rattle.std.proofs.lemmas.Bool.{cases_Bool}
 use Rattle.dbwalk.proofs.FreeTrunks.{leaf_of, leaves_more, next_of_left, leaf_entered}
-use Rattle.dbwalk.proofs.Telling.Lefts.{left_untold}
+use Rattle.dbwalk.proofs.Reporting.Lefts.{left_unreported}
 use Rattle.dbmarks.proofs.Readings.{keeps_same, keeps_then, keeps_put}
-use Rattle.dbwalk.proofs.Telling.Sinks.{err_is, moves_then, walks_after, walks_as, walks_ok}
+use Rattle.dbwalk.proofs.Reporting.Sinks.{err_is, moves_then, walks_after, walks_as, walks_ok}
 use Rattle.dbwalk.proofs.freelist.walk_leaves.Goals as goal
 
 pub returns-clause-done : goal.returns-clause-done
@@ -23,7 +23,7 @@ returns-in_err-enter-clause-done g c = λ file W errands before U d tail p h.
     let e = leaf_of d c.args.bytes.now c.loop-index.index in
     let es = leaves_from d c.args.bytes.now (c.loop-index.index + 1) (c.args.count - c.loop-index.index - 1) ++ tail in
     rw (err_is c.from_residual.ensures.1)
-    (left_untold g.K.Sink.takes file W errands before k.0 c.loop-index.marks c.loop-index.sink c.enter.new.sink c.enter.new.marks
+    (left_unreported g.K.Sink.takes file W errands before k.0 c.loop-index.marks c.loop-index.sink c.enter.new.sink c.enter.new.marks
     c.in_err-enter.field-0.0 (Go e ∷ es) l
     (c.in_err-enter.ensures.entered file k.0 e (refusal_cause file k.0 e)
     (record { page = sym c.u32_at.ensures; mark = refl; from = p; item = refl; deep = refl })

@@ -4,7 +4,7 @@ use Rattle.dbsource.proofs.Logs.{has_weaker}
 use Rattle.dbmarks.proofs.Readings.{log_none}
 use Rattle.dbwalk.proofs.Leaves.LeafErrands.{none_done, chain_start}
 use Rattle.dbwalk.proofs.Chaining.Feedings.{on_ok, feeds_nothing, feeds_chain}
-use Rattle.dbwalk.proofs.Telling.Besides.{beside_told}
+use Rattle.dbwalk.proofs.Reporting.Besides.{beside_reported}
 use Rattle.dbwalk.proofs.leaf.walk_overflow.Goals as goal
 
 pub returns-in-None-clause-log : goal.returns-in-None-clause-log
@@ -29,4 +29,4 @@ pub walk_chain-requires : goal.walk_chain-requires
 walk_chain-requires g c = (search rules, (c.requires.0, subst (λ o. IfSome o (λ o. o.1 ≤ most_payload)) c.in-Some.is c.requires.1))
 
 pub returns-in-None-clause-beside : goal.returns-in-None-clause-beside
-returns-in-None-clause-beside g c = beside_told (inl refl)
+returns-in-None-clause-beside g c = beside_reported (inl refl)

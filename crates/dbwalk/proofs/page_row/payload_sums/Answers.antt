@@ -2,7 +2,7 @@ use Rattle.std.proofs.Common.{◌≡◌, ◌+◌, length, max, sym, ap, ◌∙�
 use Rattle.dbwalk.proofs.Common.{Cell, cell, count, first_cells, payload_of, greatest_of}
 use Rattle.dbpage.proofs.CellLemmas.{cell_local}
 use Rattle.dbpage.proofs.PackedLemmas.{first_cells_more}
-use Rattle.dbwalk.proofs.Pages.PageTellings.{cells_all, cells_err, local_more, greatest_more, ord_max-max}
+use Rattle.dbwalk.proofs.Pages.PageReportings.{cells_all, cells_err, local_more, greatest_more, ord_max-max}
 use Rattle.dbwalk.proofs.page_row.payload_sums.Goals.{in-Ok, in_default}
 use Rattle.dbwalk.proofs.page_row.payload_sums.Goals as goal
 

@@ -1,6 +1,6 @@
 use Rattle.std.proofs.Common.{rules, ◌≡◌, ◌<◌, ◌≤◌, [], false, Ok, Err, inl, inr, refl, sym, ap, subst, arith, ◌∙◌, List, IfErr, OnOk}
 use Rattle.dbwalk.proofs.Common.{geometry, page_bytes, IsPageNumber, encoding, Reference, bytes_at, is_read_failed, is_write_failed, failures_after}
-use Rattle.dbwalk.proofs.Common.{WriteFailed, Enters, refused_told, HasPageAt, IsReadOrWrite, SinkAfter, Tells, IsTreeDone, Mark, no_rowids}
+use Rattle.dbwalk.proofs.Common.{WriteFailed, Enters, refused_reported, HasPageAt, IsReadOrWrite, SinkAfter, Reports, IsTreeDone, Mark, no_rowids}
 use Rattle.std.proofs.lemmas.Result.{err_from_is_err_and}
 use Rattle.dbsource.specs.Sources.{Asks}
 use Rattle.dbsource.specs.declared.error.RunError.TheVariants.{ReadFailed}
@@ -14,7 +14,7 @@ use Rattle.dbwalk.proofs.Pages.Levels.{geometry_kept, log_entered, read_there}
 use Rattle.dbwalk.proofs.Trees.Bounds.{root_address}
 use Rattle.dbwalk.proofs.Underway.WalkedTrees.{candidate_as, root_next, tree_done, tree_refused, tree_unasked, tree_unread}
 use Rattle.dbwalk.proofs.Underway.Walks.{with_memory, without_memory}
-use Rattle.dbwalk.proofs.Telling.Sinks.{asked_both, asked_open, asked_walks, moves_open, moves_some, walks_after, walks_as, walks_end}
+use Rattle.dbwalk.proofs.Reporting.Sinks.{asked_both, asked_open, asked_walks, moves_open, moves_some, walks_after, walks_as, walks_end}
 use Rattle.dbtrace.specs.declared.Cause.TheVariants as cause
 use Rattle.dbwalk.proofs.tree.walk_tree.Goals as goal
 
@@ -59,9 +59,9 @@ returns-then-not-branch-clause-asks g c = record {
       tree_refused g.K.Sink.takes g.T.Taker.takes g.T.Taker.refuses file root.start W d one at.early
       (kind_is file (kind_in file root) root.start [] root.page 0 root.start d at.candidate) c.ask.result c.enter.new.marks c.args.sink.now
       c.enter.new.sink c.args.taker.now (asked_both (λ r. IfErr r IsReadOrWrite) (g.K.Sink.held c.enter.new.sink).is_shut c.ask.ensures tt (inr refl))
-      none.0 none.1 (asked_both (λ r. Tells g.K.Sink.takes r c.args.sink.now (refused_told file W d (cause.Rows no_rowids)) c.enter.new.sink)
+      none.0 none.1 (asked_both (λ r. Reports g.K.Sink.takes r c.args.sink.now (refused_reported file W d (cause.Rows no_rowids)) c.enter.new.sink)
       (g.K.Sink.held c.enter.new.sink).is_shut c.ask.ensures none.2
-      (moves_some g.K.Sink.takes c.args.sink.now c.enter.new.sink (refused_told file W d (cause.Rows no_rowids)) none.2)));
+      (moves_some g.K.Sink.takes c.args.sink.now c.enter.new.sink (refused_reported file W d (cause.Rows no_rowids)) none.2)));
   count = asked_both (λ r. (g.S.Source.held c.args.source.now).failures ≡ failures_after is_read_failed r (g.S.Source.held c.args.source.now).failures)
       (g.K.Sink.held c.enter.new.sink).is_shut c.ask.ensures refl refl;
 }

@@ -19,7 +19,7 @@ read items shown n e all within is = let l = length-take shown items in (omega (
 
 pub returns-then-left-le1 : goal.returns-then-left-le1
 returns-then-left-le1 g c =
-    let x = c.args.told.now in
+    let x = c.args.reported.now in
     let n = c.loop-slot.slot in
     let left = c.loop-slot.left in
     let e = c.index.result.now in
@@ -39,7 +39,7 @@ returns-then-left-le1 g c =
 
 pub loop-slot-preserved : goal.loop-slot-preserved
 loop-slot-preserved g c =
-    let x = c.args.told.now in
+    let x = c.args.reported.now in
     let n = c.loop-slot.slot in
     let left = c.loop-slot.left in
     let e = c.index.result.now in

@@ -42,10 +42,10 @@ returns-in_err-look_at_page-clause-asks g c =
     c.loop-index.invariant.asks c.in_err-look_at_page.ensures.asks
     (λ a b h k. (reads_more (shape_of old).page_size (IsUnmarked old.marks) (i + 1) (i + 1) a b (omega arith) h
     (subst (λ (d : DeskView). ReadsOrNot (shape_of d).page_size (IsUnmarked d.marks) (i + 1) b) same k)).reads)
-    (λ file way turn V d limit first none heard.
+    (λ file way turn V d limit first none received.
     let high : i + 1 ≤ (geometry file).pages = fits d.header.shape (ap (λ (g : Geometry). g.pages) c.geometry-pages.ensures.shape) c.loop-index-test.true in
     let t = turn V (desk_kept old here file V same d) (omega arith) high in
-    looked_first limit file V first c.args.self.now c.look_at_page.new.self (flat_map (lost_at file V) (range_with_len 1 i)) none heard
+    looked_first limit file V first c.args.self.now c.look_at_page.new.self (flat_map (lost_at file V) (range_with_len 1 i)) none received
     (lost_first file V i (omega (arith, high))) (t ∙ way V d))))
 
 pub loop-index-preserved : goal.loop-index-preserved
@@ -73,10 +73,10 @@ returns-clause-asks g c =
     let old = c.args.desk.now in
     let i = c.loop-index.index in
     asks_weaker (ReadsRisingBefore (shape_of old).page_size (IsUnmarked old.marks) (i + 1)) _ (Ok tt) (λ n. refl)
-    c.loop-index.invariant.asks (λ log h. h.reads) (λ file way V d limit first none heard.
+    c.loop-index.invariant.asks (λ log h. h.reads) (λ file way V d limit first none received.
     let all : i ≡ (geometry file).pages = ends d.header.shape (ap (λ (g : Geometry). g.pages) c.geometry-pages.ensures.shape) c.loop-index.auto.index-end
     c.loop-index-test.false in
     let looked = way V d ∙ ap (fold added c.args.self.now) (ap (λ n. flat_map (lost_at file V) (range_with_len 1 n)) all ∙ sym (lost_are file V)) in (
-      all_listed file V first c.args.self.now c.loop-index.self heard looked limit none,
-      all_noted file V first c.args.self.now c.loop-index.self heard looked limit none,
+      all_listed file V first c.args.self.now c.loop-index.self received looked limit none,
+      all_noted file V first c.args.self.now c.loop-index.self received looked limit none,
     ))

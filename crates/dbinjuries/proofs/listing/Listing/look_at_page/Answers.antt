@@ -39,7 +39,7 @@ returns-clause-asks g c =
     let yes = sym c.is_lost.ensures.mark ∙ c.if-not-is_lost.false in
     asks_weaker _ _ (Ok _) (λ n. refl) c.in_ok-cause.ensures.asks (λ log l. inr (l, yes)) (λ file w V d low high.
     let some = lost_here file V p (sym (unmarked_nowhere file V c.args.desk.now.marks p d.marks low high) ∙ yes) in
-    let told : Cause → List TracedFault = λ why. record { part = part.End; fault = fault N01 p 0 (pos 0); cause = why } ∷ [] in
+    let reported : Cause → List TracedFault = λ why. record { part = part.End; fault = fault N01 p 0 (pos 0); cause = why } ∷ [] in
     let why : c.in_ok-cause.cause ≡ lost_cause_at (is_lost_page file V) file p = w d.header
     ∙ ap (λ lost. lost_cause_at lost file p) (unmarked_lost file V c.args.desk.now.marks d.marks) in
-    c.add.ensures ∙ ap (fold added c.args.self.now) (ap told why ∙ sym some))
+    c.add.ensures ∙ ap (fold added c.args.self.now) (ap reported why ∙ sym some))

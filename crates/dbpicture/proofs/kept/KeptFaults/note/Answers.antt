@@ -7,9 +7,9 @@ use Rattle.dbpicture.proofs.kept.KeptFaults.note.Goals as goal
 pub returns : goal.returns
 returns g c = record {
   count = omega arith;
-  notes = λ count signs h. (let f = c.args.told.now.fault in
+  notes = λ count signs h. (let f = c.args.reported.now.fault in
       subst (λ (l : List (ℕ × Sign)). AreNoted count l c.note-2.new.self) (append_assoc signs ((f.page, Code f.code) ∷ []) ((f.page, Faulty) ∷ []))
       (c.note-2.ensures count _ (c.note.ensures count signs h)));
-  listing = c.hear.ensures;
+  listing = c.receive.ensures;
   trees = refl;
 }

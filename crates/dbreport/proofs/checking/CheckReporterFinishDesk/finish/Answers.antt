@@ -1,5 +1,5 @@
 use Rattle.std.proofs.Common.{false, Ok, Err, [], ◌∷◌, ap, inl, refl, sym, ◌∙◌, subst}
-use Rattle.dbreport.proofs.Common.{WriteFailed, one_out, HearsFaults}
+use Rattle.dbreport.proofs.Common.{WriteFailed, one_out, ReceivesFaults}
 use Rattle.std.proofs.lemmas.Result.{err_from_is_err_and}
 use Rattle.dbscan.proofs.Finished.{finished}
 use Rattle.dbreport.specs.CheckReporter.{LeavesCheck, ShowsFault, check_held}
@@ -12,18 +12,20 @@ returns-in_err-end g c =
     let q = err_from_is_err_and c.from_residual.result c.from_residual.ensures.1 in
     let put = c.in_err-end.ensures in
     let held = g.O.Out.held in
-    rw q.1 (rw q.2 (finished g.S.Source (HearsFaults (ShowsFault held)) (check_held held) (LeavesCheck held) (Err WriteFailed) c.args._desk.now
+    rw q.1 (rw q.2 (finished g.S.Source (ReceivesFaults (ShowsFault held)) (check_held held) (LeavesCheck held) (Err WriteFailed) c.args._desk.now
     c.args._source.now c.args.self.now c.end.new.self refl
     (record { lent = ap (λ n. n ∷ []) put.same_out; failures = inl (put.text.count, refl) })
-    (λ file V first heard. check_cut held file V heard.desk.survey first c.args.self.now c.end.new.self c.requires heard.heard c.in_err-end.field-0.0
+    (λ file V first received. check_cut held file V received.desk.survey first c.args.self.now c.end.new.self c.requires received.received
+        c.in_err-end.field-0.0
     put.text)))
 
 pub returns : goal.returns
 returns g c =
     let put = c.in_ok-end.ensures in
     let held = g.O.Out.held in
-    finished g.S.Source (HearsFaults (ShowsFault held)) (check_held held) (LeavesCheck held) (Ok c.in_ok-end.field-0) c.args._desk.now c.args._source.now
+    finished g.S.Source (ReceivesFaults (ShowsFault held)) (check_held held) (LeavesCheck held) (Ok c.in_ok-end.field-0) c.args._desk.now c.args._source.now
     c.args.self.now c.end.new.self tt
     (one_same put.same_out put.text.count put.failed)
-    (λ file V first heard. check_ended held file V heard.desk.survey first c.args.self.now c.end.new.self c.requires heard.heard c.in_ok-end.field-0 put.text
+    (λ file V first received. check_ended held file V received.desk.survey first c.args.self.now c.end.new.self c.requires received.received c.in_ok-end.field-0
+        put.text
     put.verdict)

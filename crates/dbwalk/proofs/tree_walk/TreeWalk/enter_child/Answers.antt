@@ -15,7 +15,7 @@ use Rattle.dbwalk.proofs.Underway.TreeSteps.{turned}
 use Rattle.dbwalk.proofs.Underway.TreeTurns.{next_here, child, child_asked, child_passed, child_stopped, child_entered}
 use Rattle.dbwalk.proofs.Underway.Visits.{done_from, done_refused, entered_done, rows_below, refused_handed, unasked, unread}
 use Rattle.dbwalk.proofs.Underway.Walks.{walked_as, walked_as_ok, walked_behind, walked_by, walked_err, walked_tree}
-use Rattle.dbwalk.proofs.Telling.Sinks.{walks_as, walks_err, walks_ok}
+use Rattle.dbwalk.proofs.Reporting.Sinks.{walks_as, walks_err, walks_ok}
 use Rattle.dbtrace.specs.declared.Cause.TheVariants as cause
 use Rattle.dbwalk.proofs.tree_walk.TreeWalk.enter_child.Goals as goal
 

@@ -1,5 +1,5 @@
 use Rattle.std.proofs.Common.{rules, ◌≡◌, Some, ◌/◌, ◌≤◌, false, true, inl, refl, ap, subst, arith, ◌∙◌, w64, slice_get}
-use Rattle.dbwalk.proofs.Common.{most_payload, IsPageNumber, Moves, key_value, is_late, order_told, top_after, Pages, path_of, HasLeft, Key, Nothing, fails}
+use Rattle.dbwalk.proofs.Common.{most_payload, IsPageNumber, Moves, key_value, is_late, order_reported, top_after, Pages, path_of, HasLeft, Key, Nothing, fails}
 use Rattle.std.proofs.lemmas.Int.{to_z-of_z}
 use Rattle.dbsource.proofs.Logs.{has_weaker}
 use Rattle.dbmarks.proofs.Readings.{log_none}
@@ -11,7 +11,7 @@ use Rattle.dbwalk.proofs.Underway.TreeSteps.{aside_done, turned}
 use Rattle.dbwalk.proofs.Underway.Handing.{found_moves}
 use Rattle.dbwalk.proofs.Underway.TreeTurns.{next_here, turned_behind, turned_empty, left_here, turned_key, chained, chain_is, chain_next, turned_chain}
 use Rattle.dbwalk.proofs.Underway.Walks.{none_refused, read_or_write, walked_by}
-use Rattle.dbwalk.proofs.Telling.Sinks.{walks_ok}
+use Rattle.dbwalk.proofs.Reporting.Sinks.{walks_ok}
 use Rattle.dbwalk.proofs.tree_walk.TreeWalk.take_step.Goals as goal
 
 pub stepped-requires : goal.stepped-requires
@@ -67,7 +67,7 @@ returns-in-Nothing-clause-log g c = log_none _ _ _ _ refl (λ file e coded W d b
 pub returns-in-Key-clause-open : goal.returns-in-Key-clause-open
 returns-in-Key-clause-open g c = step_on (at_turn c.requires c.in-Key.is) c.stepped-in-Key.ensures (goes_on (Key _) tt)
     c.push-in-Key.ensures.items c.args.bench.now.geometry.usable
-    c.tell_key.new.self.kind c.args.bench.now.levels refl c.tell_key.ensures.others.1 (λ n l. refl)
+    c.report_key.new.self.kind c.args.bench.now.levels refl c.report_key.ensures.others.1 (λ n l. refl)
 
 pub returns-in-Key-clause-ends : goal.returns-in-Key-clause-ends
 returns-in-Key-clause-ends g c = ends_on (at_turn c.requires c.in-Key.is) c.stepped-in-Key.ensures c.args.self.now.marks.now c.args.self.now.marks.now
@@ -76,15 +76,15 @@ returns-in-Key-clause-ends g c = ends_on (at_turn c.requires c.in-Key.is) c.step
 pub returns-in-Key-clause-log : goal.returns-in-Key-clause-log
 returns-in-Key-clause-log g c = log_none _ _ _ _ refl (λ file e coded W d before candidate walk.
     let here = next_here c.args.frames.now.items c.args.frame walk candidate (ap (λ s. s.usable) e) (next_at refl c.in-Key.is c.requires.step) in
-    let n = c.tell_key.new in
+    let n = c.report_key.new in
     let same = to_z-of_z w64 c.in-Key.key (search rules) in
-    let told = subst (λ z. Moves g.K.Sink.takes c.args.self.now.sink.now
-    (order_told false (Some c.left_rows-left.result) c.args.self.now.tree.greatest c.args.frame.page
-    (c.args.frame.next / 3) z) n.sink) same c.tell_key.ensures.told.items in
+    let reported = subst (λ z. Moves g.K.Sink.takes c.args.self.now.sink.now
+    (order_reported false (Some c.left_rows-left.result) c.args.self.now.tree.greatest c.args.frame.page
+    (c.args.frame.next / 3) z) n.sink) same c.report_key.ensures.reported.items in
     let moved = found_moves g.K.Sink.takes g.T.Taker.takes g.T.Taker.refuses
-    (order_told false (Some c.left_rows-left.result) c.args.self.now.tree.greatest c.args.frame.page
+    (order_reported false (Some c.left_rows-left.result) c.args.self.now.tree.greatest c.args.frame.page
     (c.args.frame.next / 3) c.in-Key.key) c.args.self.now.sink.now n.sink
-    c.args.self.now.taker.now told in
+    c.args.self.now.taker.now reported in
     let read_left = subst (λ z. is_late false (key_value c.args.self.now.tree.greatest) z ≡ true
     → HasLeft c.args.bench.now.geometry.usable c.args.self.now.tree.kind c.args.bench.now.levels c.len.result c.args.frame.page
     (c.args.frame.next / 3) z c.left_rows-left.result) same c.left_rows-left.ensures in
@@ -94,9 +94,9 @@ returns-in-Key-clause-log g c = log_none _ _ _ _ refl (λ file e coded W d befor
     c.left_rows-left.result (subst (λ level. HasLeft c.args.bench.now.geometry.usable c.args.self.now.tree.kind c.args.bench.now.levels level c.args.frame.page
     (c.args.frame.next / 3) c.in-Key.key c.left_rows-left.result) c.len.ensures.value (read_left late)) in
     turned (turned_key c.args.frames.now.items c.args.frame walk candidate c.stepped-in-Key.ensures here
-    (n.sink, c.args.self.now.taker.now) c.left_rows-left.result left n.self c.tell_key.ensures.others.1
-    (c.tell_key.ensures.greatest ∙ ap (λ z. top_after c.args.self.now.tree.greatest c.args.frame.page (c.args.frame.next / 3) (Some z)) same)
-    c.tell_key.ensures.others.2 moved)
+    (n.sink, c.args.self.now.taker.now) c.left_rows-left.result left n.self c.report_key.ensures.others.1
+    (c.report_key.ensures.greatest ∙ ap (λ z. top_after c.args.self.now.tree.greatest c.args.frame.page (c.args.frame.next / 3) (Some z)) same)
+    c.report_key.ensures.others.2 moved)
     c.push-in-Key.ensures.items refl refl refl (λ n l. refl))
 
 pub returns-in-Chain-clause-open : goal.returns-in-Chain-clause-open
@@ -150,7 +150,7 @@ returns-in-Nothing-clause-path g c = path_last _ _ _ _ c.push.ensures.items c.re
 
 pub returns-in-Key-clause-path : goal.returns-in-Key-clause-path
 returns-in-Key-clause-path g c =
-    path_last _ _ _ _ c.push-in-Key.ensures.items (ap (λ p. p.items) c.tell_key.ensures.others.3 ∙ c.requires.path)
+    path_last _ _ _ _ c.push-in-Key.ensures.items (ap (λ p. p.items) c.report_key.ensures.others.3 ∙ c.requires.path)
 
 pub returns-in-Chain-clause-path : goal.returns-in-Chain-clause-path
 returns-in-Chain-clause-path g c = on_ok_all c.walk_unfed.result (path_last _ _ _ _ c.push-in-Chain.ensures.items c.requires.path)
@@ -168,6 +168,6 @@ returns-in-Nothing-clause-walked g c = walked_by g.S.Source.held g.K.Sink.held g
 
 pub returns-in-Key-clause-walked : goal.returns-in-Key-clause-walked
 returns-in-Key-clause-walked g c =
-    let same = c.tell_key.ensures.others in
+    let same = c.report_key.ensures.others in
     walked_by g.S.Source.held g.K.Sink.held g.T.Taker.refusals (refl, refl, refl, refl, refl, same.0, same.1) refl refl
-    (walks_ok c.tell_key.ensures.told.count) refl tt (λ l. refl)
+    (walks_ok c.report_key.ensures.reported.count) refl tt (λ l. refl)

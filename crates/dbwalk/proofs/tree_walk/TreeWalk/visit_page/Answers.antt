@@ -9,30 +9,31 @@ use Rattle.dbwalk.specs.Found.{IsFound}
 use Rattle.dbwalk.specs.LeafCells.{ArePassed}
 use Rattle.dbmarks.specs.Reads.{Reads}
 use Rattle.dbwalk.proofs.Leaves.RisingKeys.{rising_all}
-use Rattle.dbwalk.proofs.Pages.PageTellings.{with_span}
+use Rattle.dbwalk.proofs.Pages.PageReportings.{with_span}
 use Rattle.dbwalk.proofs.Pages.PageVisits.{found_interior, found_damage, found_leaf, found_view, kind_is}
 use Rattle.dbwalk.proofs.Underway.CellSteps.{other_start, leaf_passed}
 use Rattle.dbwalk.proofs.Underway.Visits.{visited, visit_then, visit_alone, entered_past, entered_err, visited_before, page_moves, visited_at}
 use Rattle.dbwalk.proofs.Underway.Walks.{walked_as, walked_as_ok, walked_behind, walked_by}
-use Rattle.dbwalk.proofs.Telling.Sinks.{walks_ok}
+use Rattle.dbwalk.proofs.Reporting.Sinks.{walks_ok}
 use Rattle.dbwalk.proofs.tree_walk.TreeWalk.visit_page.Goals as goal
 
 pub returns-in-Interior-clause-log : goal.returns-in-Interior-clause-log
 returns-in-Interior-clause-log g c = log_none c.args.bench.now.geometry.page_size c.args.self.now.marks.now c.args.self.now.marks.now
     (g.S.Source.held c.args.self.now.source.now) refl
     (λ file e coded from d above item candidate there next followed m top first bound.
-    let told = c.tell_page.ensures.told file d above item e candidate there in
-    let found = subst (λ f. IsFound c.tell_page.new.bench.geometry.usable c.tell_page.new.tree.kind c.tell_page.new.bench.levels
-    (length c.args.self.now.tree.path.items) c.args.page f) c.in-Interior.is c.tell_page.ensures.«open» in (
+    let reported = c.report_page.ensures.reported file d above item e candidate there in
+    let found = subst (λ f. IsFound c.report_page.new.bench.geometry.usable c.report_page.new.tree.kind c.report_page.new.bench.levels
+    (length c.args.self.now.tree.path.items) c.args.page f) c.in-Interior.is c.report_page.ensures.«open» in (
       record {
-        at = visited_at file from d first top bound c.tell_page.new.tree m (c.tell_page.ensures.tree.2 ∙ top) told.1;
+        at = visited_at file from d first top bound c.report_page.new.tree m (c.report_page.ensures.tree.2 ∙ top) reported.1;
         handed =
             page_moves file from d first top bound (kind_is file c.args.self.now.tree.kind c.args.self.now.tree.start c.args.self.now.tree.path.items
             c.args.page above
             item d
-            candidate) g.K.Sink.takes g.T.Taker.takes g.T.Taker.refuses _ _ c.args.self.now.taker.now told.0.items;
+            candidate) g.K.Sink.takes g.T.Taker.takes g.T.Taker.refuses _ _ c.args.self.now.taker.now reported.0.items;
       },
-      λ yes. found_interior file candidate there c.tell_page.ensures.bench.1 c.tell_page.ensures.tree.1 (ap (λ s. s.usable) (c.tell_page.ensures.bench.0 ∙ e))
+      λ yes. found_interior file candidate there c.report_page.ensures.bench.1 c.report_page.ensures.tree.1
+          (ap (λ s. s.usable) (c.report_page.ensures.bench.0 ∙ e))
           from followed found,
     ))
 
@@ -40,88 +41,91 @@ pub returns-in-Damaged-clause-log : goal.returns-in-Damaged-clause-log
 returns-in-Damaged-clause-log g c = log_none c.args.bench.now.geometry.page_size c.args.self.now.marks.now c.args.self.now.marks.now
     (g.S.Source.held c.args.self.now.source.now) refl
     (λ file e coded from d above item candidate there next followed m top first bound.
-    let told = c.tell_page.ensures.told file d above item e candidate there in
-    let found = subst (λ f. IsFound c.tell_page.new.bench.geometry.usable c.tell_page.new.tree.kind c.tell_page.new.bench.levels
-    (length c.args.self.now.tree.path.items) c.args.page f) c.in-Damaged.is c.tell_page.ensures.«open» in
+    let reported = c.report_page.ensures.reported file d above item e candidate there in
+    let found = subst (λ f. IsFound c.report_page.new.bench.geometry.usable c.report_page.new.tree.kind c.report_page.new.bench.levels
+    (length c.args.self.now.tree.path.items) c.args.page f) c.in-Damaged.is c.report_page.ensures.«open» in
     let none = none_at_damage file d c.args.self.now.tree.kind
     (kind_is file c.args.self.now.tree.kind c.args.self.now.tree.start c.args.self.now.tree.path.items c.args.page above item d candidate)
-    (found_damage file candidate there c.tell_page.ensures.bench.1 c.tell_page.ensures.tree.1 (ap (λ s. s.usable) (c.tell_page.ensures.bench.0 ∙ e)) found)
+    (found_damage file candidate there c.report_page.ensures.bench.1 c.report_page.ensures.tree.1
+        (ap (λ s. s.usable) (c.report_page.ensures.bench.0 ∙ e)) found)
     in
-    let at = visited_at file from d first top bound c.tell_page.new.tree m (c.tell_page.ensures.tree.2 ∙ top) told.1 in
+    let at = visited_at file from d first top bound c.report_page.new.tree m (c.report_page.ensures.tree.2 ∙ top) reported.1 in
     entered_past _ _ file from d _ false _ _ _ (visit_alone _ _ file from d followed false _ _ _ none at
     (page_moves file from d first top bound (kind_is file c.args.self.now.tree.kind c.args.self.now.tree.start c.args.self.now.tree.path.items c.args.page
     above item
-    d candidate) g.K.Sink.takes g.T.Taker.takes g.T.Taker.refuses _ _ c.args.self.now.taker.now told.0.items)))
+    d candidate) g.K.Sink.takes g.T.Taker.takes g.T.Taker.refuses _ _ c.args.self.now.taker.now reported.0.items)))
 
 pub returns-in_err-walk_leaf-in-Leaf-clause-log : goal.returns-in_err-walk_leaf-in-Leaf-clause-log
 returns-in_err-walk_leaf-in-Leaf-clause-log g c = has_weaker _ _ c.in_err-walk_leaf-in-Leaf.ensures.log
-    (λ log r. subst (λ n. Reads n c.args.self.now.marks.now c.walk_leaf.new.self.marks.now log) (ap (λ s. s.page_size) c.tell_page.ensures.bench.0) r)
+    (λ log r. subst (λ n. Reads n c.args.self.now.marks.now c.walk_leaf.new.self.marks.now log) (ap (λ s. s.page_size) c.report_page.ensures.bench.0) r)
     (λ file h e coded from d above item candidate there next followed m top first bound.
     let same = c.pass_over.ensures.others in
-    let tree = c.tell_page.ensures.tree in
-    let told = c.tell_page.ensures.told file d above item e candidate there in
-    let found = subst (λ f. IsFound c.tell_page.new.bench.geometry.usable c.tell_page.new.tree.kind c.tell_page.new.bench.levels
-    (length c.args.self.now.tree.path.items) c.args.page f) c.in-Leaf.is c.tell_page.ensures.«open» in
-    let at = found_leaf file candidate there c.tell_page.ensures.bench.1 c.tell_page.ensures.tree.1 (ap (λ s. s.usable) (c.tell_page.ensures.bench.0 ∙ e))
+    let tree = c.report_page.ensures.tree in
+    let reported = c.report_page.ensures.reported file d above item e candidate there in
+    let found = subst (λ f. IsFound c.report_page.new.bench.geometry.usable c.report_page.new.tree.kind c.report_page.new.bench.levels
+    (length c.args.self.now.tree.path.items) c.args.page f) c.in-Leaf.is c.report_page.ensures.«open» in
+    let at = found_leaf file candidate there c.report_page.ensures.bench.1 c.report_page.ensures.tree.1 (ap (λ s. s.usable) (c.report_page.ensures.bench.0 ∙ e))
     (same.1 ∙ tree.1) (same.0 ∙ tree.0) (ap (λ p. p.items) (same.3 ∙ tree.3)) found.leaf in
-    let here = visited_at file from d first top bound c.pass_over.new.self m (c.pass_over.ensures.kept c.if-pass_over.false ∙ tree.2 ∙ top) (same.2 ∙ told.1) in
-    let done = h (c.tell_page.ensures.bench.0 ∙ e) coded (visited file from d) d found.leaf.view at
-    (found_view file candidate there c.tell_page.ensures.bench.1 c.tell_page.ensures.tree.1 (ap (λ s. s.usable) (c.tell_page.ensures.bench.0 ∙ e))
+    let here = visited_at file from d first top bound c.pass_over.new.self m (c.pass_over.ensures.kept c.if-pass_over.false ∙ tree.2 ∙ top) (same.2
+        ∙ reported.1) in
+    let done = h (c.report_page.ensures.bench.0 ∙ e) coded (visited file from d) d found.leaf.view at
+    (found_view file candidate there c.report_page.ensures.bench.1 c.report_page.ensures.tree.1 (ap (λ s. s.usable) (c.report_page.ensures.bench.0 ∙ e))
     found.leaf) found.leaf.leaf (visited_before file from d next) here in
     let q = err_from_is_err_and c.from_residual.result c.from_residual.ensures.1 in
     entered_err _ _ file from d _ _ c.in_err-walk_leaf-in-Leaf.field-0.0 _ _ _ (q.1 ∙ ap Err q.2)
-    (visit_then _ _ file from d followed (Err c.in_err-walk_leaf-in-Leaf.field-0.0) _ _ (c.tell_page.new.sink, c.args.self.now.taker.now) _
+    (visit_then _ _ file from d followed (Err c.in_err-walk_leaf-in-Leaf.field-0.0) _ _ (c.report_page.new.sink, c.args.self.now.taker.now) _
     (page_moves file from d first top bound (kind_is file c.args.self.now.tree.kind c.args.self.now.tree.start c.args.self.now.tree.path.items c.args.page
     above item
-    d candidate) g.K.Sink.takes g.T.Taker.takes g.T.Taker.refuses _ _ c.args.self.now.taker.now told.0.items) done))
+    d candidate) g.K.Sink.takes g.T.Taker.takes g.T.Taker.refuses _ _ c.args.self.now.taker.now reported.0.items) done))
 
 pub returns-in_ok-walk_leaf-in-Leaf-clause-log : goal.returns-in_ok-walk_leaf-in-Leaf-clause-log
 returns-in_ok-walk_leaf-in-Leaf-clause-log g c = has_weaker _ _ c.in_ok-walk_leaf-in-Leaf.ensures.log
-    (λ log r. subst (λ n. Reads n c.args.self.now.marks.now c.walk_leaf.new.self.marks.now log) (ap (λ s. s.page_size) c.tell_page.ensures.bench.0) r)
+    (λ log r. subst (λ n. Reads n c.args.self.now.marks.now c.walk_leaf.new.self.marks.now log) (ap (λ s. s.page_size) c.report_page.ensures.bench.0) r)
     (λ file h e coded from d above item candidate there next followed m top first bound.
     let same = c.pass_over.ensures.others in
-    let tree = c.tell_page.ensures.tree in
-    let told = c.tell_page.ensures.told file d above item e candidate there in
-    let found = subst (λ f. IsFound c.tell_page.new.bench.geometry.usable c.tell_page.new.tree.kind c.tell_page.new.bench.levels
-    (length c.args.self.now.tree.path.items) c.args.page f) c.in-Leaf.is c.tell_page.ensures.«open» in
-    let at = found_leaf file candidate there c.tell_page.ensures.bench.1 c.tell_page.ensures.tree.1 (ap (λ s. s.usable) (c.tell_page.ensures.bench.0 ∙ e))
+    let tree = c.report_page.ensures.tree in
+    let reported = c.report_page.ensures.reported file d above item e candidate there in
+    let found = subst (λ f. IsFound c.report_page.new.bench.geometry.usable c.report_page.new.tree.kind c.report_page.new.bench.levels
+    (length c.args.self.now.tree.path.items) c.args.page f) c.in-Leaf.is c.report_page.ensures.«open» in
+    let at = found_leaf file candidate there c.report_page.ensures.bench.1 c.report_page.ensures.tree.1 (ap (λ s. s.usable) (c.report_page.ensures.bench.0 ∙ e))
     (same.1 ∙ tree.1) (same.0 ∙ tree.0) (ap (λ p. p.items) (same.3 ∙ tree.3)) found.leaf in
-    let here = visited_at file from d first top bound c.pass_over.new.self m (c.pass_over.ensures.kept c.if-pass_over.false ∙ tree.2 ∙ top) (same.2 ∙ told.1) in
-    let done = h (c.tell_page.ensures.bench.0 ∙ e) coded (visited file from d) d found.leaf.view at
-    (found_view file candidate there c.tell_page.ensures.bench.1 c.tell_page.ensures.tree.1 (ap (λ s. s.usable) (c.tell_page.ensures.bench.0 ∙ e))
+    let here = visited_at file from d first top bound c.pass_over.new.self m (c.pass_over.ensures.kept c.if-pass_over.false ∙ tree.2 ∙ top) (same.2
+        ∙ reported.1) in
+    let done = h (c.report_page.ensures.bench.0 ∙ e) coded (visited file from d) d found.leaf.view at
+    (found_view file candidate there c.report_page.ensures.bench.1 c.report_page.ensures.tree.1 (ap (λ s. s.usable) (c.report_page.ensures.bench.0 ∙ e))
     found.leaf) found.leaf.leaf (visited_before file from d next) here in
     entered_past _ _ file from d _ c.in_ok-walk_leaf-in-Leaf.field-0 _ _ _
-    (visit_then _ _ file from d followed (Ok c.in_ok-walk_leaf-in-Leaf.field-0) _ _ (c.tell_page.new.sink, c.args.self.now.taker.now) _
+    (visit_then _ _ file from d followed (Ok c.in_ok-walk_leaf-in-Leaf.field-0) _ _ (c.report_page.new.sink, c.args.self.now.taker.now) _
     (page_moves file from d first top bound (kind_is file c.args.self.now.tree.kind c.args.self.now.tree.start c.args.self.now.tree.path.items c.args.page
     above item
-    d candidate) g.K.Sink.takes g.T.Taker.takes g.T.Taker.refuses _ _ c.args.self.now.taker.now told.0.items) done))
+    d candidate) g.K.Sink.takes g.T.Taker.takes g.T.Taker.refuses _ _ c.args.self.now.taker.now reported.0.items) done))
 
 pub returns-then-pass_over-clause-log : goal.returns-then-pass_over-clause-log
 returns-then-pass_over-clause-log g c = log_none c.args.bench.now.geometry.page_size c.args.self.now.marks.now c.args.self.now.marks.now
     (g.S.Source.held c.args.self.now.source.now) refl
     (λ file e coded from d above item candidate there next followed m top first bound.
-    let n = c.tell_page.new.tree in
+    let n = c.report_page.new.tree in
     let after = c.pass_over.new.self in
-    let told = c.tell_page.ensures.told file d above item e candidate there in
-    let found = subst (λ f. IsFound c.tell_page.new.bench.geometry.usable c.tell_page.new.tree.kind c.tell_page.new.bench.levels
-    (length c.args.self.now.tree.path.items) c.args.page f) c.in-Leaf.is c.tell_page.ensures.«open» in
+    let reported = c.report_page.ensures.reported file d above item e candidate there in
+    let found = subst (λ f. IsFound c.report_page.new.bench.geometry.usable c.report_page.new.tree.kind c.report_page.new.bench.levels
+    (length c.args.self.now.tree.path.items) c.args.page f) c.in-Leaf.is c.report_page.ensures.«open» in
     let keys = with_span c.in-Leaf.keys (λ span. ArePassed c.args.page n.start n.greatest span after.greatest) (λ span. HasSpan found.leaf.view span)
     (c.pass_over.ensures.passed c.if-pass_over.true) found.span in
     let rising = subst (λ a. AreRisingFrom c.args.page found.leaf.view 0 (count found.leaf.view) n.greatest a) (sym keys.1.after_is)
     (rising_all c.args.page found.leaf.view keys.0 keys.2 n.greatest keys.1.above) in
-    let here = visited_at file from d first top bound c.tell_page.new.tree m (c.tell_page.ensures.tree.2 ∙ top) told.1 in
-    let other = other_start d.address n.start (candidate.start ∙ sym c.tell_page.ensures.tree.0) keys.1.other in
+    let here = visited_at file from d first top bound c.report_page.new.tree m (c.report_page.ensures.tree.2 ∙ top) reported.1 in
+    let other = other_start d.address n.start (candidate.start ∙ sym c.report_page.ensures.tree.0) keys.1.other in
     let done = leaf_passed _ _ file (visited file from d) d c.args.self.now.tree.kind found.leaf.view other
     (kind_is file c.args.self.now.tree.kind c.args.self.now.tree.start c.args.self.now.tree.path.items c.args.page above item d candidate)
-    (found_view file candidate there c.tell_page.ensures.bench.1 c.tell_page.ensures.tree.1 (ap (λ s. s.usable) (c.tell_page.ensures.bench.0 ∙ e))
+    (found_view file candidate there c.report_page.ensures.bench.1 c.report_page.ensures.tree.1 (ap (λ s. s.usable) (c.report_page.ensures.bench.0 ∙ e))
     found.leaf) found.leaf.leaf after.greatest
     (subst (λ q. AreRisingFrom q found.leaf.view 0 (count found.leaf.view) (visited file from d).state.greatest after.greatest) (sym candidate.page)
     (subst (λ a. AreRisingFrom c.args.page found.leaf.view 0 (count found.leaf.view) a after.greatest) here.1 rising)) c.args.self.now.marks.now after
-    (c.tell_page.new.sink, c.args.self.now.taker.now) (m, refl, c.pass_over.ensures.others.2 ∙ here.2) in
-    entered_past _ _ file from d _ tt _ _ _ (visit_then _ _ file from d followed (Ok tt) _ _ (c.tell_page.new.sink, c.args.self.now.taker.now) _
+    (c.report_page.new.sink, c.args.self.now.taker.now) (m, refl, c.pass_over.ensures.others.2 ∙ here.2) in
+    entered_past _ _ file from d _ tt _ _ _ (visit_then _ _ file from d followed (Ok tt) _ _ (c.report_page.new.sink, c.args.self.now.taker.now) _
     (page_moves file from d first top bound (kind_is file c.args.self.now.tree.kind c.args.self.now.tree.start c.args.self.now.tree.path.items c.args.page
     above item
-    d candidate) g.K.Sink.takes g.T.Taker.takes g.T.Taker.refuses _ _ c.args.self.now.taker.now told.0.items) done))
+    d candidate) g.K.Sink.takes g.T.Taker.takes g.T.Taker.refuses _ _ c.args.self.now.taker.now reported.0.items) done))
 
 pub returns-in_err-walk_leaf-in-Leaf-clause-walked : goal.returns-in_err-walk_leaf-in-Leaf-clause-walked
 returns-in_err-walk_leaf-in-Leaf-clause-walked g c =
@@ -130,19 +134,19 @@ returns-in_err-walk_leaf-in-Leaf-clause-walked g c =
     walked_as g.S.Source.held g.K.Sink.held g.T.Taker.refusals {R = Unit {0}} (q.1 ∙ ap Err q.2)
     (walked_behind g.S.Source.held g.K.Sink.held g.T.Taker.refusals {R = Unit {0}} {a = tt} c.in_err-walk_leaf-in-Leaf.ensures.walked
     (walked_by g.S.Source.held g.K.Sink.held g.T.Taker.refusals
-    (refl, refl, refl, refl, refl, same.0 ∙ c.tell_page.ensures.tree.0, same.1 ∙ c.tell_page.ensures.tree.1) c.tell_page.ensures.bench.0 refl
-    (walks_ok c.tell_page.ensures.writes) refl tt (λ l. refl)))
+    (refl, refl, refl, refl, refl, same.0 ∙ c.report_page.ensures.tree.0, same.1 ∙ c.report_page.ensures.tree.1) c.report_page.ensures.bench.0 refl
+    (walks_ok c.report_page.ensures.writes) refl tt (λ l. refl)))
 
 pub walk_leaf-requires : goal.walk_leaf-requires
 walk_leaf-requires g c =
-    (search rules, (subst (λ p. length p.items < 20) (sym (c.pass_over.ensures.others.3 ∙ c.tell_page.ensures.tree.3)) c.requires.0, c.requires.1))
+    (search rules, (subst (λ p. length p.items < 20) (sym (c.pass_over.ensures.others.3 ∙ c.report_page.ensures.tree.3)) c.requires.0, c.requires.1))
 
 pub returns-then-pass_over-clause-walked : goal.returns-then-pass_over-clause-walked
 returns-then-pass_over-clause-walked g c =
     let same = c.pass_over.ensures.others in
     walked_by g.S.Source.held g.K.Sink.held g.T.Taker.refusals
-    (refl, refl, refl, refl, refl, same.0 ∙ c.tell_page.ensures.tree.0, same.1 ∙ c.tell_page.ensures.tree.1) c.tell_page.ensures.bench.0 refl
-    (walks_ok c.tell_page.ensures.writes) refl tt (λ l. refl)
+    (refl, refl, refl, refl, refl, same.0 ∙ c.report_page.ensures.tree.0, same.1 ∙ c.report_page.ensures.tree.1) c.report_page.ensures.bench.0 refl
+    (walks_ok c.report_page.ensures.writes) refl tt (λ l. refl)
 
 pub returns-in_ok-walk_leaf-in-Leaf-clause-walked : goal.returns-in_ok-walk_leaf-in-Leaf-clause-walked
 returns-in_ok-walk_leaf-in-Leaf-clause-walked g c =
@@ -150,8 +154,8 @@ returns-in_ok-walk_leaf-in-Leaf-clause-walked g c =
     walked_as_ok g.S.Source.held g.K.Sink.held g.T.Taker.refusals
     (walked_behind g.S.Source.held g.K.Sink.held g.T.Taker.refusals {R = Unit {0}} {a = tt} c.in_ok-walk_leaf-in-Leaf.ensures.walked
     (walked_by g.S.Source.held g.K.Sink.held g.T.Taker.refusals
-    (refl, refl, refl, refl, refl, same.0 ∙ c.tell_page.ensures.tree.0, same.1 ∙ c.tell_page.ensures.tree.1) c.tell_page.ensures.bench.0 refl
-    (walks_ok c.tell_page.ensures.writes) refl tt (λ l. refl)))
+    (refl, refl, refl, refl, refl, same.0 ∙ c.report_page.ensures.tree.0, same.1 ∙ c.report_page.ensures.tree.1) c.report_page.ensures.bench.0 refl
+    (walks_ok c.report_page.ensures.writes) refl tt (λ l. refl)))
 
 pub returns-in-Damaged-clause-open : goal.returns-in-Damaged-clause-open
 returns-in-Damaged-clause-open g c = λ is. absurd (false≢true is)
@@ -164,10 +168,10 @@ returns-in_ok-walk_leaf-in-Leaf-clause-open g c = λ is. absurd (false≢true is
 
 pub returns-in-Interior-clause-walked : goal.returns-in-Interior-clause-walked
 returns-in-Interior-clause-walked g c =
-    walked_by g.S.Source.held g.K.Sink.held g.T.Taker.refusals (refl, refl, refl, refl, refl, c.tell_page.ensures.tree.0, c.tell_page.ensures.tree.1)
-    c.tell_page.ensures.bench.0 refl (walks_ok c.tell_page.ensures.writes) refl tt (λ l. refl)
+    walked_by g.S.Source.held g.K.Sink.held g.T.Taker.refusals (refl, refl, refl, refl, refl, c.report_page.ensures.tree.0, c.report_page.ensures.tree.1)
+    c.report_page.ensures.bench.0 refl (walks_ok c.report_page.ensures.writes) refl tt (λ l. refl)
 
 pub returns-in-Damaged-clause-walked : goal.returns-in-Damaged-clause-walked
 returns-in-Damaged-clause-walked g c =
-    walked_by g.S.Source.held g.K.Sink.held g.T.Taker.refusals (refl, refl, refl, refl, refl, c.tell_page.ensures.tree.0, c.tell_page.ensures.tree.1)
-    c.tell_page.ensures.bench.0 refl (walks_ok c.tell_page.ensures.writes) refl tt (λ l. refl)
+    walked_by g.S.Source.held g.K.Sink.held g.T.Taker.refusals (refl, refl, refl, refl, refl, c.report_page.ensures.tree.0, c.report_page.ensures.tree.1)
+    c.report_page.ensures.bench.0 refl (walks_ok c.report_page.ensures.writes) refl tt (λ l. refl)

@@ -7,7 +7,7 @@ use Rattle.dbwalk.proofs.Underway.Handing.{stopped_as}
 use Rattle.dbwalk.proofs.Underway.LeafLoop.{cells_done, leaf_as, passed_same, on_start, on_more, on_stop, on_pass, on_end}
 use Rattle.dbwalk.proofs.Underway.CellSteps.{other_start}
 use Rattle.dbwalk.proofs.Underway.Walks.{walked_as, walked_behind, walked_by, walked_tree}
-use Rattle.dbwalk.proofs.Telling.Sinks.{err_is, walks_ok}
+use Rattle.dbwalk.proofs.Reporting.Sinks.{err_is, walks_ok}
 use Rattle.dbwalk.proofs.tree_walk.TreeWalk.walk_leaf.Goals as goal
 
 pub loop-i-init : goal.loop-i-init

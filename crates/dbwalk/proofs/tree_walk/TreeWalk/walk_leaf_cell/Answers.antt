@@ -1,11 +1,11 @@
 use Rattle.std.proofs.Common.{rules, ℕ, ◌≡◌, ◌≤◌, Result, Ok, Err, refl, sym, ap, subst, ◌∙◌, is_some}
-use Rattle.dbwalk.proofs.Common.{RunError, page_bytes, Moves, late_told, top_after, IsWriteOrMemory, IsTreeError, Pages}
+use Rattle.dbwalk.proofs.Common.{RunError, page_bytes, Moves, late_reported, top_after, IsWriteOrMemory, IsTreeError, Pages}
 use Rattle.dbsource.proofs.Logs.{has_weaker}
 use Rattle.dbwalk.proofs.Leaves.LeafErrands.{past_cell, seen_here, rowid_here, cell_here}
 use Rattle.dbwalk.proofs.Underway.Handing.{stopped_as, found_moves}
-use Rattle.dbwalk.proofs.Underway.LeafCellRuns.{gone, chain_stops, row_told, row_stops, key_done}
+use Rattle.dbwalk.proofs.Underway.LeafCellRuns.{gone, chain_stops, row_reported, row_stops, key_done}
 use Rattle.dbwalk.proofs.Underway.Walks.{tree_error, unread, walked_as, walked_by, walked_err}
-use Rattle.dbwalk.proofs.Telling.Sinks.{err_is, moves_then, walks_after, walks_ok}
+use Rattle.dbwalk.proofs.Reporting.Sinks.{err_is, moves_then, walks_after, walks_ok}
 use Rattle.dbwalk.proofs.tree_walk.TreeWalk.walk_leaf_cell.Goals as goal
 
 pub returns-in_err-walk_overflow-clause-log : goal.returns-in_err-walk_overflow-clause-log
@@ -20,46 +20,48 @@ returns-in_err-walk_overflow-clause-log g c = has_weaker _ _ c.in_err-walk_overf
     (h e from.visits d at (rowid_here file at viewed (ap (λ s. s.usable) e) c.args.i ∙ sym cell.1)
     (past_cell from.visits d c.args.i c.leaf_cell-cell.result.overflow before) isat.0).0).handed)
 
-pub returns-in_err-tell_row-clause-log : goal.returns-in_err-tell_row-clause-log
-returns-in_err-tell_row-clause-log g c = has_weaker _ _ c.in_ok-walk_overflow.ensures.log (λ log r. r)
+pub returns-in_err-report_row-clause-log : goal.returns-in_err-report_row-clause-log
+returns-in_err-report_row-clause-log g c = has_weaker _ _ c.in_ok-walk_overflow.ensures.log (λ log r. r)
     (λ file h e coded from d v at viewed leaf low before isat.
     let cell = cell_here file at viewed (ap (λ s. s.usable) e) c.len.ensures.value c.leaf_cell-cell.ensures low in
     let done = h e from.visits d at (rowid_here file at viewed (ap (λ s. s.usable) e) c.args.i ∙ sym cell.1)
     (past_cell from.visits d c.args.i c.leaf_cell-cell.result.overflow before) isat.0 in
-    stopped_as (err_is c.from_residual-in_err-tell_row.ensures.1)
+    stopped_as (err_is c.from_residual-in_err-report_row.ensures.1)
     (row_stops file from d c.args.self.now.tree.kind v leaf c.args.i c.leaf_cell-cell.result.overflow cell.0 c.leaf_cell-cell.result.key cell.1 g.K.Sink.takes
-    g.T.Taker.takes g.T.Taker.refuses c.in_err-tell_row.field-0.0 c.walk_overflow.new.marks c.args.self.now.tree c.args.self.now.tree
-    c.args.self.now.sink.now c.walk_overflow.new.sink c.args.self.now.taker.now (c.tell_row.new.sink, c.tell_row.new.taker) isat.1 isat.2 done.0
-    (row_told file from d c.args.self.now.tree.kind v leaf c.args.i c.leaf_cell-cell.result.overflow cell.0 c.leaf_cell-cell.result.key cell.1 g.K.Sink.takes
-    g.T.Taker.takes g.T.Taker.refuses c.args.self.now.taker.now c.tell_row.new.taker c.new-place.result c.args.page c.new-place.ensures
-    at.page c.args.self.now.encoding coded (Err c.in_err-tell_row.field-0.0)
-    c.walk_overflow.new.sink c.tell_row.new.sink c.walk_overflow.new.sieve c.in_err-tell_row.ensures.none c.args.self.now.tree.start at.start
+    g.T.Taker.takes g.T.Taker.refuses c.in_err-report_row.field-0.0 c.walk_overflow.new.marks c.args.self.now.tree c.args.self.now.tree
+    c.args.self.now.sink.now c.walk_overflow.new.sink c.args.self.now.taker.now (c.report_row.new.sink, c.report_row.new.taker) isat.1 isat.2 done.0
+    (row_reported file from d c.args.self.now.tree.kind v leaf c.args.i c.leaf_cell-cell.result.overflow cell.0 c.leaf_cell-cell.result.key cell.1
+        g.K.Sink.takes
+    g.T.Taker.takes g.T.Taker.refuses c.args.self.now.taker.now c.report_row.new.taker c.new-place.result c.args.page c.new-place.ensures
+    at.page c.args.self.now.encoding coded (Err c.in_err-report_row.field-0.0)
+    c.walk_overflow.new.sink c.report_row.new.sink c.walk_overflow.new.sieve c.in_err-report_row.ensures.none c.args.self.now.tree.start at.start
     c.begin_row.new.sieve (λ z. (c.begin_row.ensures.schema z).read (page_bytes file c.args.page) v at.bytes
     (seen_here file at viewed (ap (λ s. s.usable) e)) low) (λ l. c.begin_row.ensures.other l ∙ c.requires.2 l) before done.1
-    c.walk_overflow.ensures.kept c.in_err-tell_row.ensures.told)).handed)
+    c.walk_overflow.ensures.kept c.in_err-report_row.ensures.reported)).handed)
 
 pub returns-clause-log : goal.returns-clause-log
 returns-clause-log g c = has_weaker _ _ c.in_ok-walk_overflow.ensures.log (λ log r. r) (λ file h e coded from d v at viewed leaf low before isat.
     let cell = cell_here file at viewed (ap (λ s. s.usable) e) c.len.ensures.value c.leaf_cell-cell.ensures low in
     let done = h e from.visits d at (rowid_here file at viewed (ap (λ s. s.usable) e) c.args.i ∙ sym cell.1)
     (past_cell from.visits d c.args.i c.leaf_cell-cell.result.overflow before) isat.0 in
-    let late = ap (λ top. late_told top c.args.page c.args.i c.leaf_cell-cell.result.key) isat.1
-    ∙ ap (λ p. late_told from.state.greatest p c.args.i c.leaf_cell-cell.result.key) (sym at.page) in
+    let late = ap (λ top. late_reported top c.args.page c.args.i c.leaf_cell-cell.result.key) isat.1
+    ∙ ap (λ p. late_reported from.state.greatest p c.args.i c.leaf_cell-cell.result.key) (sym at.page) in
     key_done file from d c.args.self.now.tree.kind v leaf c.args.i c.leaf_cell-cell.result.overflow cell.0 c.leaf_cell-cell.result.key cell.1 g.K.Sink.takes
-    g.T.Taker.takes g.T.Taker.refuses (Ok tt) c.walk_overflow.new.marks c.args.self.now.tree c.tell_rowid.new.tree
-    c.args.self.now.sink.now c.walk_overflow.new.sink c.tell_row.new.sink c.args.self.now.taker.now c.tell_row.new.taker
-    (c.tell_rowid.new.sink, c.tell_row.new.taker) isat.1 isat.2 done.0
-    (row_told file from d c.args.self.now.tree.kind v leaf c.args.i c.leaf_cell-cell.result.overflow cell.0 c.leaf_cell-cell.result.key cell.1 g.K.Sink.takes
-    g.T.Taker.takes g.T.Taker.refuses c.args.self.now.taker.now c.tell_row.new.taker c.new-place.result c.args.page c.new-place.ensures
+    g.T.Taker.takes g.T.Taker.refuses (Ok tt) c.walk_overflow.new.marks c.args.self.now.tree c.report_rowid.new.tree
+    c.args.self.now.sink.now c.walk_overflow.new.sink c.report_row.new.sink c.args.self.now.taker.now c.report_row.new.taker
+    (c.report_rowid.new.sink, c.report_row.new.taker) isat.1 isat.2 done.0
+    (row_reported file from d c.args.self.now.tree.kind v leaf c.args.i c.leaf_cell-cell.result.overflow cell.0 c.leaf_cell-cell.result.key cell.1
+        g.K.Sink.takes
+    g.T.Taker.takes g.T.Taker.refuses c.args.self.now.taker.now c.report_row.new.taker c.new-place.result c.args.page c.new-place.ensures
     at.page c.args.self.now.encoding coded (Ok tt)
-    c.walk_overflow.new.sink c.tell_row.new.sink c.walk_overflow.new.sieve c.in_ok-tell_row.ensures.none c.args.self.now.tree.start at.start
+    c.walk_overflow.new.sink c.report_row.new.sink c.walk_overflow.new.sieve c.in_ok-report_row.ensures.none c.args.self.now.tree.start at.start
     c.begin_row.new.sieve (λ z. (c.begin_row.ensures.schema z).read (page_bytes file c.args.page) v at.bytes
     (seen_here file at viewed (ap (λ s. s.usable) e)) low) (λ l. c.begin_row.ensures.other l ∙ c.requires.2 l) before done.1
-    c.walk_overflow.ensures.kept c.in_ok-tell_row.ensures.told)
-    (found_moves g.K.Sink.takes g.T.Taker.takes g.T.Taker.refuses _ c.tell_row.new.sink c.tell_rowid.new.sink c.tell_row.new.taker
-    (subst (λ l. Moves g.K.Sink.takes c.tell_row.new.sink l c.tell_rowid.new.sink) late c.tell_rowid.ensures.told.items)) (
-      c.tell_rowid.ensures.greatest ∙ ap (λ p. top_after c.args.self.now.tree.greatest p c.args.i c.leaf_cell-cell.result.key) (sym at.page),
-      c.tell_rowid.ensures.others.2,
+    c.walk_overflow.ensures.kept c.in_ok-report_row.ensures.reported)
+    (found_moves g.K.Sink.takes g.T.Taker.takes g.T.Taker.refuses _ c.report_row.new.sink c.report_rowid.new.sink c.report_row.new.taker
+    (subst (λ l. Moves g.K.Sink.takes c.report_row.new.sink l c.report_rowid.new.sink) late c.report_rowid.ensures.reported.items)) (
+      c.report_rowid.ensures.greatest ∙ ap (λ p. top_after c.args.self.now.tree.greatest p c.args.i c.leaf_cell-cell.result.key) (sym at.page),
+      c.report_rowid.ensures.others.2,
     ))
 
 pub returns-in_err-walk_overflow-clause-walked : goal.returns-in_err-walk_overflow-clause-walked
@@ -73,12 +75,12 @@ row_error : (start : ℕ) {e : RunError} → IsWriteOrMemory e → (1 ≤ start 
     → IsTreeError start e × (1 ≤ start → ⊥)
 row_error start {e} only none = let no : 1 ≤ start → ⊥ = λ l. (let h = none l in cc) in (tree_error start e only no, no)
 
-pub returns-in_err-tell_row-clause-walked : goal.returns-in_err-tell_row-clause-walked
-returns-in_err-tell_row-clause-walked g c =
-    let e = c.in_err-tell_row.ensures in
+pub returns-in_err-report_row-clause-walked : goal.returns-in_err-report_row-clause-walked
+returns-in_err-report_row-clause-walked g c =
+    let e = c.in_err-report_row.ensures in
     let no = row_error c.args.self.now.tree.start e.only (λ later. (e.none (gone c.walk_overflow.new.sieve
     (c.walk_overflow.ensures.kept ∙ ap is_some (c.begin_row.ensures.other later ∙ c.requires.2 later)))).0) in
-    walked_as g.S.Source.held g.K.Sink.held g.T.Taker.refusals {R = Unit {0}} (err_is c.from_residual-in_err-tell_row.ensures.1)
+    walked_as g.S.Source.held g.K.Sink.held g.T.Taker.refusals {R = Unit {0}} (err_is c.from_residual-in_err-report_row.ensures.1)
     (walked_by g.S.Source.held g.K.Sink.held g.T.Taker.refusals (refl, refl, refl, refl, refl, refl, refl) (ap (λ (p : Pages). p.geometry)
     c.walk_overflow.ensures.beside.bench) (unread e.only c.in_ok-walk_overflow.ensures.beside.reads)
     (walks_after e.writes c.in_ok-walk_overflow.ensures.beside.writes.moves) e.refusals no.0 (λ l. absurd (no.1 l)))
@@ -89,10 +91,10 @@ returns-clause-empty g c = λ later. gone c.walk_overflow.new.sieve
 
 pub returns-clause-walked : goal.returns-clause-walked
 returns-clause-walked g c =
-    let e = c.in_ok-tell_row.ensures in
-    walked_by g.S.Source.held g.K.Sink.held g.T.Taker.refusals (refl, refl, refl, refl, refl, c.tell_rowid.ensures.others.0, c.tell_rowid.ensures.others.1)
+    let e = c.in_ok-report_row.ensures in
+    walked_by g.S.Source.held g.K.Sink.held g.T.Taker.refusals (refl, refl, refl, refl, refl, c.report_rowid.ensures.others.0, c.report_rowid.ensures.others.1)
     (ap (λ (p : Pages). p.geometry) c.walk_overflow.ensures.beside.bench) c.in_ok-walk_overflow.ensures.beside.reads
-    (walks_ok (moves_then (moves_then c.in_ok-walk_overflow.ensures.beside.writes.moves e.writes.moves) c.tell_rowid.ensures.told.count)) e.refusals tt
+    (walks_ok (moves_then (moves_then c.in_ok-walk_overflow.ensures.beside.writes.moves e.writes.moves) c.report_rowid.ensures.reported.count)) e.refusals tt
     (λ later. (e.none (gone c.walk_overflow.new.sieve
     (c.walk_overflow.ensures.kept ∙ ap is_some (c.begin_row.ensures.other later ∙ c.requires.2 later)))).2)
 

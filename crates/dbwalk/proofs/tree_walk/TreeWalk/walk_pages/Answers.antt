@@ -12,7 +12,7 @@ use Rattle.dbwalk.proofs.Underway.TreeSteps.{by_other}
 use Rattle.dbwalk.proofs.Underway.Visits.{entered_done}
 use Rattle.dbwalk.proofs.Underway.Passing.{open_past, walking_past}
 use Rattle.dbwalk.proofs.Underway.Walks.{walked_as, walked_as_ok, walked_asked, walked_behind}
-use Rattle.dbwalk.proofs.Telling.Sinks.{asked_open}
+use Rattle.dbwalk.proofs.Reporting.Sinks.{asked_open}
 use Rattle.dbwalk.proofs.tree_walk.TreeWalk.walk_pages.Goals as goal
 
 pub visit_page-requires : goal.visit_page-requires

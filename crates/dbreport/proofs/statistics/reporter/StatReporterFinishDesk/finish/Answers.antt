@@ -1,6 +1,6 @@
 use Rattle.std.proofs.Common.{Ok, refl}
 use Rattle.dbscan.proofs.Finished.{finished}
-use Rattle.dbreport.specs.StatReporter.{HearsOpen, stat_held}
+use Rattle.dbreport.specs.StatReporter.{ReceivesOpen, stat_held}
 use Rattle.dbreport.specs.StatStarts.{LeavesStat}
 use Rattle.dbreport.proofs.StatReports.{stat_ended}
 use Rattle.dbreport.proofs.statistics.reporter.StatReporterFinishDesk.finish.Goals as goal
@@ -9,6 +9,7 @@ pub returns : goal.returns
 returns g c =
     let held = g.O.Out.held in
     let held' = g.E.Out.held in
-    finished g.S.Source (HearsOpen held held') (stat_held held held') (LeavesStat held held') (Ok c.verdict.result) c.args._desk.now c.args._source.now
+    finished g.S.Source (ReceivesOpen held held') (stat_held held held') (LeavesStat held held') (Ok c.verdict.result) c.args._desk.now c.args._source.now
     c.args.self.now c.args.self.now tt refl
-    (λ file V first heard. stat_ended held held' file V heard.desk.survey first c.args.self.now c.requires heard.heard c.verdict.result c.verdict.ensures)
+    (λ file V first received. stat_ended held held' file V received.desk.survey first c.args.self.now c.requires received.received c.verdict.result
+        c.verdict.ensures)

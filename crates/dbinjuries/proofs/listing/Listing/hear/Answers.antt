@@ -1,5 +1,0 @@
-use Rattle.std.proofs.Common.{rules}
-use Rattle.dbinjuries.proofs.listing.Listing.hear.Goals as goal
-
-pub returns-then-not-is_lost : goal.returns-then-not-is_lost
-returns-then-not-is_lost g c = search rules

@@ -1,5 +1,0 @@
-use Rattle.dbmarks.proofs.LateRoots as roots
-use Rattle.dbmarks.proofs.marks.marks_tell_the_end.Goals as goal
-
-pub returns : goal.returns
-returns c = λ file. roots.marks_tell_the_end file

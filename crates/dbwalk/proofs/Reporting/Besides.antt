@@ -1,0 +1,144 @@
+-- What a walk beside the pages of a tree leaves, part after part.
+use Rattle.std.proofs.Common.{◌≡◌, ℕ, Bool, true, false, inl, inr, List, [], ◌∷◌, Option, Some, None, Result, Ok, Err, refl, sym, ap, subst, ◌∙◌, IfErr, IfSome}
+use Rattle.dbwalk.proofs.Common.{Go, is_followed, geometry, Reference, rules_of, Finding, Cause, KeepsMarks, Mark, Pages, is_read_failed, failures_after}
+use Rattle.dbwalk.proofs.Common.{SourceState, RunError, WriteFailed, EntersBeside, Opens, Turns, WalksBeside, IsDone, IsReadOrWrite, SinkMoves, SinkState}
+use Rattle.dbwalk.proofs.Common.{SinkWalks}
+use Rattle.dbmarks.proofs.Readings.{log_then, reads_none}
+use Rattle.dbsource.proofs.Logs.{has_none, has_weaker}
+use Rattle.dbsource.specs.declared.error.RunError.TheVariants.{ReadFailed}
+use Rattle.dbwalk.specs.Beside.{IsAtStep, LeavesBeside}
+use Rattle.dbwalk.specs.declared.entering.Step.{Step}
+use Rattle.dbwalk.proofs.Reporting.Lefts.{left_unreported, refused_last}
+use Rattle.dbwalk.proofs.Reporting.Sinks.{walks_after, walks_as, walks_err, walks_ok}
+use Rattle.dbsource.specs.Answers as answers
+
+-- nothing was read
+pub beside_reported : {A : Type 0} {x : A} {s : SourceState} {a b : SinkState} {p : Pages} → SinkMoves a b → LeavesBeside (Ok x) s s a b p p
+beside_reported moves = record { reads = refl; writes = walks_ok moves; only = tt; bench = refl }
+
+pub beside_shut : {A : Type 0} {r : Result A RunError} {s : SourceState} {a b : SinkState} {p : Pages} → r ≡ Err WriteFailed → SinkWalks r a b
+    → LeavesBeside r s s a b p p
+beside_shut {A = A} {s = s} q walks = record {
+  reads = subst (λ (r : Result A RunError). s.failures ≡ failures_after is_read_failed r s.failures) (sym q) refl;
+  writes = walks;
+  only = subst (λ (r : Result A RunError). IfErr r IsReadOrWrite) (sym q) (inr refl);
+  bench = refl;
+}
+
+-- a page of no tree could not be read, or was read
+pub beside_unread : {A : Type 0} {r : Result A RunError} {s t : SourceState} {a b : SinkState} (p : Pages) {p' : Pages} {bytes : List ℕ} → r ≡ Err ReadFailed
+    → t.failures ≡ failures_after {A = A} is_read_failed (Err ReadFailed) s.failures
+    → SinkMoves a b → b.is_shut ≡ false → p' ≡ record p { chain = bytes } → LeavesBeside r s t a b p p'
+beside_unread {A = A} {s = s} {t = t} p q count moves still only = record {
+  reads = subst (λ (r : Result A RunError). t.failures ≡ failures_after is_read_failed r s.failures) (sym q) count;
+  writes = walks_err q moves still;
+  only = subst (λ (r : Result A RunError). IfErr r IsReadOrWrite) (sym q) (inl refl);
+  bench = only ∙ ap (λ x. record p { chain = x }) (sym (ap (λ (p : Pages). p.chain) only));
+}
+
+pub beside_read : {A : Type 0} {x : A} {s t : SourceState} {a b : SinkState} (p : Pages) {p' : Pages} {bytes : List ℕ} → t.failures ≡ s.failures
+    → SinkMoves a b → p' ≡ record p { chain = bytes } → LeavesBeside (Ok x) s t a b p p'
+beside_read p count moves only = record {
+  reads = count;
+  writes = walks_ok moves;
+  only = tt;
+  bench = only ∙ ap (λ x. record p { chain = x }) (sym (ap (λ (p : Pages). p.chain) only));
+}
+
+-- the same of an answer of another type
+pub beside_ok : {A B : Type 0} {x : A} {y : B} {s t : SourceState} {a b : SinkState} {p q : Pages} → LeavesBeside (Ok x) s t a b p q
+    → LeavesBeside (Ok y) s t a b p q
+beside_ok h = record { reads = h.reads; writes = walks_ok h.writes.moves; only = tt; bench = h.bench }
+
+pub beside_as : {A B : Type 0} {r : Result B RunError} {e : RunError} {s t : SourceState} {a b : SinkState} {p q : Pages} → r ≡ Err e
+    → LeavesBeside {A = A} (Err e) s t a b p q → LeavesBeside r s t a b p q
+beside_as {B = B} {s = s} {t = t} is h = record {
+  reads = subst (λ (r : Result B RunError). t.failures ≡ failures_after is_read_failed r s.failures) (sym is) h.reads;
+  writes = walks_as is h.writes;
+  only = subst (λ (r : Result B RunError). IfErr r IsReadOrWrite) (sym is) h.only;
+  bench = h.bench;
+}
+
+-- one after another
+pub beside_then : {A B : Type 0} {x : A} {r : Result B RunError} {s t u : SourceState} {a b c : SinkState} {o p q : Pages} → LeavesBeside (Ok x) s t a b o p
+    → LeavesBeside r t u b c p q → LeavesBeside r s u a c o q
+beside_then {r = r} {q = q} h k = record {
+  reads = k.reads ∙ ap (failures_after is_read_failed r) h.reads;
+  writes = walks_after k.writes h.writes.moves;
+  only = k.only;
+  bench = k.bench ∙ ap (λ (p : Pages). record p { chain = q.chain }) h.bench;
+}
+
+-- The same with the log of the reads, and what holds of each file.
+
+-- nothing was read
+pub walk_unread : {A : Type 0} {r : Result A RunError} {step : answers.Step} {s : SourceState} {a b : SinkState} {p : Pages} {l m : List Mark}
+    {T : List ℕ → Type 0} → LeavesBeside r s s a b p p → KeepsMarks l m → ((file : List ℕ) → T file) → WalksBeside step r s s a b p p l m T
+walk_unread {s = s} {p = p} {l = l} {m = m} beside keeps says =
+    record { log = has_none s s refl refl (reads_none p.geometry.page_size l m keeps) (λ file e. says file); beside = beside }
+
+-- an error of a part, and what was reported after one
+pub walk_as : {A B : Type 0} {r : Result B RunError} {e : RunError} {step : answers.Step} {s t : SourceState} {a b : SinkState} {o p : Pages} {l m : List Mark}
+    {P T : List ℕ → Type 0} → r ≡ Err e → WalksBeside {A = A} step (Err e) s t a b o p l m P → ((file : List ℕ) → P file → T file)
+    → WalksBeside step r s t a b o p l m T
+walk_as q h says = record { log = has_weaker _ _ h.log (λ log k. k) (λ file f e. says file (f e)); beside = beside_as q h.beside }
+
+pub walk_reported : {A B : Type 0} {x : A} {y : B} {step : answers.Step} {s t : SourceState} {a b c : SinkState} {o p : Pages} {l m : List Mark}
+    {P T : List ℕ → Type 0} → WalksBeside step (Ok x) s t a b o p l m P → SinkMoves b c → ((file : List ℕ) → o.geometry ≡ geometry file → P file → T file)
+    → WalksBeside step (Ok y) s t a c o p l m T
+walk_reported h moves says = record {
+  log = has_weaker _ _ h.log (λ log k. k) (λ file f e. says file e (f e));
+  beside = beside_then h.beside (beside_reported moves);
+}
+
+-- one part after another
+pub walk_then : {A B : Type 0} {x : A} {r : Result B RunError} {step : answers.Step} {s t u : SourceState} {a b c : SinkState} {o p q : Pages}
+    {l m n : List Mark} {P Q T : List ℕ → Type 0} → WalksBeside step (Ok x) s t a b o p l m P → WalksBeside step r t u b c p q m n Q
+    → ((file : List ℕ) → o.geometry ≡ geometry file → P file → Q file → T file) → WalksBeside step r s u a c o q l n T
+walk_then h k says = record {
+  log = log_then _ _ (ap (λ (b : Pages). b.geometry.page_size) h.beside.bench) h.log k.log
+      (λ file f g e. says file e (f e) (g (ap (λ (b : Pages). b.geometry) h.beside.bench ∙ e)));
+  beside = beside_then h.beside k.beside;
+}
+
+-- A turn, by what it answers.
+
+module _ {S P : Type 0} {takes : S → Finding → S → Type 0} {file : List ℕ} {W : List Reference} {c : Reference} {before : S} {on : P → Type 0}
+    {end : Type 0} {marks : List Mark} {s : S} where
+  pub turn_failed : {r : Result (Option P) RunError} {e : RunError} → r ≡ Err e → IsDone {A = Unit {0}} takes file W (Go c ∷ []) (Err e) marks before s
+      → Turns takes file W c before on end r marks s
+  turn_failed q h = subst (λ r. Turns takes file W c before on end r marks s) (sym q) (record { next = tt; ended = tt; stopped = h })
+
+  pub turn_ended : IsDone {A = Unit {0}} takes file W (Go c ∷ []) (Ok tt) marks before s → end → Turns takes file W c before on end (Ok None) marks s
+  turn_ended h e = record { next = tt; ended = λ none. (h, e); stopped = tt }
+
+  pub turn_on : {place : P} → on place → Turns takes file W c before on end (Ok (Some place)) marks s
+  turn_on h = record { next = h; ended = λ none. cc; stopped = tt }
+
+  pub turned_on : {o : Option P} {place : P} → Turns takes file W c before on end (Ok o) marks s → o ≡ Some place → on place
+  turned_on h is = subst (λ o. IfSome o on) is h.next
+
+-- a turn at a step
+module _ {S : Type 0} {takes : S → Finding → S → Type 0} {file : List ℕ} {W : List Reference} {c : Reference} {before : S} {step : Step} {why : Cause}
+    {marks : List Mark} {s : S} (at : IsAtStep takes file W c before step why marks s) where
+  -- an error stopped it
+  pub turn_stopped : {P : Type 0} {on : P → Type 0} {end : Type 0} {r : Result (Option P) RunError} {e : RunError} {marks' : List Mark} {t : S}
+      {here : List ℕ} → r ≡ Err e → EntersBeside takes file step why marks s (Err e) marks' t here → Turns takes file W c before on end r marks' t
+  turn_stopped {e = e} {marks' = marks'} {t = t} q h = turn_failed q (left_unreported takes file W (Go c ∷ []) before at.visited marks s t marks' e (Go at.d
+      ∷ [])
+      at.rest (h.opens at.visited at.d at.is at.rest.past at.rest.marked at.cause_is))
+
+  -- the reference is refused, or followed
+  module _ {b : Bool} {marks' : List Mark} {t : S} {here : List ℕ} (h : EntersBeside takes file step why marks s (Ok b) marks' t here) where
+    entered : (d : Bool) → b ≡ d → Opens takes file at.visited at.d (Ok d) marks' s t here
+    entered d is = subst (λ b. Opens takes file at.visited at.d (Ok b) marks' s t here) is
+        (h.opens at.visited at.d at.is at.rest.past at.rest.marked at.cause_is)
+
+    pub turn_refused : {P : Type 0} {on : P → Type 0} {end : Type 0} → b ≡ false → (is_followed (rules_of file) at.visited at.d ≡ false → end)
+        → Turns takes file W c before on end (Ok None) marks' t
+    turn_refused is end =
+        let e = entered false is in
+        turn_ended (refused_last takes file W (Go c ∷ []) before at.visited marks marks' s t at.d at.rest e) (end e.0)
+
+    pub turn_entered : b ≡ true → Opens takes file at.visited at.d (Ok true) marks' s t here
+    turn_entered is = entered true is
