@@ -1,4 +1,4 @@
-// The words that `clap` is told of: the subcommands, and what each takes.
+// The words that `clap` knows: the subcommands, and what each takes.
 ghost use Rattle.std.specs.Prelude.{◌≡◌, ◌≤◌, IfOk, codes, false};
 ghost use Rattle.clap.specs.Words.{App, app_of, new_app, rule_of, with_subcommand};
 ghost use Rattle.clap.specs.declared.builder.command.Command.TheViews.{out-Command as fields_of};

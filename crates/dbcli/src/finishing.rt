@@ -18,7 +18,7 @@ use dbreport::Verdict;
 use dbsource::{Changes, Out, RunError, Source};
 use std::alloc::Global;
 
-/// Hears of a run, and reports what does not go to its two Outs, which it does not touch.
+/// Learns of a run, and reports what does not go to its two Outs, which it does not touch.
 pub trait Notes {
     /// The run begins, over the file with these changes.
     fn begin(&mut self, changes: &Changes);
@@ -33,7 +33,7 @@ pub trait Notes {
     fn report_unrun(&mut self, why: Unrun);
 }
 
-// Ends a run by a line: hands on what is pending, tells the notes why, puts the line, and hands that on, as far as it can. If handing on
+// Ends a run by a line: hands on what is pending, reports the reason to the notes, puts the line, and hands that on, as far as it can. If handing on
 // and the line both fail, no more is tried.
 fn put_last<E: Out, F: FnOnce()>(err: &mut E, line: &str, report_notes: F)
     requires { F.pre report_notes }

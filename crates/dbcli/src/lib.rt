@@ -47,7 +47,7 @@ pub use lookup::Lookup;
 pub use opening::{Opener, SystemFiles};
 pub use progress::Progress;
 pub use request::Request;
-pub use running::{System, answer_words, run_line, report_error};
+pub use running::{System, answer_words, report_error, run_line};
 pub use spelled::SpellingError;
 pub use status::{line_status, status_of};
 pub use task::Task;

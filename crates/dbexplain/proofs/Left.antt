@@ -1,4 +1,4 @@
--- What a run leaves of a reporter of which nothing had been heard.
+-- What a run leaves of a reporter that had received nothing.
 use Rattle.std.proofs.Common.{◌≡◌, ◌≢◌, ℕ, List, [], ◌∷◌, length, Err, Result, inl, inr, refl, sym, ap, subst, ◌∙◌, arith}
 use Rattle.std.proofs.lemmas.List.{length-map}
 use Rattle.dbsurvey.specs.Moves.{MovesBySome}
@@ -45,7 +45,7 @@ none_counted : (ts : List TracedFault) → counted (length ts) ≡ 0 → ts ≡ 
 none_counted [] h = refl
 none_counted (t ∷ ts) h = absurd (let e : ⊥ = omega arith in e)
 
--- it has heard all of a file with survey V, where it had heard nothing before
+-- it has received all of a file with survey V, where it had received nothing before
 pub record HasReceivedFile {A O : Type 0} (limit : ℕ) (file : List ℕ) (V : List Reference) (first now : ExplainReporter A O) : Type 0 where
   pub survey : Survey file V
   pub empty : IsEmpty limit (geometry file) first.kept.now
@@ -73,7 +73,7 @@ module _ {A O : Type 0} (held : O → OutState) {limit : ℕ} {file : List ℕ} 
   abbrev text : List ℕ
   text = explain_text limit file V (listed_injuries file V)
 
-  -- what was put after it was heard
+  -- what was put after it was received
   pub written : {X E : Type 0} (r : Result X E) (after : O) (t : List ℕ) → t ≡ text → Writes r (held now.out.now).bytes (held after).bytes t
       → Writes r (held first.out.now).bytes (held after).bytes text
   written r after t e w =

@@ -42,7 +42,7 @@ module _ (V : List Reference) (ts : List TracedFault) (n : ℕ) (few : n < most_
       ∙ none (count_by (is_reached V k) (range_with_len 1 n))) in
       let b : count_by (both k) (range_with_len 1 n) ≡ count_by (both k) (range_with_len 1 (n + 1)) =
       sym (more (both k) ∙ ap (λ b. count_by (both k) (range_with_len 1 n) + cond (b && is_reported ts p) 1 0) off
-          ∙ none (count_by (both k) (range_with_len 1 n)))
+      ∙ none (count_by (both k) (range_with_len 1 n)))
       in
       ap₂ (λ x y. record { faults = counted (start_count ts k); reached = x; faulty = y }) a b
     where

@@ -1,4 +1,4 @@
--- What a reporter keeps that has heard all of a file, or a beginning of it.
+-- What a reporter keeps that has received all of a file, or a beginning of it.
 use Rattle.std.proofs.Common.{◌≡◌, ℕ, List, [], ◌∷◌, ◌++◌, refl, sym, ap, ◌∙◌}
 use Rattle.std.specs.Prelude.{fold}
 use Rattle.std.proofs.lemmas.List.Sums.{fold-append}

@@ -43,7 +43,7 @@ unfolding cell cell_count cell_pointer cells change_counter content_start covera
     key_faults keys late_root_fault later_starts local_len look_of map_entry map_page_of more_line own_kind page_bytes page_count page_faults page_size payload
     record_values refusal_of refused reserved_bytes right_number row_faults rules_of schema schema_format schema_row serial_len plain_name stated_pages story_of
     sum_faults reporting tree_name tree_page_faults tree_view type_byte unused usable_size use_fault varint version_valid_for view walk_faults whole_pages
-        is_utf8
+    is_utf8
     chars utf16_chars encode digits
 unowned_page = refl
 
@@ -56,6 +56,6 @@ unfolding cell cell_count cell_pointer cells change_counter content_start covera
     key_faults keys late_root_fault later_starts local_len look_of map_entry map_page_of more_line own_kind page_bytes page_count page_faults page_size payload
     record_values refusal_of refused reserved_bytes right_number row_faults rules_of schema schema_format schema_row serial_len plain_name stated_pages story_of
     sum_faults reporting tree_name tree_page_faults tree_view type_byte unused usable_size use_fault varint version_valid_for view walk_faults whole_pages
-        is_utf8
+    is_utf8
     chars utf16_chars encode digits stat_rows
 shared_root = refl

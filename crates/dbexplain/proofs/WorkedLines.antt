@@ -42,7 +42,7 @@ unfolding cell cell_count cell_pointer cells change_counter content_start covera
     key_faults keys late_root_fault later_starts local_len map_entry map_page_of more_line own_kind page_bytes page_count page_faults page_size payload
     record_values refusal_of refused reserved_bytes right_number row_faults rules_of schema schema_format schema_row serial_len plain_name stated_pages story_of
     sum_faults reporting tree_name tree_page_faults tree_view type_byte unused usable_size use_fault varint version_valid_for view walk_faults whole_pages
-        is_utf8
+    is_utf8
     chars utf16_chars encode digits place_of
 two_owners = refl
 
@@ -53,7 +53,7 @@ unfolding cell cell_count cell_pointer cells change_counter content_start covera
     key_faults keys late_root_fault later_starts local_len map_entry map_page_of more_line own_kind page_bytes page_count page_faults page_size payload
     record_values refusal_of refused reserved_bytes right_number row_faults rules_of schema schema_format schema_row serial_len plain_name stated_pages story_of
     sum_faults reporting tree_name tree_page_faults tree_view type_byte unused usable_size use_fault varint version_valid_for view walk_faults whole_pages
-        is_utf8
+    is_utf8
     chars utf16_chars encode digits place_of
 lost_root = refl
 
@@ -65,7 +65,7 @@ unfolding cell cell_count cell_pointer cells change_counter content_start covera
     key_faults keys late_root_fault later_starts local_len map_entry map_page_of more_line own_kind page_bytes page_count page_faults page_size payload
     record_values refusal_of refused reserved_bytes right_number row_faults rules_of schema schema_format schema_row serial_len plain_name stated_pages story_of
     sum_faults reporting tree_name tree_page_faults tree_view type_byte unused usable_size use_fault varint version_valid_for view walk_faults whole_pages
-        is_utf8
+    is_utf8
     chars utf16_chars encode digits place_of
 wrong_entry = refl
 
@@ -76,7 +76,7 @@ unfolding cell cell_count cell_pointer cells change_counter content_start covera
     key_faults keys late_root_fault later_starts local_len map_entry map_page_of more_line own_kind page_bytes page_count page_faults page_size payload
     record_values refusal_of refused reserved_bytes right_number row_faults rules_of schema schema_format schema_row serial_len plain_name stated_pages story_of
     sum_faults reporting tree_name tree_page_faults tree_view type_byte unused usable_size use_fault varint version_valid_for view walk_faults whole_pages
-        is_utf8
+    is_utf8
     chars utf16_chars encode digits place_of
 wrong_count = refl
 
@@ -88,7 +88,7 @@ unfolding cell cell_count cell_pointer cells change_counter content_start covera
     key_faults keys late_root_fault later_starts local_len map_entry map_page_of more_line own_kind page_bytes page_count page_faults page_size payload
     record_values refusal_of refused reserved_bytes right_number row_faults rules_of schema schema_format schema_row serial_len plain_name stated_pages story_of
     sum_faults reporting tree_name tree_page_faults tree_view type_byte unused usable_size use_fault varint version_valid_for view walk_faults whole_pages
-        is_utf8
+    is_utf8
     chars utf16_chars encode digits place_of
 fixed_page = refl
 
@@ -100,7 +100,7 @@ unfolding cell cell_count cell_pointer cells change_counter content_start covera
     key_faults keys late_root_fault later_starts local_len map_entry map_page_of more_line own_kind page_bytes page_count page_faults page_size payload
     record_values refusal_of refused reserved_bytes right_number row_faults rules_of schema schema_format schema_row serial_len plain_name stated_pages story_of
     sum_faults reporting tree_name tree_page_faults tree_view type_byte unused usable_size use_fault varint version_valid_for view walk_faults whole_pages
-        is_utf8
+    is_utf8
     chars utf16_chars encode digits place_of
 first_trunk_start = refl
 
@@ -111,6 +111,6 @@ unfolding cell cell_count cell_pointer cells change_counter content_start covera
     key_faults keys late_root_fault later_starts local_len map_entry map_page_of more_line own_kind page_bytes page_count page_faults page_size payload
     record_values refusal_of refused reserved_bytes right_number row_faults rules_of schema schema_format schema_row serial_len plain_name stated_pages story_of
     sum_faults reporting tree_name tree_page_faults tree_view type_byte unused usable_size use_fault varint version_valid_for view walk_faults whole_pages
-        is_utf8
+    is_utf8
     chars utf16_chars encode digits place_of
 no_page = refl

@@ -47,7 +47,7 @@ module _ {A O : Type 0} where
     pub after_end : t.after_end ≡ s.after_end
     pub out : t.out.now ≡ s.out.now
 
-  -- nothing was heard of a file yet, and there is room for `limit` injuries
+  -- nothing was received of a file yet, and there is room for `limit` injuries
   pub record IsFresh (limit : ℕ) (file : List ℕ) (s : ExplainReporter A O) : Type 0 where
     pub kept : IsEmpty limit (geometry file) s.kept.now
     pub after_end : s.after_end ≡ none_after_end (geometry file) (length file)
@@ -69,7 +69,7 @@ module _ {A O : Type 0} where
     IsReportLeft limit file V (Err ReadFailed) s t = (t.out.now ≡ s.out.now) × ListsFirst limit file V t.kept.now.listing
     IsReportLeft limit file V (Err e) s t = Begins (held s.out.now).bytes (held t.out.now).bytes (explain_text limit file V (listed_injuries file V))
 
-    -- what a run leaves of a reporter of which nothing had been heard
+    -- what a run leaves of a reporter that had received nothing
     abbrev pub LeavesExplained : List ℕ → List Reference → Result Verdict RunError → ExplainReporter A O → ExplainReporter A O → Type 0
     LeavesExplained file V r s t = (limit : ℕ) → IsFresh limit file s → IsReportLeft limit file V r s t
 

@@ -15,7 +15,8 @@ use dbsource::{Out, RunError, Source};
 use dbwalk::Row;
 use std::alloc::Allocator;
 
-/// Counts and lists the faults of a file, and notes the starts of its pages. When all of it has been heard it looks at the lost pages, and puts the report.
+/// Counts and lists the faults of a file, and notes the starts of its pages. When all of it has been received it looks at the
+/// lost pages, and puts the report.
 #[derive(Drop)]
 pub(crate) struct ExplainReporter<'a, A: Allocator, O> {
     pub(crate) kept: &'a mut Kept<A>,
@@ -25,7 +26,7 @@ pub(crate) struct ExplainReporter<'a, A: Allocator, O> {
 }
 
 impl<'a, A: Allocator, O: Out> ExplainReporter<'a, A, O> {
-    // One that has heard nothing.
+    // One that has received nothing.
     pub(crate) fn new(
         kept: &'a mut Kept<A>,
         out: &'a mut O,

@@ -1,4 +1,4 @@
--- Faults one after another, listed as they are heard.
+-- Faults one after another, listed as they are received.
 use Rattle.std.proofs.Common.{◌≡◌, ℕ, Bool, true, false, cond, List, [], ◌∷◌, ◌++◌, refl, sym, ap, subst, ◌∙◌, append_assoc}
 use Rattle.std.specs.Prelude.{filter, fold, not}
 use Rattle.std.proofs.lemmas.List.Elements.{filter-append}
@@ -37,7 +37,7 @@ shown limit first s xs none e =
     let k = subst (Keeps limit _) (sym (ap (λ (s : Held). s.injuries) e ∙ injuries_of xs first)) (keeps_injuries limit xs first.injuries none.injuries) in
     record { room = k.room; listed = rw k.room at k.listed; rest = rw k.room at k.rest }
 
--- those that are listed as they are heard
+-- those that are listed as they are received
 received_others : (ts : List TracedFault) (s : Held) → fold received s ts ≡ fold added s (others_of ts)
 received_others [] s = refl
 received_others (t ∷ ts) s = by_case (is_lost t) (received_others ts)
@@ -47,7 +47,7 @@ received_others (t ∷ ts) s = by_case (is_lost t) (received_others ts)
     by_case true h = h s
     by_case false h = h (added s t)
 
--- all of a file were heard, and its lost pages looked at
+-- all of a file were received, and its lost pages looked at
 module _ (file : List ℕ) (V : List Reference) (first now l : Held) (e : HasListed first (reported_faults file V) now)
     (f : l ≡ fold added now (lost_faults file V)) where
   all_added : l ≡ fold added first (listed_faults file V)
@@ -68,7 +68,7 @@ module _ (file : List ℕ) (V : List Reference) (first now l : Held) (e : HasLis
         ∙ bits_are (is_of_one_byte (geometry file).usable) file V first.blank room none.blank;
   }
 
--- the first faults of a file were heard
+-- the first faults of a file were received
 pub received_first : (limit : ℕ) (file : List ℕ) (V : List Reference) (first s : Held) (us : List TracedFault) → IsUnused limit first
     → IsBeginning us (reported_faults file V) → s ≡ fold received first us → ListsFirst limit file V s
 received_first limit file V first s us none begins e = record {

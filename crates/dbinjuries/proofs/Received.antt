@@ -1,4 +1,4 @@
--- What a reporter keeps that hears notices, where each fault adds to it, each row is noted, and nothing else changes it.
+-- What a reporter keeps that receives notices, where each fault adds to it, each row is noted, and nothing else changes it.
 use Rattle.std.proofs.Common.{◌≡◌, ℕ, inl, inr, List, [], ◌∷◌, ◌++◌, refl, sym, ap, subst, ◌∙◌, append_assoc, append-nil}
 use Rattle.std.proofs.lemmas.List.Elements.{filter_map-append}
 use Rattle.dbsurvey.specs.Moves.{Moves, MovesBySome}
@@ -21,7 +21,7 @@ some_moves [] s t m = ([], [], refl, m)
 some_moves (e ∷ es) s t (inl m) = ([], e ∷ es, refl, m)
 some_moves (e ∷ es) s t (inr (m, k, n)) = let r = some_moves es m t n in (e ∷ r.0, r.1, ap (λ l. e ∷ l) r.2, (m, k, r.3))
 
--- By what is so of a reporter that has heard some faults and rows.
+-- By what is so of a reporter that has received some faults and rows.
 module _ {K : Type 0} (adds : TracedFault → K → K → Type 0) (notes : StatRow → K → K → Type 0) (Has : List TracedFault → List StatRow → K → Type 0)
     (one : (x : TracedFault) (ts : List TracedFault) (rs : List StatRow) (s t : K) → Has ts rs s → adds x s t → Has (ts ++ x ∷ []) rs t)
     (row : (r : StatRow) (ts : List TracedFault) (rs : List StatRow) (s t : K) → Has ts rs s → notes r s t → Has ts (rs ++ r ∷ []) t) where
@@ -39,7 +39,7 @@ module _ {K : Type 0} (adds : TracedFault → K → K → Type 0) (notes : StatR
   all_received (ended at ∷ ns) ts rs s t h m = all_received ns ts rs m.0 t (subst (Has ts rs) (sym m.1) h) m.2
   all_received (marked g p mark ∷ ns) ts rs s t h m = all_received ns ts rs m.0 t (subst (Has ts rs) (sym m.1) h) m.2
 
-  -- of a file, by one that had heard nothing
+  -- of a file, by one that had received nothing
   module _ (file : List ℕ) (V : List Reference) (survey : Survey file V) (s t : K) (none : Has [] [] s) where
     -- all of it
     pub file_received : Moves (ReceivesTraced adds notes) s (run_notices file V) t → Has (reported_faults file V) (stat_rows file V) t

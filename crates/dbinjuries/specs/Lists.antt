@@ -53,11 +53,11 @@ added s x = record {
   blank = noted (is_of_one_byte s.usable) s.blank x;
 }
 
--- as it is heard: that of a lost page is added later
+-- as it is received: that of a lost page is added later
 abbrev pub received : Held → TracedFault → Held
 received s x = if is_lost x then s else added s x
 
--- some faults were heard, one after another
+-- some faults were received, one after another
 abbrev pub HasListed : Held → List TracedFault → Held → Type 0
 HasListed first ts s = s ≡ fold received first ts
 

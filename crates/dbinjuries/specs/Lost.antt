@@ -30,7 +30,7 @@ pub record HasNoted (file : List ℕ) (V : List Reference) (first new : Held) : 
   pub zeros : HasPageBit first.zeros (geometry file).pages → AreZeros file V new.zeros
   pub blank : first.usable ≡ (geometry file).usable → HasPageBit first.blank (geometry file).pages → AreBlank file V new.blank
 
--- The faults of all lost pages were listed, after all others were heard; after a failed read the first of them.
+-- The faults of all lost pages were listed, after all others were received; after a failed read the first of them.
 abbrev pub HasLooked : {A E : Type 0} → List ℕ → List Reference → Result A E → Held → Held → Type 0
 HasLooked file V r old new = (limit : ℕ) (first : Held) → IsUnused limit first → HasListed first (reported_faults file V) old
     → MatchResult r (λ _. ListsAll limit file V new × HasNoted file V first new) (λ _. ListsFirst limit file V new)

@@ -7,7 +7,7 @@
 //! [`put_cause`] and [`put_others`] write the lines below the fault line of an injury: what it goes back to, and how many faults
 //! belong to it, with the pages that look alike in runs.
 //!
-//! Each fault is listed as it is heard ([`Listing::hear`]), but for that of a lost page, to which nothing refers: it goes back to
+//! Each fault is listed as it is received ([`Listing::receive`]), but for that of a lost page, to which nothing refers: it goes back to
 //! what the page looks like, and that is known when all pages have been visited. [`Listing::look_at_lost`] then reads each lost
 //! page, once, in their order, and lists their faults after all others.
 //!

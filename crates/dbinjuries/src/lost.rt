@@ -1,4 +1,4 @@
-// The faults of a file, as they are heard, and those of the pages to which nothing refers, when these are looked at.
+// The faults of a file, as they are received, and those of the pages to which nothing refers, when these are looked at.
 ghost use Rattle.std.specs.Prelude.{◌≡◌, ◌≤◌, List};
 ghost use Rattle.dbformat.specs.File.{geometry};
 ghost use Rattle.dbformat.specs.Reference.{Reference};

@@ -1,4 +1,4 @@
--- What the reporter of a map has counted and kept, by what it heard.
+-- What the reporter of a map has counted and kept, by what it received.
 use Rattle.std.proofs.Common.{◌≡◌, ℕ, List, length, Option, Result, Err, inl, inr, sym, ap, subst, ◌∙◌}
 use Rattle.std.specs.Borrow.{MutBor}
 use Rattle.std.specs.Prelude.{flat_map, IfOk}
@@ -37,7 +37,7 @@ use Rattle.dbmap.proofs.Received.{all_received, HasNotedFaults, some_untouched}
 
 module _ {A O : Type 0} (file : List ℕ) (V : List Reference) (survey : Survey file V) (s t : MapReporter A O)
     (empty : ReceivesNone (geometry file) s.kept.now) where
-  -- all of a run was heard, and nothing before it: its faults were counted, and these are kept
+  -- all of a run was received, and nothing before it: its faults were counted, and these are kept
   module _ (received : Moves Receives s (run_notices file V) t) where
     all : HasNotedFaults (geometry file).pages s (reported_faults file V) (stat_rows file V) t
     all = all_received file V survey s t empty received

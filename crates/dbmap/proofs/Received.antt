@@ -1,4 +1,4 @@
--- What a reporter keeps that has heard all of a file, or a beginning of it.
+-- What a reporter keeps that has received all of a file, or a beginning of it.
 use Rattle.std.proofs.Common.{◌≡◌, ℕ, List, [], ◌∷◌, ◌++◌, length, refl, sym, ap, subst, ◌∙◌, arith, length-append}
 use Rattle.std.specs.Prelude.{flat_map, fold}
 use Rattle.std.proofs.lemmas.List.Sums.{fold-append}
@@ -66,7 +66,7 @@ module _ {A O : Type 0} (file : List ℕ) (V : List Reference) (survey : Survey 
   all_received m = file_received (λ x. Changes (Adds x)) (λ r. Changes (Notes r)) (HasNotedFaults (geometry file).pages first)
       (one_received (geometry file).pages first) (one_noted (geometry file).pages first) file V survey first now nothing_noted m
 
-  -- nothing is put, where only some of it was heard
+  -- nothing is put, where only some of it was received
   pub some_untouched : MovesBySome Receives first (run_notices file V) now → now.out ≡ first.out
   some_untouched m = (file_begun (λ x. Changes (Adds x)) (λ r. Changes (Notes r)) (HasNotedFaults (geometry file).pages first)
       (one_received (geometry file).pages first) (one_noted (geometry file).pages first) file V survey first now nothing_noted m).3.out

@@ -30,7 +30,7 @@ module _ {A O : Type 0} where
 abbrev pub map_held : {A O : Type 0} → (O → OutState) → MapReporter A O → SinkState
 map_held held s = one_out s.out.ghost_name (held s.out.now).failures false
 
--- What a run leaves that had heard nothing before: the verdict, and a picture.
+-- What a run leaves that had received nothing before: the verdict, and a picture.
 abbrev pub LeavesMap : {A O : Type 0} → (O → OutState) → List ℕ → List Reference → Result Verdict RunError → MapReporter A O → MapReporter A O → Type 0
 LeavesMap held file V r s t =
     ReceivesNone (geometry file) s.kept.now

@@ -6,7 +6,7 @@ use dbsource::{Out, RunError, Source};
 use std::alloc::Allocator;
 
 // Counts faults, notes the pages that they are found at, and lists those that lead; and notes the starts of pages. When the file has
-// been heard it looks at the lost pages, and puts the picture.
+// been received it looks at the lost pages, and puts the picture.
 #[derive(Drop)]
 pub(crate) struct MapReporter<'n, 'k, 'o, A: Allocator, O> {
     pub(crate) name: &'n str,

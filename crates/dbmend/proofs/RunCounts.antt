@@ -1,4 +1,4 @@
--- What a run has counted, by how it was opened and what its counter heard.
+-- What a run has counted, by how it was opened and what its counter received.
 use Rattle.std.proofs.Common.{◌≡◌, ◌∙◌, ℕ, Bool, true, cond, arith, List, Result, Ok, Err, false, ap, refl, sym}
 use Rattle.std.proofs.lemmas.Bool.Decides.{nat_tests}
 use Rattle.std.specs.Prelude.{◌==◌, ◌↔◌}
@@ -91,7 +91,7 @@ module _ {S : Type 0} (source : SourceWords S) (old : S) where
         (after_weaker h _ left (λ file is l. no_count file e (read_answer file (Err e) only is.is_read))) reads only in
         record { read = k.read; reads = k.reads; asked = error_asked source.step e _ _ k.asked }
 
-    -- all was heard
+    -- all was received
     whole_count : (v : Verdict) (c : Count) → c.faults ≡ t.faults → c.page_size ≡ (geometry_of h.bytes h.file_len).page_size
         → (file : List ℕ) → IsHeaderOf h file
         → ((V : List Reference) → Survey file V → Leaves (ReceivesFaults CountsFault) LeavesCount file V (Ok v) s t)

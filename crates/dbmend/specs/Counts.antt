@@ -32,6 +32,6 @@ Counts s n t = t.faults ≡ counted (s.faults + n)
 abbrev pub borrows_none : Counter → SinkState
 borrows_none s = record { lent = List.[]; failures = List.[]; is_shut = false }
 
--- What a run leaves of it, where it heard nothing before: all faults were counted, and this is the verdict on them.
+-- What a run leaves of it, where it received nothing before: all faults were counted, and this is the verdict on them.
 abbrev pub LeavesCount : List ℕ → List Reference → Result Verdict RunError → Counter → Counter → Type 0
 LeavesCount file V r s t = s.faults ≡ 0 → IfOk r (λ v. (t.faults ≡ counted (length (faults file V))) × (v ≡ verdict (faults file V)))

@@ -55,7 +55,7 @@ pub struct Counter {
 }
 
 impl Counter {
-    // One that heard nothing.
+    // One that received nothing.
     pub(crate) fn new() -> Counter
         ensures { result.faults ≡ 0 }
     {

@@ -56,7 +56,7 @@ impl PageView<'_> {
     }
 }
 
-// A run that is long enough to be told.
+// A run that is long enough to be reported.
 fn long_run(run: ByteRun) -> Option<ByteRun>
     ensures { result ≡ long_run run }
 {

@@ -1,4 +1,4 @@
--- Whose the pages of a file are, as a picture tells them apart: of one of the largest trees, of another tree, of the freelist, of fixed
+-- Whose the pages of a file are, as a picture keeps them apart: of one of the largest trees, of another tree, of the freelist, of fixed
 -- use, or nobody's; and how many of some pages each owner has, and how many of these are overflow pages. Pages that are one byte throughout
 -- count as those of an owner of their own.
 use Rattle.std.specs.Prelude.{ℕ, ◌/◌, min, Bool, not, nat_lt, get_or, ◌==◌, true, false, List, Option, Some, None, position, zero, suc, ◌+◌, replicate}

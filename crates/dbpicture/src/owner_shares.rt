@@ -5,7 +5,7 @@ ghost use Rattle.dbpicture.specs.Owners.{shown_owner};
 
 use dbscan::Place;
 
-/// How many owners a square tells apart, in the order in which they are drawn and named: first the twelve largest trees, by their ranks.
+/// How many owners a square keeps apart, in the order in which they are drawn and named: first the twelve largest trees, by their ranks.
 pub(crate) const OWNERS: usize = 17;
 
 /// The number of all other trees.

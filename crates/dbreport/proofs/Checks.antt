@@ -1,4 +1,4 @@
--- What a check has written and found, by the findings that its reporter heard.
+-- What a check has written and found, by the findings that its reporter received.
 use Rattle.std.proofs.Common.{◌≡◌, ℕ, zero, suc, ◌+◌, ◌-◌, ◌^◌, ◌<◌, ◌≤◌, true, false, cond, inl, inr, List, [], ◌∷◌, ◌++◌, length, take, drop, Result, Ok, Err}
 use Rattle.std.proofs.Common.{refl, sym, ap, ap₂, ◌∙◌, subst, arith, append_assoc, length-drop, flat_map, ◌==◌, nat_lt}
 use Rattle.dbreport.proofs.Common.{Moves, MovesBySome, counted, fault_line, ok_line, check_text, verdict, verdict_of, Fault, Verdict, Begins, OutState, Puts}
@@ -184,7 +184,7 @@ module _ {O : Type 0} (held : O → OutState) where
       | inr f ↦ record { part = text; rest = rest; whole = e; added = (put_whole f).held }
     ]
 
-  -- ---- the whole check, from a reporter that has heard nothing
+  -- ---- the whole check, from a reporter that has received nothing
 
   module _ (found : List Fault) (s t : CheckReporter O) (fresh : s.has_failed ≡ false) (none : s.shown ≡ 0) (no_more : s.more ≡ 0) where
     room : s.limit - s.shown ≡ s.limit

@@ -1,9 +1,9 @@
--- What the reporter of the statistics writes of what it hears, notice after notice.
+-- What the reporter of the statistics writes of what it receives, notice after notice.
 use Rattle.std.proofs.Common.{◌≡◌, ℕ, ◌+◌, ◌⊎◌, inl, inr, Bool, false, not, List, [], ◌∷◌, ◌++◌, Result, Ok, Err, refl, sym, ap, ◌∙◌, subst, arith, append-nil}
 use Rattle.std.proofs.Common.{OnOk}
 use Rattle.dbreport.proofs.Common.{Moves, Stops, MovesBySome, counted, fault_line, StatRow, Fault, Begins, OutState, RunError, Reports, Notice, received_fault}
-use Rattle.dbreport.proofs.Common.{received_row, ended, marked, tree_end_text, pages_text, CutsStat, HasBegun, HasWritten, ReceivesOpen, ReceivesStat,
-    IsFlushedIf}
+use Rattle.dbreport.proofs.Common.{received_row, ended, marked, tree_end_text, pages_text, CutsStat, HasBegun, HasWritten, ReceivesOpen, ReceivesStat}
+use Rattle.dbreport.proofs.Common.{IsFlushedIf}
 use Rattle.dbreport.proofs.Common.{WritesBoth, name_at, Form, StatReporter}
 use Rattle.std.specs.Io.KnownBytes.{Appends}
 use Rattle.dbformat.specs.declared.Encoding.{Encoding}

@@ -43,7 +43,7 @@ module _ {O E : Type 0} (held : O → OutState) (held' : E → OutState) (file :
     found ∙ ap verdict_of (h.found 0 none ∙ ap counted (from_none (length (faults file V)))) ∙ verdict_counted (faults file V),
   )
 
-  -- a beginning of what is reported was heard
+  -- a beginning of what is reported was received
   stat_stopped : (e : RunError) (s t : StatReporter O E) → MovesBySome (ReceivesOpen held held') s (run_notices file V) t
       → LeavesStat held held' file V (Err e) s t
   stat_stopped e s t k for none first = begun e s t (run_written {A = Verdict} held held' file V survey s t for first (Err e) tt k) for none first
@@ -71,7 +71,7 @@ module _ {O E : Type 0} (held : O → OutState) (held' : E → OutState) (file :
         verdict = if_ok r (λ v e. stat_answer form file V read v e) k.2;
       }
 
-  -- all was heard
+  -- all was received
   pub stat_ended : (s t : StatReporter O E) → t.is_shut ≡ false → Moves (ReceivesOpen held held') s (run_notices file V) t → (v : Verdict)
       → v ≡ verdict_of t.found
       → LeavesStat held held' file V (Ok v) s t

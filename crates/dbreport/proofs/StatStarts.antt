@@ -2,8 +2,8 @@
 use Rattle.std.proofs.Common.{◌≡◌, ℕ, suc, ◌+◌, Bool, true, false, cond, List, [], ◌∷◌, ◌++◌, length, map, Some, Result, refl, sym, ap, ap₂, ◌∙◌, subst, arith}
 use Rattle.std.proofs.Common.{append_assoc, append-nil, OnOk, flat_map, slice_get, codes, ◌==◌}
 use Rattle.dbreport.proofs.Common.{geometry, faults, Fault, Geometry, page_size, page_line, tree_name, trunk, Way, Reference, StatRow, Survey, OutState}
-use Rattle.dbreport.proofs.Common.{RunError, Reports, Notice, received_fault, received_row, ended, marked, run_notices, name_at, ReceivesOpen, tree_end_text,
-    pages_text}
+use Rattle.dbreport.proofs.Common.{RunError, Reports, Notice, received_fault, received_row, ended, marked, run_notices, name_at, ReceivesOpen, tree_end_text}
+use Rattle.dbreport.proofs.Common.{pages_text}
 use Rattle.dbreport.proofs.Common.{WritesBoth, StatReporter, Form}
 use Rattle.std.specs.List.{enumerate_from}
 use Rattle.dbsurvey.specs.Story.{Errand, Go, Follow, errands_at}

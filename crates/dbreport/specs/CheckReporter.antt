@@ -39,7 +39,7 @@ found_verdict shown more = verdict_of (counted (shown + more))
 abbrev pub check_held : {O : Type 0} → (O → OutState) → CheckReporter O → SinkState
 check_held held s = one_out s.out.ghost_name (held s.out.now).failures s.has_failed
 
--- What a check leaves of its reporter, where it heard nothing before: its text, or after an error a beginning of it; and the verdict.
+-- What a check leaves of its reporter, where it received nothing before: its text, or after an error a beginning of it; and the verdict.
 abbrev pub LeavesCheck : {O : Type 0} → (O → OutState) → List ℕ → List Reference → Result Verdict RunError → CheckReporter O → CheckReporter O → Type 0
 LeavesCheck held file V r s t = s.has_failed ≡ false → s.shown ≡ 0 → s.more ≡ 0
     → Writes r (held s.out.now).bytes (held t.out.now).bytes (check_text s.limit (faults file V)) × IfOk r (λ v. v ≡ verdict (faults file V))

@@ -24,7 +24,7 @@ pub record IsForFile {O E : Type 0} (file : List ℕ) (s : StatReporter O E) : T
 abbrev pub rows_text : Bool → Bool → List ℕ → List Reference → List ℕ
 rows_text aggregate all file V = starts_text aggregate file V [] (start_errands file V) ++ flat_map (form_line file V) (if all then other_rows file V else [])
 
--- What a run leaves of the reporter, where it heard nothing before and writes as the file asks for: on each Out its part of the
+-- What a run leaves of the reporter, where it received nothing before and writes as the file asks for: on each Out its part of the
 -- report, at an error a beginning of it; and the verdict.
 abbrev pub LeavesStat : {O E : Type 0} → (O → OutState) → (E → OutState) → List ℕ → List Reference → Result Verdict RunError → StatReporter O E
     → StatReporter O E → Type 0

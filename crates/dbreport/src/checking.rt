@@ -1,4 +1,4 @@
-// A check of a file: what it writes of the notices that it hears.
+// A check of a file: what it writes of the notices that it receives.
 ghost use Rattle.std.specs.Prelude.{◌≡◌, IfOk, false};
 ghost use Rattle.dbsource.specs.Outs.{Puts};
 ghost use Rattle.dbreport.specs.CheckReporter.{end_text, found_verdict};
@@ -21,7 +21,7 @@ pub(crate) struct CheckReporter<'a, O> {
 }
 
 impl<'a, O: Out> CheckReporter<'a, O> {
-    // One that heard nothing, and shows `limit` faults at most.
+    // One that received nothing, and shows `limit` faults at most.
     pub(crate) fn new(out: &'a mut O, limit: u32) -> CheckReporter<'a, O>
         ensures same_out { result.out.ghost_name ≡ out.entry.ghost_name }
         ensures out { result.out.now ≡ out.old }

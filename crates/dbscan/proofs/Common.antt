@@ -38,8 +38,8 @@ pub use Rattle.dbscan.specs.EndPass.{is_fixed_mark, page_notices, pages_items}
 pub use Rattle.dbscan.specs.Findings.{found_rows, is_schema_row}
 pub use Rattle.dbscan.specs.Looks.{IsUnmarked, ReadsMarked, ReadsRising}
 pub use Rattle.dbscan.specs.MapReads.{HasMapFor, IsMapInUse, MapReads, MapReadsBefore}
-pub use Rattle.dbscan.specs.Notices.{Notice, at_start, end_notices, ended, errands_left, faults_received, found, received_fault, received_row, later_notices,
-    marked}
+pub use Rattle.dbscan.specs.Notices.{Notice, at_start, end_notices, ended, errands_left, faults_received, found, received_fault, received_row, later_notices}
+pub use Rattle.dbscan.specs.Notices.{marked}
 pub use Rattle.dbscan.specs.Notices.{of_file, pages_from, root_reference, run_notices, start_notices, tree_notices, whole}
 pub use Rattle.dbscan.specs.Placed.{faults_of, reported_in, reported_of, reported_faults, walk_reported}
 pub use Rattle.dbscan.specs.Roots.{AreListed, IsWithin, Listed, TakesRow, kept_row, listed_rows}

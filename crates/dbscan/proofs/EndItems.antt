@@ -162,7 +162,7 @@ reports_then takes (Err e) s m t L M h k = some_after takes s m t L M h k
 pub pages_then : {S A : Type 0} (receives : S → Notice → S → Type 0) (file : List ℕ) (V : List Reference) (r : Result A RunError) (s m t : S) (g : Geometry)
     (marks : List Mark)
     → g ≡ geometry file → AreMarksOf file V marks → Moves receives s (pages_from g 1 marks) m
-        → Reports receives r m (map (whole part.End) (end_faults file V)) t
+    → Reports receives r m (map (whole part.End) (end_faults file V)) t
     → Reports receives r s (end_notices file V) t
 pages_then receives file V r s m t g marks same marked reported k =
     reports_then receives r s m t (pages_from (geometry file) 1 (marks_of (geometry file) V)) (map (whole part.End) (end_faults file V))

@@ -1,4 +1,4 @@
--- What a teller hands on with its start, and what it notes.
+-- What a notifier hands on with its start, and what it notes.
 use Rattle.std.proofs.Common.{◌≡◌, ℕ, Bool, false, inl, inr, List, [], ◌∷◌, map, Result, Ok, Err, refl, sym, ap, subst, ◌∙◌, ◌||◌, IfErr}
 use Rattle.dbscan.proofs.Common.{Moves, MovesBySome, is_read_failed, is_write_failed, failures_after, RunError, WriteFailed, Finding, SinkAfter, SinkMoves}
 use Rattle.dbscan.proofs.Common.{SinkState, is_schema_row, Notice, found}
@@ -9,10 +9,10 @@ use Rattle.dbwalk.proofs.Reporting.Sinks.{asked, asked_both, asked_open, asked_w
 use Rattle.dbscan.specs.Notifiers.{HandsOn, lent_by}
 use Rattle.dbscan.specs.declared.notifier.Notifier.{Notifier}
 
--- ---- what a teller hands on
+-- ---- what a notifier hands on
 
 module _ {K : Type 0} (receives : K → Notice → K → Type 0) where
-  -- all of it: the reporter heard the same at the start, and rows of the schema were noted
+  -- all of it: the reporter received the same at the start, and rows of the schema were noted
   pub notifier_moves : (items : List Finding) (s t : Notifier K) → Moves (HandsOn receives) s items t
       → Moves receives s.reporter.now (map (found s.start.now) items) t.reporter.now × (t.start.now ≡ s.start.now)
       × (t.has_rows ≡ (s.has_rows || list_any is_schema_row items))
@@ -58,7 +58,7 @@ rest (x ∷ xs) = xs
 abbrev of_reporter : SinkState → SinkState
 of_reporter s = record s { lent = rest s.lent }
 
--- after an answer the teller hands on to the same reporter, which failed where the teller did
+-- after an answer the notifier hands on to the same reporter, which failed where the notifier did
 pub reporter_after : {A K : Type 0} (held : K → SinkState) (r : Result A RunError) (s t : Notifier K)
     → SinkAfter is_write_failed r (lent_by held s) (lent_by held t)
     → (t.reporter.ghost_name ≡ s.reporter.ghost_name) × SinkAfter is_write_failed r (held s.reporter.now) (held t.reporter.now)

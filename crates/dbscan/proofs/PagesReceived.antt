@@ -1,11 +1,11 @@
--- The pages with their marks, as a reporter hears of them one after another.
+-- The pages with their marks, as a reporter receives them one after another.
 use Rattle.std.proofs.Common.{◌≡◌, ℕ, ◌+◌, ◌≤◌, List, [], ◌∷◌, ◌++◌, length, drop, Option, Some, None, refl, sym, ap, subst, ◌∙◌, filter_map}
 use Rattle.dbscan.proofs.Common.{Moves, Geometry, page_mark, Mark, Unmarked, Notice, marked, pages_from}
 use Rattle.std.specs.List.{cons_option}
 use Rattle.std.proofs.lemmas.List.{drop_all, drop_more}
 use Rattle.dbscan.proofs.CountedMarks.{got, marked_at}
 
--- who hears the pages after the first i has heard of all
+-- who receives the pages after the first i has received all
 abbrev pub HasReceivedPages : {K : Type 0} → (K → Notice → K → Type 0) → Geometry → List Mark → ℕ → K → K → Type 0
 HasReceivedPages {K = K} receives g marks i s m = (t : K) → Moves receives m (pages_from g (i + 1) (drop i marks)) t → Moves receives s (pages_from g 1 marks) t
 

@@ -1,8 +1,8 @@
--- A reporter hears each fault of the walk at the start of its address, and with its cause.
+-- A reporter receives each fault of the walk at the start of its address, and with its cause.
 use Rattle.std.proofs.Common.{◌≡◌, ℕ, Bool, true, false, cond, inl, inr, List, [], ◌∷◌, ◌++◌, map, refl, sym, ap, ap₂, subst, ◌∙◌, append-nil, ◌==◌}
 use Rattle.dbscan.proofs.Common.{IsIn, Errand, Go, Follow, errands_at, freelist_start, first_trunk, Way, Reference, trunk, start, SchemaRow, Event, Survey}
-use Rattle.dbscan.proofs.Common.{Finding, reported_row, reported_fault, reported_below, visited_below, Notice, at_start, found, ended, errands_left,
-    root_reference}
+use Rattle.dbscan.proofs.Common.{Finding, reported_row, reported_fault, reported_below, visited_below, Notice, at_start, found, ended, errands_left}
+use Rattle.dbscan.proofs.Common.{root_reference}
 use Rattle.dbscan.proofs.Common.{tree_notices, later_notices, start_notices, reported_in, reported_of, walk_reported, listed_rows, At, at_freelist, at_row}
 use Rattle.dbscan.proofs.Common.{at_schema, schema_reference}
 use Rattle.std.specs.List.{enumerate_from}

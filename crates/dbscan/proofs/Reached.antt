@@ -130,7 +130,7 @@ module _ (file : List ℕ) (V : List Reference) (s : Survey file V) where
   of_walk : (x : TracedFault) → IsIn x (walk_reported file V) → IsOfStart file V x
   of_walk x i =
       let m = IsIn-from_flat_map (λ t. map (λ f. at_start (start_of t.key) f (cause_of file V t.event f.code)) (event_faults file V t.event))
-          (reporting file V) x
+      (reporting file V) x
       i in
       let t = m.0 in
       let n = IsIn-from_map (λ f. at_start (start_of t.key) f (cause_of file V t.event f.code)) (event_faults file V t.event) x m.2 in

@@ -1,7 +1,7 @@
--- The faults of all that a reporter hears are those of the file, with their parts and causes.
+-- The faults of all that a reporter receives are those of the file, with their parts and causes.
 use Rattle.std.proofs.Common.{◌≡◌, ℕ, List, [], ◌∷◌, ◌++◌, length, map, refl, sym, ap, ap₂, ◌∙◌, append_assoc}
-use Rattle.dbscan.proofs.Common.{end_faults, geometry, header_faults, Reference, faults, Survey, Fault, marks_of, Part, Notice, received_fault, received_row,
-    ended}
+use Rattle.dbscan.proofs.Common.{end_faults, geometry, header_faults, Reference, faults, Survey, Fault, marks_of, Part, Notice, received_fault, received_row}
+use Rattle.dbscan.proofs.Common.{ended}
 use Rattle.dbscan.proofs.Common.{marked, of_file, whole, end_notices, faults_received, run_notices, start_notices, faults_of, reported_in, reported_of}
 use Rattle.dbscan.proofs.Common.{reported_faults, walk_reported}
 use Rattle.std.proofs.lemmas.List.Elements.{filter_map-append}

@@ -1,4 +1,4 @@
--- The rows of all that a reporter hears are those of the file.
+-- The rows of all that a reporter receives are those of the file.
 use Rattle.std.proofs.Common.{◌≡◌, ℕ, Bool, true, false, cond, inl, inr, List, [], ◌∷◌, ◌++◌, length, map, refl, sym, ap, ap₂, ◌∙◌, append-nil, ◌==◌}
 use Rattle.dbscan.proofs.Common.{AreQuiet, Errand, Go, Follow, errands_at, goes, freelist_start, end_faults, geometry, first_trunk, header_faults, Way}
 use Rattle.dbscan.proofs.Common.{Reference, trunk, stat_rows, start, SchemaRow, Event, own_visit, Survey, rules_of, Fault, marks_of, Finding, reported_row}

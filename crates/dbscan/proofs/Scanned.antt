@@ -1,4 +1,4 @@
--- What a reporter hears in a scan, part by part: the faults of the header, what is found at the starts, and what is reported
+-- What a reporter receives in a scan, part by part: the faults of the header, what is found at the starts, and what is reported
 -- after the walks.
 use Rattle.std.proofs.Common.{◌≡◌, ℕ, Bool, List, ◌++◌, length, map, Result, Ok, Err, refl, sym, ap, ap₂, subst, ◌∙◌}
 use Rattle.dbscan.proofs.Common.{Moves, MovesBySome, header_faults, Reference, Survey, Step, is_read_failed, HeaderBytes, IsHeaderOf, Asks, SourceState}

@@ -1,8 +1,8 @@
 -- What is reported below the schema's start shows whether the schema has a row.
 use Rattle.std.proofs.Common.{◌≡◌, ℕ, inl, inr, Bool, true, false, cond, not, ◌&&◌, List, [], ◌∷◌, ◌++◌, map, Option, Some, None, refl, sym, ap, ap₂, ◌∙◌}
 use Rattle.std.proofs.Common.{option_to_list, ◌||◌, ◌==◌}
-use Rattle.dbscan.proofs.Common.{IsIn, Address, visits_in, read_back, Reported, Follow, errands_at, reporting_of, start_of, schema_start, has_rows, geometry,
-    View}
+use Rattle.dbscan.proofs.Common.{IsIn, Address, visits_in, read_back, Reported, Follow, errands_at, reporting_of, start_of, schema_start, has_rows, geometry}
+use Rattle.dbscan.proofs.Common.{View}
 use Rattle.dbscan.proofs.Common.{is_interior, schema_part, Role, root, child, first_overflow, later_overflow, trunk, free_leaf, Reference, role_of, tree_view}
 use Rattle.dbscan.proofs.Common.{event_faults, StatRow, row_in, later_starts, Event, at_page, at_key, at_refused, own_visit, story_of, Survey, rules_of, Fault}
 use Rattle.dbscan.proofs.Common.{cause_of, reported_row, reported_by, reported_at, reported_below, is_schema_row}

@@ -29,7 +29,7 @@ schema_first file encoding marks h = record {
   marked = h;
 }
 
--- The walk over the schema's tree with a teller to which nothing was reported before, and what it has found.
+-- The walk over the schema's tree with a notifier to which nothing was reported before, and what it has found.
 module _ {S : Type 0} (receives : S → Notice → S → Type 0) (file : List ℕ) (marks : List Mark) (w t : Notifier S) (old new : Listed)
     (start : w.start.now ≡ at_schema) (unseen : w.has_rows ≡ false) (empty : old.rows ≡ []) where
   by_result : (r : Result (Unit {0}) RunError) → IsWalkedOver {A = Unit {0}} receives TakesRow file [] schema_reference r marks w t old new

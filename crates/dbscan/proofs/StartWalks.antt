@@ -1,8 +1,8 @@
 -- The walks from all starts: over the schema's tree, over the trees of its rows, and along the freelist.
 use Rattle.std.proofs.Common.{◌≡◌, ℕ, Bool, List, [], Result, Ok, Err, refl, sym, ap, subst, ◌∙◌}
 use Rattle.dbscan.proofs.Common.{geometry_of, Reference, Survey, Step, is_read_failed, failures_after, HeaderBytes, IsHeaderOf, SourceState, RunError, marks_of}
-use Rattle.dbscan.proofs.Common.{AsksOver, DeskView, IsFresh, Notice, Listed, IsSchemaOf, AreReported, AreWalked, IsBetweenStarts, IsSchemaWalked,
-    StopsReporting}
+use Rattle.dbscan.proofs.Common.{AsksOver, DeskView, IsFresh, Notice, Listed, IsSchemaOf, AreReported, AreWalked, IsBetweenStarts, IsSchemaWalked}
+use Rattle.dbscan.proofs.Common.{StopsReporting}
 use Rattle.std.specs.List.{enumerate_from}
 use Rattle.dbsource.proofs.Logs.{asks_weaker}
 use Rattle.dbmarks.proofs.Readings.{asks_then}

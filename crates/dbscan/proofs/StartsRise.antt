@@ -1,7 +1,7 @@
--- What a reporter hears at starts comes start by start, in their order.
+-- What a reporter receives at starts comes start by start, in their order.
 use Rattle.std.proofs.Common.{◌≡◌, ℕ, ◌+◌, ◌≤◌, inl, inr, List, [], ◌∷◌, ◌++◌, length, map, sym, subst, arith, filter_map}
-use Rattle.dbscan.proofs.Common.{IsIn, Go, freelist_start, Reference, schema, rooted_rows, SchemaRow, Finding, reported_fault, reported_row, reported_below,
-    visited_below}
+use Rattle.dbscan.proofs.Common.{IsIn, Go, freelist_start, Reference, schema, rooted_rows, SchemaRow, Finding, reported_fault, reported_row, reported_below}
+use Rattle.dbscan.proofs.Common.{visited_below}
 use Rattle.dbscan.proofs.Common.{Notice, found, ended, errands_left, root_reference, tree_notices, later_notices, start_notices, listed_rows, At, at_freelist}
 use Rattle.dbscan.proofs.Common.{at_row, at_schema, schema_reference}
 use Rattle.std.specs.List.{enumerate_from}

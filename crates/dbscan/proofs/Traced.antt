@@ -1,4 +1,4 @@
--- A run over a desk: all is heard, and then the report is ended; or an error stops it before.
+-- A run over a desk: all is received, and then the report is ended; or an error stops it before.
 use Rattle.std.proofs.Common.{◌≡◌, ℕ, List, length, None, inl, inr, Result, Ok, Err, refl, sym, ap, subst, ◌∙◌}
 use Rattle.dbscan.proofs.Common.{refusal_of, geometry_of, IsPageLog, Reference, Survey, Geometry, Step, is_read_failed, failures_after, HeaderBytes, IsHeaderOf}
 use Rattle.dbscan.proofs.Common.{Asks, SourceState, RunError, SinkState, DeskView, shape_of, IsUnmarked, ReadsMarked, ReadsRising, Notice}

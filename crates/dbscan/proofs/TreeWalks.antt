@@ -2,8 +2,8 @@
 use Rattle.std.proofs.Common.{◌≡◌, ◌↔◌, ℕ, suc, ◌+◌, ◌-◌, ◌<◌, Bool, false, cond, List, [], ◌∷◌, ◌++◌, drop, length, map, Some, Result, Ok, Err, refl, sym, ap}
 use Rattle.std.proofs.Common.{ap₂, subst, ◌∙◌, arith, append_assoc, append-nil, OnOk, slice_get, ◌==◌}
 use Rattle.dbscan.proofs.Common.{Moves, MovesBySome, Errand, Go, Follow, errands_at, freelist_start, schema_start, start_of, encoding, first_trunk, trunk, Way}
-use Rattle.dbscan.proofs.Common.{Reference, SchemaRow, Event, start_errands, Survey, Encoding, RunError, Finding, reported_below, visited_below, AreMarksOf,
-    Mark}
+use Rattle.dbscan.proofs.Common.{Reference, SchemaRow, Event, start_errands, Survey, Encoding, RunError, Finding, reported_below, visited_below, AreMarksOf}
+use Rattle.dbscan.proofs.Common.{Mark}
 use Rattle.dbscan.proofs.Common.{Notice, found, ended, errands_left, root_reference, tree_notices, later_notices, start_notices, IsSchemaOf, at_freelist}
 use Rattle.dbscan.proofs.Common.{at_row, at_schema, later_errands, root_of, schema_reference, IsAtStarts, IsTreeWalked, IsWalkedOver, IsSchemaWalked}
 use Rattle.dbscan.proofs.Common.{IsBetweenStarts, StopsReporting, AreReported, AreWalked}

@@ -1,4 +1,4 @@
--- The starts of pages, as the rows of a file are heard.
+-- The starts of pages, as the rows of a file are received.
 use Rattle.std.proofs.Common.{◌≡◌, ℕ, ◌<◌, ◌⊎◌, inl, inr, List, [], ◌∷◌, length, Option, Some, refl, sym, ap, subst, ◌∙◌, arith, fold, filter_map, slice_get}
 use Rattle.std.proofs.Common.{◌==◌}
 use Rattle.dbscan.proofs.Common.{IsIn, start_of, geometry, Reference, role_of, StatRow, row_in, stat_rows, start_at, Survey, AreTrees}

@@ -1,4 +1,4 @@
--- What a reporter has heard when its report is to end, and what a run makes of it.
+-- What a reporter has received when its report is to end, and what a run makes of it.
 use Rattle.std.specs.Prelude.{◌≡◌, ◌⊎◌, ℕ, List, Result, Err}
 use Rattle.dbsurvey.specs.Moves.{Moves, MovesBySome}
 use Rattle.dbformat.specs.Log.{IsPageLog}
@@ -27,13 +27,13 @@ pub record IsDeskOf (d : DeskView) (file : List ℕ) (V : List Reference) : Type
   pub marks : AreMarksOf file V d.marks
   pub rows : AreListed file V d.roots.rows
 
--- A reporter has heard all that is reported of the file whose survey is on a desk.
+-- A reporter has received all that is reported of the file whose survey is on a desk.
 pub record HasReceived {K : Type 0} (receives : K → Notice → K → Type 0) (d : DeskView) (file : List ℕ) (V : List Reference) (first now : K) : Type 0 where
   pub desk : IsDeskOf d file V
   pub received : Moves receives first (run_notices file V) now
 
 -- What the end of a report makes of a reporter, whatever the source answered. Pages that were not visited may be read, each
--- once. Of each file that agrees with what was read, and whose notices were all that the reporter had heard, this is what a run
+-- once. Of each file that agrees with what was read, and whose notices were all that the reporter had received, this is what a run
 -- leaves. The answer says who failed.
 pub record HasFinished {S K : Type 0} (source : SourceWords S) (receives : K → Notice → K → Type 0) (held : K → SinkState)
     (leaves : List ℕ → List Reference → Result Verdict RunError → K → K → Type 0)

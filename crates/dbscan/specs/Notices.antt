@@ -1,4 +1,4 @@
--- What a reporter hears of a file, as one list: what is found of the whole file and at each start, and where a tree ends.
+-- What a reporter receives of a file, as one list: what is found of the whole file and at each start, and where a tree ends.
 use Rattle.std.specs.Prelude.{◌≡◌, ℕ, ◌+◌, ◌≤◌, List, [], ◌∷◌, ◌++◌, length, map, filter_map, Option, Some, None}
 use Rattle.std.specs.List.{enumerate_from}
 use Rattle.dbsurvey.specs.Story.{Errand, Go, Follow, errands_at}

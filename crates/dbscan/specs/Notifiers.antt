@@ -6,7 +6,7 @@ use Rattle.dbscan.specs.Findings.{is_schema_row}
 use Rattle.dbscan.specs.Notices.{Notice, found}
 use Rattle.dbscan.specs.declared.notifier.Notifier.{Notifier}
 
--- a finding came to a teller, whose reporter heard it with the start
+-- a finding came to a notifier, whose reporter received it with the start
 pub record HandsOn {K : Type 0} (receives : K → Notice → K → Type 0) (s : Notifier K) (item : Finding) (t : Notifier K) : Type 0 where
   pub received : receives s.reporter.now (found s.start.now item) t.reporter.now
   pub start : t.start.now ≡ s.start.now

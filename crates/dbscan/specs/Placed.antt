@@ -1,4 +1,4 @@
--- Faults as a reporter hears them: each with the part of the report that it belongs to, and with its cause.
+-- Faults as a reporter receives them: each with the part of the report that it belongs to, and with its cause.
 use Rattle.std.specs.Prelude.{◌≡◌, ℕ, ◌≤◌, List, ◌++◌, length, map, filter_map, flat_map, Option, None, Some}
 use Rattle.dbsurvey.specs.Address.{EachPair, IsIn}
 use Rattle.dbformat.specs.Address.{freelist_start, start_of}

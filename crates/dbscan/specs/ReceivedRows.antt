@@ -1,4 +1,4 @@
--- The rows among what a reporter hears.
+-- The rows among what a reporter receives.
 use Rattle.std.specs.Prelude.{List, filter_map, Option, Some, None}
 use Rattle.dbformat.specs.Rows.{StatRow}
 use Rattle.dbscan.specs.Notices.{Notice, received_row}

@@ -1,4 +1,4 @@
--- Faults as a reporter hears them.
+-- Faults as a reporter receives them.
 use Rattle.std.specs.Prelude.{◌≡◌, List, map, flat_map, option_to_list, Option, Result, IfErr}
 use Rattle.dbformat.specs.declared.Fault.{Fault}
 use Rattle.dbsource.specs.Errors.{is_write_failed}
@@ -12,7 +12,7 @@ use Rattle.dbscan.specs.Notices.{Notice, whole}
 abbrev pub items_of : Part → List (Option Fault) → List Notice
 items_of part faults = map (whole part) (flat_map option_to_list faults)
 
--- Notices were heard, or after an error a beginning of them. There is no other error than WriteFailed, and this is answered exactly where
+-- Notices were received, or after an error a beginning of them. There is no other error than WriteFailed, and this is answered exactly where
 -- the reporter failed.
 pub record AreReceived {K A : Type 0} (receives : K → Notice → K → Type 0) (held : K → SinkState) (r : Result A RunError) (s : K) (notices : List Notice)
     (t : K) : Type 0 where

@@ -9,7 +9,7 @@ use Rattle.dbscan.specs.Roots.{AreListed}
 use Rattle.dbwalk.specs.Reporting.{Reports}
 use Rattle.dbscan.specs.Notices.{Notice, run_notices}
 
--- All that a run reports was heard, or after an error a beginning of it. At Ok the survey is marked, and a list has the rows of the
+-- All that a run reports was received, or after an error a beginning of it. At Ok the survey is marked, and a list has the rows of the
 -- schema with a root page.
 pub record IsScanned {S A : Type 0} (receives : S → Notice → S → Type 0)
     (file : List ℕ) (V : List Reference) (r : Result A RunError) (marks : List Mark) (rows : List SchemaRow) (before after : S) : Type 0 where

@@ -1,4 +1,4 @@
--- The starts of a file: as a reporter hears of them, and as a run finds those after the schema's, the roots of a list and the first
+-- The starts of a file: as a reporter receives them, and as a run finds those after the schema's, the roots of a list and the first
 -- trunk.
 use Rattle.std.specs.Prelude.{◌≡◌, ◌≢◌, ℕ, ◌≤◌, Bool, List, [], ◌∷◌, map, ◌++◌, Option, None}
 use Rattle.std.specs.List.{enumerate_from}

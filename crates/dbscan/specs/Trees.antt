@@ -1,4 +1,4 @@
--- What a page is by its mark, and the start that it belongs to, by its mark and by the rows that were heard.
+-- What a page is by its mark, and the start that it belongs to, by its mark and by the rows that were received.
 use Rattle.std.specs.Prelude.{◌≡◌, ℕ, false, List, slice_get, slice_set, Option, Some, None}
 use Rattle.dbsurvey.specs.Address.{IsIn}
 use Rattle.dbformat.specs.Address.{start_of, freelist_start}

@@ -1,4 +1,4 @@
--- The walks from the starts, one after another, as a reporter hears of them.
+-- The walks from the starts, one after another, as a reporter receives them.
 use Rattle.std.specs.Prelude.{◌≡◌, ℕ, Bool, ◌||◌, List, [], ◌∷◌, ◌++◌, Result, Ok, Err, IfOk, OnOk}
 use Rattle.std.specs.List.{list_any}
 use Rattle.dbsurvey.specs.Moves.{Moves}
@@ -31,13 +31,13 @@ Any s item t = Unit {0}
 abbrev pub IsAtStarts : List ℕ → List Reference → List Reference → List (Errand Way Event) → List Mark → Type 0
 IsAtStarts file V U left marks = IsLeft Any file [] (start_errands file V) tt U left (marks, tt)
 
--- The walk over the tree of a root: what is below it is marked and was heard, and that it ended; or a beginning of it was heard.
+-- The walk over the tree of a root: what is below it is marked and was received, and that it ended; or a beginning of it was received.
 pub record IsTreeWalked {S A : Type 0} (receives : S → Notice → S → Type 0)
     (at : At) (file : List ℕ) (W : List Reference) (c : Reference) (r : Result A RunError) (marks : List Mark) (before after : S) : Type 0 where
   pub marked : OnOk r (AreMarksOf file (W ++ visited_below file W (Go c ∷ [])) marks)
   pub reported : Reports receives r before (tree_notices at file W c) after
 
--- The same of the tree of a root with a teller, which then knows whether a row of the schema was reported. If the tree is the
+-- The same of the tree of a root with a notifier, which then knows whether a row of the schema was reported. If the tree is the
 -- schema's, the taker was given the rows that can be read.
 pub record IsWalkedOver {S T A : Type 0} (receives : S → Notice → S → Type 0) (keeps : T → SchemaRow → Taken → T → Type 0)
     (file : List ℕ) (W : List Reference) (c : Reference) (r : Result A RunError)
@@ -52,7 +52,7 @@ pub record IsSchemaWalked {S : Type 0} (receives : S → Notice → S → Type 0
   pub tree : IsTreeWalked receives at_schema file [] schema_reference r marks before after
   pub schema : (V : List Reference) → Survey file V → IfOk r (IsSchemaOf file V rows)
 
--- Between two starts: what was heard, and then what is still to be heard, is all that there is to report of them.
+-- Between two starts: what was received, and then what is still to be received, is all that there is to report of them.
 pub record IsBetweenStarts {S : Type 0} (receives : S → Notice → S → Type 0)
     (file : List ℕ) (V : List Reference) (before : S) (left : List (ℕ × SchemaRow)) (marks : List Mark) (now : S) : Type 0 where
   pub visits : List Reference
@@ -67,7 +67,7 @@ abbrev pub StopsReporting : {S : Type 0} → (S → Notice → S → Type 0) →
 StopsReporting receives file V before left (Ok u) marks now = IsBetweenStarts receives file V before left marks now
 StopsReporting receives file V before left (Err e) marks now = Reports {A = Unit {0}} receives (Err e) before (start_notices file V) now
 
--- The walks from all starts: the survey is marked, and what there is to report of it was heard; or after an error a beginning was.
+-- The walks from all starts: the survey is marked, and what there is to report of it was received; or after an error a beginning was.
 pub record AreReported {S A : Type 0} (receives : S → Notice → S → Type 0)
     (file : List ℕ) (V : List Reference) (r : Result A RunError) (marks : List Mark) (before after : S) : Type 0 where
   pub marked : OnOk r (AreMarksOf file V marks)

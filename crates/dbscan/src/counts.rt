@@ -1,4 +1,4 @@
-// What the marks count at the end of a run, and the pages as a reporter hears of them.
+// What the marks count at the end of a run, and the pages as a reporter receives them.
 ghost use Rattle.std.specs.Prelude.{◌≡◌, max, count_by, Some, None, cond};
 ghost use Rattle.std.specs.Option.{option_or};
 ghost use Rattle.dbformat.specs.FixedPages.{IsInRange};

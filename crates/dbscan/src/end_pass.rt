@@ -22,8 +22,8 @@ use crate::Desk;
 use crate::counts::count_marks;
 use crate::end_faults::{counted_faults, late_fault, use_fault};
 use crate::map_entry::stored_entry;
-use crate::reporter::{Reporter, ask};
 use crate::report::report_all;
+use crate::reporter::{Reporter, ask};
 use dbmarks::MapEntry;
 use dbsource::{Bench, Fixed, Geometry, RunError, Source};
 use dbtrace::Part;
@@ -131,7 +131,7 @@ fn end_pages<S: Source, K: Reporter, A: Allocator, B: Allocator>(
 ///
 /// # Errors
 ///
-/// [`RunError::ReadFailed`] exactly where the source failed, [`RunError::WriteFailed`] exactly where the reporter failed: then it heard a
+/// [`RunError::ReadFailed`] exactly where the source failed, [`RunError::WriteFailed`] exactly where the reporter failed: then it received a
 /// prefix of the notices.
 pub fn report_end<S: Source, K: Reporter, A: Allocator>(
     desk: &mut Desk<A>,

@@ -1,4 +1,4 @@
-// A run over a desk: a reporter hears all of a file, and ends its report.
+// A run over a desk: a reporter receives all of a file, and ends its report.
 ghost use Rattle.std.specs.Prelude.{◌≡◌, false};
 ghost use Rattle.dbscan.specs.Finishes.{HasFinished, HasReported, Leaves};
 
@@ -21,7 +21,7 @@ impl<A: Allocator> Viewed for Desk<A> {
     ghost desk_view = { λ d. d };
 }
 
-/// A reporter that ends its report when it has heard all of a file, and answers what was found. `D` is a [`Desk`].
+/// A reporter that ends its report when it has received all of a file, and answers what was found. `D` is a [`Desk`].
 pub trait Finish<D: Viewed>: Reporter {
     ghost use Rattle.std.specs.Prelude.{ℕ, List, Result};
     ghost use Rattle.dbformat.specs.Reference.{Reference};
@@ -31,7 +31,7 @@ pub trait Finish<D: Viewed>: Reporter {
     // What a run over a file makes of a reporter: by a survey of the file and the answer, from the state before to the one after.
     ghost leaves: { List ℕ → List Reference → Result Verdict RunError → Self → Self → Type 0 };
 
-    /// Ends the report of a file, when all of it has been heard, by what the walks left on the desk. It may read pages that were not
+    /// Ends the report of a file, when all of it has been received, by what the walks left on the desk. It may read pages that were not
     /// visited, each once.
     ///
     /// # Errors
@@ -43,7 +43,7 @@ pub trait Finish<D: Viewed>: Reporter {
             (source.old, self.old) (source.new, self.new) };
 }
 
-/// Tells a reporter all that is found in the file whose header is on the desk, and has it end its report. The header is not
+/// Reports to a reporter all that is found in the file whose header is on the desk, and has it end its report. The header is not
 /// read again, and a desk may be used any number of times. Only the list of roots takes memory.
 ///
 /// # Errors

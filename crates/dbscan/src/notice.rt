@@ -1,4 +1,4 @@
-// What a reporter hears, one thing at a time.
+// What a reporter receives, one thing at a time.
 use crate::start::Start;
 use dbformat::Geometry;
 use dbtrace::TracedFault;

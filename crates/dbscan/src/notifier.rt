@@ -15,7 +15,7 @@ use dbsource::RunError;
 use dbtrace::{Part, TracedFault};
 use dbwalk::{Cause, Fault, PageType, Row, Sink};
 
-// Hands on what it hears, and notes whether the schema has a row.
+// Hands on what it receives, and notes whether the schema has a row.
 #[derive(Drop)]
 pub(crate) struct Notifier<'a, K> {
     reporter: &'a mut K,
@@ -24,7 +24,7 @@ pub(crate) struct Notifier<'a, K> {
 }
 
 impl<'a, K: Reporter> Notifier<'a, K> {
-    // One that heard nothing.
+    // One that received nothing.
     pub(crate) fn new(reporter: &'a mut K, start: &'a Start<'a>) -> Notifier<'a, K>
         ensures same_reporter { result.reporter.ghost_name ≡ reporter.entry.ghost_name }
         ensures reporter { result.reporter.now ≡ reporter.old }

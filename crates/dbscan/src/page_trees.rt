@@ -16,7 +16,7 @@ use dbwalk::{Mark, Marks, Row};
 use std::alloc::{Allocator, Global};
 use std::marker::Model;
 
-/// Keeps four bytes for each page: for a page of a tree or an overflow chain the start of its tree, noted as rows are heard.
+/// Keeps four bytes for each page: for a page of a tree or an overflow chain the start of its tree, noted as rows are received.
 #[derive(Drop)]
 pub struct PageTrees<A: Allocator = Global> {
     // By the number of the page: there is one of page 0 too.
@@ -60,7 +60,7 @@ impl<A: Allocator> PageTrees<A> {
     /// The start of the tree that a page belongs to, or the freelist's: 0 is the schema, 1 to 65536 are the rows of the list of roots, and
     /// 65537 is the freelist. `None` for a page that belongs to no start, and for a number that no page has.
     pub fn start_of<B: Allocator>(&self, marks: &Marks<B>, page: u32) -> Option<u32>
-        // Where all rows of a file were heard, and the marks are those of its visits.
+        // Where all rows of a file were received, and the marks are those of its visits.
         ensures { (file : List ℕ) (V : List Reference) → Survey file V → AreMarksOf file V marks.now → AreTrees V self.now.known
             → result ≡ start_at V page }
     {

@@ -1,4 +1,4 @@
-// Who hears what is found in a file.
+// Who receives what is found in a file.
 ghost use Rattle.std.specs.Prelude.{◌≡◌, if◌then◌else◌, Ok, Err};
 ghost use Rattle.dbsource.specs.declared.error.RunError.TheVariants as run_error;
 ghost use Rattle.dbwalk.specs.Reporting.{SinkMoves};
@@ -7,28 +7,28 @@ ghost use Rattle.dbscan.specs.Notices.{IsGiven, notice_of};
 use crate::notice::Notice;
 use dbsource::RunError;
 
-/// Hears what is found in a file, one notice after another. Once a notice was not taken whole it is shut, for good: it takes nothing after
+/// Receives what is found in a file, one notice after another. Once a notice was not taken whole it is shut, for good: it takes nothing after
 /// that. Before each further page a run asks whether it is shut.
 ///
 /// # A quiet reporter
 ///
-/// A reporter of which nothing is claimed, and which takes every notice. It proves with any body of `hear`:
+/// A reporter of which nothing is claimed, and which takes every notice. It proves with any body of `receive`:
 ///
 /// ```
 /// #[derive(Drop)]
 /// struct Quiet {
-///     heard: u64,
+///     received: u64,
 /// }
 ///
 /// impl Reporter for Quiet {
 ///     ghost use Rattle.std.specs.Prelude.{[], false, ⊤};
 ///
-///     ghost hears = { λ _ _ _. ⊤ };
+///     ghost receives = { λ _ _ _. ⊤ };
 ///
 ///     ghost held = { λ _. record { lent = []; failures = []; is_shut = false } };
 ///
-///     fn hear(&mut self, _notice: &Notice<'_>) {
-///         self.heard = self.heard.saturating_add(1);
+///     fn receive(&mut self, _notice: &Notice<'_>) {
+///         self.received = self.received.saturating_add(1);
 ///     }
 ///
 ///     fn is_shut(&self) -> bool {

@@ -12,22 +12,22 @@ ghost use Rattle.dbscan.specs.Scans.{IsScanned};
 
 use crate::Desk;
 use crate::end_pass::report_end;
+use crate::notifier::Notifier;
+use crate::report::report_header;
 use crate::reporter::Reporter;
 use crate::start::Start;
-use crate::report::report_header;
-use crate::notifier::Notifier;
 use crate::walks::{walk_roots, walk_schema, walk_trunks};
 use dbsource::{RunError, Source};
 use std::alloc::Allocator;
 
 /// Reports all that is found in a file: the faults of its header; what is found from its starts, which are the schema's tree, the trees that
-/// it names, and the freelist; and what is left at the end. The list takes the rows of the schema. The reporter hears that a tree has ended
+/// it names, and the freelist; and what is left at the end. The list takes the rows of the schema. The reporter is notified that a tree has ended
 /// before the next page is read.
 ///
 /// # Errors
 ///
 /// [`RunError::ReadFailed`] exactly where the source failed, [`RunError::WriteFailed`] exactly where the reporter failed, and
-/// [`RunError::OutOfMemory`] exactly where the list of roots was refused memory. After any of them the reporter has heard a prefix of
+/// [`RunError::OutOfMemory`] exactly where the list of roots was refused memory. After any of them the reporter has received a prefix of
 /// the notices.
 pub fn scan<A: Allocator, S: Source, K: Reporter>(
     desk: &mut Desk<A>,

@@ -13,9 +13,9 @@ ghost use Rattle.dbscan.specs.Walks.{AreReported, IsSchemaWalked, IsBetweenStart
 
 use crate::Desk;
 use crate::no_rows::NoRows;
+use crate::notifier::Notifier;
 use crate::reporter::Reporter;
 use crate::start::Start;
-use crate::notifier::Notifier;
 use dbbytes::SchemaRow;
 use dbformat::{Encoding, RowKind};
 use dbsource::{RunError, Source};

@@ -6,31 +6,12 @@ use Rattle.dbsurvey.specs.Address.{IsIn, IsLeftOf}
 use Rattle.dbsurvey.specs.Survey.{Link, Triple, Rules, AreRules, IsRising, IsSurvey, IsPart}
 use Rattle.dbsurvey.specs.Traverse.{AreApart, free, is_followed, part_of}
 use Rattle.dbsurvey.specs.Story.{Reported, PageStep, Follow, Place, links_in, AreRising, Story, IsStoryOf, Errand, Go, Due, errand_key, errands_at, errands_of}
-use Rattle.dbsurvey.specs.Story.{
-  goes,
-  AreErrandsApart,
-  reported_own,
-  reported_refused,
-  IsReporting,
-  report_one,
-  visited,
-  report_each,
-  report_below,
-  reporting_of,
-}
+use Rattle.dbsurvey.specs.Story.{goes, AreErrandsApart, reported_own, reported_refused, IsReporting, report_one, visited, report_each, report_below}
+use Rattle.dbsurvey.specs.Story.{reporting_of}
 use Rattle.dbsurvey.proofs.Traversal.{free_more, free_at_most, free_below, traverse_part, survey_is_survey_of}
 use Rattle.dbsurvey.proofs.Remaining.{rest_none, rest_skip, rest_one, rest_join}
-use Rattle.dbsurvey.proofs.Reportings.{
-  goes-append,
-  goes-from,
-  goes-of,
-  goes-errands,
-  errands_at-apart,
-  reporting_none,
-  reporting_due,
-  reporting_refused,
-  reporting_node,
-}
+use Rattle.dbsurvey.proofs.Reportings.{goes-append, goes-from, goes-of, goes-errands, errands_at-apart, reporting_none, reporting_due, reporting_refused}
+use Rattle.dbsurvey.proofs.Reportings.{reporting_node}
 use Rattle.dbsurvey.proofs.Reportings.{reporting_join}
 
 pub goes-apart : {R E : Type 0} (es : List (Errand R E)) → AreErrandsApart es → AreApart (goes es)

@@ -3,19 +3,8 @@ use Rattle.std.proofs.Common.{◌↔◌, ◌≡◌, ◌<◌, inl, inr, List, [],
 use Rattle.dbsurvey.specs.Address.{IsIn, Address, IsBefore, IsLeftOf}
 use Rattle.dbsurvey.specs.Survey.{Triple, Rules, named_at, children, IsNamed, IsPart}
 use Rattle.dbsurvey.specs.Story.{Reported, PageStep, Follow, Place, step_of, links_in, AreRising, Story, IsStoryOf, Errand, Go, Due, errand_key, errands_at}
-use Rattle.dbsurvey.specs.Story.{
-  errands_of,
-  goes,
-  AreErrandsApart,
-  reported_own,
-  reported_refused,
-  IsReported,
-  of_errand,
-  of_page,
-  of_place,
-  of_refused,
-  IsReporting,
-}
+use Rattle.dbsurvey.specs.Story.{errands_of, goes, AreErrandsApart, reported_own, reported_refused, IsReported, of_errand, of_page, of_place, of_refused}
+use Rattle.dbsurvey.specs.Story.{IsReporting}
 use Rattle.dbsurvey.proofs.Order.{earlier, IsIn-left, IsIn-right, IsIn-cases, EachPair-append, IsBefore-irreflexive, IsBefore-beginning, IsLeftOf-before}
 use Rattle.dbsurvey.proofs.Order.{IsLeftOf-steps}
 use Rattle.dbsurvey.proofs.Determined.{same_elements}

@@ -2,22 +2,8 @@
 use Rattle.std.proofs.Common.{◌≡◌, ℕ, zero, suc, Bool, true, false, cond, inl, inr, List, [], ◌∷◌, ◌++◌, refl, sym, subst}
 use Rattle.dbsurvey.specs.Address.{IsIn, Address}
 use Rattle.dbsurvey.specs.Survey.{Triple, Rules}
-use Rattle.dbsurvey.specs.Story.{
-  Reported,
-  Story,
-  PageStep,
-  Follow,
-  Place,
-  Errand,
-  Go,
-  Due,
-  errand_key,
-  errands_at,
-  errands_of,
-  reported_own,
-  reported_refused,
-  report_one,
-}
+use Rattle.dbsurvey.specs.Story.{Reported, Story, PageStep, Follow, Place, Errand, Go, Due, errand_key, errands_at, errands_of, reported_own, reported_refused}
+use Rattle.dbsurvey.specs.Story.{report_one}
 use Rattle.dbsurvey.specs.Story.{report_each, report_below, reporting_of, visited}
 use Rattle.dbsurvey.specs.Traverse.{is_followed}
 use Rattle.dbsurvey.proofs.Order.{IsIn-cases}

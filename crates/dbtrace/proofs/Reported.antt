@@ -4,23 +4,8 @@ use Rattle.std.specs.Prelude.{flat_map}
 use Rattle.dbsurvey.specs.Address.{IsIn, Address, IsBefore, IsAscending}
 use Rattle.dbsurvey.specs.Survey.{IsNamed, IsPart}
 use Rattle.dbsurvey.specs.Traverse.{part_of}
-use Rattle.dbsurvey.specs.Story.{
-  Reported,
-  PageStep,
-  Follow,
-  Place,
-  Errand,
-  Go,
-  Due,
-  goes,
-  reported_own,
-  IsReported,
-  of_errand,
-  of_page,
-  of_place,
-  of_refused,
-  IsReporting,
-}
+use Rattle.dbsurvey.specs.Story.{Reported, PageStep, Follow, Place, Errand, Go, Due, goes, reported_own, IsReported, of_errand, of_page, of_place, of_refused}
+use Rattle.dbsurvey.specs.Story.{IsReporting}
 use Rattle.dbsurvey.specs.Story.{reporting_of}
 use Rattle.dbsurvey.specs.InOrder.{visits_in}
 use Rattle.dbsurvey.proofs.Order.{IsIn-cases, IsIn-right, EachPair-right, IsBefore-trans, IsBefore-beginning}

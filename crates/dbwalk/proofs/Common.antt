@@ -59,8 +59,8 @@ pub use Rattle.dbwalk.specs.Chains.{Feeds, FeedsChain, FeedsPages, IsChainOf, Is
 pub use Rattle.dbwalk.specs.Done.{IsDone, IsLeft, IsTreeDone}
 pub use Rattle.dbwalk.specs.Entered.{Enters, IsNext, refused_reported}
 pub use Rattle.dbwalk.specs.Found.{HasPageAt, damaged_row, inner_cause, page_findings, view_cause, view_row, with_leaf}
-pub use Rattle.dbwalk.specs.LeafCells.{AreBefore, AreRisingFrom, HasCell, HasCells, HasSpan, is_late, key_cause, late_reported, order_reported,
-    overflow_errands}
+pub use Rattle.dbwalk.specs.LeafCells.{AreBefore, AreRisingFrom, HasCell, HasCells, HasSpan, is_late, key_cause, late_reported, order_reported}
+pub use Rattle.dbwalk.specs.LeafCells.{overflow_errands}
 pub use Rattle.dbwalk.specs.LeafCells.{placed, top_after}
 pub use Rattle.dbwalk.specs.Points.{IsAtTurn}
 pub use Rattle.dbwalk.specs.Steps.{AreEmpty, HasLeft, HasNext, IsEmptyAt, IsNextStep, no_chain, no_child, without_key}

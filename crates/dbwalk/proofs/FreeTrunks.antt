@@ -3,8 +3,8 @@ use Rattle.std.proofs.Common.{◌≡◌, ℕ, zero, suc, ◌+◌, ◌-◌, ◌*�
 use Rattle.std.proofs.Common.{cond, Some, None, Result, refl, ◌∙◌, option_to_list, nat_le, nat_lt, ◌==◌, pos}
 use Rattle.dbwalk.proofs.Common.{Errand, Go, errands_of, Reported, Due, AreQuiet, then_step, role_faults, page_faults, row_in, Moves, free_leaf, Way, Reference}
 use Rattle.dbwalk.proofs.Common.{role_of, Role, bytes_left, tree_kind, trunk, link, next_trunk, leaf_count, most_leaves, Event, at_page, own_visit, story_of}
-use Rattle.dbwalk.proofs.Common.{Mark, EntersBeside, Turns, IsNext, Enters, cause_of, refusal_cause, Finding, reported_row, reported_alone, reported_by,
-    reported_at}
+use Rattle.dbwalk.proofs.Common.{Mark, EntersBeside, Turns, IsNext, Enters, cause_of, refusal_cause, Finding, reported_row, reported_alone, reported_by}
+use Rattle.dbwalk.proofs.Common.{reported_at}
 use Rattle.dbwalk.proofs.Common.{leaves_from, IsFirstTrunk, IsOnTrunks, trunk_step, next_step, IsLeft, IsIn, is_followed, go, leaf_errands, fault, page_bytes}
 use Rattle.dbwalk.proofs.Common.{usable_size, rules_of, is_too_deep, L01, RunError, role_mark, AreMarksOf}
 use Rattle.dbformat.specs.Address.{freelist_start}

@@ -2,8 +2,8 @@
 use Rattle.std.proofs.Common.{zero, suc, map, take, ◌≡◌, ℕ, ◌+◌, ◌≤◌, Bool, true, false, cond, not, ◌&&◌, inl, inr, List, [], ◌∷◌, ◌++◌, length, refl, sym, ap}
 use Rattle.std.proofs.Common.{◌∙◌, arith, Some, None, Result, Ok, Err, subst, nat_lt, nat_le, ◌==◌, is_none, pos, if◌then◌else◌, OnOk}
 use Rattle.dbwalk.proofs.Common.{Moves, Stops, MovesBySome, Go, schema_start, start_of, fault, Reference, SchemaCell, schema, SchemaRow, reported_if, RunError}
-use Rattle.dbwalk.proofs.Common.{Refused, WriteFailed, OutOfMemory, Finding, reported_alone, visited_below, Item, found, given, given_cells, counted_findings,
-    Mark}
+use Rattle.dbwalk.proofs.Common.{Refused, WriteFailed, OutOfMemory, Finding, reported_alone, visited_below, Item, found, given, given_cells, counted_findings}
+use Rattle.dbwalk.proofs.Common.{Mark}
 use Rattle.dbwalk.proofs.Common.{IsDone, IsTreeDone, Reports, tree_walk, watches, fails, row_at, Handed, Taken}
 use Rattle.std.specs.List.{cons_option}
 use Rattle.std.specs.Result.{result_ok}

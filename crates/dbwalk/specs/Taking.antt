@@ -110,7 +110,7 @@ taken_faults at row a = reported_if (is_none row.name) (fault S02 at.page at.ite
     ++ reported_if (is_full a) (fault S04 at.page at.item (pos row.root))
 
 -- The taker gets a row that can be read, and then its faults are reported, S04 exactly if it answered Full. Of another row only
--- the fault is reported. `tells` says what reporting findings leaves.
+-- the fault is reported. `reports` says what reporting findings leaves.
 abbrev pub HandsRow : {S T : Type 0} → (S → List Finding → S → Type 0) → (T → SchemaRow → Taken → T → Type 0) → RowPlace × Result SchemaRow RowFault
     → S × T → S × T → Type 0
 HandsRow reports keeps (at, Err f) before after = reports before.0 (findings (fault_of at f ∷ [])) after.0 × (before.1 ≡ after.1)

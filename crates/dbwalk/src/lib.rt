@@ -26,7 +26,7 @@
 //! taker is counted and answered, and that only the schema's tree calls the taker. Another, `SaysOfFiles`, says which pages were
 //! read, and what holds for each file that agrees with these reads.
 //!
-//! **A failed write** (specs/Telling). A sink at which a write fails is shut, and stays shut: it takes no more rows and faults. The
+//! **A failed write** (specs/Reporting). A sink at which a write fails is shut, and stays shut: it takes no more rows and faults. The
 //! calls that report have no result, so a walk learns of it by `ask`, which answers `WriteFailed` where the sink is shut. It asks
 //! before a page is marked and read (`enter`), before a row of the schema goes to the taker (`take_row`), and at its end. So
 //! after an error the sink is shut exactly if this is `WriteFailed` (`SinkWalks`). That no page is read once the sink is shut is

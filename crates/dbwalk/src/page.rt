@@ -266,7 +266,13 @@ fn report_cells<K: Sink>(view: &PageView<'_>, number: u32, cause: &Cause, sink: 
 }
 
 // Reports cell `i` if it is not readable; true if it is.
-fn report_cell<K: Sink>(view: &PageView<'_>, number: u32, i: u32, cause: &Cause, sink: &mut K) -> bool
+fn report_cell<K: Sink>(
+    view: &PageView<'_>,
+    number: u32,
+    i: u32,
+    cause: &Cause,
+    sink: &mut K,
+) -> bool
     requires number { number ≡ view.now.number }
     requires cell { i < count view.now }
     ensures reported { IsReportedTo K.takes K.held sink.old (reported_by (inner_cause cause.now) (cell_fault view.now i)) sink.new }

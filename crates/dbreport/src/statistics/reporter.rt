@@ -1,4 +1,4 @@
-// What the statistics write of the notices that they hear.
+// What the statistics write of the notices that they receive.
 ghost use Rattle.std.specs.Prelude.{◌≡◌, ◌≤◌, [], List, true, false};
 ghost use Rattle.dbformat.specs.FixedPages.{IsInRange};
 ghost use Rattle.dbformat.specs.Report.{verdict_of};
@@ -40,7 +40,7 @@ pub(crate) struct StatReporter<'a, O, E> {
 }
 
 impl<'a, O: Out, E: Out> StatReporter<'a, O, E> {
-    // One that heard nothing.
+    // One that received nothing.
     pub(crate) fn new(
         out: &'a mut O,
         err: &'a mut E,

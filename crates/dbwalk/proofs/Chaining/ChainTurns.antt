@@ -3,8 +3,8 @@ use Rattle.std.proofs.Common.{◌≡◌, ℕ, ◌+◌, ◌-◌, ◌≤◌, ◌<�
 use Rattle.std.proofs.Common.{append_assoc, arith, cond, ◌==◌, IfSome}
 use Rattle.dbwalk.proofs.Common.{Moves, Go, errands_of, AreQuiet, page_bytes, usable_size, overflow_next, first_overflow, Reference, role_of, from_of}
 use Rattle.dbwalk.proofs.Common.{bytes_left, at_page, own_visit, story_of, RowSieve, Mark, FirstOverflow, LaterOverflow, seen_bytes, seen_from, EntersBeside}
-use Rattle.dbwalk.proofs.Common.{Opens, Turns, is_followed, rules_of, IsChainOf, next_of, FeedsPages, FeedsChain, IsLeft, IsNext, Finding, reported_at,
-    role_mark}
+use Rattle.dbwalk.proofs.Common.{Opens, Turns, is_followed, rules_of, IsChainOf, next_of, FeedsPages, FeedsChain, IsLeft, IsNext, Finding, reported_at}
+use Rattle.dbwalk.proofs.Common.{role_mark}
 use Rattle.dbwalk.proofs.Common.{AreMarksOf}
 use Rattle.std.proofs.lemmas.Bool.Decides.{nat_tests}
 use Rattle.std.proofs.lemmas.List.{append-nil}

@@ -3,8 +3,8 @@ use Rattle.std.proofs.Common.{◌≡◌, ℕ, ◌+◌, ◌-◌, ◌*◌, ◌≤�
 use Rattle.std.proofs.Common.{None, refl, sym, ap, ◌∙◌, arith, option_to_list, nat_le, nat_lt, ◌==◌, pos}
 use Rattle.dbwalk.proofs.Common.{Go, errands_of, start_of, then_step, is_child_step, cell_of_step, children_on, chain_on, child_path, chain_place, go, fault}
 use Rattle.dbwalk.proofs.Common.{geometry, page_bytes, usable_size, overflow_next, role_faults, page_faults, Role, root, first_overflow, later_overflow, trunk}
-use Rattle.dbwalk.proofs.Common.{free_leaf, Reference, role_of, bytes_left, link, row_in, at_page, story_of, is_too_deep, reported_if, IsOnChain, next_of,
-    cause_of}
+use Rattle.dbwalk.proofs.Common.{free_leaf, Reference, role_of, bytes_left, link, row_in, at_page, story_of, is_too_deep, reported_if, IsOnChain, next_of}
+use Rattle.dbwalk.proofs.Common.{cause_of}
 use Rattle.dbwalk.proofs.Common.{Cause, reported_row, reported_fault, reported_by, reported_at}
 use Rattle.std.proofs.lemmas.Bool.Decides.{nat_tests}
 use Rattle.std.proofs.lemmas.List.{length-append, append-nil}

@@ -5,8 +5,8 @@ use Rattle.std.proofs.Common.{option_and_then, flat_map, ◌==◌, filter_map, o
 use Rattle.dbwalk.proofs.Common.{usable_size, page_bytes, start_of, child_path, chain_place, View, undamaged, Role, root, first_overflow, later_overflow, trunk}
 use Rattle.dbwalk.proofs.Common.{free_leaf, Reference, role_of, tree_kind, tree_view, bytes_left, tree_page_faults, role_faults, page_faults, cell_fault}
 use Rattle.dbwalk.proofs.Common.{cell_faults, inner_faults, tree_page_row, row_in, TreeKind, chain_cause, seen_bytes, key_up_to, page_cause, visit_cause}
-use Rattle.dbwalk.proofs.Common.{reported_row, reported_by, Finding, Progress, cause_by, depth_faults, rowids_by, Cause, RowidBounds, FaultCode, at_page,
-    view_row}
+use Rattle.dbwalk.proofs.Common.{reported_row, reported_by, Finding, Progress, cause_by, depth_faults, rowids_by, Cause, RowidBounds, FaultCode, at_page}
+use Rattle.dbwalk.proofs.Common.{view_row}
 use Rattle.dbwalk.proofs.Common.{damaged_row, inner_cause, view_cause, with_leaf, page_findings, IsReportedTo, SinkState, Cell, cell, cells, count, CellFault}
 use Rattle.dbwalk.proofs.Common.{first_cells, payload_of, greatest_of}
 use Rattle.dbformat.specs.Reference.{child}

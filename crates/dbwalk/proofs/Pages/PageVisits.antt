@@ -2,8 +2,8 @@
 use Rattle.std.proofs.Common.{◌≡◌, ℕ, ◌+◌, true, false, not, ◌&&◌, cond, List, [], ◌∷◌, ◌++◌, length, map, Option, Some, None, refl, sym, ap, ap₂, arith, ◌∙◌}
 use Rattle.std.proofs.Common.{Bool, subst, ◌-◌, nat_lt, pos, ◌==◌, slice_get}
 use Rattle.dbwalk.proofs.Common.{usable_size, page_bytes, start_of, View, undamaged, is_interior, fault, reported_if, Reference, role_of, tree_kind, tree_view}
-use Rattle.dbwalk.proofs.Common.{inner_faults, tree_page_faults, tree_page_row, TreeKind, page_cause, visit_cause, reported_row, reported_fault, reported_by,
-    Finding}
+use Rattle.dbwalk.proofs.Common.{inner_faults, tree_page_faults, tree_page_row, TreeKind, page_cause, visit_cause, reported_row, reported_fault, reported_by}
+use Rattle.dbwalk.proofs.Common.{Finding}
 use Rattle.dbwalk.proofs.Common.{Cause, RowidBounds, FaultCode, leaf_after, depth_faults, damaged_row, view_cause, with_leaf, page_findings, HasPageAt}
 use Rattle.dbwalk.proofs.Common.{IsReportedTo, SinkState, IsCandidate, role_at, IsOpen, IsLeafAt, is_followed, rules_of, Walk, IsInterior}
 use Rattle.std.specs.Option.{option_map_or}

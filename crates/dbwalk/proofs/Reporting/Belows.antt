@@ -77,7 +77,7 @@ module _ (file : List ℕ) where
   pub reported_visit : (W : List Reference) (c : Reference) (es : List (Errand Way Event)) → is_followed (rules_of file) W c ≡ true
       → AreQuiet own_visit (errands_of (story_of file) c)
       → reported_below file W (Go c ∷ es) ≡ reported_at file (W ++ (c ∷ [])) (at_page c)
-          ++ reported_below file (W ++ (c ∷ [])) (errands_of (story_of file) c ++ es)
+      ++ reported_below file (W ++ (c ∷ [])) (errands_of (story_of file) c ++ es)
   reported_visit W c es h quiet =
       let U : List Reference = W ++ (c ∷ []) in
       let fs : List (Errand Way Event) = errands_of (story_of file) c in

@@ -4,8 +4,8 @@ use Rattle.std.proofs.Common.{Some, None, pos}
 use Rattle.dbwalk.proofs.Common.{IsIn, IsBefore, IsLeftOf, is_followed, Moves, MovesBySome, step_of, Errand, Go, errand_key, errands_of, AreQuiet, IsPast}
 use Rattle.dbwalk.proofs.Common.{geometry, Way, Reference, role_of, bytes_left, tree_kind, from_of, item_of, rules_of, is_too_deep, Event, at_page, at_refused}
 use Rattle.dbwalk.proofs.Common.{own_visit, story_of, RunError, Mark, AreMarksOf, page_mark, chain_cause, seen_from, refusal_cause, refusal_of, rowids_of}
-use Rattle.dbwalk.proofs.Common.{Cause, Finding, reported_at, reported_below, visited_below, reported_fault, IsDone, IsLeft, Enters, IsNext, refused_reported,
-    FaultCode}
+use Rattle.dbwalk.proofs.Common.{Cause, Finding, reported_at, reported_below, visited_below, reported_fault, IsDone, IsLeft, Enters, IsNext, refused_reported}
+use Rattle.dbwalk.proofs.Common.{FaultCode}
 use Rattle.dbwalk.proofs.Common.{Unmarked, Trunk, FirstOverflow, LaterOverflow}
 use Rattle.std.proofs.lemmas.List.{append-nil}
 use Rattle.dbsurvey.specs.Story.{AreErrandsApart}
@@ -18,8 +18,8 @@ use Rattle.dbformat.proofs.Theory.{are_rules, is_story}
 use Rattle.dbmarks.specs.Marking.{visit_mark, refusal_by}
 use Rattle.dbtrace.specs.declared.Cause.TheVariants.{Itself}
 use Rattle.dbwalk.specs.Entered.{IsStepOf}
-use Rattle.dbwalk.proofs.Reporting.Belows.{visited_none, visited_refused, visited_visit, visited_join, reported_none, reported_join, reported_refused,
-    reported_visit}
+use Rattle.dbwalk.proofs.Reporting.Belows.{visited_none, visited_refused, visited_visit, visited_join, reported_none, reported_join, reported_refused}
+use Rattle.dbwalk.proofs.Reporting.Belows.{reported_visit}
 use Rattle.dbformat.specs.ReferenceFaults.{refusal_fault}
 use Rattle.dbmarks.specs.declared.marks.Mark.TheVariants.{Fixed, Root, FreeLeaf, Child}
 use Rattle.dbwalk.specs.declared.entering.Step.{Step}

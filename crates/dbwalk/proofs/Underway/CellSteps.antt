@@ -4,11 +4,11 @@
 use Rattle.std.proofs.Common.{◌≡◌, ℕ, ℤ, int_lt, Bool, true, false, cond, not, ◌&&◌, List, [], ◌∷◌, ◌++◌, map, Option, Some, None, refl, sym, ap, ◌∙◌, zero}
 use Rattle.std.proofs.Common.{suc, ◌+◌, ◌<◌, ◌≤◌, ◌<ℤ◌, arith, Ok, Err, Result, subst, flat_map, int_le, ◌==◌, option_and_then}
 use Rattle.dbwalk.proofs.Common.{start_of, schema_start, Cell, cell, count, View, is_interior, Reference, role_of, tree_kind, tree_view, SchemaCell}
-use Rattle.dbwalk.proofs.Common.{schema_cell, at_key, own_visit, story_of, reported_if, fault, T06, FaultCode, left_rows, RowidBounds, Finding, reported_fault,
-    reported_by}
+use Rattle.dbwalk.proofs.Common.{schema_cell, at_key, own_visit, story_of, reported_if, fault, T06, FaultCode, left_rows, RowidBounds, Finding, reported_fault}
+use Rattle.dbwalk.proofs.Common.{reported_by}
 use Rattle.dbwalk.proofs.Common.{Cause, CellKey, Item, found, given, items_at, Progress, cause_by, rows_of, key_value, Walk, advance, run_below, bare, is_late}
-use Rattle.dbwalk.proofs.Common.{key_cause, order_reported, placed, top_after, AreRisingFrom, IsIn, Address, AreQuiet, Due, errands_of, errands_in,
-    cell_errands}
+use Rattle.dbwalk.proofs.Common.{key_cause, order_reported, placed, top_after, AreRisingFrom, IsIn, Address, AreQuiet, Due, errands_of, errands_in}
+use Rattle.dbwalk.proofs.Common.{cell_errands}
 use Rattle.dbwalk.proofs.Common.{report_cell, CellFault, TreeKind, IsAboveLast, IsAllLocal, key_at, IsAt, HasDone, done_below, Mark, Tree}
 use Rattle.std.proofs.lemmas.List.{append-nil}
 use Rattle.dbformat.specs.KeyFaults.{key_of}

@@ -1,12 +1,12 @@
 -- One turn of the loop over the interior pages of a tree, by what the last frame's page has at its step.
 use Rattle.std.proofs.Common.{◌≡◌, ℕ, suc, ◌+◌, ◌-◌, ◌*◌, ◌/◌, ◌<◌, ◌≤◌, false, true, List, [], ◌∷◌, ◌++◌, map, length, Option, Some, Ok, Err, Result, ℤ, refl}
 use Rattle.std.proofs.Common.{sym, ap, ap₂, subst, arith, ◌∙◌, Bool, option_and_then, slice_get, OnOk, IfErr}
-use Rattle.dbwalk.proofs.Common.{Moves, Go, then_step, overflow_step, child_step, cell_of_step, count, overflow_size, child_number, report_cell, page_bytes,
-    View}
-use Rattle.dbwalk.proofs.Common.{undamaged, usable_size, first_overflow, Reference, role_of, tree_kind, tree_view, RunError, fault, reported_if, T06,
-    key_before}
-use Rattle.dbwalk.proofs.Common.{key_from, key_up_to, left_key, Finding, reported_fault, key_value, RowidBounds, Item, found, IsChainOf, IsNext, is_late,
-    key_cause}
+use Rattle.dbwalk.proofs.Common.{Moves, Go, then_step, overflow_step, child_step, cell_of_step, count, overflow_size, child_number, report_cell, page_bytes}
+use Rattle.dbwalk.proofs.Common.{View}
+use Rattle.dbwalk.proofs.Common.{undamaged, usable_size, first_overflow, Reference, role_of, tree_kind, tree_view, RunError, fault, reported_if, T06}
+use Rattle.dbwalk.proofs.Common.{key_before}
+use Rattle.dbwalk.proofs.Common.{key_from, key_up_to, left_key, Finding, reported_fault, key_value, RowidBounds, Item, found, IsChainOf, IsNext, is_late}
+use Rattle.dbwalk.proofs.Common.{key_cause}
 use Rattle.dbwalk.proofs.Common.{order_reported, top_after, errands_from, child_at, top_visit, IsCandidate, IsLeafAt, IsStepped, path_of, IsEmptyAt, no_chain}
 use Rattle.dbwalk.proofs.Common.{no_child, without_key, HasLeft, IsNextStep, HasNext, HasDone, IsInterior, done_below, entered, IsWalkingOn, tree_walk, StopsAt}
 use Rattle.dbwalk.proofs.Common.{StackFrame, Mark, Tree, Next, End, Nothing}

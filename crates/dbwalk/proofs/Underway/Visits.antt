@@ -2,11 +2,11 @@
 use Rattle.std.proofs.Common.{ℕ, ℤ, ◌<◌, inl, inr, List, [], ◌∷◌, ◌++◌, refl, sym, subst, ◌≡◌, Bool, true, false, map, Option, Some, Result, Ok, Err, ap, ap₂}
 use Rattle.std.proofs.Common.{◌∙◌, OnOk, option_to_list}
 use Rattle.dbwalk.proofs.Common.{Address, IsBefore, Reference, role_of, tree_kind, TreeKind, CellKey, AreBefore, Moves, Go, errands_of, is_followed, then_step}
-use Rattle.dbwalk.proofs.Common.{SchemaRow, at_page, at_refused, story_of, rules_of, RunError, WriteFailed, OutOfMemory, Finding, reported_by, reported_row,
-    Item}
+use Rattle.dbwalk.proofs.Common.{SchemaRow, at_page, at_refused, story_of, rules_of, RunError, WriteFailed, OutOfMemory, Finding, reported_by, reported_row}
+use Rattle.dbwalk.proofs.Common.{Item}
 use Rattle.dbwalk.proofs.Common.{found, key_up_to, refusal_of, key_value, leaf_after, rowids_by, Cause, FaultCode, Walk, bare, advance, run_below, IsNext}
-use Rattle.dbwalk.proofs.Common.{refused_reported, AreMarksOf, Reports, page_findings, IsAt, HasDone, done_below, entered, IsEntered, watches, fails, Handed,
-    Mark}
+use Rattle.dbwalk.proofs.Common.{refused_reported, AreMarksOf, Reports, page_findings, IsAt, HasDone, done_below, entered, IsEntered, watches, fails, Handed}
+use Rattle.dbwalk.proofs.Common.{Mark}
 use Rattle.dbwalk.proofs.Common.{Tree, Taken}
 use Rattle.dbsurvey.proofs.Order.{IsIn-cases, IsBefore-trans, IsBefore-beginning}
 use Rattle.dbformat.specs.Laws.{event_row}

@@ -31,7 +31,7 @@ returns-in_err-report_all-clause-asks g c =
     let header = ap (λ (d : DeskView). d.header) c.desk.view_is in
     let marks = ap (λ (d : DeskView). d.marks) c.desk.view_is in
     rw (err_is c.from_residual-in_err-report_all.ensures.1) (asks_nothing g.S.Source.step _
-        (Err c.in_err-report_all.field-0.0) _ c.in_err-report_all.ensures.only
+    (Err c.in_err-report_all.field-0.0) _ c.in_err-report_all.ensures.only
     (reads_none shape.page_size (IsMapInUse shape) 1).reads (λ file is V s m rows.
     let counts = c.count_marks-counts.result in
     let pages = pages_items file V (least_other_marked (marks_of (geometry file) V)) (geometry file).pages in
@@ -86,4 +86,4 @@ returns-clause-writes g c =
     let shut = (g.K.Reporter.held c.count_marks-counts.new.reporter).is_shut in
     subst (λ s. SinkAfter is_write_failed c.end_pages.result s (g.K.Reporter.held c.end_pages.new.reporter))
     (c.in_ok-report_all.ensures.writes ∙ moves_open c.count_marks-counts.ensures.reported.count
-        (asked_ok shut c.in_ok-ask.ensures)) c.end_pages.ensures.ends.writes
+    (asked_ok shut c.in_ok-ask.ensures)) c.end_pages.ensures.ends.writes

@@ -5,8 +5,8 @@ use Rattle.dbformat.specs.Numbers.{u32_at}
 use Rattle.dbwalk.proofs.Chaining.ChainTurns.{if_some_all}
 use Rattle.dbwalk.proofs.FreeTrunks.{trunk_read, trunk_opened, next_turned}
 use Rattle.dbwalk.proofs.Reporting.Sinks.{err_is, walks_as}
-use Rattle.dbwalk.proofs.Reporting.Besides.{beside_shut, beside_reported, turn_failed, turn_refused, turn_stopped, walk_as, walk_reported, walk_then,
-    walk_unread}
+use Rattle.dbwalk.proofs.Reporting.Besides.{beside_shut, beside_reported, turn_failed, turn_refused, turn_stopped, walk_as, walk_reported, walk_then}
+use Rattle.dbwalk.proofs.Reporting.Besides.{walk_unread}
 use Rattle.dbwalk.proofs.Pages.Levels.{keeps_fewer}
 use Rattle.dbwalk.proofs.freelist.enter_trunk.Goals as goal
 

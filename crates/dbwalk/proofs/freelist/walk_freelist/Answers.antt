@@ -33,8 +33,11 @@ returns-clause-asks g c =
     let walks = walk_then c.loop-next.invariant.walks c.in_ok-next.ensures.walks (λ file e way turned W d h next m.
     let done = ((turned W d c.args.sink.now (way W d h next m)).ended c.in_default.is).0 in
     asked_both (λ r. IsDone g.K.Sink.takes file W (Go d ∷ []) r c.enter_trunk.new.marks c.args.sink.now c.enter_trunk.new.sink) shut c.ask.ensures
-    done (record { marked = tt; reported = moves_some g.K.Sink.takes c.args.sink.now c.enter_trunk.new.sink
-        (reported_below file W (Go d ∷ [])) done.reported })) in
+    done (record {
+      marked = tt;
+      reported = moves_some g.K.Sink.takes c.args.sink.now c.enter_trunk.new.sink
+          (reported_below file W (Go d ∷ [])) done.reported;
+    })) in
     record {
       log = walks.log;
       count = asked_both (λ r. (g.S.Source.held c.enter_trunk.new.source).failures

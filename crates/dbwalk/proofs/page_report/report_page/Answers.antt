@@ -50,7 +50,7 @@ returns-clause-reported g c = λ file d from item shape candidate there.
     (ap (λ n. n + 1) level) c.args.sink.now
     c.in-Ok.view c.in-Ok.ensures.view c.in-Ok.ensures.of.0 c.in-Ok.ensures.faults c.report_undamaged-keys.new.sink
     c.report_undamaged-keys.ensures.reported (search rules) c.report_depth.new.sink c.report_depth.ensures.reported c.report_depth.new.self.leaf
-        c.report_depth.ensures.leaf
+    c.report_depth.ensures.leaf
 
 pub returns-clause-open : goal.returns-clause-open
 returns-clause-open g c =

@@ -16,7 +16,7 @@ returns-in_err-end g c =
     c.args._source.now c.args.self.now c.end.new.self refl
     (record { lent = ap (λ n. n ∷ []) put.same_out; failures = inl (put.text.count, refl) })
     (λ file V first received. check_cut held file V received.desk.survey first c.args.self.now c.end.new.self c.requires received.received
-        c.in_err-end.field-0.0
+    c.in_err-end.field-0.0
     put.text)))
 
 pub returns : goal.returns
@@ -27,5 +27,5 @@ returns g c =
     c.args.self.now c.end.new.self tt
     (one_same put.same_out put.text.count put.failed)
     (λ file V first received. check_ended held file V received.desk.survey first c.args.self.now c.end.new.self c.requires received.received c.in_ok-end.field-0
-        put.text
+    put.text
     put.verdict)

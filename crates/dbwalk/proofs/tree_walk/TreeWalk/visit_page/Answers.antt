@@ -47,7 +47,7 @@ returns-in-Damaged-clause-log g c = log_none c.args.bench.now.geometry.page_size
     let none = none_at_damage file d c.args.self.now.tree.kind
     (kind_is file c.args.self.now.tree.kind c.args.self.now.tree.start c.args.self.now.tree.path.items c.args.page above item d candidate)
     (found_damage file candidate there c.report_page.ensures.bench.1 c.report_page.ensures.tree.1
-        (ap (λ s. s.usable) (c.report_page.ensures.bench.0 ∙ e)) found)
+    (ap (λ s. s.usable) (c.report_page.ensures.bench.0 ∙ e)) found)
     in
     let at = visited_at file from d first top bound c.report_page.new.tree m (c.report_page.ensures.tree.2 ∙ top) reported.1 in
     entered_past _ _ file from d _ false _ _ _ (visit_alone _ _ file from d followed false _ _ _ none at
@@ -67,7 +67,7 @@ returns-in_err-walk_leaf-in-Leaf-clause-log g c = has_weaker _ _ c.in_err-walk_l
     let at = found_leaf file candidate there c.report_page.ensures.bench.1 c.report_page.ensures.tree.1 (ap (λ s. s.usable) (c.report_page.ensures.bench.0 ∙ e))
     (same.1 ∙ tree.1) (same.0 ∙ tree.0) (ap (λ p. p.items) (same.3 ∙ tree.3)) found.leaf in
     let here = visited_at file from d first top bound c.pass_over.new.self m (c.pass_over.ensures.kept c.if-pass_over.false ∙ tree.2 ∙ top) (same.2
-        ∙ reported.1) in
+    ∙ reported.1) in
     let done = h (c.report_page.ensures.bench.0 ∙ e) coded (visited file from d) d found.leaf.view at
     (found_view file candidate there c.report_page.ensures.bench.1 c.report_page.ensures.tree.1 (ap (λ s. s.usable) (c.report_page.ensures.bench.0 ∙ e))
     found.leaf) found.leaf.leaf (visited_before file from d next) here in
@@ -90,7 +90,7 @@ returns-in_ok-walk_leaf-in-Leaf-clause-log g c = has_weaker _ _ c.in_ok-walk_lea
     let at = found_leaf file candidate there c.report_page.ensures.bench.1 c.report_page.ensures.tree.1 (ap (λ s. s.usable) (c.report_page.ensures.bench.0 ∙ e))
     (same.1 ∙ tree.1) (same.0 ∙ tree.0) (ap (λ p. p.items) (same.3 ∙ tree.3)) found.leaf in
     let here = visited_at file from d first top bound c.pass_over.new.self m (c.pass_over.ensures.kept c.if-pass_over.false ∙ tree.2 ∙ top) (same.2
-        ∙ reported.1) in
+    ∙ reported.1) in
     let done = h (c.report_page.ensures.bench.0 ∙ e) coded (visited file from d) d found.leaf.view at
     (found_view file candidate there c.report_page.ensures.bench.1 c.report_page.ensures.tree.1 (ap (λ s. s.usable) (c.report_page.ensures.bench.0 ∙ e))
     found.leaf) found.leaf.leaf (visited_before file from d next) here in

@@ -31,7 +31,7 @@ returns-in_err-report_row-clause-log g c = has_weaker _ _ c.in_ok-walk_overflow.
     g.T.Taker.takes g.T.Taker.refuses c.in_err-report_row.field-0.0 c.walk_overflow.new.marks c.args.self.now.tree c.args.self.now.tree
     c.args.self.now.sink.now c.walk_overflow.new.sink c.args.self.now.taker.now (c.report_row.new.sink, c.report_row.new.taker) isat.1 isat.2 done.0
     (row_reported file from d c.args.self.now.tree.kind v leaf c.args.i c.leaf_cell-cell.result.overflow cell.0 c.leaf_cell-cell.result.key cell.1
-        g.K.Sink.takes
+    g.K.Sink.takes
     g.T.Taker.takes g.T.Taker.refuses c.args.self.now.taker.now c.report_row.new.taker c.new-place.result c.args.page c.new-place.ensures
     at.page c.args.self.now.encoding coded (Err c.in_err-report_row.field-0.0)
     c.walk_overflow.new.sink c.report_row.new.sink c.walk_overflow.new.sieve c.in_err-report_row.ensures.none c.args.self.now.tree.start at.start
@@ -51,7 +51,7 @@ returns-clause-log g c = has_weaker _ _ c.in_ok-walk_overflow.ensures.log (λ lo
     c.args.self.now.sink.now c.walk_overflow.new.sink c.report_row.new.sink c.args.self.now.taker.now c.report_row.new.taker
     (c.report_rowid.new.sink, c.report_row.new.taker) isat.1 isat.2 done.0
     (row_reported file from d c.args.self.now.tree.kind v leaf c.args.i c.leaf_cell-cell.result.overflow cell.0 c.leaf_cell-cell.result.key cell.1
-        g.K.Sink.takes
+    g.K.Sink.takes
     g.T.Taker.takes g.T.Taker.refuses c.args.self.now.taker.now c.report_row.new.taker c.new-place.result c.args.page c.new-place.ensures
     at.page c.args.self.now.encoding coded (Ok tt)
     c.walk_overflow.new.sink c.report_row.new.sink c.walk_overflow.new.sieve c.in_ok-report_row.ensures.none c.args.self.now.tree.start at.start

@@ -12,4 +12,4 @@ returns g c =
     finished g.S.Source (ReceivesOpen held held') (stat_held held held') (LeavesStat held held') (Ok c.verdict.result) c.args._desk.now c.args._source.now
     c.args.self.now c.args.self.now tt refl
     (λ file V first received. stat_ended held held' file V received.desk.survey first c.args.self.now c.requires received.received c.verdict.result
-        c.verdict.ensures)
+    c.verdict.ensures)
