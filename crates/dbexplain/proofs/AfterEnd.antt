@@ -2,14 +2,10 @@
 use Rattle.std.proofs.Common.{◌≡◌, ℕ, ◌+◌, ◌/◌, Bool, true, false, cond, List, [], ◌∷◌, refl, ap, ◌∙◌, arith}
 use Rattle.std.specs.Prelude.{count_by, fold, length}
 use Rattle.dbsurvey.proofs.Lists.{count-append}
-use Rattle.dbformat.specs.File.{geometry}
-use Rattle.dbformat.specs.Lines.{counted}
-use Rattle.dbformat.specs.Reference.{Reference}
-use Rattle.dbformat.specs.declared.Geometry.{Geometry}
-use Rattle.dbtrace.specs.declared.TracedFault.{TracedFault}
-use Rattle.dbscan.specs.Placed.{faults_of, reported_faults}
+use Rattle.dbexplain.proofs.Common.{geometry, counted, Reference, Geometry, TracedFault, reported_faults, references_after_end}
+use Rattle.dbscan.specs.Placed.{faults_of}
 use Rattle.dbscan.proofs.AllReported.{all_reported}
-use Rattle.dbexplain.specs.AfterEnd.{after_end_reported, leads_after_end, none_after_end, references_after_end}
+use Rattle.dbexplain.specs.AfterEnd.{after_end_reported, leads_after_end, none_after_end}
 use Rattle.dbexplain.specs.declared.after_end.AfterEnd.{AfterEnd}
 
 module _ (g : Geometry) (len : ℕ) where

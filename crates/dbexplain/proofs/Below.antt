@@ -3,19 +3,12 @@ use Rattle.std.proofs.Common.{◌≡◌, ℕ, ℤ, Bool, true, false, cond, List
 use Rattle.std.specs.Prelude.{option_map}
 use Rattle.std.specs.Option.{option_map_or}
 use Rattle.dbformat.specs.EndFaults.{visit_of}
-use Rattle.dbformat.specs.File.{geometry}
-use Rattle.dbformat.specs.FixedPages.{is_page, is_fixed}
-use Rattle.dbformat.specs.Header.{encoding, stated_pages, greatest_root, freelist_count}
-use Rattle.dbformat.specs.Reference.{Role, root, child, first_overflow, later_overflow, trunk, free_leaf, Reference, role_of, from_of, entry_of}
-use Rattle.dbformat.specs.SchemaRow.{SchemaRow}
-use Rattle.dbformat.specs.Survey.{Survey}
-use Rattle.dbformat.specs.declared.Encoding.{Encoding}
+use Rattle.dbexplain.proofs.Common.{geometry, is_page, encoding, stated_pages, greatest_root, freelist_count, Reference, SchemaRow, Survey, Encoding, FaultCode}
+use Rattle.dbexplain.proofs.Common.{Geometry, HeaderBytes, IsHeaderOf, tree_of_row, place_line}
+use Rattle.dbformat.specs.FixedPages.{is_fixed}
+use Rattle.dbformat.specs.Reference.{Role, root, child, first_overflow, later_overflow, trunk, free_leaf, role_of, from_of, entry_of}
 use Rattle.dbformat.specs.declared.Fault.{Fault}
-use Rattle.dbformat.specs.declared.FaultCode.{FaultCode}
 use Rattle.dbformat.specs.declared.FaultCode.TheVariants.{H01}
-use Rattle.dbformat.specs.declared.Geometry.{Geometry}
-use Rattle.dbsource.specs.HeaderBytes.{HeaderBytes}
-use Rattle.dbsource.specs.Headers.{IsHeaderOf}
 use Rattle.dbmarks.specs.Marking.{role_mark, marks_of, page_mark, AreMarksOf}
 use Rattle.dbmarks.specs.EndMarks.{entry_value}
 use Rattle.dbmarks.specs.declared.entry.MapEntry.{MapEntry}
@@ -23,8 +16,8 @@ use Rattle.dbmarks.specs.declared.marks.Mark.{Mark}
 use Rattle.dbmarks.proofs.EndMarking.{found_in}
 use Rattle.dbscan.specs.Roots.{AreListed}
 use Rattle.dbformat.proofs.HeaderPrefix.{encoding_within}
-use Rattle.dbscan.specs.Texts.{tree_of_row, tree_text}
-use Rattle.dbexplain.specs.Below.{own_line, both_lines, outside_lines, header_line, line_of_entry, entry_line, lines_below, place_line, value_page}
+use Rattle.dbscan.specs.Texts.{tree_text}
+use Rattle.dbexplain.specs.Below.{own_line, both_lines, outside_lines, header_line, line_of_entry, entry_line, lines_below, value_page}
 use Rattle.dbexplain.specs.Notes.{below_of, page_or_none, wanted_entry}
 use Rattle.dbexplain.specs.declared.owners.Below.{Below}
 use Rattle.dbexplain.specs.declared.owners.Below.TheVariants as below

@@ -1,10 +1,7 @@
 -- What is known of pages, from a desk.
 use Rattle.std.proofs.Common.{◌≡◌, ℕ, List, ap, sym, subst, ◌∙◌}
-use Rattle.dbformat.specs.Reference.{Reference}
-use Rattle.dbsource.specs.HeaderBytes.{HeaderBytes}
-use Rattle.dbsource.specs.Headers.{IsHeaderOf}
+use Rattle.dbexplain.proofs.Common.{Reference, HeaderBytes, IsHeaderOf, AreOwnersOf}
 use Rattle.dbscan.specs.Trees.{AreTrees}
-use Rattle.dbexplain.specs.Notes.{AreOwnersOf}
 use Rattle.dbscan.specs.Roots.{Listed}
 use Rattle.dbexplain.specs.declared.owners.Owners.{Owners}
 use Rattle.dbscan.specs.Desks.{DeskView}

@@ -2,16 +2,14 @@
 use Rattle.std.proofs.Common.{◌≡◌, ◌⊎◌, ℕ, zero, suc, false, List, [], Ok, Err, None, Result, inl, inr, refl, sym, ap, subst, ◌∙◌}
 use Rattle.std.specs.Prelude.{IfErr, IfOk, OnOk}
 use Rattle.dbformat.specs.File.{refusal}
-use Rattle.dbformat.specs.Lines.{counted}
-use Rattle.dbformat.specs.Reference.{Reference}
-use Rattle.dbformat.specs.Survey.{Survey, survey}
-use Rattle.dbformat.specs.declared.Verdict.{Verdict}
+use Rattle.dbexplain.proofs.Common.{counted, Reference, Survey, Verdict, RunError, ReadFailed, OutOfMemory, listed_injuries, injuries, ListsFirst}
+use Rattle.dbexplain.proofs.Common.{references_after_end, explain_text, Receives, IsFresh, LeavesExplained, ExplainReporter}
+use Rattle.dbformat.specs.Survey.{survey}
 use Rattle.dbformat.proofs.Theory.{one_survey}
 use Rattle.dbsource.specs.Errors.{is_write_failed}
 use Rattle.dbsource.specs.Failures.{failures_after, is_any, one_more}
 use Rattle.dbsource.specs.Outs.{OutState, Puts, Writes}
-use Rattle.dbsource.specs.declared.error.RunError.{RunError}
-use Rattle.dbsource.specs.declared.error.RunError.TheVariants.{Refused, ReadFailed, OutOfMemory, WriteFailed}
+use Rattle.dbsource.specs.declared.error.RunError.TheVariants.{Refused, WriteFailed}
 use Rattle.dbsource.proofs.Beginnings.{begins_nothing}
 use Rattle.dbsource.proofs.Puts.{appends_nothing}
 use Rattle.dbwalk.specs.Reporting.{IsReadWriteOrMemory}
@@ -19,16 +17,12 @@ use Rattle.dbscan.specs.Finishes.{Leaves}
 use Rattle.dbreport.specs.Runs.{IsAnswerOf, SaysOk}
 use Rattle.dbreport.proofs.NotBegun.{no_failure}
 use Rattle.dbreport.proofs.RunAnswers.{if_ok, read_answer}
-use Rattle.dbinjuries.specs.Listed.{listed_injuries, listed_faults}
-use Rattle.dbinjuries.specs.Listing.{injuries}
-use Rattle.dbinjuries.specs.Lists.{ListsFirst}
-use Rattle.dbexplain.specs.AfterEnd.{references_after_end}
-use Rattle.dbexplain.specs.Explained.{explain_report, explain_text, found_text}
+use Rattle.dbinjuries.specs.Listed.{listed_faults}
+use Rattle.dbexplain.specs.Explained.{explain_report, found_text}
 use Rattle.dbexplain.specs.Keeping.{lines_of}
-use Rattle.dbexplain.specs.Reporting.{Ends, Receives, IsFresh, IsReportLeft, LeavesExplained, PutsLines}
+use Rattle.dbexplain.specs.Reporting.{Ends, IsReportLeft, PutsLines}
 use Rattle.dbexplain.specs.Runs.{IsExplained, OutFailures, PutsFound, WritesReport, answer_with, verdict_in}
 use Rattle.dbexplain.specs.declared.after_end.AfterEnd.{AfterEnd}
-use Rattle.dbexplain.specs.declared.reporter.ExplainReporter.{ExplainReporter}
 use Rattle.dbexplain.specs.declared.runs.Explanation.{Explanation}
 use Rattle.dbexplain.proofs.KeptInjuries.{found_lines}
 use Rattle.dbexplain.proofs.Left.{is_left}

@@ -3,21 +3,19 @@ use Rattle.std.proofs.Common.{◌≡◌, ℕ, zero, suc, ◌<◌, Option, Some, 
 use Rattle.std.proofs.Common.{append_assoc}
 use Rattle.std.specs.Prelude.{flat_map, fold}
 use Rattle.std.specs.Option.{option_map_or}
-use Rattle.dbformat.specs.Lines.{fault_line}
-use Rattle.dbtrace.specs.declared.TracedFault.{TracedFault}
+use Rattle.dbexplain.proofs.Common.{fault_line, TracedFault, injuries, Held, injury_text, kept_injury_text, Reference}
 use Rattle.dbinjuries.specs.Kept.{lone_injury, kept_of}
 use Rattle.dbinjuries.specs.Listing as listing
-use Rattle.dbinjuries.specs.Listing.{Entered, alone, changed_at, entered, injuries, home, joined, rank, turned, with_fault}
+use Rattle.dbinjuries.specs.Listing.{Entered, alone, changed_at, entered, home, joined, rank, turned, with_fault}
 use Rattle.dbinjuries.specs.declared.injury.Injury.{Injury}
 use Rattle.dbinjuries.specs.Lines.{cause_text}
 use Rattle.dbinjuries.specs.Others.{others_text}
 use Rattle.dbinjuries.proofs.Adding.{home_inside}
 use Rattle.dbinjuries.proofs.Belonging.{line_is}
 use Rattle.dbinjuries.proofs.Noting.{first_kept}
-use Rattle.dbinjuries.specs.Lists.{Held, Shows}
-use Rattle.dbexplain.specs.Explained.{after_cause, injury_text, found_text, front_text}
-use Rattle.dbexplain.specs.Keeping.{kept_injury_text, lines_of}
-use Rattle.dbformat.specs.Reference.{Reference}
+use Rattle.dbinjuries.specs.Lists.{Shows}
+use Rattle.dbexplain.specs.Explained.{after_cause, found_text, front_text}
+use Rattle.dbexplain.specs.Keeping.{lines_of}
 
 -- what is written of an injury is written by what is kept of it
 kept_text : (file : List ℕ) (V : List Reference) (e : listing.Injury) → kept_injury_text file V (kept_of e) ≡ injury_text file V e

@@ -2,36 +2,23 @@
 use Rattle.std.proofs.Common.{◌≡◌, ◌≢◌, ℕ, List, [], ◌∷◌, length, Err, Result, inl, inr, refl, sym, ap, subst, ◌∙◌, arith}
 use Rattle.std.proofs.lemmas.List.{length-map}
 use Rattle.dbsurvey.specs.Moves.{MovesBySome}
-use Rattle.dbformat.specs.File.{geometry}
-use Rattle.dbformat.specs.Lines.{counted, ok_line}
-use Rattle.dbformat.specs.Reference.{Reference}
-use Rattle.dbformat.specs.Report.{faults}
-use Rattle.dbformat.specs.Rows.{stat_rows}
-use Rattle.dbformat.specs.Survey.{Survey}
-use Rattle.dbformat.specs.declared.Verdict.{Verdict}
-use Rattle.dbtrace.specs.declared.TracedFault.{TracedFault}
+use Rattle.dbexplain.proofs.Common.{geometry, counted, ok_line, Reference, faults, stat_rows, Survey, Verdict, TracedFault, RunError, ReadFailed, OutOfMemory}
+use Rattle.dbexplain.proofs.Common.{reported_faults, listed_injuries, Held, ListsFirst, references_after_end, explain_text, AreIndexes, IsEmpty, Receives}
+use Rattle.dbexplain.proofs.Common.{IsFresh, LeavesExplained, ExplainReporter, IsTallyOf}
 use Rattle.dbsource.specs.Outs.{Begins, OutState, Writes}
-use Rattle.dbsource.specs.declared.error.RunError.{RunError}
-use Rattle.dbsource.specs.declared.error.RunError.TheVariants.{Refused, ReadFailed, OutOfMemory, WriteFailed}
+use Rattle.dbsource.specs.declared.error.RunError.TheVariants.{Refused, WriteFailed}
 use Rattle.dbsource.proofs.Beginnings.{begins_nothing}
 use Rattle.dbscan.specs.Trees.{AreTrees}
 use Rattle.dbscan.proofs.Trees.{all_noted}
 use Rattle.dbscan.specs.Desks.{DeskView}
 use Rattle.dbscan.specs.Finishes.{HasReceived, IsDeskOf, Leaves}
 use Rattle.dbscan.specs.Notices.{run_notices}
-use Rattle.dbscan.specs.Placed.{reported_faults}
 use Rattle.dbscan.proofs.AllReported.{all_reported}
-use Rattle.dbinjuries.specs.Listed.{listed_injuries}
-use Rattle.dbinjuries.specs.Lists.{Held, ListsAll, ListsFirst}
+use Rattle.dbinjuries.specs.Lists.{ListsAll}
 use Rattle.dbinjuries.specs.Lost.{HasNoted}
-use Rattle.dbexplain.specs.AfterEnd.{references_after_end}
-use Rattle.dbexplain.specs.Explained.{explain_text}
-use Rattle.dbexplain.specs.Indexes.{AreIndexes}
-use Rattle.dbexplain.specs.Keeping.{HasAll, IsEmpty}
+use Rattle.dbexplain.specs.Keeping.{HasAll}
 use Rattle.dbexplain.specs.KeptRanges.{AreRangesOf}
-use Rattle.dbexplain.specs.Reporting.{Receives, IsFresh, IsReportLeft, LeavesExplained}
-use Rattle.dbexplain.specs.declared.reporter.ExplainReporter.{ExplainReporter}
-use Rattle.dbexplain.specs.Tallies.{IsTallyOf}
+use Rattle.dbexplain.specs.Reporting.{IsReportLeft}
 use Rattle.dbexplain.proofs.AfterEnd.{all_counted as all_references}
 use Rattle.dbexplain.proofs.IndexesNoted.{all_indexes}
 use Rattle.dbexplain.proofs.RangesKept.{all_ranges_reported}

@@ -1,3 +1,4 @@
+pub mod Common
 pub mod AfterEnd
 pub mod Below
 pub mod Desks

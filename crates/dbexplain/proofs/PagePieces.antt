@@ -2,13 +2,10 @@
 use Rattle.std.proofs.Common.{◌≡◌, ℕ, ◌-◌, ◌*◌, true, cond, List, [], ◌∷◌, ◌++◌, Option, refl, sym, ap, ◌∙◌, append_assoc}
 use Rattle.std.specs.Prelude.{codes, decimal}
 use Rattle.std.specs.Option.{option_map_or}
-use Rattle.dbformat.specs.FixedPages.{is_page, fixed_use}
-use Rattle.dbformat.specs.Lines.{line_feed}
+use Rattle.dbexplain.proofs.Common.{is_page, fixed_use, line_feed, Geometry, indented}
 use Rattle.dbformat.specs.declared.Fixed.{Fixed}
-use Rattle.dbformat.specs.declared.Geometry.{Geometry}
 use Rattle.dbscan.specs.declared.place.Place.{Place}
 use Rattle.dbscan.specs.declared.place.Place.TheVariants as place
-use Rattle.dbinjuries.specs.Lines.{indented}
 use Rattle.dbscan.specs.Texts.{place_text}
 use Rattle.dbexplain.specs.Below.{page_place_line}
 use Rattle.dbscan.specs.Texts.{place_front, place_tree}

@@ -2,13 +2,9 @@
 use Rattle.std.proofs.Common.{◌≡◌, ℕ, ◌+◌, ◌<◌, ◌≤◌, true, List, length, refl, sym, ap, ◌∙◌, arith, length-set}
 use Rattle.std.specs.Prelude.{slice_set, slice_index_or}
 use Rattle.std.proofs.lemmas.List.{get_or-set_other, get_or-set_same, set-set, set_past}
-use Rattle.dbformat.specs.Lines.{counted}
-use Rattle.dbexplain.specs.KeptRanges.{no_more, one_more}
-use Rattle.dbexplain.specs.RangeCounts.{with_kind}
+use Rattle.dbexplain.proofs.Common.{counted, no_more, with_kind, RangeCount, RowsKind, NotReached, OnFaulty, CutShort}
+use Rattle.dbexplain.specs.KeptRanges.{one_more}
 use Rattle.dbexplain.specs.Ranges.{same_kind}
-use Rattle.dbexplain.specs.declared.ranges.RangeCount.{RangeCount}
-use Rattle.dbexplain.specs.declared.ranges.RowsKind.{RowsKind}
-use Rattle.dbexplain.specs.declared.ranges.RowsKind.TheVariants.{NotReached, OnFaulty, CutShort}
 
 module _ (others : List RangeCount) (s : ℕ) (kind : RowsKind) (n : ℕ) where
   abbrev all : List RangeCount

@@ -9,18 +9,12 @@ use Rattle.std.proofs.lemmas.Bool.Decides.{nat_tests}
 use Rattle.std.proofs.lemmas.List.{drop-append-le, drop_all, get_or-replicate, get_or-set_other, get_or-set_same, length-replicate, length-take, take-append-le}
 use Rattle.std.proofs.lemmas.List.{take_all}
 use Rattle.dbsurvey.proofs.Lists.{count-append}
-use Rattle.dbformat.specs.Address.{freelist_start}
-use Rattle.dbformat.specs.Lines.{counted}
-use Rattle.dbscan.specs.StartTable.{most_starts}
-use Rattle.dbtrace.specs.declared.TracedFault.{TracedFault}
-use Rattle.dbexplain.specs.KeptRanges.{AreAllKept, AreKept, AreRangesOf, KeptRanges, closed, count_of, no_more, no_ranges, one_more, range_added, range_kept}
+use Rattle.dbexplain.proofs.Common.{freelist_start, counted, most_starts, TracedFault, AreAllKept, KeptRanges, no_more, is_of, RangeCount, RowRange, RowsKind}
+use Rattle.dbexplain.proofs.Common.{NotReached, OnFaulty, CutShort}
+use Rattle.dbexplain.specs.KeptRanges.{AreKept, AreRangesOf, closed, count_of, no_ranges, one_more, range_added, range_kept}
 use Rattle.dbexplain.specs.KeptRanges.{range_reported, after_last, range_if, with_last}
-use Rattle.dbexplain.specs.Ranges.{Found, found_after, found_more, found_with, grown, is_of, joins, most_ranges, none_found, range_of, ranges_found}
+use Rattle.dbexplain.specs.Ranges.{Found, found_after, found_more, found_with, grown, joins, most_ranges, none_found, range_of, ranges_found}
 use Rattle.dbexplain.specs.Ranges.{same_kind}
-use Rattle.dbexplain.specs.declared.ranges.RangeCount.{RangeCount}
-use Rattle.dbexplain.specs.declared.ranges.RowRange.{RowRange}
-use Rattle.dbexplain.specs.declared.ranges.RowsKind.{RowsKind}
-use Rattle.dbexplain.specs.declared.ranges.RowsKind.TheVariants.{NotReached, OnFaulty, CutShort}
 
 -- a count with one more of a kind: only that of this kind changes
 one_kind : (kind other : RowsKind) (c : RangeCount) (n : ℕ) → count_of other c ≡ counted n

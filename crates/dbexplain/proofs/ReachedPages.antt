@@ -6,14 +6,11 @@ use Rattle.std.specs.Option.{option_map_or}
 use Rattle.std.proofs.lemmas.List.FromFn.{length-range_with_len}
 use Rattle.std.proofs.lemmas.List.Sums.{count_by-le-length}
 use Rattle.dbformat.specs.FixedPages.{most_pages}
-use Rattle.dbformat.specs.Lines.{counted}
-use Rattle.dbformat.specs.Reference.{Reference}
+use Rattle.dbexplain.proofs.Common.{counted, Reference, TracedFault, has_bit, Tallied, IsTallyTo, counted_start, no_count}
 use Rattle.dbsurvey.proofs.Ranges.{count_push}
-use Rattle.dbtrace.specs.declared.TracedFault.{TracedFault}
 use Rattle.dbformat.specs.Starts.{start_at}
-use Rattle.dbinjuries.specs.Bits.{has_bit}
 use Rattle.dbexplain.specs.Summary.{start_count, is_reached, is_reported}
-use Rattle.dbexplain.specs.Tallies.{Tallied, IsTallyTo, counted_start, no_count, one_reached_page, page_reached}
+use Rattle.dbexplain.specs.Tallies.{one_reached_page, page_reached}
 use Rattle.dbexplain.proofs.Tallies.{slot}
 
 -- ---- counts along a range

@@ -3,32 +3,27 @@ use Rattle.std.proofs.Common.{◌≡◌, ℕ, ◌≤◌, Bool, true, false, List
 use Rattle.std.specs.Prelude.{◌↔◌, codes, decimal, flat_map, drop, take, sum_by, ◌==◌, if◌then◌else◌}
 use Rattle.std.specs.Io.KnownBytes.{Appends}
 use Rattle.std.proofs.lemmas.List.{length-append}
-use Rattle.dbformat.specs.Codes.{all_codes}
-use Rattle.dbformat.specs.File.{geometry, refusal}
-use Rattle.dbformat.specs.Lines.{counted, line_feed, ok_line}
-use Rattle.dbformat.specs.Reference.{Reference}
-use Rattle.dbformat.specs.Report.{Report, faults, more_text, verdict}
-use Rattle.dbformat.specs.Schema.{starts}
+use Rattle.dbexplain.proofs.Common.{all_codes, geometry, counted, line_feed, ok_line, Reference, faults, more_text, starts, Survey, Verdict, TracedFault}
+use Rattle.dbexplain.proofs.Common.{reported_faults, listed_injuries, injury_text, explain_text, count_text, summary}
+use Rattle.dbformat.specs.File.{refusal}
+use Rattle.dbformat.specs.Report.{Report, verdict}
 use Rattle.dbformat.specs.Sound.{Sound}
-use Rattle.dbformat.specs.Survey.{Survey, survey}
+use Rattle.dbformat.specs.Survey.{survey}
 use Rattle.dbformat.specs.declared.Command.TheVariants.{Check}
 use Rattle.dbformat.specs.declared.Refusal.{Refusal}
-use Rattle.dbformat.specs.declared.Verdict.{Verdict}
 use Rattle.dbformat.specs.declared.Verdict.TheVariants.{Clean}
 use Rattle.dbformat.proofs.Theory.{one_survey}
 use Rattle.dbsound.proofs.Soundness.{sound_by_faults, sound_by_verdict}
-use Rattle.dbtrace.specs.declared.TracedFault.{TracedFault}
-use Rattle.dbscan.specs.Placed.{faults_of, reported_faults}
+use Rattle.dbscan.specs.Placed.{faults_of}
 use Rattle.dbscan.proofs.AllReported.{all_reported}
 use Rattle.dbscan.specs.Roots.{listed_rows}
-use Rattle.dbinjuries.specs.Listed.{listed_injuries}
 use Rattle.dbinjuries.specs.Listing.{Injury, size}
 use Rattle.dbinjuries.specs.Zeros.{zero_pages}
 use Rattle.dbreport.specs.Runs.{SaysOk}
 use Rattle.dbreport.proofs.RunAnswers.{said_ok}
 use Rattle.dbreport.proofs.RunReports.{check_answer}
-use Rattle.dbexplain.specs.Explained.{injury_text, explain_report, explain_text}
-use Rattle.dbexplain.specs.Summary.{code_line, count_text, start_sum_line, summary, trees_text, whole_line, whole_trees, zeros_text}
+use Rattle.dbexplain.specs.Explained.{explain_report}
+use Rattle.dbexplain.specs.Summary.{code_line, start_sum_line, trees_text, whole_line, whole_trees, zeros_text}
 use Rattle.dbexplain.proofs.Reports.{none_reported, ok_text}
 
 module _ (limit : ℕ) (file : List ℕ) (V : List Reference) (read : refusal file ≡ None) where

@@ -3,24 +3,18 @@ use Rattle.std.proofs.Common.{◌≡◌, ℕ, List, [], ◌∷◌, ◌++◌, ref
 use Rattle.std.specs.Prelude.{fold}
 use Rattle.std.proofs.lemmas.List.Sums.{fold-append}
 use Rattle.dbsurvey.specs.Moves.{Moves, MovesBySome}
-use Rattle.dbformat.specs.Reference.{Reference}
-use Rattle.dbformat.specs.Rows.{StatRow, stat_rows}
-use Rattle.dbformat.specs.Survey.{Survey}
-use Rattle.dbformat.specs.declared.Geometry.{Geometry}
-use Rattle.dbtrace.specs.declared.TracedFault.{TracedFault}
+use Rattle.dbexplain.proofs.Common.{Reference, stat_rows, Survey, Geometry, TracedFault, reported_faults, ListsFirst, IsEmpty, Receives, ExplainReporter}
+use Rattle.dbformat.specs.Rows.{StatRow}
 use Rattle.dbscan.specs.Notices.{run_notices}
-use Rattle.dbscan.specs.Placed.{reported_faults}
-use Rattle.dbinjuries.specs.Lists.{HasListed, ListsFirst, received}
+use Rattle.dbinjuries.specs.Lists.{HasListed, received}
 use Rattle.dbinjuries.proofs.Received.{file_begun, file_received}
 use Rattle.dbinjuries.proofs.ListedFaults.{received_first}
 use Rattle.dbscan.specs.Trees.{row_noted}
 use Rattle.dbexplain.specs.AfterEnd.{after_end_reported}
 use Rattle.dbexplain.specs.Indexes.{index_noted}
-use Rattle.dbexplain.specs.Keeping.{IsEmpty}
 use Rattle.dbexplain.specs.KeptRanges.{range_reported}
-use Rattle.dbexplain.specs.Reporting.{Adds, Receives, Notes}
+use Rattle.dbexplain.specs.Reporting.{Adds, Notes}
 use Rattle.dbexplain.specs.Tallies.{fault_reported}
-use Rattle.dbexplain.specs.declared.reporter.ExplainReporter.{ExplainReporter}
 
 module _ {A O : Type 0} (first : ExplainReporter A O) where
   -- These faults were counted and listed, and the starts of these rows noted; nothing else changed.

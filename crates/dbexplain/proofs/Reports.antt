@@ -1,18 +1,13 @@
 -- The report by the pieces that are put, and what is kept for them.
 use Rattle.std.proofs.Common.{◌≡◌, ℕ, Bool, true, false, cond, List, [], ◌∷◌, ◌++◌, map, take, drop, refl, ap, ◌∙◌}
 use Rattle.std.specs.Prelude.{filter, flat_map, not, sum_by}
-use Rattle.dbformat.specs.Lines.{ok_line}
-use Rattle.dbformat.specs.Reference.{Reference}
-use Rattle.dbformat.specs.Report.{more_text}
-use Rattle.dbtrace.specs.declared.TracedFault.{TracedFault}
+use Rattle.dbexplain.proofs.Common.{ok_line, Reference, more_text, TracedFault, injuries, reported_faults, listed_injuries, Held, injury_text, explain_text}
+use Rattle.dbexplain.proofs.Common.{summary}
 use Rattle.dbinjuries.specs.Listing as listing
-use Rattle.dbinjuries.specs.Listing.{injuries, size}
-use Rattle.dbscan.specs.Placed.{reported_faults}
+use Rattle.dbinjuries.specs.Listing.{size}
 use Rattle.dbreport.proofs.Checks.{more_counted}
-use Rattle.dbinjuries.specs.Listed.{is_lost, listed_injuries, listed_faults, looked_at, others_of}
-use Rattle.dbinjuries.specs.Lists.{Held, Shows}
-use Rattle.dbexplain.specs.Explained.{injury_text, explain_text}
-use Rattle.dbexplain.specs.Summary.{summary}
+use Rattle.dbinjuries.specs.Listed.{is_lost, listed_faults, looked_at, others_of}
+use Rattle.dbinjuries.specs.Lists.{Shows}
 use Rattle.dbexplain.proofs.KeptInjuries.{some_listed}
 
 -- the line that counts the faults of the other injuries

@@ -5,16 +5,11 @@ use Rattle.std.specs.Prelude.{codes, decimal, filter, nat_lt, ◌==◌}
 use Rattle.std.specs.List.{list_any}
 use Rattle.std.proofs.lemmas.Bool.Decides.{nat_tests}
 use Rattle.std.proofs.lemmas.List.{length-take, take-append-le, take_all}
-use Rattle.dbformat.specs.Address.{freelist_start}
-use Rattle.dbformat.specs.Lines.{counted, line_feed}
-use Rattle.dbtrace.specs.declared.TracedFault.{TracedFault}
+use Rattle.dbexplain.proofs.Common.{freelist_start, counted, line_feed, TracedFault, AreAllKept, KeptRanges, is_of, is_all, list_text, RowRange, RowsKind}
+use Rattle.dbexplain.proofs.Common.{NotReached, OnFaulty, CutShort}
 use Rattle.dbexplain.specs.KeptLines.{kept_line, kept_text, piece}
-use Rattle.dbexplain.specs.KeptRanges.{AreAllKept, KeptRanges}
-use Rattle.dbexplain.specs.Ranges.{is_of, other_ranges}
-use Rattle.dbexplain.specs.RowLines.{and_more, is_all, kind_line, lead_of, list_text, range_text, rows_line, rows_text, words_of}
-use Rattle.dbexplain.specs.declared.ranges.RowRange.{RowRange}
-use Rattle.dbexplain.specs.declared.ranges.RowsKind.{RowsKind}
-use Rattle.dbexplain.specs.declared.ranges.RowsKind.TheVariants.{NotReached, OnFaulty, CutShort}
+use Rattle.dbexplain.specs.Ranges.{other_ranges}
+use Rattle.dbexplain.specs.RowLines.{and_more, kind_line, lead_of, range_text, rows_line, rows_text, words_of}
 
 -- ---- counts that stop
 

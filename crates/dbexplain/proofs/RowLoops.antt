@@ -10,10 +10,8 @@ use Rattle.std.proofs.lemmas.List.{take_more}
 use Rattle.std.proofs.lemmas.List.Elements.{filter-append}
 use Rattle.std.proofs.lemmas.List.Folds.{list_any-append}
 use Rattle.dbexplain.specs.KeptLines.{one_if, piece}
-use Rattle.dbexplain.specs.Ranges.{is_of}
-use Rattle.dbexplain.specs.RowLines.{is_all, lead_of, list_text, range_text}
-use Rattle.dbexplain.specs.declared.ranges.RowRange.{RowRange}
-use Rattle.dbexplain.specs.declared.ranges.RowsKind.{RowsKind}
+use Rattle.dbexplain.proofs.Common.{is_of, is_all, list_text, RowRange, RowsKind}
+use Rattle.dbexplain.specs.RowLines.{lead_of, range_text}
 use Rattle.dbexplain.proofs.RowLines.{list_more, ten_full, ten_more}
 
 -- those of start k and a kind, among the first i

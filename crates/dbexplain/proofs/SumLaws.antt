@@ -10,19 +10,14 @@ use Rattle.dbsurvey.specs.Survey.{Link, IsRising}
 use Rattle.dbsurvey.proofs.Lists.{count_more, count_none}
 use Rattle.dbsurvey.proofs.Ordering.{IsIn-from_map}
 use Rattle.dbformat.specs.Address.{schema_start}
-use Rattle.dbformat.specs.Codes.{all_codes, is_code}
-use Rattle.dbformat.specs.Reference.{Way, Reference}
-use Rattle.dbformat.specs.Schema.{starts}
-use Rattle.dbformat.specs.Survey.{Survey}
-use Rattle.dbformat.specs.declared.FaultCode.{FaultCode}
+use Rattle.dbexplain.proofs.Common.{all_codes, Reference, starts, Survey, FaultCode, Part, TracedFault, reported_faults, is_part_of_start}
+use Rattle.dbformat.specs.Codes.{is_code}
+use Rattle.dbformat.specs.Reference.{Way}
 use Rattle.dbformat.specs.declared.FaultCode.TheVariants.{H01}
 use Rattle.dbformat.proofs.Rising.{starts_rise}
-use Rattle.dbtrace.specs.declared.Part.{Part}
 use Rattle.dbtrace.specs.declared.Part.TheVariants as part
-use Rattle.dbtrace.specs.declared.TracedFault.{TracedFault}
-use Rattle.dbscan.specs.Placed.{reported_faults}
 use Rattle.dbscan.proofs.Reached.{of_starts}
-use Rattle.dbexplain.specs.Summary.{is_part_of_start, is_whole, CodesAddUp, StartsAddUp}
+use Rattle.dbexplain.specs.Summary.{is_whole, CodesAddUp, StartsAddUp}
 
 -- ---- what is counted once for each of a list
 

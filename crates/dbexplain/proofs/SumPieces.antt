@@ -1,16 +1,10 @@
 -- The lines of the summary by the pieces that are put.
 use Rattle.std.proofs.Common.{◌≡◌, ℕ, ◌<◌, ◌^◌, true, false, cond, List, [], ◌∷◌, ◌++◌, sym, ap, ap₂, ◌∙◌, arith, append_assoc}
 use Rattle.std.specs.Prelude.{codes, decimal, ◌==◌}
-use Rattle.dbformat.specs.Address.{freelist_start}
-use Rattle.dbformat.specs.Lines.{counted, line_feed}
-use Rattle.dbformat.specs.SchemaRow.{SchemaRow}
-use Rattle.dbformat.specs.declared.Encoding.{Encoding}
-use Rattle.dbscan.specs.Texts.{tree_of_row}
-use Rattle.dbinjuries.specs.Lines.{indented}
+use Rattle.dbexplain.proofs.Common.{freelist_start, counted, line_feed, SchemaRow, Encoding, tree_of_row, indented, start_name, start_sum, StartCount}
 use Rattle.dbscan.specs.Roots.{root_page}
-use Rattle.dbexplain.specs.Summary.{aligned, faulty_pages_text, start_name}
-use Rattle.dbexplain.specs.Sums.{start_sum, sum_front}
-use Rattle.dbexplain.specs.declared.tally.StartCount.{StartCount}
+use Rattle.dbexplain.specs.Summary.{aligned, faulty_pages_text}
+use Rattle.dbexplain.specs.Sums.{sum_front}
 
 -- the name of a start
 pub freelist_name : (e : Encoding) (rows : List SchemaRow) (k : ℕ) → (k == freelist_start) ≡ true → codes "the freelist" ≡ start_name e rows k

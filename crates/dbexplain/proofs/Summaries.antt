@@ -15,48 +15,34 @@ use Rattle.dbsurvey.proofs.Elements.{IsIn-from_range}
 use Rattle.dbsurvey.proofs.Lists.{count_more, count_none}
 use Rattle.dbsurvey.proofs.Order.{IsIn-cases}
 use Rattle.dbsurvey.proofs.Ordering.{IsIn-from_map}
-use Rattle.dbformat.specs.Address.{freelist_start, last_root_start}
-use Rattle.dbformat.specs.Codes.{all_codes, code_index}
-use Rattle.dbformat.specs.File.{geometry}
-use Rattle.dbformat.specs.Header.{encoding, first_trunk}
-use Rattle.dbformat.specs.Lines.{code_text, code_words, counted, line_feed}
-use Rattle.dbformat.specs.Reference.{Way, Reference, trunk}
-use Rattle.dbformat.specs.Schema.{schema, schema_link, start, root_start, rooted_rows, freelist_starts, later_starts, starts}
-use Rattle.dbformat.specs.SchemaRow.{SchemaRow}
-use Rattle.dbformat.specs.Survey.{Survey}
-use Rattle.dbformat.specs.declared.FaultCode.{FaultCode}
-use Rattle.dbformat.specs.declared.Encoding.{Encoding}
-use Rattle.dbformat.specs.declared.Geometry.{Geometry}
+use Rattle.dbexplain.proofs.Common.{freelist_start, all_codes, geometry, encoding, first_trunk, counted, line_feed, Reference, schema, later_starts, starts}
+use Rattle.dbexplain.proofs.Common.{SchemaRow, Survey, FaultCode, Encoding, Geometry, HeaderBytes, IsHeaderOf, Part, TracedFault, reported_faults, indented}
+use Rattle.dbexplain.proofs.Common.{has_bit, count_text, is_of_kind, is_part_of_start, start_name, summary, AreIndexes, AreAllKept, KeptRanges, stat_rows}
+use Rattle.dbexplain.proofs.Common.{code_sum, numbered_sum, rows_sum, start_sum, Tallied, IsTallyTo, count_at, counted_start, no_count, StartCount}
+use Rattle.dbformat.specs.Address.{last_root_start}
+use Rattle.dbformat.specs.Codes.{code_index}
+use Rattle.dbformat.specs.Lines.{code_text, code_words}
+use Rattle.dbformat.specs.Reference.{Way, trunk}
+use Rattle.dbformat.specs.Schema.{schema_link, start, root_start, rooted_rows, freelist_starts}
 use Rattle.dbformat.proofs.HeaderPrefix.{encoding_within}
 use Rattle.dbformat.proofs.SchemaStart.{schema_below}
-use Rattle.dbsource.specs.HeaderBytes.{HeaderBytes}
-use Rattle.dbsource.specs.Headers.{IsHeaderOf}
 use Rattle.dbscan.specs.Roots.{AreListed, listed_rows}
-use Rattle.dbtrace.specs.declared.Part.{Part}
 use Rattle.dbtrace.specs.declared.Part.TheVariants as part
-use Rattle.dbtrace.specs.declared.TracedFault.{TracedFault}
 use Rattle.dbformat.proofs.BelowStarts.{before_freelist, rows_start}
 use Rattle.dbformat.proofs.Rising.{rows_end}
-use Rattle.dbscan.specs.Placed.{reported_faults}
 use Rattle.dbscan.proofs.Reached.{of_starts}
-use Rattle.dbinjuries.specs.Lines.{indented}
-use Rattle.dbinjuries.specs.Bits.{has_bit}
 use Rattle.dbinjuries.specs.Kept.{no_runs, run_added}
 use Rattle.dbinjuries.specs.Zeros.{AreZeros, zero_pages}
 use Rattle.dbinjuries.specs.declared.page_runs.PageRuns.{PageRuns}
 use Rattle.dbinjuries.proofs.Belonging.{runs_kept}
-use Rattle.dbexplain.specs.Summary.{aligned, code_count, code_line, count_text, faulty_pages, is_of_kind, is_part_of_start}
+use Rattle.dbexplain.specs.Summary.{aligned, code_count, code_line, faulty_pages}
 use Rattle.dbexplain.specs.Summary.{has_rowids, is_index_start, rows_below}
-use Rattle.dbexplain.specs.Summary.{faulty_pages_text, reached_pages, start_count, start_sum_line, start_name, sum_line, summary, trees_text}
+use Rattle.dbexplain.specs.Summary.{faulty_pages_text, reached_pages, start_count, start_sum_line, sum_line, trees_text}
 use Rattle.dbexplain.specs.Summary.{whole_count, whole_line, whole_trees, zero_runs_text, zeros_text}
-use Rattle.dbexplain.specs.Indexes.{AreIndexes, is_index_page}
+use Rattle.dbexplain.specs.Indexes.{is_index_page}
 use Rattle.dbexplain.specs.KeptLines.{kept_text}
-use Rattle.dbexplain.specs.KeptRanges.{AreAllKept, KeptRanges}
 use Rattle.dbexplain.proofs.RowLines.{kept_lines}
-use Rattle.dbformat.specs.Rows.{stat_rows}
-use Rattle.dbexplain.specs.Sums.{code_sum, numbered_sum, rows_sum, start_sum, last_sum, summary_by, trees_by, zeros_sum}
-use Rattle.dbexplain.specs.Tallies.{Tallied, IsTallyTo, count_at, counted_start, no_count}
-use Rattle.dbexplain.specs.declared.tally.StartCount.{StartCount}
+use Rattle.dbexplain.specs.Sums.{last_sum, summary_by, trees_by, zeros_sum}
 
 -- ---- counts that stop
 

@@ -9,20 +9,17 @@ use Rattle.std.proofs.lemmas.Bool.Decides.{nat_tests}
 use Rattle.std.proofs.lemmas.List.Folds.{list_any-append}
 use Rattle.std.proofs.lemmas.Option.{get_or_from_slice_get, slice_get_within}
 use Rattle.dbsurvey.proofs.Lists.{count-append}
-use Rattle.dbformat.specs.Codes.{all_codes, is_code, code_index}
-use Rattle.dbformat.specs.Lines.{counted}
+use Rattle.dbexplain.proofs.Common.{all_codes, counted, FaultCode, Part, TracedFault, most_starts, has_bit, is_part_of_start, Tallied, IsTallyOf, counted_start}
+use Rattle.dbexplain.proofs.Common.{no_count}
+use Rattle.dbformat.specs.Codes.{is_code, code_index}
 use Rattle.dbformat.proofs.CodeTables.{apart, listed}
 use Rattle.dbformat.specs.declared.Fault.{Fault}
-use Rattle.dbformat.specs.declared.FaultCode.{FaultCode}
 use Rattle.dbtrace.specs.declared.Cause.{Cause}
-use Rattle.dbtrace.specs.declared.Part.{Part}
 use Rattle.dbtrace.specs.declared.Part.TheVariants as part
-use Rattle.dbtrace.specs.declared.TracedFault.{TracedFault}
-use Rattle.dbscan.specs.StartTable.{most_starts}
 use Rattle.dbscan.proofs.Slots.{get_set, get_set_other}
-use Rattle.dbinjuries.specs.Bits.{bit_set, has_bit}
-use Rattle.dbexplain.specs.Summary.{code_count, is_part_of_start, is_reported, is_whole}
-use Rattle.dbexplain.specs.Tallies.{Tallied, IsTallyOf, counted_start, no_count, one_fault, fault_reported}
+use Rattle.dbinjuries.specs.Bits.{bit_set}
+use Rattle.dbexplain.specs.Summary.{code_count, is_reported, is_whole}
+use Rattle.dbexplain.specs.Tallies.{one_fault, fault_reported}
 use Rattle.dbinjuries.proofs.Bits.{set_is}
 
 -- ---- counts

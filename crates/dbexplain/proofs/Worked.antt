@@ -8,22 +8,23 @@ use Rattle.dbformat.specs.Cell.{cell, cell_pointer, cells}
 use Rattle.dbformat.specs.Coverage.{coverage, freeblocks, items, unused}
 use Rattle.dbformat.specs.EndFaults.{sum_faults, use_fault, late_root_fault}
 use Rattle.dbformat.specs.File.{map_entry, page_bytes, refusal_of}
-use Rattle.dbformat.specs.FixedPages.{fixed_use, map_page_of}
+use Rattle.dbexplain.proofs.Common.{fixed_use, encoding, first_trunk, freelist_count, greatest_root, stated_pages, fault_line, faults, stat_rows, later_starts}
+use Rattle.dbexplain.proofs.Common.{schema, reported_faults, summary}
+use Rattle.dbformat.specs.FixedPages.{map_page_of}
 use Rattle.dbformat.specs.Head.{cell_count, content_start, first_freeblock, fragmented_bytes, own_kind, right_number, type_byte, view}
-use Rattle.dbformat.specs.Header.{change_counter, encoding, encoding_number, first_trunk, freelist_count, greatest_root, has_pointer_map, incremental_vacuum}
-use Rattle.dbformat.specs.Header.{is_size_valid, page_count, page_size, reserved_bytes, schema_format, stated_pages, usable_size, version_valid_for}
+use Rattle.dbformat.specs.Header.{change_counter, encoding_number, has_pointer_map, incremental_vacuum}
+use Rattle.dbformat.specs.Header.{is_size_valid, page_count, page_size, reserved_bytes, schema_format, usable_size, version_valid_for}
 use Rattle.dbformat.specs.Header.{whole_pages}
 use Rattle.dbformat.specs.HeaderFaults.{header_faults}
 use Rattle.dbformat.specs.KeyFaults.{key_faults, keys, row_faults}
-use Rattle.dbformat.specs.Lines.{fault_line, more_line, tree_name}
+use Rattle.dbformat.specs.Lines.{more_line, tree_name}
 use Rattle.dbformat.specs.Looks.{look_of}
 use Rattle.dbformat.specs.PageFaults.{depth_fault, page_faults, tree_page_faults}
 use Rattle.dbformat.specs.Payload.{local_len}
 use Rattle.dbformat.specs.Record.{record_values, serial_len}
 use Rattle.dbformat.specs.Reference.{tree_view}
-use Rattle.dbformat.specs.Report.{faults, walk_faults}
-use Rattle.dbformat.specs.Rows.{stat_rows}
-use Rattle.dbformat.specs.Schema.{later_starts, payload, schema}
+use Rattle.dbformat.specs.Report.{walk_faults}
+use Rattle.dbformat.specs.Schema.{payload}
 use Rattle.dbformat.specs.SchemaRow.{schema_row}
 use Rattle.dbformat.specs.Survey.{refused, rules_of}
 use Rattle.dbformat.specs.PlainNames.{plain_name}
@@ -31,8 +32,6 @@ use Rattle.dbformat.specs.Varint.{varint}
 use Rattle.dbformat.specs.Story.{story_of, reporting}
 use Rattle.dbformat.specs.Samples.{base_file, schema_root}
 use Rattle.dbformat.proofs.Worked.{same_root, same_root_survey}
-use Rattle.dbscan.specs.Placed.{reported_faults}
-use Rattle.dbexplain.specs.Summary.{summary}
 
 -- one page that nothing refers to
 pub unowned_page : summary (base_file 512 2) (schema_root ∷ []) (reported_faults (base_file 512 2) (schema_root ∷ []))

@@ -1,10 +1,7 @@
 -- A file that is sound or breaks one rule, by the faults that are computed of it.
 use Rattle.std.proofs.Common.{◌≡◌, ℕ, List, [], ◌∷◌, Some, None, sym, ◌∙◌}
-use Rattle.dbformat.specs.File.{refusal}
-use Rattle.dbformat.specs.Report.{faults}
-use Rattle.dbformat.specs.Sound.{Sound}
+use Rattle.dbsound.proofs.Common.{refusal, faults, Sound, Fault}
 use Rattle.dbformat.specs.Survey.{survey}
-use Rattle.dbformat.specs.declared.Fault.{Fault}
 use Rattle.dbformat.specs.declared.Refusal.{Refusal}
 use Rattle.dbformat.proofs.Theory.{one_survey}
 use Rattle.dbsound.specs.Broken.{IsRefusedBeside, FailsBeside}

@@ -1,3 +1,4 @@
+pub mod Common
 -- Clean means sound: from a survey without faults to terms, and to a sound file.
 pub mod FaultlessSurveys
 pub mod FaultlessFiles

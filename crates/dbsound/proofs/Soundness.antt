@@ -2,11 +2,9 @@
 -- the line that a check writes.
 use Rattle.std.proofs.Common.{◌≡◌, ℕ, List, [], ◌∷◌, Option, Some, None, Ok, refl, sym, ap, ◌∙◌}
 use Rattle.std.specs.Option.{option_map_or}
-use Rattle.dbformat.specs.File.{refusal}
+use Rattle.dbsound.proofs.Common.{refusal, Reference, faults, Fault}
 use Rattle.dbformat.specs.Lines.{ok_line}
-use Rattle.dbformat.specs.Reference.{Reference}
-use Rattle.dbformat.specs.Report.{check_text, faults, verdict, refused_report, report_of, report}
-use Rattle.dbformat.specs.declared.Fault.{Fault}
+use Rattle.dbformat.specs.Report.{check_text, verdict, refused_report, report_of, report}
 use Rattle.dbformat.specs.declared.Refusal.{Refusal}
 use Rattle.dbformat.specs.declared.Command.{Command}
 use Rattle.dbformat.specs.declared.Command.TheVariants.{Check, Stat}

@@ -14,16 +14,10 @@ pub mod OwnFaults
 pub mod Depths
 pub mod Starts
 use Rattle.std.proofs.Common.{ℕ, ◌+◌, Bool, List, [], ◌∷◌, ◌++◌, Option, ℤ}
-use Rattle.dbsurvey.specs.Address.{Address}
-use Rattle.dbformat.specs.Address.{overflow_step, child_step}
-use Rattle.dbformat.specs.File.{page_bytes}
-use Rattle.dbformat.specs.Cell.{Cell}
-use Rattle.dbformat.specs.SchemaRow.{SchemaRow}
-use Rattle.dbformat.specs.Reference.{Role, trunk, free_leaf, Reference, leaf_count, free_leaves}
-use Rattle.dbformat.specs.Terms.{Use, Chain, last, full, Payload, whole, split, Payloads, none, more, role_in_tree, Tree, leaf, interior, Children, right_only}
-use Rattle.dbformat.specs.Terms.{and_left, Freelist, no_trunk, and_trunk}
-use Rattle.dbformat.specs.Sound.{Forest, no_tree, and_tree}
-use Rattle.dbformat.specs.declared.TreeKind.{TreeKind}
+use Rattle.dbsound.proofs.Common.{Address, overflow_step, child_step, page_bytes, Cell, SchemaRow, Role, trunk, free_leaf, Reference, leaf_count, free_leaves}
+use Rattle.dbsound.proofs.Common.{Use, Chain, last, full, Payload, whole, split, Payloads, none, more, role_in_tree, Tree, leaf, interior, Children, right_only}
+use Rattle.dbsound.proofs.Common.{Freelist, no_trunk, and_trunk, Forest, no_tree, and_tree, TreeKind}
+use Rattle.dbformat.specs.Terms.{and_left}
 
 -- page p in a role, that item of page `from` refers to, at an address
 abbrev pub visit_at : Role → ℕ → ℕ → ℕ → Address → Reference

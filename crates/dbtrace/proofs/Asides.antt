@@ -3,34 +3,22 @@ use Rattle.std.proofs.Common.{◌≡◌, ℕ, zero, suc, ◌<◌, inl, inr, cond
 use Rattle.std.proofs.Common.{◌∙◌, append_assoc}
 use Rattle.std.specs.Prelude.{option_to_list, pos, ◌==◌}
 use Rattle.std.proofs.lemmas.List.{append-nil, length-append, map-append}
-use Rattle.dbsurvey.specs.Address.{IsIn, Address}
-use Rattle.dbsurvey.specs.Run.{run, up_to}
-use Rattle.dbsurvey.specs.Story.{Reported}
+use Rattle.dbtrace.proofs.Common.{IsIn, Address, run, Reported, read_back, reported_if, fault, start_of, Reference, role_of, tree_kind, tree_view, page_faults}
+use Rattle.dbtrace.proofs.Common.{event_faults, event_row, Event, at_page, at_key, at_refused, own_visit, rules_of, FaultCode, TreeKind, leaf_at, refusal_of}
+use Rattle.dbtrace.proofs.Common.{rowids_of, cause_of, reported_row, reported_by, reported_at, RowidBounds, rows_at_event, leaf_after, depth_faults, Walk}
+use Rattle.dbtrace.proofs.Common.{machine, advance}
+use Rattle.dbsurvey.specs.Run.{up_to}
 use Rattle.dbsurvey.specs.Survey.{IsNamed, children}
-use Rattle.dbsurvey.specs.InOrder.{read_back}
 use Rattle.dbsurvey.proofs.Composing.{named_at-step}
 use Rattle.dbformat.proofs.Visited.{kind_of_view}
-use Rattle.dbformat.specs.Tests.{reported_if}
-use Rattle.dbformat.specs.Faults.{fault}
-use Rattle.dbformat.specs.Address.{start_of, depth}
-use Rattle.dbformat.specs.Reference.{Reference, role_of, tree_kind, tree_view}
-use Rattle.dbformat.specs.PageFaults.{page_faults}
+use Rattle.dbformat.specs.Address.{depth}
 use Rattle.dbformat.specs.ReferenceFaults.{reference_faults}
-use Rattle.dbformat.specs.Report.{event_faults}
-use Rattle.dbformat.specs.Laws.{event_row}
-use Rattle.dbformat.specs.Story.{Event, at_page, at_key, at_refused, own_visit}
-use Rattle.dbformat.specs.Survey.{rules_of}
-use Rattle.dbformat.specs.declared.FaultCode.{FaultCode}
 use Rattle.dbformat.specs.declared.FaultCode.TheVariants.{T05}
-use Rattle.dbformat.specs.declared.TreeKind.{TreeKind}
-use Rattle.dbtrace.specs.Causes.{leaf_at, key_up_to, refusal_of, rowids_of, cause_of}
-use Rattle.dbtrace.specs.Finding.{reported_row, reported_by, reported_at}
-use Rattle.dbtrace.specs.declared.RowidBounds.{RowidBounds}
+use Rattle.dbtrace.specs.Causes.{key_up_to}
 use Rattle.dbtrace.specs.declared.TreeLeaf.{TreeLeaf}
-use Rattle.dbtrace.specs.Item.{found, given, rows_at_event, faults_at, items_at}
-use Rattle.dbtrace.specs.Progress.{Progress, cause_by, rowids_by, leaf_after, depth_of, depth_faults, step}
+use Rattle.dbtrace.specs.Item.{found, given, faults_at, items_at}
+use Rattle.dbtrace.specs.Progress.{Progress, cause_by, rowids_by, depth_of, step}
 use Rattle.dbtrace.specs.Steps.{AreAside}
-use Rattle.dbtrace.specs.Walk.{Walk, machine, advance}
 use Rattle.dbtrace.proofs.Depths.{page_parts, not_leaf, no_leaf}
 use Rattle.dbtrace.proofs.Causing.{AgreeOn, page_codes, page_same}
 use Rattle.dbtrace.proofs.SchemaOrder.{parent_inside}

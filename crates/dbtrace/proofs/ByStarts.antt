@@ -2,28 +2,21 @@
 use Rattle.std.proofs.Common.{◌≡◌, ℕ, inl, inr, List, [], ◌∷◌, ◌++◌, map, Option, Some, None, refl, sym, ap, ap₂, subst, ◌∙◌, append_assoc, append-nil}
 use Rattle.std.specs.Prelude.{filter_map, flat_map, option_to_list}
 use Rattle.std.proofs.lemmas.List.Elements.{filter_map-append}
-use Rattle.dbsurvey.specs.Address.{Address, IsIn}
-use Rattle.dbsurvey.specs.InOrder.{visits_in, read_back, AreQuiet}
-use Rattle.dbsurvey.specs.Story.{Reported, Errand, Go, errand_key, reporting_of}
+use Rattle.dbtrace.proofs.Common.{Address, IsIn, visits_in, read_back, Reported, Go, reporting_of, start_of, geometry, event_row, Way, Reference, event_faults}
+use Rattle.dbtrace.proofs.Common.{Event, own_visit, story_of, rules_of, Fault, FaultCode, cause_of, Finding, reported_row, reported_fault, reported_by}
+use Rattle.dbtrace.proofs.Common.{reported_at, Cause}
+use Rattle.dbsurvey.specs.InOrder.{AreQuiet}
+use Rattle.dbsurvey.specs.Story.{Errand, errand_key}
 use Rattle.dbsurvey.proofs.Parting.{visits_of}
 use Rattle.dbsurvey.proofs.ReadBack.{joined}
 use Rattle.dbsurvey.proofs.ReportingLaws.{reporting_join_law}
 use Rattle.dbsurvey.proofs.Within.{reported_within}
-use Rattle.dbformat.specs.Address.{start_of}
-use Rattle.dbformat.specs.File.{geometry}
-use Rattle.dbformat.specs.Laws.{event_row}
-use Rattle.dbformat.specs.Reference.{Way, Reference}
-use Rattle.dbformat.specs.Report.{event_faults}
 use Rattle.dbformat.specs.Rows.{StatRow}
-use Rattle.dbformat.specs.Story.{Event, own_visit, story_of, start_errands, reporting}
-use Rattle.dbformat.specs.Survey.{Survey, rules_of}
-use Rattle.dbformat.specs.declared.Fault.{Fault}
-use Rattle.dbformat.specs.declared.FaultCode.{FaultCode}
+use Rattle.dbformat.specs.Story.{start_errands, reporting}
+use Rattle.dbformat.specs.Survey.{Survey}
 use Rattle.dbformat.proofs.Theory.{are_rules, is_story, shows_visits, reported_in_order}
-use Rattle.dbtrace.specs.Causes.{cause_of}
-use Rattle.dbtrace.specs.Finding.{Finding, reported_row, reported_fault, reported_by, reported_at, reported_below, visited_below}
+use Rattle.dbtrace.specs.Finding.{reported_below, visited_below}
 use Rattle.dbtrace.specs.LookBack.{visits_up_to}
-use Rattle.dbtrace.specs.declared.Cause.{Cause}
 use Rattle.dbtrace.proofs.LookBack.{findings_here, visits_more}
 
 -- an address of start k

@@ -4,33 +4,26 @@ use Rattle.std.proofs.Common.{ap, ap₂, ◌∙◌}
 use Rattle.std.specs.Prelude.{flat_map, is_none, ◌==◌}
 use Rattle.std.specs.List.{range_with_len}
 use Rattle.std.proofs.lemmas.List.{append-nil, map-append}
-use Rattle.dbformat.specs.Tests.{reported_if}
-use Rattle.dbformat.specs.Faults.{fault}
-use Rattle.dbformat.specs.Header.{usable_size}
-use Rattle.dbformat.specs.File.{page_bytes}
-use Rattle.dbformat.specs.Head.{View, view, tree_of, is_same_tree}
-use Rattle.dbformat.specs.Cell.{Cell, cell, count}
+use Rattle.dbtrace.proofs.Common.{reported_if, fault, usable_size, page_bytes, View, Cell, Role, root, child, first_overflow, later_overflow, trunk, free_leaf}
+use Rattle.dbtrace.proofs.Common.{Reference, role_of, tree_kind, depth_fault, page_faults, SchemaCell, Fault, FaultCode, TreeKind, reported_fault, reported_by}
+use Rattle.dbtrace.proofs.Common.{Cause}
+use Rattle.dbformat.specs.Head.{view, tree_of, is_same_tree}
+use Rattle.dbformat.specs.Cell.{cell, count}
 use Rattle.dbformat.specs.Coverage.{bad_freeblock, coverage}
-use Rattle.dbformat.specs.Reference.{Role, root, child, first_overflow, later_overflow, trunk, free_leaf, Reference, role_of, tree_kind}
 use Rattle.dbformat.specs.PageFaults.{fragment_fault, cell_fault, cell_faults, freeblock_fault, coverage_fault, empty_fault, inner_faults, faults_of_view}
-use Rattle.dbformat.specs.PageFaults.{tree_page_faults, depth_fault, role_faults, page_faults}
-use Rattle.dbformat.specs.Schema.{SchemaCell}
+use Rattle.dbformat.specs.PageFaults.{tree_page_faults, role_faults}
 use Rattle.dbformat.specs.SchemaRow.{SchemaRow}
 use Rattle.dbformat.specs.KeyFaults.{row_faults_if}
 use Rattle.dbformat.specs.declared.CellFault.{CellFault}
 use Rattle.dbformat.specs.declared.CellFault.TheVariants.{Offset, Unreadable}
 use Rattle.dbformat.specs.declared.Coverage.{Coverage}
 use Rattle.dbformat.specs.declared.Coverage.TheVariants.{Overlap, Unheld}
-use Rattle.dbformat.specs.declared.Fault.{Fault}
-use Rattle.dbformat.specs.declared.FaultCode.{FaultCode}
 use Rattle.dbformat.specs.declared.FaultCode.TheVariants.{P01, P02, P03, P04, P05, P06, P07, P08, P09, P10, O01, L01, S01, S02, S03, S04}
 use Rattle.dbformat.specs.declared.HeadFault.{HeadFault}
 use Rattle.dbformat.specs.declared.HeadFault.TheVariants.{UnknownType, ContentStart}
 use Rattle.dbformat.specs.declared.RowFault.{RowFault}
 use Rattle.dbformat.specs.declared.RowFault.TheVariants.{Malformed, Root}
-use Rattle.dbformat.specs.declared.TreeKind.{TreeKind}
-use Rattle.dbtrace.specs.Finding.{reported_alone, reported_fault, reported_by}
-use Rattle.dbtrace.specs.declared.Cause.{Cause}
+use Rattle.dbtrace.specs.Finding.{reported_alone}
 use Rattle.dbtrace.specs.declared.Cause.TheVariants.{Itself}
 use Rattle.dbtrace.proofs.Depths.{no_depth, reported_same}
 

@@ -6,23 +6,14 @@ use Rattle.std.proofs.lemmas.Bool.{eq-eqb}
 use Rattle.std.proofs.lemmas.Bool.Decides.{nat_tests}
 use Rattle.std.proofs.lemmas.List.{append-nil}
 use Rattle.std.proofs.lemmas.List.Folds.{find-append}
-use Rattle.dbsurvey.specs.Address.{IsIn, Address}
-use Rattle.dbformat.specs.Tests.{reported_if}
-use Rattle.dbformat.specs.Faults.{fault}
-use Rattle.dbformat.specs.Address.{start_of, depth}
-use Rattle.dbformat.specs.Head.{is_interior}
-use Rattle.dbformat.specs.Reference.{Role, root, child, first_overflow, later_overflow, trunk, free_leaf, Reference, role_of, tree_view}
-use Rattle.dbformat.specs.PageFaults.{is_leaf_of, leaf_depth, depth_fault, page_faults, role_faults}
-use Rattle.dbformat.specs.declared.Fault.{Fault}
-use Rattle.dbformat.specs.declared.FaultCode.{FaultCode}
+use Rattle.dbtrace.proofs.Common.{IsIn, Address, reported_if, fault, start_of, is_interior, Role, root, child, first_overflow, later_overflow, trunk, free_leaf}
+use Rattle.dbtrace.proofs.Common.{Reference, role_of, tree_view, depth_fault, page_faults, Fault, FaultCode, leaf_at, leaf_cause, first_leaf, rowids_of}
+use Rattle.dbtrace.proofs.Common.{reported_fault, reported_by, leaf_after, depth_faults, Cause, RowidBounds, IsOfEarlierStart, AreOfEarlierStarts}
+use Rattle.dbformat.specs.Address.{depth}
+use Rattle.dbformat.specs.PageFaults.{is_leaf_of, leaf_depth, role_faults}
 use Rattle.dbformat.specs.declared.FaultCode.TheVariants.{T05}
-use Rattle.dbtrace.specs.Causes.{leaf_at, leaf_cause, first_leaf, rowids_of}
-use Rattle.dbtrace.specs.Finding.{reported_fault, reported_by}
-use Rattle.dbtrace.specs.Progress.{leaf_after, depth_of, depth_faults}
-use Rattle.dbtrace.specs.declared.Cause.{Cause}
-use Rattle.dbtrace.specs.declared.RowidBounds.{RowidBounds}
+use Rattle.dbtrace.specs.Progress.{depth_of}
 use Rattle.dbtrace.specs.declared.TreeLeaf.{TreeLeaf}
-use Rattle.dbtrace.specs.Starts.{IsOfEarlierStart, AreOfEarlierStarts}
 
 -- where two readings agree on a code, they report its fault alike
 pub reported_same : (why other : FaultCode → Cause) (b : Bool) (f : Fault) → why f.code ≡ other f.code

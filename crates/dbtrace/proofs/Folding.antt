@@ -7,44 +7,31 @@ use Rattle.std.specs.Option.{option_map_or}
 use Rattle.std.proofs.lemmas.Bool.{and_parts, eqb-true}
 use Rattle.std.proofs.lemmas.List.{append-nil, length-append}
 use Rattle.std.proofs.lemmas.List.Elements.{filter_map-append}
-use Rattle.dbsurvey.specs.Address.{IsIn, Address, IsBefore}
-use Rattle.dbsurvey.specs.Run.{run, up_to}
-use Rattle.dbsurvey.specs.Story.{Reported, Go}
-use Rattle.dbsurvey.specs.InOrder.{visits_in, read_back}
+use Rattle.dbtrace.proofs.Common.{IsIn, Address, IsBefore, run, Reported, Go, visits_in, read_back, geometry, start_of, then_step, key_step, schema_start, View}
+use Rattle.dbtrace.proofs.Common.{is_interior, Cell, Reference, role_of, tree_kind, SchemaCell, schema_cell, schema, rules_of, page_faults, depth_fault, Key}
+use Rattle.dbtrace.proofs.Common.{key_of, Event, at_page, at_key, at_refused, own_visit, story_of, event_faults, event_row, Fault, FaultCode, T06, cell_key}
+use Rattle.dbtrace.proofs.Common.{first_leaf, leaf_cause, refusal_of, rowids_of, cause_of, Finding, reported_row, reported_by, reported_at, Cause, RowidBounds}
+use Rattle.dbtrace.proofs.Common.{rows_at_event, key_value, leaf_after, depth_faults, IsOfEarlierStart, AreOfEarlierStarts, Walk, machine, advance}
+use Rattle.dbsurvey.specs.Run.{up_to}
 use Rattle.dbsurvey.proofs.Composing.{named_at-step}
 use Rattle.dbsurvey.proofs.Advancing.{run_visits, run_below_visits}
 use Rattle.dbsurvey.proofs.Lists.{flat_map-same, flat_map-none}
 use Rattle.dbsurvey.proofs.Order.{IsIn-left, IsIn-right}
 use Rattle.dbsurvey.proofs.ReadBack.{read_as}
-use Rattle.dbformat.specs.File.{geometry}
-use Rattle.dbformat.specs.Address.{start_of, then_step, key_step, schema_start, last_root_start}
-use Rattle.dbformat.specs.Head.{View, is_interior}
-use Rattle.dbformat.specs.Cell.{Cell}
-use Rattle.dbformat.specs.Reference.{Reference, role_of, tree_kind}
-use Rattle.dbformat.specs.Schema.{SchemaCell, schema_cell, schema, rooted, rooted_rows}
-use Rattle.dbformat.specs.Survey.{rules_of}
-use Rattle.dbformat.specs.PageFaults.{page_faults, depth_fault}
-use Rattle.dbformat.specs.KeyFaults.{Key, earlier_roots, key_of, key_faults, row_faults_if, row_faults, row_faults_at, cell_place_faults}
-use Rattle.dbformat.specs.Story.{Event, at_page, at_key, at_refused, own_visit, story_of}
+use Rattle.dbformat.specs.Address.{last_root_start}
+use Rattle.dbformat.specs.Schema.{rooted, rooted_rows}
+use Rattle.dbformat.specs.KeyFaults.{earlier_roots, key_faults, row_faults_if, row_faults, row_faults_at, cell_place_faults}
 use Rattle.dbformat.specs.ReferenceFaults.{reference_faults}
-use Rattle.dbformat.specs.Report.{event_faults}
-use Rattle.dbformat.specs.Laws.{event_row}
 use Rattle.dbformat.proofs.LookBack.{visits-append}
 use Rattle.dbformat.proofs.Places.{key_place}
 use Rattle.dbformat.proofs.Theory.{are_rules, is_story, shows_visits}
-use Rattle.dbformat.specs.declared.Fault.{Fault}
-use Rattle.dbformat.specs.declared.FaultCode.{FaultCode}
-use Rattle.dbformat.specs.declared.FaultCode.TheVariants.{T06}
-use Rattle.dbtrace.specs.Causes.{cell_key, first_leaf, leaf_cause, key_above, key_up_to, left_rows, refusal_of, rowids_of, top_before, visit_cause, cause_of}
-use Rattle.dbtrace.specs.Finding.{Finding, reported_row, reported_alone, reported_by, reported_at, visited_below}
-use Rattle.dbtrace.specs.declared.Cause.{Cause}
+use Rattle.dbtrace.specs.Causes.{key_above, key_up_to, left_rows, top_before, visit_cause}
+use Rattle.dbtrace.specs.Finding.{reported_alone, visited_below}
 use Rattle.dbtrace.specs.declared.Cause.TheVariants as cause
-use Rattle.dbtrace.specs.declared.RowidBounds.{RowidBounds}
 use Rattle.dbtrace.specs.Fold.{IsFold}
-use Rattle.dbtrace.specs.Item.{Item, found, given, given_cell, given_cells, roots_in, counted_findings, faults_at, rows_at_event, items_at}
-use Rattle.dbtrace.specs.Progress.{Progress, cause_by, key_value, leaf_after, rowids_by, rows_of, late_faults, depth_faults}
-use Rattle.dbtrace.specs.Starts.{IsOfEarlierStart, AreOfEarlierStarts}
-use Rattle.dbtrace.specs.Walk.{Walk, machine, begin, advance, run_below}
+use Rattle.dbtrace.specs.Item.{Item, found, given, given_cell, given_cells, roots_in, counted_findings, faults_at, items_at}
+use Rattle.dbtrace.specs.Progress.{Progress, cause_by, rowids_by, rows_of, late_faults}
+use Rattle.dbtrace.specs.Walk.{begin, run_below}
 use Rattle.dbtrace.proofs.Causing.{AgreeOn, alone, page_codes, row_codes, reported_by-append, page_same, rows_alone}
 use Rattle.dbtrace.proofs.Depths.{leaf_from, reported_same, depth_reported, page_parts}
 use Rattle.dbtrace.proofs.LookBack.{rowids_front}

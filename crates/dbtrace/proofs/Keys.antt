@@ -9,31 +9,20 @@ use Rattle.std.proofs.lemmas.Grind.{flat_map-append}
 use Rattle.std.proofs.lemmas.Int.{ints}
 use Rattle.std.proofs.lemmas.List.{append-nil}
 use Rattle.std.proofs.lemmas.List.Elements.{filter-append}
-use Rattle.dbsurvey.specs.Address.{IsIn, Address, IsBefore, IsAscending}
+use Rattle.dbtrace.proofs.Common.{IsIn, Address, IsBefore, IsAscending, run, Reported, is_before, visits_in, reported_if, fault, start_of, then_step, key_step}
+use Rattle.dbtrace.proofs.Common.{View, cells, Reference, tree_view, Key, key_of, Event, at_page, at_key, at_refused, own_visit, T06, cell_key, top_key}
+use Rattle.dbtrace.proofs.Common.{key_value, IsOfEarlierStart, AreOfEarlierStarts, Walk, machine, advance}
 use Rattle.dbsurvey.specs.Greatest.{IsOut, IsOutAfter, is_out, greatest_from}
-use Rattle.dbsurvey.specs.Run.{run}
-use Rattle.dbsurvey.specs.Story.{Reported}
-use Rattle.dbsurvey.specs.InOrder.{is_before, visits_in}
 use Rattle.dbsurvey.proofs.Lists.{filter-from, filter-has, filter-none, any_true, any_one}
 use Rattle.dbsurvey.proofs.Order.{IsBefore-beginning, IsIn-right, IsIn-cases, EachPair-append, EachPair-left}
 use Rattle.dbsurvey.proofs.Ordering.{is_before-means, is_before-from, IsIn-map, IsIn-from_map, IsIn-flat_map, IsIn-from_flat_map}
 use Rattle.dbsurvey.proofs.Running.{running_greatest, int_line}
-use Rattle.dbformat.specs.Tests.{reported_if}
-use Rattle.dbformat.specs.Faults.{fault}
-use Rattle.dbformat.specs.Address.{start_of, then_step, key_step}
-use Rattle.dbformat.specs.Head.{View}
-use Rattle.dbformat.specs.Cell.{cells}
-use Rattle.dbformat.specs.Reference.{Reference, tree_view}
-use Rattle.dbformat.specs.KeyFaults.{Key, key_of, keys_of_view, keys_at, keys, earlier_keys, is_out_of_order, key_faults}
-use Rattle.dbformat.specs.Story.{Event, at_page, at_key, at_refused, own_visit}
-use Rattle.dbformat.specs.declared.FaultCode.TheVariants.{T06}
+use Rattle.dbformat.specs.KeyFaults.{keys_of_view, keys_at, keys, earlier_keys, is_out_of_order, key_faults}
 use Rattle.dbformat.proofs.LookBack.{not_before}
 use Rattle.dbformat.proofs.Places.{key_place}
-use Rattle.dbtrace.specs.Causes.{cell_key, key_above, top_key}
-use Rattle.dbtrace.specs.Progress.{key_entry, greatest_after, key_value, late_faults}
+use Rattle.dbtrace.specs.Causes.{key_above}
+use Rattle.dbtrace.specs.Progress.{key_entry, greatest_after, late_faults}
 use Rattle.dbtrace.specs.declared.CellKey.{CellKey}
-use Rattle.dbtrace.specs.Starts.{IsOfEarlierStart, AreOfEarlierStarts}
-use Rattle.dbtrace.specs.Walk.{Walk, machine, advance}
 use Rattle.dbtrace.proofs.Depths.{other_start}
 use Rattle.dbtrace.proofs.Tops.{values, top_found}
 use Rattle.dbtrace.proofs.Reported.{visited, trace, reports, IsOf, reported_as, key_reported, below_start, before, visited_before, page_before}

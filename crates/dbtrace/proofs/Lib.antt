@@ -1,3 +1,4 @@
+pub mod Common
 pub mod Asides
 pub mod ByStarts
 pub mod Causing

@@ -3,40 +3,26 @@ use Rattle.std.proofs.Common.{◌≡◌, ℕ, zero, suc, ◌+◌, ◌-◌, inl, 
 use Rattle.std.proofs.Common.{Some, None, refl, sym, ap, ap₂, subst, ◌∙◌, append_assoc}
 use Rattle.std.specs.Prelude.{find, flat_map, option_and_then, option_map, option_to_list, pos, ◌==◌}
 use Rattle.std.specs.Option.{option_map_or}
-use Rattle.dbsurvey.specs.Address.{IsIn, Address, IsBefore, IsAscending}
-use Rattle.dbsurvey.specs.InOrder.{is_before, visits_in, read_back}
-use Rattle.dbsurvey.specs.Story.{Reported}
+use Rattle.dbtrace.proofs.Common.{IsIn, Address, IsBefore, IsAscending, is_before, visits_in, read_back, Reported, page_bytes, usable_size, start_of, then_step}
+use Rattle.dbtrace.proofs.Common.{key_step, Cell, View, Key, key_of, event_row, depth_fault, page_faults, Reference, role_of, tree_kind, event_faults, Event}
+use Rattle.dbtrace.proofs.Common.{at_page, at_key, at_refused, own_visit, Fault, FaultCode, T06, TreeKind, cell_key, leaf_at, top_key, first_leaf, leaf_cause}
+use Rattle.dbtrace.proofs.Common.{refusal_of, rowids_of, cause_of, Finding, reported_row, reported_fault, reported_by, reported_at, Cause, RowidBounds}
 use Rattle.dbsurvey.proofs.Lists.{find-some}
 use Rattle.dbsurvey.proofs.Order.{IsIn-right, EachPair-across}
 use Rattle.dbsurvey.proofs.Ordering.{is_before-from}
-use Rattle.dbformat.specs.File.{page_bytes}
-use Rattle.dbformat.specs.Header.{usable_size}
-use Rattle.dbformat.specs.Address.{start_of, then_step, key_step}
-use Rattle.dbformat.specs.Cell.{Cell}
-use Rattle.dbformat.specs.Head.{View}
-use Rattle.dbformat.specs.KeyFaults.{Key, key_of}
-use Rattle.dbformat.specs.Laws.{event_row}
-use Rattle.dbformat.specs.PageFaults.{is_leaf_of, depth_fault, page_faults}
-use Rattle.dbformat.specs.Reference.{Reference, role_of, bytes_left, tree_kind}
-use Rattle.dbformat.specs.Report.{event_faults}
-use Rattle.dbformat.specs.Story.{Event, at_page, at_key, at_refused, own_visit, start_errands, reporting}
+use Rattle.dbformat.specs.PageFaults.{is_leaf_of}
+use Rattle.dbformat.specs.Reference.{bytes_left}
+use Rattle.dbformat.specs.Story.{start_errands, reporting}
 use Rattle.dbformat.specs.Survey.{Survey}
-use Rattle.dbformat.specs.declared.Fault.{Fault}
-use Rattle.dbformat.specs.declared.FaultCode.{FaultCode}
-use Rattle.dbformat.specs.declared.FaultCode.TheVariants.{T06}
-use Rattle.dbformat.specs.declared.TreeKind.{TreeKind}
 use Rattle.dbformat.proofs.LookBack.{find_front, keys_front, reports, all_of, later, here, listed, one_of, visits-append}
 use Rattle.dbformat.proofs.Places.{key_place}
 use Rattle.dbformat.proofs.Theory.{no_due, reported_in_order}
 use Rattle.dbformat.specs.Schema.{starts}
-use Rattle.dbtrace.specs.Causes.{cell_key, leaf_at, top_key, top_before, first_leaf, leaf_cause, chain_number, head_address, is_same, chain_head, chain_of}
-use Rattle.dbtrace.specs.Causes.{chain_cause, seen_from, seen_bytes, key_from, left_rows, refusal_of, refusal_cause, rowids_of, visit_cause, cause_of}
-use Rattle.dbtrace.specs.Finding.{Finding, reported_row, reported_fault, reported_by, reported_at}
+use Rattle.dbtrace.specs.Causes.{top_before, chain_number, head_address, is_same, chain_head, chain_of}
+use Rattle.dbtrace.specs.Causes.{chain_cause, seen_from, seen_bytes, key_from, left_rows, refusal_cause, visit_cause}
 use Rattle.dbtrace.specs.LookBack.{visits_up_to, CausesLookBack, FindingsLookBack}
 use Rattle.dbtrace.specs.declared.SeenBytes.{SeenBytes}
-use Rattle.dbtrace.specs.declared.Cause.{Cause}
 use Rattle.dbtrace.specs.declared.Cause.TheVariants as cause
-use Rattle.dbtrace.specs.declared.RowidBounds.{RowidBounds}
 use Rattle.dbtrace.proofs.Causing.{page_codes, reported_by-append, page_same}
 use Rattle.dbtrace.proofs.Depths.{reported_same, page_parts}
 use Rattle.dbtrace.proofs.Reported.{IsOf, reported_of}

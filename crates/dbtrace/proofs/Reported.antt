@@ -1,13 +1,13 @@
 -- What is reported at an event of the tree of a start, and what was visited and reported before it.
 use Rattle.std.proofs.Common.{◌≡◌, ℕ, ◌↔◌, inl, inr, List, [], ◌∷◌, ◌++◌, map, Option, Some, None, refl, sym, ap, subst, ◌∙◌}
 use Rattle.std.specs.Prelude.{flat_map}
-use Rattle.dbsurvey.specs.Address.{IsIn, Address, IsBefore, IsAscending}
+use Rattle.dbtrace.proofs.Common.{IsIn, Address, IsBefore, IsAscending, Reported, Go, reporting_of, visits_in, usable_size, geometry, page_bytes, then_step}
+use Rattle.dbtrace.proofs.Common.{key_step, View, Cell, cells, Role, root, child, first_overflow, later_overflow, trunk, free_leaf, Way, Reference, role_of}
+use Rattle.dbtrace.proofs.Common.{tree_view, rules_of, Event, at_page, at_key, at_refused, own_visit, story_of, TreeKind}
 use Rattle.dbsurvey.specs.Survey.{IsNamed, IsPart}
 use Rattle.dbsurvey.specs.Traverse.{part_of}
-use Rattle.dbsurvey.specs.Story.{Reported, PageStep, Follow, Place, Errand, Go, Due, goes, reported_own, IsReported, of_errand, of_page, of_place, of_refused}
+use Rattle.dbsurvey.specs.Story.{PageStep, Follow, Place, Errand, Due, goes, reported_own, IsReported, of_errand, of_page, of_place, of_refused}
 use Rattle.dbsurvey.specs.Story.{IsReporting}
-use Rattle.dbsurvey.specs.Story.{reporting_of}
-use Rattle.dbsurvey.specs.InOrder.{visits_in}
 use Rattle.dbsurvey.proofs.Order.{IsIn-cases, IsIn-right, EachPair-right, IsBefore-trans, IsBefore-beginning}
 use Rattle.dbsurvey.proofs.Ordering.{IsIn-from_flat_map}
 use Rattle.dbsurvey.proofs.Composing.{part_below}
@@ -15,16 +15,10 @@ use Rattle.dbsurvey.proofs.ReportingLaws.{reporting_is}
 use Rattle.dbsurvey.proofs.Reportings.{reported_before}
 use Rattle.dbsurvey.proofs.Traversal.{traverse_part, free_at_most}
 use Rattle.dbsurvey.proofs.Visits.{visits-from, visits-has, own_of}
-use Rattle.dbformat.specs.Header.{usable_size}
-use Rattle.dbformat.specs.File.{geometry, page_bytes}
-use Rattle.dbformat.specs.Address.{then_step, key_step}
-use Rattle.dbformat.specs.Head.{View, undamaged}
-use Rattle.dbformat.specs.Cell.{Cell, cells}
-use Rattle.dbformat.specs.Reference.{Role, root, child, first_overflow, later_overflow, trunk, free_leaf, Way, Reference, role_of, cell_links, right_links}
-use Rattle.dbformat.specs.Reference.{overflow_links, trunk_links, tree_view}
-use Rattle.dbformat.specs.Survey.{rules_of}
-use Rattle.dbformat.specs.Story.{Event, at_page, at_key, at_refused, own_visit, cell_items, page_items, role_items, story_of}
-use Rattle.dbformat.specs.declared.TreeKind.{TreeKind}
+use Rattle.dbformat.specs.Head.{undamaged}
+use Rattle.dbformat.specs.Reference.{cell_links, right_links}
+use Rattle.dbformat.specs.Reference.{overflow_links, trunk_links}
+use Rattle.dbformat.specs.Story.{cell_items, page_items, role_items}
 use Rattle.dbformat.proofs.Theory.{are_rules, is_story, shows_visits, no_place}
 use Rattle.dbformat.proofs.LookBack.{key_at}
 use Rattle.dbformat.proofs.NoFaults.{placed, cell_in_items}

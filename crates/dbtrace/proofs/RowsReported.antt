@@ -6,9 +6,10 @@ use Rattle.std.specs.List.{cons_option}
 use Rattle.std.proofs.lemmas.List.{append-nil}
 use Rattle.std.proofs.lemmas.List.Elements.{filter-append, filter_map-append}
 use Rattle.std.proofs.lemmas.Grind.{flat_map-append}
-use Rattle.dbsurvey.specs.Address.{IsIn, EachPair, Address, IsBefore, IsAscending}
-use Rattle.dbsurvey.specs.Story.{Reported, Go}
-use Rattle.dbsurvey.specs.InOrder.{is_before, visits_in, read_back}
+use Rattle.dbtrace.proofs.Common.{IsIn, Address, IsBefore, IsAscending, Reported, Go, is_before, visits_in, read_back, geometry, start_of, then_step, key_step}
+use Rattle.dbtrace.proofs.Common.{schema_start, View, is_interior, Cell, cells, Reference, tree_view, SchemaCell, schema_cell, schema, rules_of, Event, at_page}
+use Rattle.dbtrace.proofs.Common.{at_key, at_refused, own_visit, story_of, rows_at_event}
+use Rattle.dbsurvey.specs.Address.{EachPair}
 use Rattle.dbsurvey.proofs.Determined.{same_elements}
 use Rattle.dbsurvey.proofs.Elements.{each_list, each_within}
 use Rattle.dbsurvey.proofs.Lists.{filter-all, filter-none}
@@ -16,17 +17,9 @@ use Rattle.dbsurvey.proofs.Order.{IsIn-right, EachPair-right}
 use Rattle.dbsurvey.proofs.Ordering.{is_before-from, is_before-itself, IsIn-map, IsIn-flat_map, IsIn-from_flat_map}
 use Rattle.dbsurvey.proofs.Parting.{visits_of}
 use Rattle.dbsurvey.proofs.ReadBack.{read_as}
-use Rattle.dbformat.specs.File.{geometry}
-use Rattle.dbformat.specs.Address.{start_of, then_step, key_step, schema_start}
-use Rattle.dbformat.specs.Head.{View, is_interior}
-use Rattle.dbformat.specs.Cell.{Cell, cells}
-use Rattle.dbformat.specs.Reference.{Reference, tree_view}
-use Rattle.dbformat.specs.Schema.{SchemaCell, schema_cell, leaf_rows, rows_at, schema}
-use Rattle.dbformat.specs.Survey.{rules_of}
-use Rattle.dbformat.specs.Story.{Event, at_page, at_key, at_refused, own_visit, story_of}
+use Rattle.dbformat.specs.Schema.{leaf_rows, rows_at}
 use Rattle.dbformat.proofs.Theory.{are_rules, is_story, shows_visits}
 use Rattle.dbformat.proofs.LookBack.{not_before, cell_front, schema_front}
-use Rattle.dbtrace.specs.Item.{rows_at_event}
 use Rattle.dbtrace.specs.Progress.{rows_of}
 use Rattle.dbtrace.proofs.SchemaOrder.{IsRowOf, row_from, schema_ascends}
 use Rattle.dbtrace.proofs.Reported.{visited, trace, reports, IsReportedBelow, IsOf, reported_as, key_reported, before, visited_after}

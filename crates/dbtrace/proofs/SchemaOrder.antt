@@ -5,25 +5,24 @@ use Rattle.std.specs.Prelude.{flat_map, option_map, option_to_list, nat_lt, nat_
 use Rattle.std.specs.List.{enumerate_from}
 use Rattle.std.proofs.lemmas.Bool.{both_ways}
 use Rattle.std.proofs.lemmas.List.{length-append}
-use Rattle.dbsurvey.specs.Address.{IsIn, EachPair, Address, IsBefore, IsLeftOf, IsAscending}
+use Rattle.dbtrace.proofs.Common.{IsIn, Address, IsBefore, IsAscending, usable_size, page_bytes, start_of, then_step, key_step, schema_start, View, is_interior}
+use Rattle.dbtrace.proofs.Common.{Cell, cells, Role, root, child, first_overflow, later_overflow, trunk, free_leaf, Way, Reference, role_of, tree_kind}
+use Rattle.dbtrace.proofs.Common.{tree_view, SchemaCell, schema_cell, schema, rules_of, TreeKind}
+use Rattle.dbsurvey.specs.Address.{EachPair, IsLeftOf}
 use Rattle.dbsurvey.specs.Survey.{Link, children}
 use Rattle.dbsurvey.proofs.Composing.{named_at-from}
 use Rattle.dbsurvey.proofs.Elements.{each_list, each_map, each_weaker, each_within}
 use Rattle.dbsurvey.proofs.Order.{IsIn-cases, IsLeftOf-before, IsLeftOf-longer, IsLeftOf-steps}
 use Rattle.dbsurvey.proofs.Ordering.{IsIn-from_map, IsIn-from_flat_map, one_at_key}
 use Rattle.dbformat.proofs.Visited.{kind_of_view}
-use Rattle.dbformat.specs.Header.{usable_size}
-use Rattle.dbformat.specs.File.{page_bytes}
 use Rattle.dbformat.specs.Payload.{overflow_next}
-use Rattle.dbformat.specs.Address.{start_of, then_step, key_step, overflow_step, child_step, schema_start}
-use Rattle.dbformat.specs.Head.{View, is_interior, undamaged}
-use Rattle.dbformat.specs.Cell.{Cell, cells, count, overflow_size, right_child}
-use Rattle.dbformat.specs.Reference.{Role, root, child, first_overflow, later_overflow, trunk, free_leaf, Way, Reference, role_of, tree_kind, tree_view, link}
+use Rattle.dbformat.specs.Address.{overflow_step, child_step}
+use Rattle.dbformat.specs.Head.{undamaged}
+use Rattle.dbformat.specs.Cell.{count, overflow_size, right_child}
+use Rattle.dbformat.specs.Reference.{link}
 use Rattle.dbformat.specs.Reference.{cell_links, right_links, page_links, overflow_links, trunk_links, role_links, leaf_link, next_trunk, trunk_next}
 use Rattle.dbformat.specs.Reference.{leaf_count, most_leaves, free_leaves}
-use Rattle.dbformat.specs.Schema.{SchemaCell, schema_cell, leaf_rows, rows_at, schema}
-use Rattle.dbformat.specs.Survey.{rules_of}
-use Rattle.dbformat.specs.declared.TreeKind.{TreeKind}
+use Rattle.dbformat.specs.Schema.{leaf_rows, rows_at}
 use Rattle.dbformat.proofs.Cells.{cells_rise, rise_pairs, is_of_kind}
 use Rattle.dbtrace.proofs.Reported.{visited, part, below_start}
 

@@ -1,13 +1,9 @@
 -- A walk step by step.
 use Rattle.std.proofs.Common.{ℕ, List}
 use Rattle.dbsurvey.proofs.Advancing.{run_items, run_state, run_none, run_event, run_refused, run_visit, run_below_visits, run_join}
-use Rattle.dbsurvey.specs.Story.{reporting_of}
-use Rattle.dbformat.specs.File.{geometry}
-use Rattle.dbformat.specs.Story.{story_of}
-use Rattle.dbformat.specs.Survey.{rules_of}
+use Rattle.dbtrace.proofs.Common.{reporting_of, geometry, story_of, rules_of, machine}
 use Rattle.dbformat.proofs.Theory.{are_rules, is_story, shows_visits}
 use Rattle.dbtrace.specs.Steps.{HasSteps}
-use Rattle.dbtrace.specs.Walk.{machine}
 
 pub has_steps : (file : List ℕ) → HasSteps file
 unfolding story_of

@@ -6,16 +6,14 @@ use Rattle.std.specs.List.{list_any}
 use Rattle.std.proofs.lemmas.Bool.{cases_Bool, both_ways, not-true}
 use Rattle.std.proofs.lemmas.Int.{ints}
 use Rattle.std.proofs.lemmas.List.{append-nil}
-use Rattle.dbsurvey.specs.Address.{IsIn, Address, IsBefore, IsAscending}
+use Rattle.dbtrace.proofs.Common.{IsIn, Address, IsBefore, IsAscending, is_before, Key, cell_key, top_key, key_value}
 use Rattle.dbsurvey.specs.Greatest.{greatest_from}
-use Rattle.dbsurvey.specs.InOrder.{is_before}
 use Rattle.dbsurvey.proofs.Lists.{any_none, list_any-false, find-none, find-some}
 use Rattle.dbsurvey.proofs.Order.{IsIn-left, IsIn-right, IsIn-cases, IsBefore-irreflexive, IsBefore-trans, EachPair-across, cases_before}
 use Rattle.dbsurvey.proofs.Ordering.{is_before-means, is_before-not, is_before-itself, one_at_key}
 use Rattle.dbsurvey.proofs.Running.{int_line}
-use Rattle.dbformat.specs.KeyFaults.{Key}
-use Rattle.dbtrace.specs.Causes.{cell_key, is_above, top_key}
-use Rattle.dbtrace.specs.Progress.{key_entry, greater_key, greatest_after, key_value}
+use Rattle.dbtrace.specs.Causes.{is_above}
+use Rattle.dbtrace.specs.Progress.{key_entry, greater_key, greatest_after}
 use Rattle.dbtrace.specs.declared.CellKey.{CellKey}
 
 -- its value is the greatest of the values

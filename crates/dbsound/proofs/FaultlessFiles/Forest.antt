@@ -4,27 +4,17 @@ use Rattle.std.specs.Prelude.{flat_map, ◌==◌}
 use Rattle.std.specs.List.{enumerate_from}
 use Rattle.std.proofs.lemmas.List.{append-nil, map-append, take_all}
 use Rattle.std.proofs.lemmas.Grind.{flat_map-append}
-use Rattle.dbsurvey.specs.Address.{IsIn}
-use Rattle.dbsurvey.specs.Survey.{Link, named_at}
-use Rattle.dbsurvey.specs.Whole.{IsWhole, nothing}
+use Rattle.dbsound.proofs.Common.{IsIn, Link, named_at, IsWhole, nothing, first_trunk, schema_start, last_root_start, freelist_start, SchemaRow, root, trunk}
+use Rattle.dbsound.proofs.Common.{Way, Reference, role_of, from_of, schema, rooted_rows, start, schema_link, root_start, freelist_starts, later_starts, starts}
+use Rattle.dbsound.proofs.Common.{Survey, rules_of, most_depth, walk_faults, Tree, Forest, no_tree, and_tree, TreeKind, below, use_of, leaf_payloads}
 use Rattle.dbsurvey.proofs.Order.{IsIn-right}
-use Rattle.dbformat.specs.Header.{first_trunk}
-use Rattle.dbformat.specs.Address.{schema_start, last_root_start, freelist_start}
-use Rattle.dbformat.specs.SchemaRow.{SchemaRow}
-use Rattle.dbformat.specs.Reference.{root, trunk, Way, Reference, role_of, from_of}
-use Rattle.dbformat.specs.Schema.{schema, rooted_rows, root_kind, start, schema_link, root_start, root_starts, freelist_starts, later_starts, starts}
-use Rattle.dbformat.specs.Survey.{Survey, rules_of, most_depth}
-use Rattle.dbformat.specs.Report.{walk_faults}
-use Rattle.dbformat.specs.Terms.{Tree}
-use Rattle.dbformat.specs.Sound.{Forest, no_tree, and_tree}
+use Rattle.dbformat.specs.Schema.{root_kind, root_starts}
 use Rattle.dbformat.specs.declared.RowKind.{RowKind}
 use Rattle.dbformat.specs.declared.RowKind.TheVariants as row
-use Rattle.dbformat.specs.declared.TreeKind.{TreeKind}
 use Rattle.dbformat.specs.declared.TreeKind.TheVariants as tree
 use Rattle.dbformat.proofs.SchemaStart.{schema_below}
 use Rattle.dbformat.proofs.Theory.{named-all}
 use Rattle.dbformat.proofs.NoFaults.{follows_all}
-use Rattle.dbsound.specs.Below.{below, use_of, leaf_payloads}
 use Rattle.dbsound.proofs.FaultlessSurveys.Sections.{by_sections}
 use Rattle.dbsound.proofs.FaultlessFiles.SchemaRows.{few_rooted}
 

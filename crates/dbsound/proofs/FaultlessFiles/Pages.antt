@@ -3,16 +3,13 @@
 use Rattle.std.proofs.Common.{◌≡◌, ℕ, inl, inr, Bool, true, false, List, [], ◌++◌, map, Option, Some, None, refl, sym, ap, subst, ◌∙◌}
 use Rattle.std.specs.Prelude.{◌==◌, IsPermutation, All, IfSome}
 use Rattle.std.proofs.lemmas.Bool.{and_parts, eqb-true}
-use Rattle.dbsurvey.specs.Address.{IsIn}
+use Rattle.dbsound.proofs.Common.{IsIn, is_fixed, geometry, map_entry, Reference, role_of, from_of, Survey, visit_of, use_fault, page_numbers, use_of}
 use Rattle.dbsurvey.proofs.Order.{IsIn-left, IsIn-right, IsIn-cases, EachPair-append}
 use Rattle.dbsurvey.proofs.Ordering.{IsIn-map, IsIn-from_map}
-use Rattle.dbformat.specs.FixedPages.{is_fixed}
-use Rattle.dbformat.specs.File.{geometry, MapEntry, map_entry}
-use Rattle.dbformat.specs.Reference.{Reference, role_of, from_of, entry_of}
-use Rattle.dbformat.specs.Survey.{Survey}
-use Rattle.dbformat.specs.EndFaults.{visit_of, is_same_entry, entry_fault, use_fault, page_numbers}
+use Rattle.dbformat.specs.File.{MapEntry}
+use Rattle.dbformat.specs.Reference.{entry_of}
+use Rattle.dbformat.specs.EndFaults.{is_same_entry, entry_fault}
 use Rattle.dbformat.specs.Sound.{fixed_pages}
-use Rattle.dbsound.specs.Below.{use_of}
 use Rattle.dbsurvey.proofs.Lists.{filter-from, filter-has, find-some}
 use Rattle.dbformat.proofs.FaultParts.{AllUsed}
 use Rattle.dbsurvey.proofs.Elements.{EachPair-filter, range_once, All-from_each, map_once}

@@ -2,21 +2,13 @@
 use Rattle.std.proofs.Common.{◌≡◌, ◌≢◌, ℕ, ◌<◌, ◌≤◌, inl, inr, Bool, true, false, not, ◌&&◌, List, [], map, Some, refl, sym, ap, subst, ◌∙◌, arith}
 use Rattle.std.specs.Prelude.{filter, nat_lt, ◌==◌}
 use Rattle.std.proofs.lemmas.Bool.{and_from, ne_eqb, eq-eqb, ltb-false}
-use Rattle.dbsurvey.specs.Address.{IsIn}
-use Rattle.dbsurvey.specs.From.{under}
-use Rattle.dbsurvey.specs.Survey.{Link}
+use Rattle.dbsound.proofs.Common.{IsIn, under, Link, has_pointer_map, geometry, start_of, schema_start, Way, Reference, role_of, is_root, starts, Survey}
+use Rattle.dbsound.proofs.Common.{visit_of, late_root_fault, Use, use_of}
 use Rattle.dbsurvey.proofs.Ordering.{IsIn-map, IsIn-from_map}
 use Rattle.dbsurvey.proofs.Composing.{named_at-from}
-use Rattle.dbformat.specs.Header.{has_pointer_map}
-use Rattle.dbformat.specs.File.{geometry}
-use Rattle.dbformat.specs.Address.{start_of, schema_start}
-use Rattle.dbformat.specs.Reference.{Way, Reference, role_of, is_root}
-use Rattle.dbformat.specs.Schema.{starts}
-use Rattle.dbformat.specs.Survey.{Survey}
-use Rattle.dbformat.specs.EndFaults.{visit_of, least_other_page, is_root_page, late_root_fault}
-use Rattle.dbformat.specs.Terms.{Use, is_root_use}
+use Rattle.dbformat.specs.EndFaults.{least_other_page, is_root_page}
+use Rattle.dbformat.specs.Terms.{is_root_use}
 use Rattle.dbformat.proofs.Rising.{starts_rise}
-use Rattle.dbsound.specs.Below.{use_of}
 use Rattle.dbsurvey.proofs.Lists.{filter-has, any_true}
 use Rattle.dbsurvey.proofs.Elements.{IsIn-from_range}
 use Rattle.dbsound.proofs.FaultlessFiles.Forest.{start_triple}

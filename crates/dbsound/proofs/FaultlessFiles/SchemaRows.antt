@@ -5,20 +5,11 @@ use Rattle.std.specs.Prelude.{filter, filter_map, is_some, IsSome, Result, Ok, E
 use Rattle.std.specs.List.{cons_option}
 use Rattle.std.specs.Result.{result_ok}
 use Rattle.std.proofs.lemmas.Bool.{leb-false}
-use Rattle.dbsurvey.specs.Address.{IsIn}
-use Rattle.dbsurvey.specs.InOrder.{is_before}
+use Rattle.dbsound.proofs.Common.{IsIn, is_before, start_of, schema_start, last_root_start, View, is_interior, Cell, cells, SchemaRow, Reference, tree_view}
+use Rattle.dbsound.proofs.Common.{SchemaCell, schema_cell, leaf_rows, rows_at, schema, rooted, rooted_rows, Survey, row_faults, row_faults_at, walk_faults}
+use Rattle.dbsound.proofs.Common.{with_root, RowFault}
 use Rattle.dbsurvey.proofs.Ordering.{IsIn-from_map, IsIn-from_flat_map}
-use Rattle.dbformat.specs.Address.{start_of, schema_start, last_root_start}
-use Rattle.dbformat.specs.Head.{View, is_interior}
-use Rattle.dbformat.specs.Cell.{Cell, cells}
-use Rattle.dbformat.specs.SchemaRow.{SchemaRow}
-use Rattle.dbformat.specs.Reference.{Reference, tree_view}
-use Rattle.dbformat.specs.Schema.{SchemaCell, schema_cell, leaf_rows, rows_at, schema, rooted, rooted_rows}
-use Rattle.dbformat.specs.Survey.{Survey}
-use Rattle.dbformat.specs.KeyFaults.{earlier_roots, row_faults_if, row_faults, row_faults_at}
-use Rattle.dbformat.specs.Report.{walk_faults}
-use Rattle.dbformat.specs.Sound.{with_root}
-use Rattle.dbformat.specs.declared.RowFault.{RowFault}
+use Rattle.dbformat.specs.KeyFaults.{earlier_roots, row_faults_if}
 use Rattle.dbformat.specs.declared.RowFault.TheVariants.{Malformed, Root}
 use Rattle.dbformat.proofs.NoFaults.{follows_all}
 use Rattle.dbsurvey.proofs.Lists.{both_empty}

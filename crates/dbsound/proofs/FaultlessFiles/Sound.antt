@@ -5,26 +5,16 @@ use Rattle.std.specs.List.{range_with_len}
 use Rattle.std.specs.Option.{option_map_or}
 use Rattle.std.specs.Result.{result_ok}
 use Rattle.std.proofs.lemmas.Bool.{and_from, ne_eqb, eqb-true}
-use Rattle.dbsurvey.specs.Address.{IsIn}
+use Rattle.dbsound.proofs.Common.{IsIn, freelist_count, greatest_root, schema_format, encoding_number, has_pointer_map, refusal, geometry, map_entry, start_of}
+use Rattle.dbsound.proofs.Common.{schema_start, last_root_start, View, is_interior, Cell, cell, cells, count, Reference, tree_view, SchemaCell, rows_at, schema}
+use Rattle.dbsound.proofs.Common.{rooted_rows, schema_link, freelist_starts, Survey, is_leaf_of, greatest_root_reached, greatest_root_fault, free_pages}
+use Rattle.dbsound.proofs.Common.{freelist_fault, sum_faults, page_numbers, walk_faults, faults, Use, Sound, Forest, with_root, below, use_of, leaf_payloads}
 use Rattle.dbsurvey.proofs.Order.{IsIn-left}
 use Rattle.dbsurvey.proofs.Ordering.{IsIn-from_flat_map}
 use Rattle.std.proofs.lemmas.List.{length-map}
-use Rattle.dbformat.specs.Header.{freelist_count, greatest_root, schema_format, encoding_number, has_pointer_map}
-use Rattle.dbformat.specs.File.{refusal, geometry, map_entry}
-use Rattle.dbformat.specs.Address.{start_of, schema_start, last_root_start}
-use Rattle.dbformat.specs.Head.{View, is_interior}
-use Rattle.dbformat.specs.Cell.{Cell, cell, cells, count}
-use Rattle.dbformat.specs.Reference.{Reference, tree_view}
-use Rattle.dbformat.specs.Schema.{SchemaCell, rows_at, schema, rooted_rows, schema_link, freelist_starts}
-use Rattle.dbformat.specs.Survey.{Survey}
-use Rattle.dbformat.specs.PageFaults.{is_leaf_of}
-use Rattle.dbformat.specs.EndFaults.{has_cell, has_rows, format_fault, greatest_root_reached, greatest_root_fault, free_pages, freelist_fault, sum_faults}
-use Rattle.dbformat.specs.EndFaults.{page_numbers}
-use Rattle.dbformat.specs.Report.{walk_faults, faults}
-use Rattle.dbformat.specs.Terms.{Use}
-use Rattle.dbformat.specs.Sound.{Sound, Forest, with_root, fixed_pages}
+use Rattle.dbformat.specs.EndFaults.{has_cell, has_rows, format_fault}
+use Rattle.dbformat.specs.Sound.{fixed_pages}
 use Rattle.dbformat.specs.declared.TreeKind.TheVariants as tree
-use Rattle.dbsound.specs.Below.{below, use_of, leaf_payloads}
 use Rattle.dbsurvey.proofs.Lists.{both_empty, any_true}
 use Rattle.dbsurvey.proofs.Elements.{from_contains}
 use Rattle.dbformat.proofs.FaultParts.{AllUsed, parts_none}

@@ -5,20 +5,11 @@ use Rattle.std.specs.Prelude.{flat_map, Result, Ok, nat_eq, ◌==◌}
 use Rattle.std.specs.List.{starts_with}
 use Rattle.std.proofs.lemmas.List.{map-append}
 use Rattle.std.proofs.lemmas.Bool.{eqb-true, ne_eqb, and_left}
-use Rattle.dbsurvey.specs.Address.{IsIn}
+use Rattle.dbsound.proofs.Common.{IsIn, encoding, start_of, schema_start, View, is_interior, Cell, cells, SchemaRow, schema_row, Reference, tree_view}
+use Rattle.dbsound.proofs.Common.{SchemaCell, payload, schema_cell, leaf_rows, rows_at, schema, starts, Survey, rules_of, walk_faults, RowFault, below}
+use Rattle.dbsound.proofs.Common.{cell_payload, view_payloads, leaf_payloads}
 use Rattle.dbsurvey.proofs.Order.{IsIn-left, IsIn-right}
-use Rattle.dbformat.specs.Header.{encoding}
-use Rattle.dbformat.specs.Address.{start_of, schema_start}
-use Rattle.dbformat.specs.Head.{View, is_interior}
-use Rattle.dbformat.specs.Cell.{Cell, cells}
-use Rattle.dbformat.specs.SchemaRow.{SchemaRow, schema_row}
-use Rattle.dbformat.specs.Reference.{Reference, tree_view}
-use Rattle.dbformat.specs.Schema.{SchemaCell, payload, schema_cell, leaf_rows, rows_at, schema, starts}
-use Rattle.dbformat.specs.Survey.{Survey, rules_of}
-use Rattle.dbformat.specs.Report.{walk_faults}
-use Rattle.dbformat.specs.declared.RowFault.{RowFault}
 use Rattle.dbformat.specs.declared.Encoding.{Encoding}
-use Rattle.dbsound.specs.Below.{below, cell_payload, view_payloads, leaf_payloads}
 use Rattle.dbsound.proofs.FaultlessSurveys.Sections.{starts_at}
 use Rattle.dbsound.proofs.FaultlessSurveys.Followed.{all_of_starts}
 use Rattle.dbsound.proofs.FaultlessFiles.SchemaRows.{each_taken}

@@ -5,22 +5,12 @@ use Rattle.std.specs.Prelude.{filter, count_by, fold, max, ◌==◌}
 use Rattle.std.specs.List.{enumerate_from}
 use Rattle.std.proofs.lemmas.List.{append-nil, map-append}
 use Rattle.std.proofs.lemmas.List.Elements.{filter-append}
-use Rattle.dbsurvey.specs.Address.{IsIn}
-use Rattle.dbsurvey.specs.Survey.{Link, named_at}
-use Rattle.dbsurvey.specs.Whole.{IsWhole}
+use Rattle.dbsound.proofs.Common.{IsIn, Link, named_at, IsWhole, first_trunk, schema_start, freelist_start, SchemaRow, Role, root, trunk, Way, Reference}
+use Rattle.dbsound.proofs.Common.{role_of, is_root, is_on_freelist, schema, rooted_rows, start, schema_link, root_start, freelist_starts, Survey, rules_of}
+use Rattle.dbsound.proofs.Common.{greatest_root_reached, free_pages, walk_faults, Freelist, below, use_of}
 use Rattle.dbsurvey.proofs.Order.{IsIn-left}
 use Rattle.dbsurvey.proofs.Ordering.{IsIn-from_map, IsIn-from_flat_map}
-use Rattle.dbformat.specs.Header.{first_trunk}
-use Rattle.dbformat.specs.Address.{schema_start, freelist_start}
-use Rattle.dbformat.specs.SchemaRow.{SchemaRow}
-use Rattle.dbformat.specs.Reference.{Role, root, trunk, Way, Reference, role_of, is_root, is_on_freelist}
-use Rattle.dbformat.specs.Schema.{schema, rooted_rows, start, schema_link, root_start, freelist_starts}
-use Rattle.dbformat.specs.Survey.{Survey, rules_of}
-use Rattle.dbformat.specs.EndFaults.{greatest_root_reached, free_pages}
-use Rattle.dbformat.specs.Report.{walk_faults}
-use Rattle.dbformat.specs.Terms.{Freelist}
 use Rattle.dbformat.proofs.NoFaults.{page_none}
-use Rattle.dbsound.specs.Below.{below, use_of}
 use Rattle.dbsurvey.proofs.Lists.{filter-from, count_all, count_none, count-append}
 use Rattle.dbsound.proofs.FaultlessSurveys.Trunks.{room_for_leaves, freelist_of}
 use Rattle.dbformat.proofs.Roles.{all_as, one_root, no_roots, root_off}

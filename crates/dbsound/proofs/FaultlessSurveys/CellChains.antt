@@ -2,21 +2,12 @@
 use Rattle.std.proofs.Common.{◌≡◌, ℕ, ◌⊎◌, inl, inr, Bool, true, List, [], ◌∷◌, ◌++◌, map, Option, Some, None, refl, sym, ap, subst, ◌∙◌, arith, append-nil}
 use Rattle.std.specs.Prelude.{flat_map, nat_eq, option_map, option_to_list}
 use Rattle.std.specs.List.{starts_with}
-use Rattle.dbsurvey.specs.Address.{IsIn, Address}
-use Rattle.dbsurvey.specs.Survey.{Link, children}
+use Rattle.dbsound.proofs.Common.{IsIn, Address, Link, children, overflow_step, child_step, View, Cell, cells, count, overflow_size, right_child, Role}
+use Rattle.dbsound.proofs.Common.{first_overflow, child, Way, Reference, link, cell_links, right_links, page_links, payload, held_bytes, Survey, rules_of}
+use Rattle.dbsound.proofs.Common.{walk_faults, Payload, whole, split, TreeKind, below, use_of, cell_payload, leaf_payloads}
 use Rattle.dbsurvey.proofs.Order.{IsIn-left, IsIn-cases, IsLeftOf-steps}
 use Rattle.dbsurvey.proofs.Ordering.{IsIn-flat_map, IsIn-from_flat_map}
 use Rattle.dbsurvey.proofs.Composing.{named_at-step, named_at-from, IsIn-named}
-use Rattle.dbformat.specs.Address.{overflow_step, child_step}
-use Rattle.dbformat.specs.Head.{View}
-use Rattle.dbformat.specs.Cell.{Cell, cells, count, overflow_size, right_child}
-use Rattle.dbformat.specs.Reference.{Role, first_overflow, child, Way, Reference, link, cell_links, right_links, page_links}
-use Rattle.dbformat.specs.Schema.{payload, held_bytes}
-use Rattle.dbformat.specs.Survey.{Survey, rules_of}
-use Rattle.dbformat.specs.Report.{walk_faults}
-use Rattle.dbformat.specs.Terms.{Payload, whole, split}
-use Rattle.dbformat.specs.declared.TreeKind.{TreeKind}
-use Rattle.dbsound.specs.Below.{below, use_of, cell_payload, leaf_payloads}
 use Rattle.dbsurvey.proofs.Beginnings.{begins-apart, begins-longer, begins-shorter, not_begins}
 use Rattle.dbsurvey.proofs.Lists.{filter-none, filter-from, filter-has}
 use Rattle.dbformat.proofs.Cells.{one_cell}

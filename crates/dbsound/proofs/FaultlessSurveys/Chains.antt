@@ -4,20 +4,12 @@ use Rattle.std.proofs.Common.{◌∙◌, arith, append-nil}
 use Rattle.std.specs.Prelude.{flat_map, nat_lt}
 use Rattle.std.proofs.lemmas.Bool.Decides.{nat_tests}
 use Rattle.std.proofs.lemmas.Bool.{cases_lt}
-use Rattle.dbsurvey.specs.Address.{IsIn}
-use Rattle.dbsurvey.specs.Survey.{children, named_at}
-use Rattle.dbformat.specs.Header.{usable_size}
-use Rattle.dbformat.specs.File.{page_bytes}
-use Rattle.dbformat.specs.Payload.{overflow_next, overflow_bytes}
-use Rattle.dbformat.specs.Reference.{Role, root, child, trunk, free_leaf, first_overflow, later_overflow, Reference, role_of, from_of, tree_kind, tree_view}
-use Rattle.dbformat.specs.Reference.{bytes_left, overflow_links}
-use Rattle.dbformat.specs.Schema.{held_bytes}
-use Rattle.dbformat.specs.Survey.{Survey, rules_of}
-use Rattle.dbformat.specs.PageFaults.{page_faults}
-use Rattle.dbformat.specs.Report.{walk_faults}
-use Rattle.dbformat.specs.Terms.{Chain, last, full}
+use Rattle.dbsound.proofs.Common.{IsIn, children, named_at, usable_size, page_bytes, overflow_next, Role, root, child, trunk, free_leaf, first_overflow}
+use Rattle.dbsound.proofs.Common.{later_overflow, Reference, role_of, from_of, tree_kind, tree_view, overflow_links, held_bytes, Survey, rules_of, page_faults}
+use Rattle.dbsound.proofs.Common.{walk_faults, Chain, last, full, below, use_of, leaf_payloads}
+use Rattle.dbformat.specs.Payload.{overflow_bytes}
+use Rattle.dbformat.specs.Reference.{bytes_left}
 use Rattle.dbformat.proofs.Chains.{links_at, faults_at, ends, overflow_of}
-use Rattle.dbsound.specs.Below.{below, use_of, leaf_payloads}
 use Rattle.dbsound.specs.Surveys.{HasChainsBelow}
 use Rattle.dbsound.proofs.FaultlessSurveys.Followed.{by_its_links, child_visited, fewer_below}
 use Rattle.dbformat.proofs.NoFaults.{page_none}

@@ -1,28 +1,21 @@
 -- A survey without faults is all that its starts lead to; so each reference of a visited page is visited, and fewer pages
 -- are below it.
 use Rattle.std.proofs.Common.{◌≡◌, ℕ, List, [], sym, subst, ◌<◌, length, ap, arith}
-use Rattle.dbsurvey.specs.Survey.{named_at, children}
+use Rattle.dbsound.proofs.Common.{named_at, children, IsWhole, geometry, Reference, schema_link, starts, Survey, rules_of, walk_faults, under, IsIn, below}
 use Rattle.dbsurvey.specs.Traverse.{survey_of}
-use Rattle.dbsurvey.specs.Whole.{IsWhole, IsNoneRefused}
+use Rattle.dbsurvey.specs.Whole.{IsNoneRefused}
 use Rattle.dbsurvey.proofs.Composing.{named_at-apart}
 use Rattle.dbsurvey.proofs.Traversal.{free_at_most, survey_is_survey_of}
 use Rattle.dbsurvey.proofs.Unfolding.{part_whole}
-use Rattle.dbformat.specs.File.{geometry}
-use Rattle.dbformat.specs.Reference.{Reference}
-use Rattle.dbformat.specs.Schema.{schema_link, starts}
-use Rattle.dbformat.specs.Survey.{Survey, rules_of, references}
-use Rattle.dbformat.specs.Report.{walk_faults}
+use Rattle.dbformat.specs.Survey.{references}
 use Rattle.dbformat.proofs.Rising.{starts_rise}
 use Rattle.dbformat.proofs.Theory.{are_rules, named-all}
 use Rattle.dbformat.proofs.NoFaults.{follows_all}
-use Rattle.dbsurvey.specs.From.{under}
 use Rattle.dbsound.specs.Surveys.{IsByItsStarts, IsByItsLinks}
 use Rattle.dbsurvey.proofs.WholeParts.{by_candidates, by_links}
 use Rattle.std.specs.Prelude.{flat_map}
-use Rattle.dbsurvey.specs.Address.{IsIn}
 use Rattle.dbsurvey.proofs.Order.{IsIn-right}
 use Rattle.dbsurvey.proofs.Ordering.{IsIn-flat_map}
-use Rattle.dbsound.specs.Below.{below}
 use Rattle.dbsurvey.proofs.Lists.{length-of_part}
 
 module _ (file : List ℕ) (V : List Reference) (s : Survey file V) (none : walk_faults file V ≡ []) where

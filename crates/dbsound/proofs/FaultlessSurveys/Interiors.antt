@@ -4,19 +4,13 @@ use Rattle.std.proofs.Common.{◌∙◌, arith, append_assoc, length-append}
 use Rattle.std.specs.Prelude.{flat_map, option_map, option_to_list}
 use Rattle.std.proofs.lemmas.List.{map-append}
 use Rattle.std.proofs.lemmas.Grind.{flat_map-append}
-use Rattle.dbsurvey.specs.Address.{IsIn, Address}
-use Rattle.dbsurvey.specs.Survey.{Link, children}
+use Rattle.dbsound.proofs.Common.{IsIn, Address, Link, children, overflow_step, child_step, key_step, depth, View, is_interior, right_number, Cell, cells}
+use Rattle.dbsound.proofs.Common.{count, overflow_size, right_child, child, first_overflow, Way, Reference, role_of, from_of, link, cell_links, right_links}
+use Rattle.dbsound.proofs.Common.{page_links, Survey, rules_of, walk_faults, Use, Tree, interior, Children, right_only, IsUpTo, role_in_tree, use_as, TreeKind}
+use Rattle.dbsound.proofs.Common.{below, use_of, view_payloads, cell_payload, leaf_payloads}
 use Rattle.dbsurvey.proofs.Order.{IsIn-left, IsIn-right}
 use Rattle.dbsurvey.proofs.Ordering.{IsIn-flat_map}
-use Rattle.dbformat.specs.Address.{overflow_step, child_step, key_step, depth}
-use Rattle.dbformat.specs.Head.{View, is_interior, right_number}
-use Rattle.dbformat.specs.Cell.{Cell, cells, count, overflow_size, right_child}
-use Rattle.dbformat.specs.Reference.{child, first_overflow, Way, Reference, role_of, from_of, link, cell_links, right_links, page_links}
-use Rattle.dbformat.specs.Survey.{Survey, rules_of}
-use Rattle.dbformat.specs.Report.{walk_faults}
-use Rattle.dbformat.specs.Terms.{Use, Tree, interior, Children, right_only, and_left, IsUpTo, role_in_tree, use_as}
-use Rattle.dbformat.specs.declared.TreeKind.{TreeKind}
-use Rattle.dbsound.specs.Below.{below, use_of, view_payloads, cell_payload, leaf_payloads}
+use Rattle.dbformat.specs.Terms.{and_left}
 use Rattle.dbformat.proofs.Cells.{RiseFrom, cells_rise, cells-from, is_of_kind}
 use Rattle.dbsound.proofs.FaultlessSurveys.TreePages.{IsTreePage}
 use Rattle.dbsound.proofs.FaultlessSurveys.CellChains.{at_step, payload_at}

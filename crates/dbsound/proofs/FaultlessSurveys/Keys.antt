@@ -6,18 +6,11 @@ use Rattle.std.specs.List.{list_any}
 use Rattle.std.proofs.lemmas.Bool.{and_from}
 use Rattle.std.proofs.Common.{eq-eqb}
 use Rattle.std.proofs.lemmas.Int.{ints}
-use Rattle.dbsurvey.specs.Address.{IsIn, Address, IsBefore}
-use Rattle.dbsurvey.specs.InOrder.{is_before}
+use Rattle.dbsound.proofs.Common.{IsIn, Address, IsBefore, is_before, start_of, key_step, View, is_interior, Cell, cells, Reference, tree_view, Survey, Key}
+use Rattle.dbsound.proofs.Common.{key_of, keys_of_view, keys_at, keys, is_out_of_order, key_faults, row_faults_at, walk_faults, IsAbove, IsUpTo}
 use Rattle.dbsurvey.proofs.Order.{IsBefore-steps}
 use Rattle.dbsurvey.proofs.Ordering.{is_before-from, IsIn-flat_map, IsIn-from_flat_map}
-use Rattle.dbformat.specs.Address.{start_of, key_step}
-use Rattle.dbformat.specs.Head.{View, is_interior}
-use Rattle.dbformat.specs.Cell.{Cell, cells}
-use Rattle.dbformat.specs.Reference.{Reference, tree_view}
-use Rattle.dbformat.specs.Survey.{Survey}
-use Rattle.dbformat.specs.KeyFaults.{Key, key_of, keys_of_view, keys_at, keys, earlier_keys, is_out_of_order, key_faults, row_faults_at}
-use Rattle.dbformat.specs.Report.{walk_faults}
-use Rattle.dbformat.specs.Terms.{IsAbove, IsUpTo}
+use Rattle.dbformat.specs.KeyFaults.{earlier_keys}
 use Rattle.dbformat.proofs.NoFaults.{follows_all}
 use Rattle.dbsurvey.proofs.Lists.{filter-has, both_empty, none_of, list_any-false}
 use Rattle.dbformat.proofs.Places.{same_start, cell_key}

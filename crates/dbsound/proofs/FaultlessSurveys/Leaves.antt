@@ -3,17 +3,9 @@ use Rattle.std.proofs.Common.{◌≡◌, ℕ, suc, ◌+◌, ◌*◌, ◌≤◌, 
 use Rattle.std.proofs.Common.{◌∙◌, arith, append-nil}
 use Rattle.std.specs.Prelude.{flat_map, not}
 use Rattle.std.specs.List.{cons_option}
-use Rattle.dbsurvey.specs.Address.{IsIn, Address}
-use Rattle.dbformat.specs.Address.{overflow_step, child_step, key_step, depth}
-use Rattle.dbformat.specs.Head.{View, is_interior}
-use Rattle.dbformat.specs.Cell.{Cell, cells, count}
-use Rattle.dbformat.specs.Reference.{Reference, role_of, from_of}
-use Rattle.dbformat.specs.Survey.{Survey}
-use Rattle.dbformat.specs.KeyFaults.{Key}
-use Rattle.dbformat.specs.Report.{walk_faults}
-use Rattle.dbformat.specs.Terms.{Use, Tree, leaf, Payloads, none, more, IsUpTo, RiseWithin, keys_of, role_in_tree, use_as}
-use Rattle.dbformat.specs.declared.TreeKind.{TreeKind}
-use Rattle.dbsound.specs.Below.{below, use_of, cell_payload, view_payloads, leaf_payloads}
+use Rattle.dbsound.proofs.Common.{IsIn, Address, overflow_step, child_step, key_step, depth, View, is_interior, Cell, cells, count, Reference, role_of, from_of}
+use Rattle.dbsound.proofs.Common.{Survey, Key, walk_faults, Use, Tree, leaf, Payloads, none, more, IsUpTo, RiseWithin, keys_of, role_in_tree, use_as, TreeKind}
+use Rattle.dbsound.proofs.Common.{below, use_of, cell_payload, view_payloads, leaf_payloads}
 use Rattle.dbsurvey.proofs.Lists.{flat_map-same, flat_map-flat_map, flat_map-none, map-flat_map}
 use Rattle.dbformat.proofs.Cells.{RiseFrom, cells_rise, is_of_kind}
 use Rattle.dbsound.proofs.FaultlessSurveys.TreePages.{IsTreePage}

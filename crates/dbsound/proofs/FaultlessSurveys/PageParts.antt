@@ -3,16 +3,8 @@
 use Rattle.std.proofs.Common.{◌≡◌, ℕ, Bool, true, false, cond, List, [], ◌∷◌, ◌++◌, Option, Some, None, refl, sym, ap, ◌∙◌, append-nil}
 use Rattle.std.specs.Prelude.{flat_map, option_map, option_to_list}
 use Rattle.std.proofs.lemmas.Grind.{flat_map-append}
-use Rattle.dbsurvey.specs.Address.{IsIn, Address}
-use Rattle.dbsurvey.specs.Survey.{Link, named_at}
-use Rattle.dbformat.specs.Address.{overflow_step, child_step}
-use Rattle.dbformat.specs.Head.{View, is_interior, right_number}
-use Rattle.dbformat.specs.Cell.{Cell, cells, count, overflow_size}
-use Rattle.dbformat.specs.Reference.{Role, first_overflow, child, Way, Reference, link, cell_links, right_links, page_links}
-use Rattle.dbformat.specs.Survey.{Survey}
-use Rattle.dbformat.specs.Report.{walk_faults}
-use Rattle.dbformat.specs.declared.TreeKind.{TreeKind}
-use Rattle.dbsound.specs.Below.{below}
+use Rattle.dbsound.proofs.Common.{IsIn, Address, Link, named_at, overflow_step, child_step, View, is_interior, right_number, Cell, cells, count, overflow_size}
+use Rattle.dbsound.proofs.Common.{Role, first_overflow, child, Way, Reference, link, cell_links, right_links, page_links, Survey, walk_faults, TreeKind, below}
 use Rattle.dbsurvey.proofs.Lists.{flat_map-same, flat_map-flat_map}
 use Rattle.dbsound.proofs.FaultlessSurveys.Followed.{by_its_links}
 use Rattle.dbsound.proofs.FaultlessSurveys.TreePages.{IsTreePage}

@@ -2,18 +2,10 @@
 -- all that the start leads to.
 use Rattle.std.proofs.Common.{◌≡◌, ℕ, List, [], ◌∷◌, ◌++◌, ap, ◌∙◌}
 use Rattle.std.specs.Prelude.{flat_map}
-use Rattle.dbsurvey.specs.Address.{IsIn, Address}
-use Rattle.dbsurvey.specs.From.{under}
-use Rattle.dbsurvey.specs.Survey.{Link, Rules, named_at}
-use Rattle.dbsurvey.specs.Whole.{IsWhole}
+use Rattle.dbsound.proofs.Common.{IsIn, Address, under, Link, named_at, IsWhole, schema_start, Way, Reference, starts, Survey, rules_of, walk_faults, below}
+use Rattle.dbsurvey.specs.Survey.{Rules}
 use Rattle.dbsurvey.proofs.Composing.{named_at-from, named_at-apart, IsIn-named}
-use Rattle.dbformat.specs.Address.{schema_start}
-use Rattle.dbformat.specs.Reference.{Way, Reference}
-use Rattle.dbformat.specs.Schema.{starts}
-use Rattle.dbformat.specs.Survey.{Survey, rules_of}
-use Rattle.dbformat.specs.Report.{walk_faults}
 use Rattle.dbformat.proofs.Rising.{starts_rise}
-use Rattle.dbsound.specs.Below.{below}
 use Rattle.dbsurvey.proofs.WholeParts.{whole_below, parts_whole}
 use Rattle.dbformat.proofs.Theory.{are_rules}
 use Rattle.dbsound.proofs.FaultlessSurveys.Followed.{all_of_starts, by_its_starts}

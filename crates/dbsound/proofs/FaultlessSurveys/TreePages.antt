@@ -1,17 +1,12 @@
 -- A visited page of a tree, in a survey without faults, is whole.
 use Rattle.std.proofs.Common.{◌≡◌, ℕ, Bool, true, false, List, [], ◌++◌, Some, refl, sym, ap, ◌∙◌}
 use Rattle.std.specs.Prelude.{Result, Ok, Err}
-use Rattle.dbsurvey.specs.Address.{IsIn}
-use Rattle.dbsurvey.specs.Survey.{children, named_at}
-use Rattle.dbformat.specs.Header.{usable_size}
-use Rattle.dbformat.specs.File.{page_bytes}
-use Rattle.dbformat.specs.Head.{View, view, undamaged, if_of_tree, is_same_tree, tree_of}
-use Rattle.dbformat.specs.Reference.{Reference, role_of, page_links, role_links, tree_kind, tree_view}
-use Rattle.dbformat.specs.Survey.{Survey, rules_of}
-use Rattle.dbformat.specs.PageFaults.{page_faults, tree_page_faults, faults_of_view, role_faults, depth_fault}
-use Rattle.dbformat.specs.Report.{walk_faults}
-use Rattle.dbformat.specs.Terms.{IsFaultlessPage, role_in_tree}
-use Rattle.dbformat.specs.declared.TreeKind.{TreeKind}
+use Rattle.dbsound.proofs.Common.{IsIn, children, named_at, usable_size, page_bytes, View, view, undamaged, tree_of, Reference, role_of, page_links, role_links}
+use Rattle.dbsound.proofs.Common.{tree_kind, tree_view, Survey, rules_of, page_faults, tree_page_faults, role_faults, depth_fault, walk_faults, role_in_tree}
+use Rattle.dbsound.proofs.Common.{TreeKind}
+use Rattle.dbformat.specs.Head.{if_of_tree, is_same_tree}
+use Rattle.dbformat.specs.PageFaults.{faults_of_view}
+use Rattle.dbformat.specs.Terms.{IsFaultlessPage}
 use Rattle.dbformat.specs.declared.HeadFault.{HeadFault}
 use Rattle.dbformat.specs.declared.HeadFault.TheVariants.{UnknownType, ContentStart}
 use Rattle.dbsurvey.proofs.Lists.{both_empty}

@@ -5,25 +5,15 @@ use Rattle.std.proofs.Common.{append-nil, eq-eqb}
 use Rattle.std.specs.Prelude.{find, not, ◌&&◌, ◌==◌, nat_lt, is_some, pos}
 use Rattle.std.specs.Option.{option_map_or}
 use Rattle.std.proofs.lemmas.Bool.{and_parts, and_from, eqb-true, cases_Bool, both_ways, not-true, not-false, ltb-false}
-use Rattle.dbsurvey.specs.Address.{IsIn}
-use Rattle.dbsurvey.specs.Survey.{children}
+use Rattle.dbsound.proofs.Common.{IsIn, children, start_of, depth, usable_size, geometry, page_bytes, fault, is_fixed, View, undamaged, is_interior, Role, root}
+use Rattle.dbsound.proofs.Common.{child, first_overflow, later_overflow, trunk, free_leaf, Reference, role_of, tree_kind, tree_view, is_root, Survey, rules_of}
+use Rattle.dbsound.proofs.Common.{most_depth, is_leaf_of, depth_fault, walk_faults, role_in_tree, TreeKind, Fault, below, starts}
 use Rattle.dbsurvey.proofs.Composing.{named_at-step}
-use Rattle.dbformat.specs.Address.{start_of, depth}
-use Rattle.dbformat.specs.Header.{usable_size}
-use Rattle.dbformat.specs.File.{geometry, page_bytes}
 use Rattle.dbformat.specs.Tests.{reported_if}
-use Rattle.dbformat.specs.Faults.{fault}
-use Rattle.dbformat.specs.FixedPages.{is_page, is_fixed}
-use Rattle.dbformat.specs.Head.{View, undamaged, is_interior}
-use Rattle.dbformat.specs.Reference.{Role, root, child, first_overflow, later_overflow, trunk, free_leaf, Reference, role_of, tree_kind, tree_view, is_root}
-use Rattle.dbformat.specs.Survey.{Survey, rules_of, most_depth, is_too_deep}
-use Rattle.dbformat.specs.PageFaults.{is_leaf_of, leaf_depth, depth_fault}
-use Rattle.dbformat.specs.Report.{walk_faults}
-use Rattle.dbformat.specs.Terms.{role_in_tree}
-use Rattle.dbformat.specs.declared.TreeKind.{TreeKind}
-use Rattle.dbformat.specs.declared.Fault.{Fault}
+use Rattle.dbformat.specs.FixedPages.{is_page}
+use Rattle.dbformat.specs.Survey.{is_too_deep}
+use Rattle.dbformat.specs.PageFaults.{leaf_depth}
 use Rattle.dbformat.specs.declared.FaultCode.TheVariants.{T05}
-use Rattle.dbsound.specs.Below.{below}
 use Rattle.dbsound.specs.Surveys.{HasTreesBelow, HasWholeTrees}
 use Rattle.dbsound.proofs.FaultlessSurveys.Followed.{by_its_links, child_visited, fewer_below}
 use Rattle.dbsound.proofs.FaultlessSurveys.TreePages.{tree_page}
@@ -33,7 +23,6 @@ use Rattle.dbformat.proofs.Visited.{has_address, root_is_start, kind_of_view}
 use Rattle.dbsound.proofs.FaultlessSurveys.Leaves.{AreLow, AreHigh, HasTree, leaf_at}
 use Rattle.dbsound.proofs.FaultlessSurveys.Interiors.{interior_at}
 use Rattle.dbformat.proofs.Places.{same_start}
-use Rattle.dbformat.specs.Schema.{starts}
 
 tree_role : (role : Role) (kind : TreeKind) → tree_kind role ≡ Some kind → (is_child : Bool) × (role ≡ role_in_tree is_child kind)
 tree_role (root k) kind e = (false, cc)

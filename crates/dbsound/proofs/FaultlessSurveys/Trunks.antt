@@ -4,20 +4,15 @@ use Rattle.std.specs.Prelude.{nat_lt, ◌==◌}
 use Rattle.std.specs.List.{enumerate_from}
 use Rattle.std.proofs.lemmas.List.{append-nil}
 use Rattle.std.proofs.lemmas.Bool.{le-leb, ltb-false, eqb-true, eqb-false}
-use Rattle.dbsurvey.specs.Address.{IsIn, Address}
-use Rattle.dbsurvey.specs.Survey.{Link, Rules, named_at, children}
-use Rattle.dbsurvey.specs.Whole.{IsWhole, nothing, all_of}
+use Rattle.dbsound.proofs.Common.{IsIn, Address, Link, named_at, children, IsWhole, nothing, usable_size, first_trunk, page_bytes, Role, trunk, free_leaf, Way}
+use Rattle.dbsound.proofs.Common.{Reference, role_of, from_of, link, role_links, leaf_count, most_leaves, free_leaves, freelist_starts, start, freelist_start}
+use Rattle.dbsound.proofs.Common.{rules_of, page_faults, role_faults, Use, use_as, Freelist, no_trunk, and_trunk, use_of}
+use Rattle.dbsurvey.specs.Survey.{Rules}
+use Rattle.dbsurvey.specs.Whole.{all_of}
 use Rattle.dbsurvey.proofs.Order.{IsIn-left, IsIn-right}
-use Rattle.dbformat.specs.Header.{usable_size, first_trunk}
-use Rattle.dbformat.specs.File.{page_bytes}
-use Rattle.dbformat.specs.Reference.{Role, trunk, free_leaf, Way, Reference, role_of, from_of, link, role_links, trunk_next, leaf_count, most_leaves}
-use Rattle.dbformat.specs.Reference.{free_leaves, leaf_link, next_trunk}
-use Rattle.dbformat.specs.Schema.{freelist_starts, start}
-use Rattle.dbformat.specs.Address.{freelist_start}
-use Rattle.dbformat.specs.Survey.{rules_of}
-use Rattle.dbformat.specs.PageFaults.{page_faults, role_faults, trunk_fault}
-use Rattle.dbformat.specs.Terms.{Use, use_as, Freelist, no_trunk, and_trunk}
-use Rattle.dbsound.specs.Below.{use_of}
+use Rattle.dbformat.specs.Reference.{trunk_next}
+use Rattle.dbformat.specs.Reference.{leaf_link, next_trunk}
+use Rattle.dbformat.specs.PageFaults.{trunk_fault}
 
 -- a trunk without fault has room for its leaves
 pub room_for_leaves : (file : List ℕ) (V : List Reference) (r : Reference) → role_of r ≡ trunk → page_faults file V r ≡ []

@@ -10,20 +10,13 @@ use Rattle.std.proofs.lemmas.List.{length-map}
 use Rattle.std.proofs.lemmas.List.FromFn.{length-range_with_len}
 use Rattle.std.proofs.lemmas.List.Sorted.{length_permutation}
 use Rattle.std.proofs.lemmas.List.Sums.{sum_by-cons}
-use Rattle.dbsurvey.specs.Address.{IsIn, EachPair, IsBefore}
-use Rattle.dbsurvey.specs.Survey.{Link}
+use Rattle.dbsound.proofs.Common.{IsIn, EachPair, IsBefore, Link, geometry, refusal, start_of, schema_start, last_root_start, freelist_start, trunk, Way}
+use Rattle.dbsound.proofs.Common.{Reference, role_of, is_root, is_on_freelist, starts, start, schema, rooted_rows, root_start, freelist_starts, later_starts}
+use Rattle.dbsound.proofs.Common.{SchemaRow, first_trunk, page_size, under, Survey, rules_of, visit_of, page_numbers}
 use Rattle.dbsurvey.proofs.Order.{IsIn-left, IsIn-right, IsIn-cases, EachPair-append, IsBefore-irreflexive}
 use Rattle.dbsurvey.proofs.Ordering.{IsIn-map, IsIn-from_map, IsIn-from_flat_map}
-use Rattle.dbformat.specs.File.{geometry, refusal}
-use Rattle.dbformat.specs.Address.{start_of, schema_start, last_root_start, freelist_start}
-use Rattle.dbformat.specs.Reference.{trunk, Way, Reference, role_of, is_root, is_on_freelist}
-use Rattle.dbformat.specs.Schema.{starts, start, schema, rooted_rows, root_starts, root_start, freelist_starts, later_starts}
-use Rattle.dbformat.specs.SchemaRow.{SchemaRow}
-use Rattle.dbformat.specs.Header.{first_trunk, page_size}
+use Rattle.dbformat.specs.Schema.{root_starts}
 use Rattle.dbformat.specs.Lines.{pgsize, AddsUpToAllPages}
-use Rattle.dbsurvey.specs.From.{under}
-use Rattle.dbformat.specs.Survey.{Survey, rules_of}
-use Rattle.dbformat.specs.EndFaults.{visit_of, page_numbers}
 use Rattle.dbformat.specs.Rows.{StatRow, StatForm, row_in, stat_rows, other_page, other_rows, trees_reached, tree_rows, page_rows, form_rows, counted_pages}
 use Rattle.dbformat.specs.Rows.{FormRow, page_row, tree_row, other_row, CountsEachPageOnce, CountsNoPageTwice}
 use Rattle.dbsurvey.proofs.Lists.{filter-from, filter-has, find-some, filter_map-from, filter_map-has}

@@ -2,11 +2,8 @@
 use Rattle.std.proofs.Common.{◌≡◌, ℕ, Bool, true, false, cond, List, [], ◌∷◌, ◌++◌, map, Option, Some, None, refl, sym, ap, ◌∙◌}
 use Rattle.std.specs.Prelude.{filter, filter_map, flat_map, option_map}
 use Rattle.std.specs.List.{cons_option}
-use Rattle.dbsurvey.specs.Address.{EachPair}
-use Rattle.dbformat.specs.Head.{View}
-use Rattle.dbformat.specs.Address.{start_of}
-use Rattle.dbformat.specs.Reference.{Role, root, child, first_overflow, later_overflow, trunk, free_leaf, Reference, role_of, is_on_freelist, tree_view}
-use Rattle.dbformat.specs.EndFaults.{visit_of}
+use Rattle.dbsound.proofs.Common.{EachPair, View, start_of, Role, root, child, first_overflow, later_overflow, trunk, free_leaf, Reference, role_of}
+use Rattle.dbsound.proofs.Common.{is_on_freelist, tree_view, visit_of}
 use Rattle.dbformat.specs.Rows.{StatRow, row_in, tree_page_row, page_row, tree_row, other_row, OtherPage, other_visited, other_page, counted_pages}
 use Rattle.dbsurvey.proofs.Lists.{filter_map-from}
 use Rattle.dbsurvey.specs.Whole.{HasEachPageOnce}

@@ -5,21 +5,16 @@ use Rattle.std.specs.Prelude.{fold, find, IfSome, pos, ◌==◌}
 use Rattle.std.proofs.lemmas.List.{length-map, append-nil}
 use Rattle.std.proofs.lemmas.Bool.{eqb-true}
 use Rattle.std.proofs.lemmas.Bool.Decides.{nat_tests}
-use Rattle.dbsurvey.specs.Address.{IsIn}
+use Rattle.dbsound.proofs.Common.{IsIn, greatest_root, freelist_count, has_pointer_map, geometry, map_entry, is_fixed, fault, freelist_start, Reference}
+use Rattle.dbsound.proofs.Common.{role_of, from_of, greatest_root_reached, greatest_root_fault, free_pages, freelist_fault, visit_of, use_fault, page_numbers}
+use Rattle.dbsound.proofs.Common.{Sound, with_root, use_of}
 use Rattle.dbsurvey.proofs.Ordering.{IsIn-map}
-use Rattle.dbformat.specs.Header.{greatest_root, freelist_count, has_pointer_map}
-use Rattle.dbformat.specs.File.{geometry, MapEntry, map_entry}
-use Rattle.dbformat.specs.FixedPages.{is_fixed}
-use Rattle.dbformat.specs.Faults.{fault}
-use Rattle.dbformat.specs.Address.{freelist_start}
-use Rattle.dbformat.specs.Reference.{Reference, role_of, from_of, entry_of}
-use Rattle.dbformat.specs.EndFaults.{greatest_root_reached, greatest_root_fault, free_pages, freelist_fault, visit_of, is_same_entry, entry_fault, use_fault}
-use Rattle.dbformat.specs.EndFaults.{page_numbers}
-use Rattle.dbformat.specs.Sound.{Sound, with_root}
+use Rattle.dbformat.specs.File.{MapEntry}
+use Rattle.dbformat.specs.Reference.{entry_of}
+use Rattle.dbformat.specs.EndFaults.{is_same_entry, entry_fault}
 use Rattle.dbformat.specs.declared.FaultCode.TheVariants.{H09, H10, N01, M01}
 use Rattle.dbsurvey.proofs.Each.{each_of}
 use Rattle.dbsurvey.proofs.Lists.{find-some}
-use Rattle.dbsound.specs.Below.{use_of}
 use Rattle.dbsound.proofs.TermVisits.Uses.{freelist_uses}
 use Rattle.dbsurvey.proofs.Once.{page_or_fixed}
 use Rattle.dbsound.proofs.TermVisits.Roles.{root_pages, root_pages-append, tree_root, forest_roots, freelist_no_root, freelist_free, tree_not_free}

@@ -3,16 +3,11 @@ use Rattle.std.proofs.Common.{◌≡◌, ℕ, ◌&&◌, Some, List, [], sym, ap,
 use Rattle.std.specs.Prelude.{flat_map, ◌==◌}
 use Rattle.std.specs.List.{list_any}
 use Rattle.std.proofs.lemmas.Bool.{and_parts, eqb-true}
-use Rattle.dbsurvey.specs.Address.{IsIn}
-use Rattle.dbsurvey.specs.InOrder.{is_before}
+use Rattle.dbsound.proofs.Common.{IsIn, is_before, fault, start_of, key_step, View, Cell, cells, Reference, tree_view, Key, key_of, keys_of_view, keys_at, keys}
+use Rattle.dbsound.proofs.Common.{is_out_of_order, key_faults, Sound}
 use Rattle.dbsurvey.proofs.Ordering.{IsIn-flat_map, IsIn-from_flat_map, is_before-means}
-use Rattle.dbformat.specs.Faults.{fault}
-use Rattle.dbformat.specs.Address.{start_of, then_step, key_step}
-use Rattle.dbformat.specs.Head.{View}
-use Rattle.dbformat.specs.Cell.{Cell, cells}
-use Rattle.dbformat.specs.Reference.{Reference, tree_view}
-use Rattle.dbformat.specs.KeyFaults.{Key, key_of, keys_of_view, keys_at, keys, earlier_keys, is_out_of_order, key_faults}
-use Rattle.dbformat.specs.Sound.{Sound}
+use Rattle.dbformat.specs.Address.{then_step}
+use Rattle.dbformat.specs.KeyFaults.{earlier_keys}
 use Rattle.dbformat.specs.declared.FaultCode.TheVariants.{T06}
 use Rattle.dbsurvey.proofs.Lists.{flat_map-none, filter-from, any_none}
 use Rattle.dbsound.proofs.TermKeys.CellKeys.{view_place}

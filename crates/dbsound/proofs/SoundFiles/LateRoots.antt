@@ -3,16 +3,10 @@ use Rattle.std.proofs.Common.{arith, ◌≡◌, ℕ, ◌<◌, Bool, true, false,
 use Rattle.std.specs.Prelude.{filter, Contains, pos, nat_lt, ◌==◌}
 use Rattle.std.proofs.lemmas.Bool.{and_parts, eqb-true, not-true}
 use Rattle.std.proofs.lemmas.Bool.Decides.{nat_tests}
-use Rattle.dbsurvey.specs.Address.{IsIn}
+use Rattle.dbsound.proofs.Common.{IsIn, has_pointer_map, fault, start_of, schema_start, Reference, role_of, is_root, late_root_fault, Sound, use_of}
 use Rattle.dbsurvey.proofs.Ordering.{IsIn-map, IsIn-from_map}
-use Rattle.dbformat.specs.Header.{has_pointer_map}
-use Rattle.dbformat.specs.Faults.{fault}
-use Rattle.dbformat.specs.Address.{start_of, schema_start}
-use Rattle.dbformat.specs.Reference.{Reference, role_of, is_root}
-use Rattle.dbformat.specs.EndFaults.{least_other_page, is_root_page, late_root_fault}
-use Rattle.dbformat.specs.Sound.{Sound}
+use Rattle.dbformat.specs.EndFaults.{least_other_page, is_root_page}
 use Rattle.dbformat.specs.declared.FaultCode.TheVariants.{M02}
-use Rattle.dbsound.specs.Below.{use_of}
 use Rattle.dbsurvey.proofs.Lists.{filter-from, any_one}
 use Rattle.dbsound.proofs.SoundFiles.Survey.{all_visits, all_uses, uses_are}
 use Rattle.dbsurvey.proofs.Elements.{contains}

@@ -4,25 +4,13 @@ use Rattle.std.specs.Prelude.{pos, option_and_then, ◌==◌}
 use Rattle.std.specs.List.{enumerate_from}
 use Rattle.std.proofs.lemmas.Bool.{and_parts, not-true}
 use Rattle.std.proofs.lemmas.Bool.Decides.{nat_tests}
-use Rattle.dbsurvey.specs.Address.{IsIn}
-use Rattle.dbformat.specs.Header.{usable_size, schema_format, encoding_number}
-use Rattle.dbformat.specs.File.{page_bytes}
-use Rattle.dbformat.specs.Faults.{fault}
-use Rattle.dbformat.specs.Address.{start_of, schema_start}
-use Rattle.dbformat.specs.Head.{View, undamaged}
-use Rattle.dbformat.specs.Cell.{Cell, cells, count}
-use Rattle.dbformat.specs.Reference.{Role, root, child, first_overflow, later_overflow, trunk, free_leaf, Reference, role_of, tree_kind, tree_view}
-use Rattle.dbformat.specs.PageFaults.{is_leaf_of}
-use Rattle.dbformat.specs.Schema.{schema_cell}
-use Rattle.dbformat.specs.Survey.{Survey}
-use Rattle.dbformat.specs.EndFaults.{has_cell, has_rows, format_fault, sum_faults, greatest_root_fault, freelist_fault}
-use Rattle.dbformat.specs.Report.{faults}
+use Rattle.dbsound.proofs.Common.{IsIn, usable_size, schema_format, encoding_number, page_bytes, fault, start_of, schema_start, View, undamaged, Cell, cells}
+use Rattle.dbsound.proofs.Common.{count, Role, root, child, first_overflow, later_overflow, trunk, free_leaf, Reference, role_of, tree_kind, tree_view}
+use Rattle.dbsound.proofs.Common.{is_leaf_of, schema_cell, Survey, sum_faults, greatest_root_fault, freelist_fault, faults, cells_of, Sound, SchemaRow}
+use Rattle.dbsound.proofs.Common.{TreeKind}
+use Rattle.dbformat.specs.EndFaults.{has_cell, has_rows, format_fault}
 use Rattle.dbformat.specs.Terms as Terms
-use Rattle.dbformat.specs.Terms.{cells_of}
-use Rattle.dbformat.specs.Sound.{Sound}
-use Rattle.dbformat.specs.SchemaRow.{SchemaRow}
 use Rattle.dbformat.specs.declared.FaultCode.TheVariants.{H08}
-use Rattle.dbformat.specs.declared.TreeKind.{TreeKind}
 use Rattle.dbsound.proofs.TermVisits.OwnFaults.{IsClean, own_faults}
 use Rattle.dbformat.proofs.PageCells.{has_all_cells}
 use Rattle.dbsound.proofs.SoundFiles.Survey.{all_visits, survey_is, uses_are}

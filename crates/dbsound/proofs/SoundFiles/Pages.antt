@@ -4,13 +4,9 @@ use Rattle.std.specs.Prelude.{find, pos, ◌==◌}
 use Rattle.std.specs.Option.{option_map_or}
 use Rattle.std.proofs.lemmas.Bool.{and_parts, eqb-true, not-true}
 use Rattle.std.proofs.lemmas.Bool.Decides.{nat_tests}
-use Rattle.dbsurvey.specs.Address.{IsIn}
-use Rattle.dbformat.specs.Faults.{fault}
-use Rattle.dbformat.specs.Address.{start_of, depth, freelist_start}
-use Rattle.dbformat.specs.Head.{View, is_interior}
-use Rattle.dbformat.specs.Reference.{Reference, tree_view}
-use Rattle.dbformat.specs.PageFaults.{is_leaf_of, leaf_depth, depth_fault, page_faults}
-use Rattle.dbformat.specs.Sound.{Sound, with_root}
+use Rattle.dbsound.proofs.Common.{IsIn, fault, start_of, depth, freelist_start, View, is_interior, Reference, tree_view, is_leaf_of, depth_fault, page_faults}
+use Rattle.dbsound.proofs.Common.{Sound, with_root}
+use Rattle.dbformat.specs.PageFaults.{leaf_depth}
 use Rattle.dbformat.specs.declared.FaultCode.TheVariants.{T05}
 use Rattle.dbsurvey.proofs.Each.{Each, Each-append}
 use Rattle.dbsurvey.proofs.Lists.{find-some}

@@ -4,20 +4,11 @@ use Rattle.std.proofs.Common.{refl, sym, ap, subst, ◌∙◌}
 use Rattle.std.specs.Prelude.{filter, is_none, IsSome, nat_le, pos, ◌==◌}
 use Rattle.std.specs.List.{cons_option}
 use Rattle.std.proofs.lemmas.Bool.Decides.{nat_tests}
-use Rattle.dbsurvey.specs.Address.{IsIn}
-use Rattle.dbsurvey.specs.InOrder.{is_before}
+use Rattle.dbsound.proofs.Common.{IsIn, is_before, fault, start_of, schema_start, last_root_start, View, is_interior, Cell, cells, SchemaRow, Reference}
+use Rattle.dbsound.proofs.Common.{tree_view, SchemaCell, schema_cell, leaf_rows, rows_at, schema, rooted, rooted_rows, Survey, row_faults, row_faults_at, Sound}
 use Rattle.dbsurvey.proofs.Ordering.{IsIn-map, IsIn-from_map, IsIn-flat_map, is_before-itself}
-use Rattle.dbformat.specs.Faults.{fault}
 use Rattle.dbformat.specs.Tests.{reported_if}
-use Rattle.dbformat.specs.Address.{start_of, schema_start, last_root_start}
-use Rattle.dbformat.specs.Head.{View, is_interior}
-use Rattle.dbformat.specs.Cell.{Cell, cells}
-use Rattle.dbformat.specs.SchemaRow.{SchemaRow}
-use Rattle.dbformat.specs.Reference.{Reference, tree_view}
-use Rattle.dbformat.specs.Schema.{SchemaCell, schema_cell, leaf_rows, rows_at, schema, rooted, rooted_rows}
-use Rattle.dbformat.specs.Survey.{Survey}
-use Rattle.dbformat.specs.KeyFaults.{earlier_roots, row_faults_if, row_faults, row_faults_at}
-use Rattle.dbformat.specs.Sound.{Sound}
+use Rattle.dbformat.specs.KeyFaults.{earlier_roots, row_faults_if}
 use Rattle.dbformat.specs.declared.FaultCode.TheVariants.{S02, S04}
 use Rattle.dbformat.proofs.LookBack.{by_starts}
 use Rattle.dbsurvey.proofs.Each.{each_of}

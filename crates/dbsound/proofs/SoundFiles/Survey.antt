@@ -6,24 +6,17 @@ use Rattle.std.specs.List.{enumerate_from, cons_option}
 use Rattle.std.proofs.lemmas.List.{map-append, take_all}
 use Rattle.std.proofs.lemmas.Bool.{and_from}
 use Rattle.std.proofs.lemmas.Bool.Decides.{nat_tests}
-use Rattle.dbsurvey.specs.Address.{IsIn, EachPair}
-use Rattle.dbsurvey.specs.Survey.{named_at}
+use Rattle.dbsound.proofs.Common.{IsIn, EachPair, named_at, first_trunk, geometry, is_fixed, depth, last_root_start, freelist_start, SchemaRow, Reference}
+use Rattle.dbsound.proofs.Common.{role_of, tree_kind, SchemaCell, rows_at, schema, rooted, rooted_rows, schema_link, root_start, freelist_starts, later_starts}
+use Rattle.dbsound.proofs.Common.{Survey, rules_of, most_depth, Use, Sound, Forest, no_tree, and_tree, with_root}
 use Rattle.dbsurvey.specs.Traverse.{part_of}
 use Rattle.dbsurvey.specs.Whole.{HasEachPageOnce}
 use Rattle.dbsurvey.proofs.Order.{EachPair-left, EachPair-right, EachPair-across}
 use Rattle.dbsurvey.proofs.Ordering.{IsIn-map}
 use Rattle.dbsurvey.proofs.Unfolding.{whole_part}
-use Rattle.dbformat.specs.Header.{first_trunk}
-use Rattle.dbformat.specs.File.{geometry}
-use Rattle.dbformat.specs.FixedPages.{is_page, is_fixed}
-use Rattle.dbformat.specs.Address.{depth, last_root_start, freelist_start}
-use Rattle.dbformat.specs.SchemaRow.{SchemaRow}
-use Rattle.dbformat.specs.Reference.{Reference, role_of, tree_kind}
-use Rattle.dbformat.specs.Schema.{SchemaCell, rows_at, schema, rooted, rooted_rows, schema_link, root_start, freelist_starts, later_starts}
-use Rattle.dbformat.specs.Survey.{Survey, rules_of, is_too_deep, most_depth}
+use Rattle.dbformat.specs.FixedPages.{is_page}
+use Rattle.dbformat.specs.Survey.{is_too_deep}
 use Rattle.dbformat.specs.Laws.{schema_part}
-use Rattle.dbformat.specs.Terms.{Use}
-use Rattle.dbformat.specs.Sound.{Sound, Forest, no_tree, and_tree, with_root}
 use Rattle.dbformat.proofs.Accepted.{is_accepted}
 use Rattle.dbformat.proofs.Theory.{are_rules}
 use Rattle.dbformat.proofs.LookBack.{by_starts}

@@ -1,28 +1,21 @@
 -- The survey of a sound file has no fault at a page, a reference or a key.
 use Rattle.std.proofs.Common.{◌≡◌, ℕ, inl, inr, Option, Some, None, List, [], ◌∷◌, ◌++◌, map, refl, sym, ap, subst, ◌∙◌}
 use Rattle.std.specs.Prelude.{option_and_then, flat_map}
-use Rattle.dbsurvey.specs.Address.{IsIn, Address}
-use Rattle.dbsurvey.specs.Survey.{IsNamed, named_at}
+use Rattle.dbsound.proofs.Common.{IsIn, Address, named_at, geometry, page_bytes, key_step, View, undamaged, Cell, cells, Role, root, child, first_overflow}
+use Rattle.dbsound.proofs.Common.{later_overflow, trunk, free_leaf, Way, Reference, role_of, tree_kind, tree_view, cell_links, right_links, overflow_links}
+use Rattle.dbsound.proofs.Common.{usable_size, schema_link, later_starts, starts, Survey, rules_of, story_of, reporting, key_of, key_faults, walk_faults, Sound}
+use Rattle.dbsound.proofs.Common.{TreeKind}
+use Rattle.dbsurvey.specs.Survey.{IsNamed}
 use Rattle.dbsurvey.specs.Story.{Reported, PageStep, Follow, Place, Errand, Go, Due, errands_at, goes, IsReported, of_errand, of_page, of_place, of_refused}
 use Rattle.dbsurvey.proofs.Order.{IsIn-cases}
 use Rattle.dbsurvey.proofs.Ordering.{IsIn-from_flat_map}
 use Rattle.dbsurvey.proofs.Unfolding.{whole_none_refused}
 use Rattle.dbsurvey.proofs.Starting.{survey_from_first}
 use Rattle.dbsurvey.proofs.Reportings.{goes-errands}
-use Rattle.dbformat.specs.File.{geometry, page_bytes}
-use Rattle.dbformat.specs.Address.{key_step}
-use Rattle.dbformat.specs.Head.{View, undamaged}
-use Rattle.dbformat.specs.Cell.{Cell, cells}
-use Rattle.dbformat.specs.Reference.{Role, root, child, first_overflow, later_overflow, trunk, free_leaf, Way, Reference, role_of, tree_kind, tree_view}
-use Rattle.dbformat.specs.Reference.{cell_links, right_links, overflow_links, trunk_links}
-use Rattle.dbformat.specs.Header.{usable_size}
-use Rattle.dbformat.specs.Schema.{schema_link, later_starts, starts}
-use Rattle.dbformat.specs.Survey.{Survey, rules_of}
-use Rattle.dbformat.specs.Story.{Event, at_key, cell_items, page_items, role_items, story_of, start_errands, reporting}
-use Rattle.dbformat.specs.KeyFaults.{key_of, key_faults, cell_place_faults}
-use Rattle.dbformat.specs.Report.{walk_faults, event_faults}
-use Rattle.dbformat.specs.Sound.{Sound}
-use Rattle.dbformat.specs.declared.TreeKind.{TreeKind}
+use Rattle.dbformat.specs.Reference.{trunk_links}
+use Rattle.dbformat.specs.Story.{Event, at_key, cell_items, page_items, role_items, start_errands}
+use Rattle.dbformat.specs.KeyFaults.{cell_place_faults}
+use Rattle.dbformat.specs.Report.{event_faults}
 use Rattle.dbformat.proofs.Theory.{are_rules, reported_in_order, links-follows, no_place, no_due}
 use Rattle.dbformat.proofs.Rising.{starts_rise}
 use Rattle.dbsurvey.proofs.Lists.{flat_map-none}

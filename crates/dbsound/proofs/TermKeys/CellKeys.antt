@@ -5,15 +5,11 @@ use Rattle.std.specs.Prelude.{flat_map}
 use Rattle.std.specs.List.{enumerate_from}
 use Rattle.std.proofs.lemmas.Int.{ints}
 use Rattle.std.proofs.lemmas.Grind.{flat_map-append}
-use Rattle.dbsurvey.specs.Address.{IsIn, Address, IsBefore}
+use Rattle.dbsound.proofs.Common.{IsIn, Address, IsBefore, key_step, child_step, View, is_interior, Cell, cells, Reference, tree_view, Key, key_of}
+use Rattle.dbsound.proofs.Common.{keys_of_view, keys_at, IsUpTo, IsAbove, RiseWithin, keys_of}
 use Rattle.dbsurvey.proofs.Order.{IsIn-cases, IsIn-left, IsIn-right}
 use Rattle.dbsurvey.proofs.Ordering.{IsIn-from_flat_map}
-use Rattle.dbformat.specs.Address.{then_step, key_step, child_step}
-use Rattle.dbformat.specs.Head.{View, is_interior}
-use Rattle.dbformat.specs.Cell.{Cell, cells}
-use Rattle.dbformat.specs.Reference.{Reference, tree_view}
-use Rattle.dbformat.specs.KeyFaults.{Key, key_of, keys_of_view, keys_at}
-use Rattle.dbformat.specs.Terms.{IsUpTo, IsAbove, RiseWithin, keys_of}
+use Rattle.dbformat.specs.Address.{then_step}
 use Rattle.dbsurvey.proofs.Each.{Each, Each-none, Each-append}
 use Rattle.dbsurvey.proofs.Lists.{flat_map-none}
 use Rattle.dbsound.proofs.TermVisits.Under.{IsUnder, IsFrom}

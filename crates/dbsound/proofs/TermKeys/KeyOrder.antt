@@ -5,10 +5,8 @@ use Rattle.std.specs.Prelude.{int_le}
 use Rattle.std.proofs.lemmas.Int.{ints}
 use Rattle.std.specs.Int.Signed.{lt_z_yes, le_z_yes}
 use Rattle.std.proofs.lemmas.Bool.{cases_Bool}
-use Rattle.dbsurvey.specs.Address.{IsIn, Address, IsBefore}
+use Rattle.dbsound.proofs.Common.{IsIn, Address, IsBefore, Key, is_out_of_order, IsUpTo, IsAbove}
 use Rattle.dbsurvey.proofs.Order.{IsIn-cases, IsBefore-irreflexive}
-use Rattle.dbformat.specs.KeyFaults.{Key, is_out_of_order}
-use Rattle.dbformat.specs.Terms.{IsUpTo, IsAbove}
 use Rattle.dbsurvey.proofs.Each.{Each, Each-append, Each-none}
 
 -- no key is out of order after one at a smaller place

@@ -3,18 +3,11 @@ use Rattle.std.proofs.Common.{ℤ, ◌≡◌, ℕ, ◌+◌, inl, inr, Bool, true
 use Rattle.std.specs.Prelude.{flat_map}
 use Rattle.std.specs.List.{enumerate_from}
 use Rattle.std.proofs.lemmas.List.{append-nil}
-use Rattle.dbsurvey.specs.Address.{Address}
-use Rattle.dbformat.specs.Address.{child_step}
-use Rattle.dbformat.specs.Head.{View, is_interior, tree_of}
-use Rattle.dbformat.specs.Cell.{Cell}
-use Rattle.dbformat.specs.Reference.{Reference}
-use Rattle.dbformat.specs.KeyFaults.{key_of, keys_of_view, keys_at}
-use Rattle.dbformat.specs.Terms.{Use, IsUpTo, IsAbove, RiseWithin, keys_of, cells_of, Payload, Payloads, role_in_tree, Tree, leaf, interior, Children}
-use Rattle.dbformat.specs.Terms.{right_only, and_left}
+use Rattle.dbsound.proofs.Common.{Address, child_step, View, is_interior, tree_of, Cell, Reference, key_of, keys_of_view, keys_at, Use, IsUpTo, IsAbove}
+use Rattle.dbsound.proofs.Common.{RiseWithin, keys_of, cells_of, Payload, Payloads, role_in_tree, Tree, leaf, interior, Children, right_only, PageKind}
+use Rattle.dbsound.proofs.Common.{InteriorIndex, InteriorTable, LeafIndex, LeafTable, TreeKind}
+use Rattle.dbformat.specs.Terms.{and_left}
 use Rattle.dbformat.specs.Terms as Terms
-use Rattle.dbformat.specs.declared.PageKind.{PageKind}
-use Rattle.dbformat.specs.declared.PageKind.TheVariants.{InteriorIndex, InteriorTable, LeafIndex, LeafTable}
-use Rattle.dbformat.specs.declared.TreeKind.{TreeKind}
 use Rattle.dbformat.specs.declared.TreeKind.TheVariants as tree
 use Rattle.dbsurvey.proofs.Each.{Each, Each-cons, Each-append}
 use Rattle.dbsound.proofs.TermVisits.{visit_at, payload_visits, payloads_visits, tree_visits, children_visits}

@@ -2,15 +2,10 @@
 use Rattle.std.proofs.Common.{arith, ◌≡◌, ℕ, ◌-◌, ◌≤◌, inl, inr, min, List, [], ◌∷◌, ◌++◌, length, drop, refl, ap, ◌∙◌, length-append, length-take, length-drop}
 use Rattle.std.specs.Prelude.{flat_map, unwrap_or}
 use Rattle.std.proofs.lemmas.List.{append-nil}
-use Rattle.dbsurvey.specs.Address.{Address}
-use Rattle.dbformat.specs.Address.{overflow_step}
-use Rattle.dbformat.specs.Header.{usable_size}
-use Rattle.dbformat.specs.File.{page_bytes}
+use Rattle.dbsound.proofs.Common.{Address, overflow_step, usable_size, page_bytes, Cell, Role, root, child, first_overflow, later_overflow, trunk, free_leaf}
+use Rattle.dbsound.proofs.Common.{Reference, held_bytes, Use, Chain, last, full, Payload, whole, split}
 use Rattle.dbformat.specs.Payload.{overflow_bytes}
-use Rattle.dbformat.specs.Cell.{Cell}
-use Rattle.dbformat.specs.Reference.{Role, root, child, first_overflow, later_overflow, trunk, free_leaf, Reference, bytes_left}
-use Rattle.dbformat.specs.Schema.{held_bytes}
-use Rattle.dbformat.specs.Terms.{Use, Chain, last, full, Payload, whole, split}
+use Rattle.dbformat.specs.Reference.{bytes_left}
 use Rattle.dbformat.proofs.Chains.{IsOverflow}
 use Rattle.dbsurvey.proofs.Each.{Each}
 use Rattle.dbsound.proofs.TermVisits.{visit_at, chain_visits, payload_visits}

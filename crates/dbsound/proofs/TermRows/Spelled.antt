@@ -5,24 +5,16 @@ use Rattle.std.specs.Prelude.{flat_map, nat_eq, ◌==◌}
 use Rattle.std.specs.List.{enumerate_from, starts_with}
 use Rattle.std.proofs.lemmas.List.{append-nil, map-append}
 use Rattle.std.proofs.lemmas.Grind.{flat_map-append}
-use Rattle.dbsurvey.specs.Address.{Address}
-use Rattle.dbformat.specs.Header.{usable_size, encoding}
-use Rattle.dbformat.specs.Address.{start_of, overflow_step, child_step}
-use Rattle.dbformat.specs.Head.{View, is_interior}
-use Rattle.dbformat.specs.Cell.{Cell, cells}
-use Rattle.dbformat.specs.SchemaRow.{SchemaRow, schema_row}
-use Rattle.dbformat.specs.Reference.{Reference, tree_view}
-use Rattle.dbformat.specs.Schema.{SchemaCell, payload, schema_cell, leaf_rows, rows_at}
-use Rattle.dbformat.specs.Terms.{Use, Payload, Payloads, none, more, role_in_tree, Tree, leaf, interior, Children, right_only, and_left, cells_of}
-use Rattle.dbformat.specs.declared.RowFault.{RowFault}
-use Rattle.dbformat.specs.declared.TreeKind.{TreeKind}
+use Rattle.dbsound.proofs.Common.{Address, usable_size, encoding, start_of, overflow_step, child_step, View, is_interior, Cell, cells, SchemaRow, schema_row}
+use Rattle.dbsound.proofs.Common.{Reference, tree_view, SchemaCell, payload, schema_cell, leaf_rows, rows_at, Use, Payload, Payloads, none, more, role_in_tree}
+use Rattle.dbsound.proofs.Common.{Tree, leaf, interior, Children, right_only, cells_of, RowFault, TreeKind, below}
+use Rattle.dbformat.specs.Terms.{and_left}
 use Rattle.dbformat.specs.declared.TreeKind.TheVariants as tree
 use Rattle.dbsurvey.proofs.Each.{Each, Each-left, Each-right}
 use Rattle.dbsurvey.proofs.Lists.{flat_map-none}
 use Rattle.dbsound.proofs.TermVisits.{visit_at, payload_visits, payloads_visits, tree_visits, children_visits}
 use Rattle.dbsound.proofs.TermVisits.Under.{IsFrom, payload_under, payloads_from, tree_under, children_from, all_begin, none_begin_from, none_begin_under}
 use Rattle.dbsurvey.proofs.Beginnings.{begins-longer, not_begins}
-use Rattle.dbsound.specs.Below.{below}
 use Rattle.dbsound.proofs.TermRows.Held.{held_in, IsLong, payload_held, payload_long}
 use Rattle.dbformat.proofs.CellSizes.{leaf_sized, IsSized}
 use Rattle.dbformat.proofs.PageCells.{has_right, has_all_cells}

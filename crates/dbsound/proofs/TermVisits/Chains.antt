@@ -4,18 +4,9 @@ use Rattle.std.specs.Prelude.{flat_map, option_map, option_to_list, nat_lt}
 use Rattle.std.specs.List.{enumerate_from}
 use Rattle.std.proofs.lemmas.List.{append-nil}
 use Rattle.std.proofs.lemmas.Bool.Decides.{nat_tests}
-use Rattle.dbsurvey.specs.Address.{Address}
-use Rattle.dbsurvey.specs.Survey.{Link, children, named_at}
-use Rattle.dbsurvey.specs.Whole.{IsWhole, nothing}
-use Rattle.dbformat.specs.Address.{overflow_step, child_step}
-use Rattle.dbformat.specs.Header.{usable_size}
-use Rattle.dbformat.specs.File.{page_bytes}
-use Rattle.dbformat.specs.Payload.{overflow_next}
-use Rattle.dbformat.specs.Cell.{Cell, overflow_size}
-use Rattle.dbformat.specs.Reference.{Role, child, first_overflow, later_overflow, Way, Reference, link, cell_links, overflow_links, role_links}
-use Rattle.dbformat.specs.Survey.{rules_of}
-use Rattle.dbformat.specs.Terms.{Use, Chain, last, full, Payload, whole, split, Payloads, none, more}
-use Rattle.dbformat.specs.declared.TreeKind.{TreeKind}
+use Rattle.dbsound.proofs.Common.{Address, Link, children, named_at, IsWhole, nothing, overflow_step, child_step, usable_size, page_bytes, overflow_next, Cell}
+use Rattle.dbsound.proofs.Common.{overflow_size, Role, child, first_overflow, later_overflow, Way, Reference, link, cell_links, overflow_links, role_links}
+use Rattle.dbsound.proofs.Common.{rules_of, Use, Chain, last, full, Payload, whole, split, Payloads, none, more, TreeKind}
 use Rattle.dbformat.proofs.Chains.{IsOverflow, links_at}
 use Rattle.dbsurvey.proofs.Each.{Each, Each-left, Each-right}
 use Rattle.dbsound.proofs.TermVisits.{visit_at, chain_visits, payload_visits, payloads_visits}

@@ -2,17 +2,11 @@
 use Rattle.std.proofs.Common.{◌≡◌, ℕ, ◌+◌, ◌≤◌, Bool, true, false, List, [], ◌∷◌, ◌++◌, length, Option, Some, None, ℤ, refl, sym, subst, ◌∙◌, arith}
 use Rattle.std.proofs.Common.{length-append}
 use Rattle.std.specs.Prelude.{is_some}
-use Rattle.dbsurvey.specs.Address.{Address}
-use Rattle.dbformat.specs.Address.{overflow_step, child_step}
-use Rattle.dbformat.specs.Header.{usable_size}
-use Rattle.dbformat.specs.File.{page_bytes}
-use Rattle.dbformat.specs.Head.{View, is_interior, undamaged}
-use Rattle.dbformat.specs.Cell.{Cell, right_child}
-use Rattle.dbformat.specs.Reference.{Role, root, child, first_overflow, later_overflow, trunk, free_leaf, Reference, role_of, tree_kind, tree_view}
-use Rattle.dbformat.specs.Terms.{Use, Chain, last, full, Payload, whole, split, Payloads, none, more, role_in_tree, Tree, leaf, interior, Children, right_only}
+use Rattle.dbsound.proofs.Common.{Address, overflow_step, child_step, usable_size, page_bytes, View, is_interior, undamaged, Cell, right_child, Role, root}
+use Rattle.dbsound.proofs.Common.{child, first_overflow, later_overflow, trunk, free_leaf, Reference, role_of, tree_kind, tree_view, Use, Chain, last, full}
+use Rattle.dbsound.proofs.Common.{Payload, whole, split, Payloads, none, more, role_in_tree, Tree, leaf, interior, Children, right_only, TreeKind}
 use Rattle.dbformat.specs.Terms.{and_left}
 use Rattle.dbformat.specs.Terms as Terms
-use Rattle.dbformat.specs.declared.TreeKind.{TreeKind}
 use Rattle.dbformat.proofs.Chains.{IsOverflow}
 use Rattle.dbsurvey.proofs.Each.{Each, Each-none, Each-cons, Each-one, Each-append, Each-implies}
 use Rattle.dbsound.proofs.TermVisits.{visit_at, chain_visits, payload_visits, payloads_visits, tree_visits, children_visits}

@@ -3,24 +3,15 @@ use Rattle.std.proofs.Common.{ℤ, ◌≡◌, ℕ, ◌+◌, Bool, true, false, c
 use Rattle.std.specs.Prelude.{◌==◌, nat_le, ◌&&◌}
 use Rattle.std.specs.List.{enumerate_from}
 use Rattle.std.proofs.lemmas.Bool.Decides.{nat_tests}
-use Rattle.dbsurvey.specs.Survey.{named_at}
-use Rattle.dbsurvey.specs.Whole.{nothing}
-use Rattle.dbformat.specs.Header.{usable_size}
-use Rattle.dbformat.specs.File.{page_bytes}
-use Rattle.dbformat.specs.Head.{View, view, view_of_kind, page_kind, type_byte, own_kind, tree_of, pointers_end, content_start}
-use Rattle.dbformat.specs.SchemaRow.{SchemaRow}
-use Rattle.dbformat.specs.Reference.{root}
-use Rattle.dbformat.specs.Schema.{root_kind, root_start}
-use Rattle.dbformat.specs.Survey.{rules_of}
-use Rattle.dbformat.specs.Terms.{Use, Tree, leaf, interior}
+use Rattle.dbsound.proofs.Common.{named_at, nothing, usable_size, page_bytes, View, view, type_byte, own_kind, tree_of, content_start, SchemaRow, root}
+use Rattle.dbsound.proofs.Common.{root_start, rules_of, Use, Tree, leaf, interior, Forest, no_tree, and_tree, PageKind, InteriorIndex, InteriorTable, LeafIndex}
+use Rattle.dbsound.proofs.Common.{LeafTable, TreeKind}
+use Rattle.dbformat.specs.Head.{view_of_kind, page_kind, pointers_end}
+use Rattle.dbformat.specs.Schema.{root_kind}
 use Rattle.dbformat.specs.Terms as Terms
-use Rattle.dbformat.specs.Sound.{Forest, no_tree, and_tree}
 use Rattle.dbformat.specs.declared.HeadFault.TheVariants.{ContentStart}
-use Rattle.dbformat.specs.declared.PageKind.{PageKind}
-use Rattle.dbformat.specs.declared.PageKind.TheVariants.{InteriorIndex, InteriorTable, LeafIndex, LeafTable}
 use Rattle.dbformat.specs.declared.RowKind.{RowKind}
 use Rattle.dbformat.specs.declared.RowKind.TheVariants as row
-use Rattle.dbformat.specs.declared.TreeKind.{TreeKind}
 use Rattle.dbformat.specs.declared.TreeKind.TheVariants as tree
 use Rattle.dbsurvey.proofs.Each.{Each, Each-left, Each-right}
 use Rattle.dbsound.proofs.TermVisits.{visit_at, tree_visits, forest_visits}

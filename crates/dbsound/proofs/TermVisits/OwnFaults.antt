@@ -1,25 +1,15 @@
 -- Faults of a visit that rest on its page alone: the pages of a term have none.
 use Rattle.std.proofs.Common.{◌≡◌, ℕ, ◌+◌, ◌-◌, ◌≤◌, ◌<◌, Bool, true, false, not, List, [], ◌∷◌, ◌++◌, Option, ℤ, refl, ap, ◌∙◌, arith}
-use Rattle.dbformat.specs.Faults.{fault}
+use Rattle.dbsound.proofs.Common.{fault, Address, overflow_step, child_step, usable_size, page_bytes, overflow_next, Cell, SchemaRow, Role, root, child}
+use Rattle.dbsound.proofs.Common.{first_overflow, later_overflow, trunk, free_leaf, Reference, role_of, leaf_count, most_leaves, free_leaves, tree_page_faults}
+use Rattle.dbsound.proofs.Common.{depth_fault, role_faults, page_faults, Use, Chain, last, full, Payload, whole, split, Payloads, none, more, role_in_tree}
+use Rattle.dbsound.proofs.Common.{Tree, leaf, interior, Children, right_only, Freelist, no_trunk, and_trunk, Forest, no_tree, and_tree, Fault, TreeKind}
 use Rattle.dbformat.specs.declared.FaultCode.TheVariants.{O01, L01}
 use Rattle.std.specs.Prelude.{pos, ◌==◌, nat_le, nat_lt, ◌&&◌}
 use Rattle.std.proofs.lemmas.Bool.Decides.{nat_tests}
 use Rattle.std.proofs.Math.Bool.{and-false}
-use Rattle.dbsurvey.specs.Address.{Address}
-use Rattle.dbformat.specs.Address.{overflow_step, child_step}
-use Rattle.dbformat.specs.Header.{usable_size}
-use Rattle.dbformat.specs.File.{page_bytes}
-use Rattle.dbformat.specs.Payload.{overflow_next}
-use Rattle.dbformat.specs.Cell.{Cell}
-use Rattle.dbformat.specs.SchemaRow.{SchemaRow}
-use Rattle.dbformat.specs.Reference.{Role, root, child, first_overflow, later_overflow, trunk, free_leaf, Reference, role_of, leaf_count, most_leaves}
-use Rattle.dbformat.specs.Reference.{free_leaves}
-use Rattle.dbformat.specs.PageFaults.{tree_page_faults, overflow_fault, trunk_fault, depth_fault, role_faults, page_faults}
-use Rattle.dbformat.specs.Terms.{Use, Chain, last, full, Payload, whole, split, Payloads, none, more, role_in_tree, Tree, leaf, interior, Children, right_only}
-use Rattle.dbformat.specs.Terms.{and_left, Freelist, no_trunk, and_trunk}
-use Rattle.dbformat.specs.Sound.{Forest, no_tree, and_tree}
-use Rattle.dbformat.specs.declared.Fault.{Fault}
-use Rattle.dbformat.specs.declared.TreeKind.{TreeKind}
+use Rattle.dbformat.specs.PageFaults.{overflow_fault, trunk_fault}
+use Rattle.dbformat.specs.Terms.{and_left}
 use Rattle.dbformat.proofs.Chains.{IsOverflow}
 use Rattle.dbsurvey.proofs.Each.{Each, Each-none, Each-cons, Each-one, Each-append}
 use Rattle.dbsound.proofs.TermVisits.{visit_at, chain_visits, payload_visits, payloads_visits, tree_visits, children_visits, leaf_visits, freelist_visits}

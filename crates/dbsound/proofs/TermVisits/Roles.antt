@@ -3,18 +3,11 @@ use Rattle.std.proofs.Common.{ℤ, ◌≡◌, ℕ, ◌+◌, inl, inr, Bool, true
 use Rattle.std.specs.Prelude.{filter}
 use Rattle.std.proofs.lemmas.List.{map-append}
 use Rattle.std.proofs.lemmas.List.Elements.{filter-append}
-use Rattle.dbsurvey.specs.Address.{Address}
-use Rattle.dbformat.specs.Address.{overflow_step, child_step}
-use Rattle.dbformat.specs.File.{page_bytes}
-use Rattle.dbformat.specs.Cell.{Cell}
-use Rattle.dbformat.specs.SchemaRow.{SchemaRow}
-use Rattle.dbformat.specs.Reference.{Role, root, child, first_overflow, later_overflow, trunk, free_leaf, Reference, role_of, is_root, is_on_freelist}
-use Rattle.dbformat.specs.Reference.{leaf_count, free_leaves}
-use Rattle.dbformat.specs.Terms.{Use, Chain, last, full, Payload, whole, split, Payloads, none, more, role_in_tree, Tree, leaf, interior, Children, right_only}
-use Rattle.dbformat.specs.Terms.{and_left, Freelist, no_trunk, and_trunk}
-use Rattle.dbformat.specs.Sound.{Forest, no_tree, and_tree}
-use Rattle.dbformat.specs.EndFaults.{free_pages}
-use Rattle.dbformat.specs.declared.TreeKind.{TreeKind}
+use Rattle.dbsound.proofs.Common.{Address, overflow_step, child_step, page_bytes, Cell, SchemaRow, Role, root, child, first_overflow, later_overflow, trunk}
+use Rattle.dbsound.proofs.Common.{free_leaf, Reference, role_of, is_root, is_on_freelist, leaf_count, free_leaves, Use, Chain, last, full, Payload, whole}
+use Rattle.dbsound.proofs.Common.{split, Payloads, none, more, role_in_tree, Tree, leaf, interior, Children, right_only, Freelist, no_trunk, and_trunk, Forest}
+use Rattle.dbsound.proofs.Common.{no_tree, and_tree, free_pages, TreeKind}
+use Rattle.dbformat.specs.Terms.{and_left}
 use Rattle.dbformat.proofs.Roles.{no_root_on}
 use Rattle.dbformat.proofs.Chains.{IsOverflow}
 use Rattle.dbsurvey.proofs.Each.{Each, Each-none, Each-cons, Each-one, Each-append}

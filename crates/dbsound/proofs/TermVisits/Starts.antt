@@ -1,18 +1,11 @@
 -- The trees of a file have starts of their own: what holds of two pages of one start holds tree by tree.
 use Rattle.std.proofs.Common.{ℤ, arith, ◌≡◌, ◌⊎◌, ℕ, suc, ◌+◌, ◌<◌, ◌≤◌, inl, inr, Bool, false, Option, Some, List, [], ◌∷◌, ◌++◌, length, refl, sym, ap, subst}
 use Rattle.std.proofs.Common.{append_assoc, ◌∙◌}
-use Rattle.dbsurvey.specs.Address.{IsIn, Address, IsBefore}
+use Rattle.dbsound.proofs.Common.{IsIn, Address, IsBefore, start_of, page_bytes, View, is_interior, SchemaRow, Reference, trunk, free_leaf, tree_view}
+use Rattle.dbsound.proofs.Common.{leaf_count, free_leaves, Key, keys_at, is_out_of_order, Use, Tree, Freelist, no_trunk, and_trunk, Forest, no_tree, and_tree}
+use Rattle.dbsound.proofs.Common.{TreeKind}
 use Rattle.dbsurvey.proofs.Order.{IsIn-cases}
 use Rattle.dbsurvey.proofs.Ordering.{IsIn-flat_map}
-use Rattle.dbformat.specs.Address.{start_of}
-use Rattle.dbformat.specs.File.{page_bytes}
-use Rattle.dbformat.specs.Head.{View, is_interior}
-use Rattle.dbformat.specs.SchemaRow.{SchemaRow}
-use Rattle.dbformat.specs.Reference.{Reference, trunk, free_leaf, tree_view, leaf_count, free_leaves}
-use Rattle.dbformat.specs.KeyFaults.{Key, keys_at, is_out_of_order}
-use Rattle.dbformat.specs.Terms.{Use, Tree, Freelist, no_trunk, and_trunk}
-use Rattle.dbformat.specs.Sound.{Forest, no_tree, and_tree}
-use Rattle.dbformat.specs.declared.TreeKind.{TreeKind}
 use Rattle.dbformat.specs.declared.TreeKind.TheVariants as tree
 use Rattle.dbsurvey.proofs.Each.{Each, Each-none, Each-cons, Each-append, Each-implies}
 use Rattle.dbsound.proofs.TermVisits.{visit_at, tree_visits, leaf_visits, freelist_visits, forest_visits}

@@ -6,23 +6,14 @@ use Rattle.std.specs.List.{enumerate_from}
 use Rattle.std.proofs.lemmas.List.{append-nil}
 use Rattle.std.proofs.lemmas.Bool.{le-leb}
 use Rattle.std.proofs.lemmas.Bool.Decides.{nat_tests}
-use Rattle.dbsurvey.specs.Address.{Address}
-use Rattle.dbsurvey.specs.Survey.{Link, named_at}
-use Rattle.dbsurvey.specs.Whole.{nothing}
-use Rattle.dbformat.specs.Address.{child_step}
-use Rattle.dbformat.specs.Header.{usable_size}
-use Rattle.dbformat.specs.File.{page_bytes}
-use Rattle.dbformat.specs.Head.{View, undamaged, is_interior}
-use Rattle.dbformat.specs.Cell.{Cell, right_child}
-use Rattle.dbformat.specs.Reference.{child, trunk, free_leaf, Way, Reference, link, cell_links, right_links, page_links, role_links, trunk_links, leaf_link}
-use Rattle.dbformat.specs.Reference.{next_trunk, trunk_next, leaf_count, most_leaves, free_leaves}
-use Rattle.dbformat.specs.Survey.{rules_of}
-use Rattle.dbformat.specs.Terms.{Use, Chain, last, full, Payload, whole, split, Payloads, none, more, role_in_tree, Tree, leaf, interior, Children, right_only}
-use Rattle.dbformat.specs.Terms.{and_left, Freelist, no_trunk, and_trunk, cells_of}
+use Rattle.dbsound.proofs.Common.{Address, Link, named_at, nothing, child_step, usable_size, page_bytes, View, undamaged, is_interior, Cell, right_child, child}
+use Rattle.dbsound.proofs.Common.{trunk, free_leaf, Way, Reference, link, cell_links, right_links, page_links, role_links, leaf_count, most_leaves, free_leaves}
+use Rattle.dbsound.proofs.Common.{rules_of, Use, Chain, last, full, Payload, whole, split, Payloads, none, more, role_in_tree, Tree, leaf, interior, Children}
+use Rattle.dbsound.proofs.Common.{right_only, Freelist, no_trunk, and_trunk, cells_of, TreeKind, PageKind, InteriorIndex, InteriorTable, LeafIndex, LeafTable}
+use Rattle.dbformat.specs.Reference.{trunk_links, leaf_link}
+use Rattle.dbformat.specs.Reference.{next_trunk, trunk_next}
+use Rattle.dbformat.specs.Terms.{and_left}
 use Rattle.dbformat.specs.Terms as Terms
-use Rattle.dbformat.specs.declared.TreeKind.{TreeKind}
-use Rattle.dbformat.specs.declared.PageKind.{PageKind}
-use Rattle.dbformat.specs.declared.PageKind.TheVariants.{InteriorIndex, InteriorTable, LeafIndex, LeafTable}
 use Rattle.dbsurvey.proofs.Each.{Each, Each-left, Each-right}
 use Rattle.dbsound.proofs.TermVisits.{visit_at, payload_visits, payloads_visits, tree_visits, children_visits, leaf_visits, freelist_visits}
 use Rattle.dbformat.proofs.PageCells.{has_all_cells}

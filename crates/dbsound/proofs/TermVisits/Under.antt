@@ -1,18 +1,13 @@
 -- The visits of a term are below the address of its first page. So they all begin with it, and with no address beside it.
 use Rattle.std.proofs.Common.{◌≡◌, ℕ, ◌+◌, ◌*◌, ◌≤◌, Bool, List, [], ◌∷◌, ◌++◌, Option, ℤ, sym, ◌∙◌, arith, append_assoc, ◌≢◌, ◌<◌, true, false, subst}
 use Rattle.std.proofs.lemmas.List.{append-nil}
-use Rattle.dbsurvey.specs.Address.{Address}
-use Rattle.dbformat.specs.Address.{overflow_step, child_step}
-use Rattle.dbformat.specs.Cell.{Cell}
-use Rattle.dbformat.specs.Reference.{Role, Reference}
-use Rattle.dbformat.specs.Terms.{Use, Chain, last, full, Payload, whole, split, Payloads, none, more, role_in_tree, Tree, leaf, interior, Children, right_only}
+use Rattle.dbsound.proofs.Common.{Address, overflow_step, child_step, Cell, Role, Reference, Use, Chain, last, full, Payload, whole, split, Payloads, none}
+use Rattle.dbsound.proofs.Common.{more, role_in_tree, Tree, leaf, interior, Children, right_only, TreeKind, below}
 use Rattle.dbformat.specs.Terms.{and_left}
-use Rattle.dbformat.specs.declared.TreeKind.{TreeKind}
 use Rattle.dbsurvey.proofs.Each.{Each, Each-none, Each-cons, Each-append, Each-implies}
 use Rattle.dbsound.proofs.TermVisits.{visit_at, chain_visits, payload_visits, payloads_visits, tree_visits, children_visits}
 use Rattle.std.specs.Prelude.{nat_eq}
 use Rattle.std.specs.List.{starts_with}
-use Rattle.dbsound.specs.Below.{below}
 use Rattle.dbsurvey.proofs.Beginnings.{begins, begins-other}
 use Rattle.dbsurvey.proofs.Lists.{filter-all, filter-none}
 

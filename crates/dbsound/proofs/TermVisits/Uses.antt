@@ -1,18 +1,11 @@
 -- The visits of a term are its uses.
 use Rattle.std.proofs.Common.{◌≡◌, ℕ, ◌+◌, Bool, List, [], ◌∷◌, ◌++◌, map, Option, ℤ, refl, ap, ◌∙◌}
 use Rattle.std.proofs.lemmas.List.{map-append}
-use Rattle.dbsurvey.specs.Address.{Address}
-use Rattle.dbformat.specs.Address.{overflow_step, child_step}
-use Rattle.dbformat.specs.File.{page_bytes}
-use Rattle.dbformat.specs.Cell.{Cell}
-use Rattle.dbformat.specs.SchemaRow.{SchemaRow}
-use Rattle.dbformat.specs.Reference.{Role, trunk, free_leaf, Reference, leaf_count, free_leaves, is_root, role_of, from_of, root, child, first_overflow}
-use Rattle.dbformat.specs.Reference.{later_overflow, trunk, free_leaf}
-use Rattle.dbformat.specs.Terms.{Use, use_as, Chain, last, full, Payload, whole, split, Payloads, none, more, role_in_tree, Tree, leaf, interior, Children}
-use Rattle.dbformat.specs.Terms.{right_only, and_left, Freelist, no_trunk, and_trunk, is_root_use}
-use Rattle.dbformat.specs.Sound.{Forest, no_tree, and_tree}
-use Rattle.dbformat.specs.declared.TreeKind.{TreeKind}
-use Rattle.dbsound.specs.Below.{use_of}
+use Rattle.dbsound.proofs.Common.{Address, overflow_step, child_step, page_bytes, Cell, SchemaRow, Role, trunk, free_leaf, Reference, leaf_count, free_leaves}
+use Rattle.dbsound.proofs.Common.{is_root, role_of, from_of, root, child, first_overflow, later_overflow, trunk, free_leaf, Use, use_as, Chain, last, full}
+use Rattle.dbsound.proofs.Common.{Payload, whole, split, Payloads, none, more, role_in_tree, Tree, leaf, interior, Children, right_only, Freelist, no_trunk}
+use Rattle.dbsound.proofs.Common.{and_trunk, Forest, no_tree, and_tree, TreeKind, use_of}
+use Rattle.dbformat.specs.Terms.{and_left, is_root_use}
 use Rattle.dbsound.proofs.TermVisits.{chain_visits, payload_visits, payloads_visits, tree_visits, children_visits, leaf_visits, freelist_visits, forest_visits}
 
 -- the uses of some visits

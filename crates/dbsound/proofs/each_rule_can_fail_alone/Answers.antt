@@ -2,26 +2,22 @@ use Rattle.std.proofs.Common.{refl}
 use lib.Utf8.{encode}
 use Rattle.std.specs.Str.{chars, is_utf8}
 use Rattle.std.specs.Char.Utf16.{utf16_chars}
-use Rattle.dbformat.specs.Cell.{cell, cell_pointer, cells}
+use Rattle.dbsound.proofs.Common.{cell, cells, sum_faults, use_fault, late_root_fault, map_entry, page_bytes, content_start, own_kind, right_number, type_byte}
+use Rattle.dbsound.proofs.Common.{view, encoding, encoding_number, first_trunk, freelist_count, greatest_root, has_pointer_map, page_size, schema_format}
+use Rattle.dbsound.proofs.Common.{usable_size, key_faults, keys, row_faults, depth_fault, page_faults, tree_page_faults, tree_view, faults, walk_faults}
+use Rattle.dbsound.proofs.Common.{later_starts, payload, schema, schema_row, story_of, reporting, rules_of}
+use Rattle.dbformat.specs.Cell.{cell_pointer}
 use Rattle.dbformat.specs.Coverage.{coverage, freeblocks, items, unused}
-use Rattle.dbformat.specs.EndFaults.{sum_faults, use_fault, late_root_fault}
-use Rattle.dbformat.specs.File.{map_entry, page_bytes, refusal_of}
+use Rattle.dbformat.specs.File.{refusal_of}
 use Rattle.dbformat.specs.FixedPages.{fixed_use, map_page_of}
-use Rattle.dbformat.specs.Head.{cell_count, content_start, first_freeblock, fragmented_bytes, own_kind, right_number, type_byte, view}
-use Rattle.dbformat.specs.Header.{change_counter, encoding, encoding_number, first_trunk, freelist_count, greatest_root, has_pointer_map, incremental_vacuum}
-use Rattle.dbformat.specs.Header.{is_size_valid, page_count, page_size, reserved_bytes, schema_format, stated_pages, usable_size, version_valid_for}
+use Rattle.dbformat.specs.Head.{cell_count, first_freeblock, fragmented_bytes}
+use Rattle.dbformat.specs.Header.{change_counter, incremental_vacuum}
+use Rattle.dbformat.specs.Header.{is_size_valid, page_count, reserved_bytes, stated_pages, version_valid_for}
 use Rattle.dbformat.specs.Header.{whole_pages}
 use Rattle.dbformat.specs.HeaderFaults.{header_faults}
-use Rattle.dbformat.specs.KeyFaults.{key_faults, keys, row_faults}
-use Rattle.dbformat.specs.PageFaults.{depth_fault, page_faults, tree_page_faults}
 use Rattle.dbformat.specs.Payload.{local_len}
 use Rattle.dbformat.specs.Record.{record_values, serial_len}
-use Rattle.dbformat.specs.Reference.{tree_view}
-use Rattle.dbformat.specs.Report.{faults, walk_faults}
-use Rattle.dbformat.specs.Schema.{later_starts, payload, schema}
-use Rattle.dbformat.specs.SchemaRow.{schema_row}
-use Rattle.dbformat.specs.Story.{story_of, reporting}
-use Rattle.dbformat.specs.Survey.{refused, rules_of}
+use Rattle.dbformat.specs.Survey.{refused}
 use Rattle.dbformat.specs.Varint.{varint}
 use Rattle.dbformat.proofs.WorkedSound.{long_row_is_sound}
 use Rattle.dbsound.proofs.Broken.{sound_by, refused_beside, fails_beside}

@@ -1,7 +1,6 @@
 use Rattle.std.proofs.Common.{take}
 use Rattle.std.specs.List.{flat_map}
-use Rattle.dblines.specs.Writing.{Wrote}
-use Rattle.dbformat.specs.Lines.{fault_line}
+use Rattle.dbexplain.proofs.Common.{Wrote, fault_line}
 use Rattle.dbinjuries.specs.declared.injury.Injury.{Injury}
 use Rattle.dbexplain.proofs.injury_lines.put_fault_lines.Given as goal
 

@@ -1,7 +1,6 @@
 use Rattle.std.proofs.Common.{flat_map, take}
 use Rattle.dblines.specs.Writing.{WroteOf}
-use Rattle.dbexplain.specs.Keeping.{kept_injury_text}
-use Rattle.dbexplain.specs.Notes.{AreOwnersOf}
+use Rattle.dbexplain.proofs.Common.{kept_injury_text, AreOwnersOf}
 use Rattle.dbexplain.proofs.injury_lines.put_injuries.Given as goal
 
 abbrev pub invariant-loop-injury : goal.invariant-loop-injury

@@ -1,9 +1,6 @@
 use Rattle.std.proofs.Common.{◌≡◌, ◌+◌, ◌++◌, codes, sym, ap, ap₂, ◌∙◌}
-use Rattle.dbformat.specs.File.{geometry}
-use Rattle.dbformat.specs.Header.{stated_pages}
-use Rattle.dbformat.specs.declared.Geometry.{Geometry}
+use Rattle.dbexplain.proofs.Common.{geometry, stated_pages, Geometry, indented}
 use Rattle.dbformat.proofs.HeaderPrefix.{stated_pages_within}
-use Rattle.dbinjuries.specs.Lines.{indented}
 use Rattle.dbexplain.specs.Explained.{missing_line}
 use Rattle.dbexplain.specs.Summary.{pages_text}
 use Rattle.dbexplain.proofs.missing.put_missing.Goals as goal

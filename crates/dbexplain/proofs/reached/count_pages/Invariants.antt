@@ -1,9 +1,5 @@
 use Rattle.std.proofs.Common.{ℕ, List}
-use Rattle.dbformat.specs.File.{geometry}
-use Rattle.dbformat.specs.Reference.{Reference}
-use Rattle.dbtrace.specs.declared.TracedFault.{TracedFault}
-use Rattle.dbexplain.specs.Notes.{AreOwnersOf}
-use Rattle.dbexplain.specs.Tallies.{IsTallyOf, IsTallyTo}
+use Rattle.dbexplain.proofs.Common.{geometry, Reference, TracedFault, AreOwnersOf, IsTallyOf, IsTallyTo}
 use Rattle.dbexplain.proofs.reached.count_pages.Given as goal
 
 abbrev pub invariant-loop-index : goal.invariant-loop-index

@@ -1,14 +1,8 @@
 use Rattle.std.proofs.Common.{◌≡◌, ◌++◌, ℕ, List, rules, take, flat_map, sym, ap, ap₂, subst, ◌∙◌}
-use Rattle.dbformat.specs.Reference.{Reference}
-use Rattle.dbformat.specs.Report.{more_text}
+use Rattle.dbexplain.proofs.Common.{Reference, more_text, reported_faults, listed_injuries, injury_text, AreAllKept, summary}
 use Rattle.dblines.proofs.Writing.{of_all, of_as, of_known, of_then, put_of}
-use Rattle.dbscan.specs.Placed.{reported_faults}
-use Rattle.dbinjuries.specs.Listed.{listed_injuries}
-use Rattle.dbexplain.specs.Explained.{injury_text}
 use Rattle.dbexplain.specs.Keeping.{HasAll}
-use Rattle.dbexplain.specs.KeptRanges.{AreAllKept}
 use Rattle.dbexplain.proofs.RangesKept.{all_closed}
-use Rattle.dbexplain.specs.Summary.{summary}
 use Rattle.dbexplain.proofs.Desks.{of_desk}
 use Rattle.dbexplain.proofs.KeptInjuries.{kept_texts}
 use Rattle.dbexplain.proofs.Reports.{report_text, rest_line}

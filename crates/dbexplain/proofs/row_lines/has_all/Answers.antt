@@ -2,8 +2,7 @@ use Rattle.std.proofs.Common.{ap, ◌∙◌}
 use Rattle.std.specs.Prelude.{filter}
 use Rattle.std.specs.List.{list_any}
 use Rattle.std.proofs.lemmas.List.{take_all}
-use Rattle.dbexplain.specs.Ranges.{is_of}
-use Rattle.dbexplain.specs.RowLines.{is_all}
+use Rattle.dbexplain.proofs.Common.{is_of, is_all}
 use Rattle.dbexplain.proofs.RowLoops.{all_next}
 use Rattle.dbexplain.proofs.row_lines.has_all.Goals as goal
 

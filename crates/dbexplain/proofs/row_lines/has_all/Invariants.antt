@@ -1,8 +1,7 @@
 use Rattle.std.proofs.Common.{◌≡◌, take}
 use Rattle.std.specs.Prelude.{filter}
 use Rattle.std.specs.List.{list_any}
-use Rattle.dbexplain.specs.Ranges.{is_of}
-use Rattle.dbexplain.specs.RowLines.{is_all}
+use Rattle.dbexplain.proofs.Common.{is_of, is_all}
 use Rattle.dbexplain.proofs.row_lines.has_all.Given as goal
 
 abbrev pub invariant-loop-range : goal.invariant-loop-range

@@ -1,12 +1,9 @@
 use Rattle.std.proofs.Common.{◌≡◌, ◌+◌, ◌-◌, List, not, true, false, length, take, sym, ap, subst, ◌∙◌, arith}
 use Rattle.std.specs.Prelude.{filter, ◌==◌}
 use Rattle.std.specs.List.{list_any}
-use Rattle.dbformat.specs.Lines.{counted}
+use Rattle.dbexplain.proofs.Common.{counted, is_of, is_all, list_text, RowRange}
 use Rattle.dblines.proofs.Writing.{wrote_as, wrote_then}
 use Rattle.dbexplain.specs.KeptRanges.{unkept}
-use Rattle.dbexplain.specs.Ranges.{is_of}
-use Rattle.dbexplain.specs.RowLines.{is_all, list_text}
-use Rattle.dbexplain.specs.declared.ranges.RowRange.{RowRange}
 use Rattle.dbexplain.proofs.RowLines.{IsSome, all_line, list_line, some_by_count, some_by_others, some_is}
 use Rattle.dbexplain.proofs.row_lines.put_kind.Goals as goal
 use Rattle.dbexplain.proofs.row_lines.put_kind.Goals.{else-count-eq0-via-then-count-eq0+else-others-eq0, else-count-eq0-via-else-count-eq0}

@@ -1,10 +1,8 @@
 use Rattle.std.proofs.Common.{true, take, ◌∙◌, subst}
 use Rattle.std.specs.Prelude.{filter}
 use Rattle.std.proofs.lemmas.List.{take_all}
-use Rattle.dblines.specs.Writing.{Wrote}
+use Rattle.dbexplain.proofs.Common.{Wrote, is_of, list_text}
 use Rattle.dblines.proofs.Writing.{wrote_as, wrote_nothing, wrote_then}
-use Rattle.dbexplain.specs.Ranges.{is_of}
-use Rattle.dbexplain.specs.RowLines.{list_text}
 use Rattle.dbexplain.proofs.RowLoops.{ten_next}
 use Rattle.dbexplain.proofs.row_lines.put_list.Goals as goal
 

@@ -1,8 +1,6 @@
 use Rattle.std.proofs.Common.{◌≡◌, length, take, true}
 use Rattle.std.specs.Prelude.{filter}
-use Rattle.dblines.specs.Writing.{Wrote}
-use Rattle.dbexplain.specs.Ranges.{is_of}
-use Rattle.dbexplain.specs.RowLines.{list_text}
+use Rattle.dbexplain.proofs.Common.{Wrote, is_of, list_text}
 use Rattle.dbexplain.proofs.row_lines.put_list.Given as goal
 
 abbrev pub invariant-loop-range : goal.invariant-loop-range

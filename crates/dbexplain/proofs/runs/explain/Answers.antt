@@ -1,26 +1,18 @@
 use Rattle.std.proofs.Common.{rules, ◌≡◌, Result, Err, ap, ap₂, sym, subst, ◌∙◌}
 use Rattle.std.proofs.lemmas.Result.{err_from_is_err_and}
-use Rattle.dbformat.specs.File.{geometry}
+use Rattle.dbexplain.proofs.Common.{geometry, counted, Geometry, Verdict, HeaderBytes, RunError, OutOfMemory, references_after_end, IsEmpty, IsFresh}
 use Rattle.dbformat.specs.FixedPages.{geometry_of}
-use Rattle.dbformat.specs.Lines.{counted}
 use Rattle.dbformat.specs.Log.{IsSomeRunLog}
-use Rattle.dbformat.specs.declared.Geometry.{Geometry}
-use Rattle.dbformat.specs.declared.Verdict.{Verdict}
 use Rattle.dbsource.specs.Errors.{is_write_failed}
 use Rattle.dbsource.specs.Failures.{failures_after}
-use Rattle.dbsource.specs.HeaderBytes.{HeaderBytes}
-use Rattle.dbsource.specs.declared.error.RunError.{RunError}
-use Rattle.dbsource.specs.declared.error.RunError.TheVariants.{OutOfMemory}
 use Rattle.dbsource.proofs.Runs.{read_weaker}
 use Rattle.dbscan.proofs.AfterHeader.{after_weaker}
 use Rattle.dbscan.proofs.Notifiers.{first}
 use Rattle.dbreport.proofs.Openings.{memory_refused, opened, unopened}
 use Rattle.dbreport.proofs.ReporterStates.{lent_same, one_failed}
 use Rattle.dbreport.proofs.RunAnswers.{read_unwritten, refused_unwritten}
-use Rattle.dbexplain.specs.AfterEnd.{none_after_end, references_after_end}
-use Rattle.dbexplain.specs.Keeping.{IsEmpty}
+use Rattle.dbexplain.specs.AfterEnd.{none_after_end}
 use Rattle.dbexplain.specs.Runs.{ExplainsFile, IsExplained, answer_with}
-use Rattle.dbexplain.specs.Reporting.{IsFresh}
 use Rattle.dbexplain.specs.declared.kept.Kept.{Kept}
 use Rattle.dbexplain.proofs.Explained.{at_verdict, counts_with, explained, is_explained, not_explained, out_failures, references_counted}
 use Rattle.dbexplain.proofs.Explained.{unfailed, verdict_with}

@@ -2,9 +2,7 @@ use Rattle.std.proofs.Common.{◌≡◌, ◌++◌, [], false, cond, sym, ap, ap�
 use Rattle.std.specs.Prelude.{◌==◌}
 use Rattle.std.proofs.lemmas.Bool.Decides.{nat_tests}
 use Rattle.dblines.proofs.Writing.{wrote_as, wrote_then}
-use Rattle.dbexplain.specs.Summary.{start_name}
-use Rattle.dbexplain.specs.Sums.{rows_sum, start_sum}
-use Rattle.dbexplain.specs.declared.tally.StartCount.{StartCount}
+use Rattle.dbexplain.proofs.Common.{start_name, rows_sum, start_sum, StartCount}
 use Rattle.dbexplain.proofs.SumPieces.{start_pieces}
 use Rattle.dbexplain.proofs.starts.put_start_sum.Goals as goal
 

@@ -2,8 +2,7 @@ use Rattle.std.proofs.Common.{◌≡◌, suc, length, get_or, sym, ap, arith}
 use Rattle.std.specs.List.{range_with_len}
 use Rattle.std.proofs.lemmas.List.FromFn.{get_or-range_with_len, length-range_with_len}
 use Rattle.dblines.proofs.Writing.{wrote_all, wrote_as, wrote_more, wrote_none}
-use Rattle.dbexplain.specs.Summary.{start_name}
-use Rattle.dbexplain.specs.Sums.{numbered_sum, rows_sum}
+use Rattle.dbexplain.proofs.Common.{start_name, numbered_sum, rows_sum}
 use Rattle.dbexplain.proofs.starts.put_start_sums.Goals as goal
 
 pub loop-start-init : goal.loop-start-init

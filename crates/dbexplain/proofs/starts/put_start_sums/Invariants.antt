@@ -1,8 +1,6 @@
 use Rattle.std.proofs.Common.{suc, length, take}
 use Rattle.std.specs.List.{flat_map, range_with_len}
-use Rattle.dblines.specs.Writing.{Wrote}
-use Rattle.dbexplain.specs.Summary.{start_name}
-use Rattle.dbexplain.specs.Sums.{numbered_sum, rows_sum}
+use Rattle.dbexplain.proofs.Common.{Wrote, start_name, numbered_sum, rows_sum}
 use Rattle.dbexplain.proofs.starts.put_start_sums.Given as goal
 
 abbrev pub invariant-loop-start : goal.invariant-loop-start

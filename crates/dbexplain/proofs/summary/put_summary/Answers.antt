@@ -2,10 +2,9 @@ use Rattle.std.proofs.Common.{ap, ap₂, ◌∙◌}
 use Rattle.std.specs.Prelude.{codes}
 use Rattle.std.specs.List.{flat_map}
 use Rattle.dblines.proofs.Writing.{wrote_as, wrote_then}
-use Rattle.dbscan.specs.Placed.{reported_faults}
+use Rattle.dbexplain.proofs.Common.{reported_faults, count_text, code_sum, rows_sum}
 use Rattle.dbscan.specs.Roots.{Listed}
-use Rattle.dbexplain.specs.Summary.{count_text, sum_line}
-use Rattle.dbexplain.specs.Sums.{code_sum, rows_sum}
+use Rattle.dbexplain.specs.Summary.{sum_line}
 use Rattle.dbexplain.proofs.Summaries.{known_rows, known_summary, known_zeros}
 use Rattle.dbexplain.proofs.summary.put_summary.Goals as goal
 

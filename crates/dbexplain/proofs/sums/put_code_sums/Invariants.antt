@@ -1,7 +1,6 @@
 use Rattle.std.proofs.Common.{take}
 use Rattle.std.specs.List.{flat_map}
-use Rattle.dblines.specs.Writing.{Wrote}
-use Rattle.dbexplain.specs.Sums.{code_sum}
+use Rattle.dbexplain.proofs.Common.{Wrote, code_sum}
 use Rattle.dbexplain.proofs.sums.put_code_sums.Given as goal
 
 abbrev pub invariant-loop-code : goal.invariant-loop-code

@@ -3,10 +3,7 @@ use Rattle.std.specs.Prelude.{count_by, ◌==◌}
 use Rattle.std.specs.List.{range_with_len}
 use Rattle.std.proofs.lemmas.Bool.Decides.{nat_tests}
 use Rattle.dbsurvey.proofs.Ranges.{count_push}
-use Rattle.dbformat.specs.SchemaRow.{SchemaRow}
-use Rattle.dbexplain.specs.Summary.{is_of_kind}
-use Rattle.dbexplain.specs.Tallies.{Tallied, count_at}
-use Rattle.dbexplain.specs.declared.tally.StartCount.{StartCount}
+use Rattle.dbexplain.proofs.Common.{SchemaRow, is_of_kind, Tallied, count_at, StartCount}
 use Rattle.dbexplain.specs.declared.trees.TreeSum.{TreeSum}
 use Rattle.dbexplain.proofs.trees.trees_by.Goals as goal
 use Rattle.dbexplain.proofs.trees.trees_by.Goals.{then-is_of_kind+then-start-eq0, then-is_of_kind+else-start-eq0, else-is_of_kind}

@@ -1,8 +1,7 @@
 use Rattle.std.proofs.Common.{◌≡◌, ◌-◌, ◌≤◌, ◌&&◌}
 use Rattle.std.specs.Prelude.{count_by, ◌==◌}
 use Rattle.std.specs.List.{range_with_len}
-use Rattle.dbexplain.specs.Summary.{is_of_kind}
-use Rattle.dbexplain.specs.Tallies.{count_at}
+use Rattle.dbexplain.proofs.Common.{is_of_kind, count_at}
 use Rattle.dbexplain.proofs.trees.trees_by.Given as goal
 
 abbrev pub invariant-loop-start : goal.invariant-loop-start

@@ -1,7 +1,6 @@
 use Rattle.std.proofs.Common.{take}
 use Rattle.std.specs.List.{flat_map}
-use Rattle.dblines.specs.Writing.{Wrote}
-use Rattle.dbexplain.specs.Summary.{zero_run_line}
+use Rattle.dbexplain.proofs.Common.{Wrote, zero_run_line}
 use Rattle.dbexplain.proofs.zeros.put_runs.Given as goal
 
 abbrev pub invariant-loop-run : goal.invariant-loop-run

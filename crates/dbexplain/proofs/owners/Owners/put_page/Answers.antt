@@ -2,10 +2,9 @@ use Rattle.std.proofs.Common.{◌≡◌, ◌&&◌, [], true, false, refl, sym, a
 use Rattle.std.specs.Prelude.{nat_le}
 use Rattle.std.proofs.lemmas.Bool.Decides.{nat_tests}
 use Rattle.std.proofs.lemmas.Bool.{and_from}
-use Rattle.dbformat.specs.File.{geometry}
-use Rattle.dbformat.specs.FixedPages.{is_page}
+use Rattle.dbexplain.proofs.Common.{geometry, is_page, tree_of_row}
 use Rattle.dblines.proofs.Writing.{wrote_nothing}
-use Rattle.dbscan.specs.Texts.{tree_of_row, tree_text}
+use Rattle.dbscan.specs.Texts.{tree_text}
 use Rattle.dbexplain.specs.Below.{page_place_line}
 use Rattle.dbexplain.proofs.Below.{known_trees}
 use Rattle.dbexplain.proofs.PagePieces.{page_pieces}

@@ -1,8 +1,7 @@
 use Rattle.std.proofs.Common.{◌<◌, length, sym, ap, ap₂, ◌∙◌, arith}
 use Rattle.std.specs.Prelude.{slice_set, slice_index_or}
-use Rattle.dbscan.specs.StartTable.{most_starts}
-use Rattle.dbexplain.specs.KeptRanges.{no_more, one_more}
-use Rattle.dbexplain.specs.RangeCounts.{with_kind}
+use Rattle.dbexplain.proofs.Common.{most_starts, no_more, with_kind}
+use Rattle.dbexplain.specs.KeptRanges.{one_more}
 use Rattle.dbexplain.proofs.RangeCounts.{kinds_are, one_apart}
 use Rattle.dbexplain.proofs.range_counts.RangeCounts.add.Goals as goal
 

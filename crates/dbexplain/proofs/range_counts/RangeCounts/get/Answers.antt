@@ -2,9 +2,7 @@ use Rattle.std.proofs.Common.{◌<◌, length, sym, ap, ap₂, ◌∙◌, arith}
 use Rattle.std.specs.Option.{unwrap_or}
 use Rattle.std.specs.Prelude.{slice_index_or}
 use Rattle.std.proofs.lemmas.Option.{unwrap_or-slice_get}
-use Rattle.dbscan.specs.StartTable.{most_starts}
-use Rattle.dbexplain.specs.KeptRanges.{no_more}
-use Rattle.dbexplain.specs.RangeCounts.{with_kind}
+use Rattle.dbexplain.proofs.Common.{most_starts, no_more, with_kind}
 use Rattle.dbexplain.proofs.RangeCounts.{apart_is, other_is}
 use Rattle.dbexplain.proofs.range_counts.RangeCounts.get.Goals as goal
 

@@ -1,7 +1,6 @@
 use Rattle.std.proofs.Common.{List, None, ap₂}
-use Rattle.dbexplain.specs.KeptRanges.{KeptRanges, no_ranges}
-use Rattle.dbexplain.specs.declared.ranges.RangeCount.{RangeCount}
-use Rattle.dbexplain.specs.declared.ranges.RowRange.{RowRange}
+use Rattle.dbexplain.proofs.Common.{KeptRanges, RangeCount, RowRange}
+use Rattle.dbexplain.specs.KeptRanges.{no_ranges}
 use Rattle.dbexplain.proofs.RangesKept.{none_added}
 use Rattle.dbexplain.proofs.ranges.RowRanges.new_in.Goals as goal
 

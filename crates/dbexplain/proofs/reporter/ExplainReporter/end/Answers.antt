@@ -1,6 +1,5 @@
 use Rattle.std.proofs.Common.{Err, Result, ap, sym, subst, ◌∙◌}
-use Rattle.dbformat.specs.declared.Verdict.{Verdict}
-use Rattle.dbsource.specs.declared.error.RunError.{RunError}
+use Rattle.dbexplain.proofs.Common.{Verdict, RunError}
 use Rattle.dbexplain.specs.Reporting.{Ends}
 use Rattle.dbexplain.proofs.reporter.ExplainReporter.end.Goals as goal
 

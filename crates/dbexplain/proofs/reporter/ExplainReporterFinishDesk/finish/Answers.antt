@@ -1,16 +1,13 @@
 use Rattle.std.proofs.Common.{◌≢◌, false, Ok, Err, Result, inl, inr, refl, sym, ap, ◌∙◌}
 use Rattle.std.proofs.lemmas.Result.{err_from_is_err_and}
-use Rattle.dbformat.specs.Report.{faults}
+use Rattle.dbexplain.proofs.Common.{faults, ReadFailed, Receives, LeavesExplained, listed_injuries, explain_text}
 use Rattle.dbsource.specs.declared.error.RunError.TheVariants as error
-use Rattle.dbsource.specs.declared.error.RunError.TheVariants.{ReadFailed}
 use Rattle.dbsource.specs.declared.out.WriteFailed.{WriteFailed}
 use Rattle.dbsource.proofs.Logs.{asks_weaker}
 use Rattle.dbwalk.specs.Reporting.{one_out}
 use Rattle.dbscan.proofs.Finished.{finished}
-use Rattle.dbexplain.specs.Reporting.{Receives, LeavesExplained, explain_held}
+use Rattle.dbexplain.specs.Reporting.{explain_held}
 use Rattle.dbinjuries.proofs.Desks.{desk_kept, looked_keeps}
-use Rattle.dbinjuries.specs.Listed.{listed_injuries}
-use Rattle.dbexplain.specs.Explained.{explain_text}
 use Rattle.dbexplain.proofs.Left.{all_counted, all_kept, clean_put, file_received, written}
 use Rattle.dbexplain.proofs.reporter.ExplainReporterFinishDesk.finish.Goals as goal
 
