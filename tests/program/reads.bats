@@ -197,6 +197,42 @@ pages_of() {
     [ "$bytes" -lt $((100 + 8 * 65536)) ] || fail "$bytes bytes of $size"
 }
 
+# page_1_in_wal FILE: a transaction after which page 1, and a new page, are in its -wal alone.
+page_1_in_wal() {
+    python3 - "$1" << 'END'
+import shutil, sqlite3, sys
+made = sys.argv[1] + ".made"
+shutil.copy(sys.argv[1], made)
+db = sqlite3.connect(made, isolation_level=None)
+db.execute("PRAGMA journal_mode = WAL")
+db.execute("PRAGMA wal_autocheckpoint = 0")
+db.execute("CREATE TABLE u(a)")
+for suffix in ("", "-wal"):
+    shutil.copy(made + suffix, sys.argv[1] + suffix)
+END
+}
+
+# Page 1 is then not read from the file, so the share of pages in use is known by a read of its header alone.
+@test 'of a file that is mostly free a disk reads what is used, also where page 1 is in a log' {
+    needs python3
+    row_of 300 65536 "$work/x.db"
+    sqlite3 "$work/x.db" 'DELETE FROM t'
+    on_disk SLOW=1000
+    options=("${as[@]}")
+    journal_of "$work/x.db" <<< 1
+    counted check --recovered "$work/x.db"
+    row 'the page of a journal' grep -q 'journal: 1 page .* read from it' "$work/err"
+    log=$(wc -c < "$work/x.db-journal")
+    # Pages 2 and 3, each perhaps with what comes after it, and the journal, perhaps twice.
+    row "$bytes bytes beside a journal of $log" [ "$bytes" -lt $((100 + 8 * 65536 + 2 * log)) ]
+    rm "$work/x.db-journal"
+    page_1_in_wal "$work/x.db"
+    counted check --recovered "$work/x.db"
+    row 'the pages of a -wal' grep -q 'wal: . pages of 1 transaction are read from it' "$work/err"
+    log=$(wc -c < "$work/x.db-wal")
+    row "$bytes bytes beside a -wal of $log" [ "$bytes" -lt $((100 + 8 * 65536 + 2 * log)) ]
+}
+
 # After three reads that go back a slow one takes 16 MiB, after six 256, and never more, here of 5.5 GiB.
 @test 'where a disk reads a file from its end on, it takes 256 MiB at once at most, and no memory for them' {
     needs python3

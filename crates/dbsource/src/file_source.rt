@@ -16,11 +16,13 @@ use std::{fs, io};
 /// A file, opened for reading only. It has no told bytes: no contract knows what the file holds.
 ///
 /// It may ask the system for more than its caller asks for. Where reads of at most 4096 bytes follow one another it makes
-/// longer ones, of at most 256 KiB, and answers from these. Of a file that is not in memory it reads a MiB as a whole when
-/// the first read falls into it, once, so that the system has it in memory; and where such reads jump through the file,
-/// with it the MiB beside it, at most 256 at once, the fewer the smaller the share of the pages that the header states to be
-/// in use. If that is below a sixteenth, or on a slow disk below a 128th, it reads no MiB as a whole. It takes the buffer for
-/// either when it first needs it, so that what a run needs comes first, and reads page by page where there is no memory for it.
+/// longer ones, of at most 256 KiB, and answers from these. Of a file that is not in memory it reads a MiB as a whole
+/// when the first read falls into it, once, so that the system has it in memory; and where such reads jump through the
+/// file, with it the MiB beside it, at most 256 at once, the fewer the smaller the share of the pages that the header
+/// states to be in use. If that is below a sixteenth, or on a slow disk below a 128th, it reads no MiB as a whole. Where
+/// its caller did not read the header, since page 1 is in a log, it does so itself, once, after a slow read. It takes the
+/// buffer for either when it first needs it, so that what a run needs comes first, and reads page by page where there is
+/// no memory for it.
 #[derive(Drop)]
 pub struct FileSource<'r, C> {
     file: File,

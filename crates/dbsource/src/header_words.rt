@@ -48,8 +48,7 @@ pub(crate) fn page_size(bytes: &[u8]) -> u32
 }
 
 // Whether the stated size in pages counts.
-#[tactic(auto, unfolding(dbformat::specs::Header::is_size_valid, dbformat::specs::Header::stated_pages, dbformat::specs::Header::change_counter,
-    dbformat::specs::Header::version_valid_for))]
+#[tactic(auto, unfolding(dbformat::specs::Header::is_size_valid, dbformat::specs::Header::stated_pages, dbformat::specs::Header::change_counter, dbformat::specs::Header::version_valid_for))]
 pub(crate) fn is_size_valid(bytes: &[u8]) -> bool
     requires { 100 ≤ length bytes.now }
     ensures { result ≡ is_size_valid bytes.now }

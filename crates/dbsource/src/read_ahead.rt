@@ -1,4 +1,5 @@
 // Reading ahead: a file that is not in memory is read by windows.
+use crate::header_words::HEADER_LEN;
 use crate::used_share::UsedShare;
 use std::alloc::{AllocError, Global};
 use std::fs::File;
@@ -54,6 +55,8 @@ pub(crate) struct ReadAhead<'r, C> {
     windows: u64,
     len: u64,
     share: UsedShare,
+    // Whether the file's header was read, or a read of it was tried.
+    asked: bool,
     buffer: Vec<u8>,
     // How many windows are read at once, the last window with a slow read, and how many of them came before the last.
     at_once: u64,
@@ -82,6 +85,7 @@ impl<'r, C: Clock> ReadAhead<'r, C> {
             windows,
             len,
             share: UsedShare::WHOLE,
+            asked: false,
             buffer: Vec::new(alloc),
             at_once: 1,
             last: 0,
@@ -115,20 +119,40 @@ impl<'r, C: Clock> ReadAhead<'r, C> {
         let start = Instant::now(self.clock);
         file.read_exact_at(first, offset)?;
         if offset == 0 {
-            self.share = UsedShare::stated(first, self.len);
+            self.state(first);
         }
         if let Ok(start) = start
             && let Ok(time) = start.elapsed(self.clock)
             && time >= self.bound
-            && self.pays(time)
         {
-            if is_short {
-                self.grow(window);
+            self.ask(file);
+            if self.pays(time) {
+                if is_short {
+                    self.grow(window);
+                }
+                self.fetch(file, window);
+                self.fetch_beside(file, window);
             }
-            self.fetch(file, window);
-            self.fetch_beside(file, window);
         }
         file.read_exact_at(rest, offset.wrapping_add(first.len() as u64))
+    }
+
+    // Keeps the share that the first bytes of the file state.
+    fn state(&mut self, first: &[u8]) {
+        self.asked = true;
+        self.share = UsedShare::stated(first, self.len);
+    }
+
+    // Reads the header where no read before began with it: page 1 may have been read from a log beside the file.
+    fn ask(&mut self, file: &File) {
+        if self.asked {
+            return;
+        }
+        self.asked = true;
+        let mut header = [0u8; HEADER_LEN];
+        if file.read_exact_at(&mut header, 0).is_ok() {
+            self.state(&header);
+        }
     }
 
     // Whether enough pages of a window will be read that it pays to read it as a whole, if one page takes this time.
