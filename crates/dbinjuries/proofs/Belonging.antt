@@ -77,22 +77,22 @@ abbrev last_page : ℕ → List PageRun → ℕ
 last_page d [] = d
 last_page d (r ∷ rs) = last_page r.last rs
 
+-- the runs with a page more, by whether it is the last one, and whether it is the next
+abbrev run_by : Bool → Bool → ℕ → PageRun → List PageRun
+run_by same next p r = cond same (r ∷ []) (cond next (to p r ∷ []) (r ∷ alone p ∷ []))
+
 last-after : (d p : ℕ) (rs : List PageRun) → last_page d (run_after rs p) ≡ p
 last-after d p [] = refl
 last-after d p (r ∷ []) = by_same (p == r.last) refl
   where
-    by_next : (b : Bool) → last_page d (cond b (to p r ∷ []) (r ∷ alone p ∷ [])) ≡ p
+    by_next : (b : Bool) → last_page d (run_by false b p r) ≡ p
     by_next true = refl
     by_next false = refl
 
-    by_same : (b : Bool) → (p == r.last) ≡ b → last_page d (cond b (r ∷ []) (cond (p == r.last + 1) (to p r ∷ []) (r ∷ alone p ∷ []))) ≡ p
+    by_same : (b : Bool) → (p == r.last) ≡ b → last_page d (run_by b (p == r.last + 1) p r) ≡ p
     by_same true e = grind (arith, nat_tests, e)
     by_same false e = by_next (p == r.last + 1)
 last-after d p (r ∷ s ∷ rs) = last-after r.last p (s ∷ rs)
-
--- the runs after a page, by how it stands to the last run
-abbrev run_by : Bool → Bool → ℕ → PageRun → List PageRun
-run_by same next p r = cond same (r ∷ []) (cond next (to p r ∷ []) (r ∷ alone p ∷ []))
 
 -- where it is the last page, nothing changes
 after-same : (d p : ℕ) (r : PageRun) (rs : List PageRun) → (p == last_page d (r ∷ rs)) ≡ true → run_after (r ∷ rs) p ≡ r ∷ rs
