@@ -98,6 +98,41 @@ before() {
     done
 }
 
+# pairs_of TREE: of each two children of its root in x.db, where their numbers are.
+pairs_of() {
+    python3 - "$work/x.db" "$1" << 'END'
+import itertools, sqlite3, sys
+path, tree = sys.argv[1:]
+((root,),) = sqlite3.connect(path).execute("SELECT rootpage FROM sqlite_schema WHERE name = ?", (tree,))
+begin = 512 * (root - 1)
+page = open(path, "rb").read()[begin : begin + 512]
+cells = int.from_bytes(page[3:5], "big")
+places = [int.from_bytes(page[12 + 2 * k : 14 + 2 * k], "big") for k in range(cells)] + [8]
+for one, other in itertools.combinations(places, 2):
+    print(begin + one, begin + other)
+END
+}
+
+# The rows come from the last key to the first, so the leaves are in no order of their numbers: only the keys say which is which.
+@test 'mend finds which leaf of an index is where by doubles, also beside integers, and by texts that differ late' {
+    local what column keys value one other
+    needs python3 sqlite3
+    while IFS='|' read -r what column keys value; do
+        made "CREATE TABLE t(a $column); CREATE INDEX i ON t(a); WITH RECURSIVE k(n) AS (SELECT $keys UNION ALL SELECT n - 1 FROM k WHERE n > 1)
+            INSERT INTO t SELECT $value FROM k;"
+        while read -r one other; do
+            row "$what: $one and $other" is_put_back "$one" '\0\0\0\0' "$other" '\0\0\0\0'
+            cp "$work/was.db" "$work/x.db"
+        done < <(pairs_of i)
+    done << 'END'
+doubles|REAL|150|n * 1.3 - 90
+doubles of which every second one is stored as an integer|REAL|150|n * 0.5 - 30
+doubles and integers in any column||150|CASE n % 2 WHEN 0 THEN n - 70 ELSE n - 70.3 END
+texts|TEXT|25|printf('%066d%04d', 0, n)
+END
+    [ "$rows" -gt 30 ]
+}
+
 @test 'mend finds the numbers of the header and in the heads and pointers of page 1 and interior pages' {
     needs sqlite3
     while read -r what at bytes; do

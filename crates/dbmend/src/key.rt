@@ -2,16 +2,21 @@
 use dbbytes::{serial_len, varint};
 use dbpage::PageView;
 
-// How many bytes of a record are kept.
-const KEPT: usize = 64;
+// How many bytes of a record are kept: in pages of at most 4096 bytes each that is not on an overflow page.
+const KEPT: usize = 1024;
 
 // How many columns of a record are looked at.
 const MOST_COLUMNS: u32 = 32;
 
+// The bit of the sign of a double, and the greatest exponent.
+const SIGN: u64 = 1 << 63;
+
+const MOST_EXPONENT: u64 = 2047;
+
 // The first bytes of a record.
 #[derive(Clone, Copy)]
 pub(crate) struct Record {
-    bytes: [u8; 64],
+    bytes: [u8; 1024],
     len: usize,
 }
 
@@ -39,6 +44,60 @@ pub(crate) struct Column<'a> {
     pub(crate) start: u64,
     pub(crate) len: u64,
     pub(crate) body: &'a [u8],
+}
+
+// A number as it is compared: first the exponent of a double of its size, then its bits from the first one on. Below 0 both are negated.
+#[derive(Clone, Copy)]
+struct Number {
+    exponent: i64,
+    bits: i64,
+}
+
+impl Number {
+    fn new(is_negative: bool, exponent: u64, bits: u64) -> Number {
+        let exponent = exponent.min(MOST_EXPONENT) as i64;
+        let bits = (bits / 2) as i64;
+        if is_negative {
+            return Number {
+                exponent: exponent.wrapping_neg(),
+                bits: bits.wrapping_neg(),
+            };
+        }
+        Number { exponent, bits }
+    }
+
+    fn of_integer(value: i64) -> Number {
+        let size = value.unsigned_abs();
+        let zeros = size.leading_zeros();
+        if size == 0 {
+            return Number::new(false, 0, 0);
+        }
+        // That of 1, which has 63 zeros, is 1023.
+        let exponent = 1086u64.saturating_sub(u64::from(zeros));
+        Number::new(value < 0, exponent, size.wrapping_shl(zeros))
+    }
+
+    // That of a double of these bits. Its first bit is not stored, unless the exponent is 0.
+    fn of_double(word: u64) -> Number {
+        let exponent = (word >> 52) & MOST_EXPONENT;
+        let first = if exponent > 0 { SIGN } else { 0 };
+        Number::new(word > SIGN, exponent, first | ((word << 12) >> 1))
+    }
+
+    fn of(column: &Column<'_>) -> Option<Number> {
+        if column.kind == 7 {
+            double(column.body).map(Number::of_double)
+        } else {
+            integer(column).map(Number::of_integer)
+        }
+    }
+
+    fn order(&self, other: &Number) -> Order {
+        match of_numbers(self.exponent, other.exponent) {
+            Order::Same => of_numbers(self.bits, other.bits),
+            order => order,
+        }
+    }
 }
 
 impl Record {
@@ -173,6 +232,18 @@ pub(crate) fn integer(column: &Column<'_>) -> Option<i64> {
     }
 }
 
+// The bits of a double, if all its bytes are there.
+fn double(body: &[u8]) -> Option<u64> {
+    if body.len() < 8 {
+        return None;
+    }
+    let mut word = 0u64;
+    for byte in body {
+        word = word.wrapping_mul(256).wrapping_add(u64::from(*byte));
+    }
+    Some(word)
+}
+
 fn of_numbers(a: i64, b: i64) -> Order {
     if a < b {
         Order::Rising
@@ -222,8 +293,8 @@ fn of_columns(a: &Column<'_>, b: &Column<'_>, folded: bool) -> Order {
     }
     match class(a.kind) {
         0 => Order::Same,
-        1 => match (integer(a), integer(b)) {
-            (Some(x), Some(y)) => of_numbers(x, y),
+        1 => match (Number::of(a), Number::of(b)) {
+            (Some(x), Some(y)) => x.order(&y),
             _ => Order::Unknown,
         },
         _ => of_texts(a, b, folded),
