@@ -1,9 +1,9 @@
 -- Where a cell may begin, and what a readable cell holds.
 use Rattle.std.proofs.Common.{◌≡◌, ℕ, ◌+◌, ◌-◌, ◌<◌, ◌≤◌, ◌⊎◌, inl, inr, max, Bool, true, false, if◌then◌else◌, ◌&&◌, List, Option, Some, None, ℤ, Ok, Err}
-use Rattle.std.proofs.Common.{length, drop, refl, sym, subst, ap, ◌∙◌, arith}
-use Rattle.std.specs.Prelude.{Result, ◌==◌, nat_le, nat_lt, ok_or, option_and_then, IfSome}
-use Rattle.std.proofs.lemmas.List.{length-take}
-use Rattle.dbbytes.proofs.VarintLemmas.{varint-within}
+use Rattle.std.proofs.Common.{length, length-drop, drop, get_or, ltb, refl, sym, subst, ap, ◌∙◌, arith}
+use Rattle.std.specs.Prelude.{Result, ◌==◌, nat_le, nat_lt, ok_or, option_and_then, IfSome, slice_index}
+use Rattle.std.proofs.lemmas.List.{length-take, get_or-take, get_or-drop}
+use Rattle.dbbytes.proofs.VarintLemmas.{varint-within, varint_after_first}
 use Rattle.dbformat.specs.Numbers.{u16_at, u32_at}
 use Rattle.dbformat.specs.Payload.{most_payload, local_len}
 use Rattle.dbformat.specs.declared.PayloadKind.TheVariants.{TableLeaf, Index}
@@ -175,3 +175,30 @@ unfolding cell
 cell_local v i c h =
     let at = cell_pointer v i in
     cell_at_local v.kind v at c (if_ok (nat_le (content_start v.number v.bytes) at && nat_le at (v.usable - 4)) (cell_at v.kind v at) c h)
+
+leaf_key : (v : View) (offset : ℕ) (c : Cell) → cell_at LeafIndex v offset ≡ Some c → c.key ≡ None
+leaf_key v offset c h =
+    let size = then_some _ (varint (bytes_from v offset)) c h in
+    let here = local_len Index v.usable size.0.0 in
+    let len : ℕ = size.0.1 + here + (if nat_lt here size.0.0 then 4 else 0) in
+    let p = if_some (nat_le size.0.0 most_payload && nat_le (offset + len) v.usable) _ c size.1 in
+    sym (ap (λ (d : Cell). d.key) p.1)
+
+-- a cell of a leaf of an index has no key
+pub cell_keyless : (v : View) (i : ℕ) (c : Cell) → v.kind ≡ LeafIndex → cell v i ≡ Ok c → c.key ≡ None
+unfolding cell
+cell_keyless v i c kind h =
+    let at = cell_pointer v i in
+    let found = if_ok (nat_le (content_start v.number v.bytes) at && nat_le at (v.usable - 4)) (cell_at v.kind v at) c h in
+    leaf_key v at c (subst (λ (k : PageKind). cell_at k v at ≡ Some c) kind found)
+
+-- a size below 128 has one byte
+pub small_size : (v : View) (offset : ℕ) → offset < v.usable → v.usable ≤ length v.bytes → slice_index v.bytes offset < 128
+    → varint (bytes_from v offset) ≡ Some (slice_index v.bytes offset, 1)
+small_size v offset within whole small =
+    let first : get_or (bytes_from v offset) 0 0 ≡ slice_index v.bytes offset =
+    get_or-take (v.usable - offset) (drop offset v.bytes) 0 0 (omega (arith, within)) ∙ get_or-drop offset v.bytes 0 0 ∙ ap (λ (i : ℕ). get_or v.bytes i 0) (omega arith) in
+    let some : 0 < length (bytes_from v offset) =
+    omega (arith, within, whole, length-take (v.usable - offset) (drop offset v.bytes), length-drop offset v.bytes) in
+    let below : ltb (get_or (bytes_from v offset) 0 0) 128 ≡ true = grind (arith, nat_tests) in
+    varint_after_first (bytes_from v offset) some ∙ rw below (ap (λ (b : ℕ). Some (b, 1)) first)

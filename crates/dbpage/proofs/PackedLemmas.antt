@@ -1,7 +1,7 @@
 -- The cells of a packed page, one after another.
 use Rattle.std.proofs.Common.{◌≡◌, ℕ, zero, suc, true, Err, ◌+◌, ◌<◌, ◌≤◌, max, inl, inr, false, List, [], ◌∷◌, ◌++◌, ◌||◌, Bool, length, map, Option, Some}
 use Rattle.std.proofs.Common.{None, Ok, ℤ, refl, sym, subst, ap, ◌∙◌, arith}
-use Rattle.std.specs.Prelude.{fold, filter_map, option_map, is_some, IsOk, MatchBool, ◌<ℤ◌}
+use Rattle.std.specs.Prelude.{Result, fold, filter_map, option_map, is_some, IsOk, MatchBool, ◌<ℤ◌}
 use Rattle.std.specs.List.{range_with_len}
 use Rattle.std.specs.Result.{result_ok}
 use Rattle.std.proofs.lemmas.Bool.{cases_lt}
@@ -13,10 +13,12 @@ use Rattle.dbformat.specs.Head.{View, content_start}
 use Rattle.dbformat.specs.Cell.{Cell, cell, count}
 use Rattle.dbformat.specs.Coverage.{coverage, coverage_of, first_overlap, items}
 use Rattle.dbformat.specs.declared.CellFault.{CellFault}
+use Rattle.dbformat.specs.declared.PageKind.TheVariants.{LeafIndex}
 use Rattle.dbformat.specs.declared.Coverage.TheVariants.{Overlap, Unheld}
 use Rattle.dbpage.specs.Packed.{first_cells, payload_of, greatest_of, AddUpTo, HasOverflow, IsAboveLast, IsAllLocal, IsUnpacked, key_at}
 use Rattle.dbpage.specs.Beginning.{IsRunning, begins_with}
 use Rattle.dbpage.specs.declared.packed.CellSums.{CellSums}
+use Rattle.dbpage.proofs.CellLemmas.{cell_keyless}
 use Rattle.dbpage.proofs.Runs.{no_cells, run_as}
 
 -- of no cell of a page whose first key is this
@@ -142,3 +144,45 @@ unpacked_at_overlap v k h page all = not_both page.unheld (sym (ap (coverage_of 
   where
     not_both : (unheld : ℕ) → Overlap k ≡ Unheld unheld → ⊥
     not_both unheld h = cc
+
+-- sums of cells without keys and overflow pages, after those that these are the sums of
+abbrev pub keyless_sums : CellSums → ℕ → ℕ → CellSums
+keyless_sums sums payload greatest =
+    record { payload = payload; greatest = greatest; first = sums.first; last = None; has_overflow = sums.has_overflow }
+
+pub key_at-keyless : (v : View) (i : ℕ) → v.kind ≡ LeafIndex → key_at v i ≡ None
+key_at-keyless v i kind = by_case (cell v i) refl
+  where
+    by_case : (r : Result Cell CellFault) → cell v i ≡ r → key_at v i ≡ None
+    by_case (Ok c) e = rw e (cell_keyless v i c kind e)
+    by_case (Err f) e = rw e refl
+
+no_last : (v : View) (n : ℕ) (sums : CellSums) → AddUpTo v n sums → v.kind ≡ LeafIndex → sums.last ≡ None
+no_last v zero sums was kind = was.unread refl
+no_last v (suc n) sums was kind = sym (was.last_is n (omega arith)) ∙ key_at-keyless v n kind
+
+pub keyless_read : (v : View) (n : ℕ) (sums : CellSums) → AddUpTo v n sums → v.kind ≡ LeafIndex
+    → AddUpTo v n (keyless_sums sums sums.payload sums.greatest)
+keyless_read v n sums was kind = record {
+  readable = was.readable;
+  rising = was.rising;
+  first_is = was.first_is;
+  last_is = λ i h. was.last_is i h ∙ no_last v n sums was kind;
+  empty = was.empty;
+  unread = λ h. refl;
+  payload_is = was.payload_is;
+  greatest_is = was.greatest_is;
+  overflow_is = was.overflow_is;
+  few = was.few;
+}
+
+pub keyless_more : (v : View) (n : ℕ) (sums : CellSums) (payload greatest : ℕ) (c : Cell) → AddUpTo v n (keyless_sums sums payload greatest) → cell v n ≡ Ok c
+    → length c.local ≤ 65536 → c.key ≡ None → c.overflow ≡ None → (more most : ℕ) → more ≡ payload + length c.local → most ≡ max greatest c.size
+    → AddUpTo v (n + 1) (keyless_sums sums more most)
+keyless_more v n sums payload greatest c was readable fits keyless whole more most p g =
+    one_more_read v n (keyless_sums sums payload greatest) was c readable fits (λ a b e q. absurd (some_is_none a (sym e))) (keyless_sums sums more most) p g refl
+    (sym keyless) (or_false sums.has_overflow ∙ ap (λ (o : Option ℕ). sums.has_overflow || is_some o) (sym whole))
+  where
+    or_false : (b : Bool) → b ≡ (b || false)
+    or_false true = refl
+    or_false false = refl

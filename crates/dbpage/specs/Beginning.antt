@@ -1,5 +1,5 @@
 -- What was read of a page before a byte of it is marked.
-use Rattle.std.specs.Prelude.{◌≡◌, ℕ, ◌+◌, ◌-◌, ◌<◌, ◌≤◌, List, MatchOption, Option, None, ℤ, false}
+use Rattle.std.specs.Prelude.{◌≡◌, ℕ, ◌+◌, ◌-◌, ◌<◌, ◌≤◌, List, length, MatchOption, Option, None, ℤ, false}
 use Rattle.dbformat.specs.Head.{View, content_start}
 use Rattle.dbformat.specs.Cell.{Cell, count}
 use Rattle.dbformat.specs.Coverage.{Span, is_held}
@@ -13,10 +13,13 @@ pub record EndsAt (c : Cell) (end : ℕ) : Type 0 where
   pub ends : c.offset + c.len ≡ end
   pub four : 4 ≤ c.len
 
--- a cell takes 4 to 56 bytes
+-- a cell takes 4 to 56 bytes, one more than its payload, and has no key and no overflow page
 pub record IsShort (c : Cell) : Type 0 where
   pub four : 4 ≤ c.len
   pub most : c.len ≤ 56
+  pub one : c.len ≡ length c.local + 1
+  pub keyless : c.key ≡ None
+  pub whole : c.overflow ≡ None
 
 -- no two spans share a byte, and they hold those of one range alone
 pub record IsCellRun (spans : List Span) (start end from to : ℕ) : Type 0 where

@@ -1,5 +1,5 @@
 // Cells (Database File Format, 1.6, "B-tree Cell Format").
-ghost use Rattle.std.specs.Prelude.{◌≡◌, ◌+◌, ◌<◌, ◌≤◌, IfSome, Ok, Some};
+ghost use Rattle.std.specs.Prelude.{◌≡◌, ◌+◌, ◌<◌, ◌≤◌, IfSome, None, Ok, Some, length};
 ghost use Rattle.dbformat.specs.Cell.{bytes_from, cell, cell_at, cell_pointer, child_number, count, overflow_size, payload_cell, right_child};
 ghost use Rattle.dbformat.specs.NamedPages.{named_page};
 ghost use Rattle.dbformat.specs.Varint.{varint};
@@ -309,6 +309,7 @@ impl<'a> PageView<'a> {
         requires most { self.now.usable ≤ 65536 }
         ensures cell { payload_cell self.now kind start.offset start.before size left key ≡ Some result }
         ensures span { (result.offset ≡ start.offset) × (result.len ≡ start.before + size) }
+        ensures local { (length result.local ≡ size) × (result.key ≡ key) × (result.overflow ≡ None) }
     {
         let payload = start.offset + start.before;
         Cell {

@@ -46,6 +46,10 @@ impl<'a> PageView<'a> {
         ensures { MatchOption result (IsUnpacked self.now) (IsRunning self.now) }
     {
         let mut begun = Beginning::new(first, self.usable);
+        // A content area that begins sooner has a large cell or two. In any other, each cell of a run has its whole payload.
+        if self.start < 33 {
+            return Some(begun);
+        }
         // The first has a turn of its own: after it, each cell has one before it.
         if self.cells == 0 {
             return Some(begun);
@@ -68,6 +72,7 @@ impl<'a> PageView<'a> {
     fn add_to_run(&self, i: u32, begun: &mut Beginning) -> Option<bool>
         requires kind { self.now.kind ≡ LeafTable }
         requires within { i < count self.now }
+        requires far { 33 ≤ content_start self.now.number self.now.bytes }
         requires before { HasRun self.now i begun.old }
         ensures { MatchOption result (IsUnpacked self.now)
             (λ joins. MatchBool joins (HasRun self.now (i + 1) begun.new) (HasRun self.now i begun.new × (begun.new ≡ begun.old))) }
@@ -144,24 +149,30 @@ impl<'a> PageView<'a> {
         requires marked { AreMarked (cells_upto self.now begun.now.cells) (content_start self.now.number self.now.bytes) self.now.usable table.old in_cells }
         ensures { MatchOption result (IsUnpacked self.now) (AreRead self.now table.new) }
     {
-        let mut marked = MarkedCells {
-            cells: begun.cells,
-            sums: begun.sums,
-            held: in_cells,
-        };
+        let mut cells = begun.cells;
+        let mut payload = begun.sums.payload;
+        let mut greatest = begun.sums.greatest;
         for i in begun.cells..self.cells {
             let Some(cell) = self.short_index_cell(i) else {
                 break;
             };
-            if !self.add_read(i, &cell, &mut marked.sums) {
-                return None;
-            }
+            payload += cell.local.len() as u32;
+            greatest = greatest.max(cell.size);
             if !claim(table, cell.offset, cell.len, mark_count) {
                 return None;
             }
-            marked.held += cell.len;
-            marked.cells = i + 1;
+            cells = i + 1;
         }
-        Some(marked)
+        // What no short cell changes is read only now, so that it takes no register in the loop.
+        let sums = CellSums {
+            payload,
+            greatest,
+            first: begun.sums.first,
+            last: None,
+            has_overflow: begun.sums.has_overflow,
+        };
+        // Each of these cells has one byte before its payload.
+        let held = in_cells + (payload - begun.sums.payload) + (cells - begun.cells);
+        Some(MarkedCells { cells, sums, held })
     }
 }

@@ -1,6 +1,7 @@
 // The commonest cells, each wholly on its page, read in the shortest way: `None` also where another way is needed.
-ghost use Rattle.std.specs.Prelude.{◌≡◌, ◌+◌, ◌<◌, ◌≤◌, IfSome, Ok, Some};
+ghost use Rattle.std.specs.Prelude.{◌≡◌, ◌+◌, ◌<◌, ◌≤◌, IfSome, IsTrue, Ok, Some, slice_index};
 ghost use Rattle.dbformat.specs.Cell.{bytes_from, cell, cell_at, count};
+ghost use Rattle.dbformat.specs.Head.{content_start};
 ghost use Rattle.dbformat.specs.Varint.{varint};
 ghost use Rattle.dbpage.specs.Beginning.{EndsAt, IsShort};
 ghost use Rattle.dbformat.specs.declared.PageKind.TheVariants.{LeafIndex, LeafTable};
@@ -16,6 +17,7 @@ impl<'a> PageView<'a> {
     pub(crate) fn cell_up_to(&self, i: u32, end: u32) -> Option<Cell<'a>>
         requires within { i < count self.now }
         requires kind { self.now.kind ≡ LeafTable }
+        requires far { 33 ≤ content_start self.now.number self.now.bytes }
         requires end { end ≤ self.now.usable }
         ensures { IfSome result (λ c. (cell self.now i ≡ Ok c) × EndsAt c end) }
     {
@@ -30,24 +32,45 @@ impl<'a> PageView<'a> {
     // `table_leaf_cell`, as `cell_up_to` has it.
     #[inline(always)]
     fn table_leaf_cell_up_to(&self, offset: u32, end: u32) -> Option<Cell<'a>>
+        requires far { 33 ≤ offset }
         requires room { offset + 8 ≤ end }
         requires end { end ≤ self.now.usable }
         requires most { self.now.usable ≤ 65536 }
         ensures { IfSome result (λ c. (cell_at LeafTable self.now offset ≡ Some c) × EndsAt c end) }
     {
         let (size, size_len) = self.short_varint_at(offset)?;
-        let (rowid, rowid_len) = self.short_varint_at(offset + size_len)?;
-        let before = size_len + rowid_len;
-        if size > u64::from(most_local(PayloadKind::TableLeaf, self.usable)) {
-            return None;
+        // Most sizes have one byte. With the length as a constant, less is to be kept.
+        if size_len == 1 {
+            return self.sized_leaf_cell_up_to(CellStart { offset, before: 1 }, size, end);
         }
-        let size = size as u32;
-        if offset + before + size != end {
+        let start = CellStart {
+            offset,
+            before: size_len,
+        };
+        self.sized_leaf_cell_up_to(start, size, end)
+    }
+
+    // `table_leaf_cell_up_to` after its size, which `before` bytes give.
+    #[inline(always)]
+    fn sized_leaf_cell_up_to(&self, start: CellStart, size: u64, end: u32) -> Option<Cell<'a>>
+        requires far { 33 ≤ start.offset }
+        requires room { start.offset + 8 ≤ end }
+        requires end { end ≤ self.now.usable }
+        requires most { self.now.usable ≤ 65536 }
+        requires some { (0 < start.before) × (start.before ≤ 4) }
+        requires size { varint (bytes_from self.now start.offset) ≡ Some (size, start.before) }
+        ensures { IfSome result (λ c. (cell_at LeafTable self.now start.offset ≡ Some c) × EndsAt c end) }
+    {
+        let offset = start.offset;
+        let (rowid, rowid_len) = self.short_varint_at(offset + start.before)?;
+        let before = start.before + rowid_len;
+        // It begins so far from the start of the page that no payload up to the end is too long to be here.
+        if size != u64::from(end - offset - before) {
             return None;
         }
         let key = Some(rowid.cast_signed());
-        let start = CellStart { offset, before };
-        Some(self.whole_cell(PayloadKind::TableLeaf, start, size, None, key))
+        let whole = CellStart { offset, before };
+        Some(self.whole_cell(PayloadKind::TableLeaf, whole, size as u32, None, key))
     }
 
     // `cell` of a leaf of a table, if all of it is on the page, its size has at most four bytes, and it does not begin right before
@@ -88,7 +111,7 @@ impl<'a> PageView<'a> {
         Some(self.whole_cell(PayloadKind::TableLeaf, start, size, None, key))
     }
 
-    // `cell` of a leaf of an index, if all of it is on the page and it has 4 to 56 bytes.
+    // `cell` of a leaf of an index, if all of it is on the page and it has 4 to 53 bytes.
     #[inline(always)]
     pub(crate) fn short_index_cell(&self, i: u32) -> Option<Cell<'a>>
         requires within { i < count self.now }
@@ -96,33 +119,39 @@ impl<'a> PageView<'a> {
         ensures { IfSome result (λ c. (cell self.now i ≡ Ok c) × IsShort c) }
     {
         let offset = self.pointer(i);
-        if offset < self.start || offset > self.usable - 4 {
+        if offset < self.start {
+            return None;
+        }
+        // One that begins so far before the end fits, however long it is.
+        if offset > self.usable - 53 && !self.ends_short_cell(offset) {
             return None;
         }
         self.short_index_leaf_cell(offset)
+    }
+
+    // Whether there is a byte that can be the size of a cell, and one of so many bytes would end within the usable ones.
+    #[inline(always)]
+    fn ends_short_cell(&self, offset: u32) -> bool
+        ensures { IsTrue result → (offset + 4 ≤ self.now.usable) × (offset + 1 + slice_index self.now.bytes offset ≤ self.now.usable) }
+    {
+        offset <= self.usable - 4
+            && offset + 1 + u32::from(self.bytes[offset as usize]) <= self.usable
     }
 
     // `index_leaf_cell`, as `short_index_cell` has it.
     #[inline(always)]
     fn short_index_leaf_cell(&self, offset: u32) -> Option<Cell<'a>>
         requires room { offset + 4 ≤ self.now.usable }
+        requires near { self.now.usable < offset + 53 → offset + 1 + slice_index self.now.bytes offset ≤ self.now.usable }
         requires most { self.now.usable ≤ 65536 }
         ensures { IfSome result (λ c. (cell_at LeafIndex self.now offset ≡ Some c) × IsShort c) }
     {
-        // Each page has room for as much. By its first byte, the size has no other.
-        let first = self.bytes[offset as usize];
-        if first < 3 || first > 52 {
-            return None;
-        }
-        let (size, before) = self.short_varint_at(offset)?;
+        // Each page has room for as much. So small a size has one byte.
+        let size = u32::from(self.bytes[offset as usize]);
         if size < 3 || size > 52 {
             return None;
         }
-        let size = size as u32;
-        if offset + before + size > self.usable {
-            return None;
-        }
-        let start = CellStart { offset, before };
+        let start = CellStart { offset, before: 1 };
         Some(self.whole_cell(PayloadKind::Index, start, size, None, None))
     }
 

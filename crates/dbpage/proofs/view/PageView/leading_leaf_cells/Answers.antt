@@ -5,6 +5,15 @@ use Rattle.dbpage.specs.Packed.{AddUpTo}
 use Rattle.dbpage.proofs.PackedLemmas.{none_running}
 use Rattle.dbpage.proofs.view.PageView.leading_leaf_cells.Goals as goal
 
+pub returns-then-self-lt33 : goal.returns-then-self-lt33
+returns-then-self-lt33 c =
+    let v = c.args.self.now in
+    let usable = ap (λ (w : View). w.usable) c.self.view_is in
+    let start : content_start v.number v.bytes ≤ v.usable =
+    omega (arith, usable, ap (λ (w : View). content_start w.number w.bytes) c.self.view_is, c.self.invariant.start_is, c.self.invariant.inside) in
+    subst (IsRunning v) (sym c.new-begun.ensures)
+    (none_running v c.args.first c.self.inside.usable start usable c.requires.some c.requires.none)
+
 pub returns-then-self-eq0 : goal.returns-then-self-eq0
 returns-then-self-eq0 c =
     let v = c.args.self.now in
