@@ -64,7 +64,7 @@ impl<'a> PageView<'a> {
         requires room { self.now.usable ≤ length table.old }
         ensures { MatchOption result (IsUnpacked self.now) (IsPacked self.now) }
     {
-        let begun = self.leading_cells(kind, self.first_key(kind))?;
+        let begun = self.leading_cells(kind, self.key_of_first(kind))?;
         let mut sums = begun.sums;
         let mut run = begun.run;
         for i in begun.cells..self.cells {
@@ -252,7 +252,20 @@ impl<'a> PageView<'a> {
         true
     }
 
-    // The key of the first cell of a page of this kind, where there is one and it has a key.
+    // The key of the first cell of a page of this kind, where there is one and it has a key. No cell of a leaf of an index is read for it.
+    #[inline(always)]
+    fn key_of_first(&self, kind: PageKind) -> Option<i64>
+        requires { kind ≡ self.now.kind }
+        ensures some { 0 < count self.now → key_at self.now 0 ≡ result }
+        ensures none { count self.now ≡ 0 → result ≡ None }
+    {
+        match kind {
+            PageKind::LeafIndex => None,
+            _ => self.first_key(kind),
+        }
+    }
+
+    // `key_of_first`, of any kind.
     // Not inlined: a caller that reads two cells is too large to be compiled for each kind.
     #[inline(never)]
     fn first_key(&self, kind: PageKind) -> Option<i64>
