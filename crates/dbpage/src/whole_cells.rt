@@ -39,9 +39,12 @@ impl<'a> PageView<'a> {
         ensures { IfSome result (λ c. (cell_at LeafTable self.now offset ≡ Some c) × EndsAt c end) }
     {
         let (size, size_len) = self.short_varint_at(offset)?;
-        // Most sizes have one byte. With the length as a constant, less is to be kept.
+        // Most sizes have one byte or two. With this length as a constant, less is to be kept.
         if size_len == 1 {
             return self.sized_leaf_cell_up_to(CellStart { offset, before: 1 }, size, end);
+        }
+        if size_len == 2 {
+            return self.sized_leaf_cell_up_to(CellStart { offset, before: 2 }, size, end);
         }
         let start = CellStart {
             offset,

@@ -1,4 +1,4 @@
-use Rattle.std.proofs.Common.{◌≡◌, ◌+◌, ◌-◌, ◌≤◌, ◌<◌, ℕ, Ok, max, length, refl, ap, sym, subst, ◌∙◌, arith}
+use Rattle.std.proofs.Common.{◌≡◌, ◌+◌, ◌-◌, ◌<◌, ℕ, Ok, max, length, refl, ap, sym, subst, ◌∙◌, arith}
 use Rattle.dbformat.specs.Head.{View, cell_count, content_start}
 use Rattle.dbformat.specs.Cell.{Cell, cell, count}
 use Rattle.dbpage.specs.Beginning.{IsShort}
