@@ -197,7 +197,8 @@ pub small_size : (v : View) (offset : ℕ) → offset < v.usable → v.usable �
     → varint (bytes_from v offset) ≡ Some (slice_index v.bytes offset, 1)
 small_size v offset within whole small =
     let first : get_or (bytes_from v offset) 0 0 ≡ slice_index v.bytes offset =
-    get_or-take (v.usable - offset) (drop offset v.bytes) 0 0 (omega (arith, within)) ∙ get_or-drop offset v.bytes 0 0 ∙ ap (λ (i : ℕ). get_or v.bytes i 0) (omega arith) in
+    get_or-take (v.usable - offset) (drop offset v.bytes) 0 0 (omega (arith, within)) ∙ get_or-drop offset v.bytes 0 0
+    ∙ ap (λ (i : ℕ). get_or v.bytes i 0) (omega arith) in
     let some : 0 < length (bytes_from v offset) =
     omega (arith, within, whole, length-take (v.usable - offset) (drop offset v.bytes), length-drop offset v.bytes) in
     let below : ltb (get_or (bytes_from v offset) 0 0) 128 ≡ true = grind (arith, nat_tests) in

@@ -180,8 +180,8 @@ pub keyless_more : (v : View) (n : ℕ) (sums : CellSums) (payload greatest : �
     → length c.local ≤ 65536 → c.key ≡ None → c.overflow ≡ None → (more most : ℕ) → more ≡ payload + length c.local → most ≡ max greatest c.size
     → AddUpTo v (n + 1) (keyless_sums sums more most)
 keyless_more v n sums payload greatest c was readable fits keyless whole more most p g =
-    one_more_read v n (keyless_sums sums payload greatest) was c readable fits (λ a b e q. absurd (some_is_none a (sym e))) (keyless_sums sums more most) p g refl
-    (sym keyless) (or_false sums.has_overflow ∙ ap (λ (o : Option ℕ). sums.has_overflow || is_some o) (sym whole))
+    one_more_read v n (keyless_sums sums payload greatest) was c readable fits (λ a b e q. absurd (some_is_none a (sym e)))
+    (keyless_sums sums more most) p g refl (sym keyless) (or_false sums.has_overflow ∙ ap (λ (o : Option ℕ). sums.has_overflow || is_some o) (sym whole))
   where
     or_false : (b : Bool) → b ≡ (b || false)
     or_false true = refl

@@ -6,7 +6,8 @@ use Rattle.dbformat.specs.declared.CellFault.TheVariants.{Unreadable}
 use Rattle.dbformat.specs.declared.PageKind.{PageKind}
 use Rattle.dbpage.specs.Beginning.{IsShort}
 use Rattle.dbpage.proofs.CellLemmas.{cell_found, cell_inside}
-use Rattle.dbpage.proofs.view.PageView.short_index_cell.Goals.{else-offset-self-2-via-then-offset-self-2+else-not-ends_short_cell, else-offset-self-2-via-else-offset-self-2}
+use Rattle.dbpage.proofs.view.PageView.short_index_cell.Goals.{else-offset-self-2-via-then-offset-self-2+else-not-ends_short_cell}
+use Rattle.dbpage.proofs.view.PageView.short_index_cell.Goals.{else-offset-self-2-via-else-offset-self-2}
 use Rattle.dbpage.proofs.view.PageView.short_index_cell.Goals as goal
 
 pub returns : goal.returns

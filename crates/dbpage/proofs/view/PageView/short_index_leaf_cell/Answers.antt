@@ -14,8 +14,9 @@ returns c =
     omega (arith, c.self.invariant.whole, ap (λ (w : View). w.usable) c.self.view_is, ap (λ (w : View). length w.bytes) c.self.view_is) in
     let first : slice_index v.bytes offset ≡ c.from-size.result = sym (c.from-size.ensures ∙ ap (λ (w : View). get_or w.bytes offset 0) c.self.view_is) in
     let size = small_size v offset (omega (arith, c.requires.room)) whole (omega (arith, first, c.if-size-gt52.false)) in
-    let made = c.whole_cell.ensures in (
-      ap (λ (o : Option (ℕ × ℕ)). option_and_then (λ r. payload_cell v Index offset r.1 r.0 None None) o) (size ∙ ap (λ (n : ℕ). Some (n, 1)) first) ∙ made.cell,
+    let made = c.whole_cell.ensures in
+    let sized = size ∙ ap (λ (n : ℕ). Some (n, 1)) first in (
+      ap (λ (o : Option (ℕ × ℕ)). option_and_then (λ r. payload_cell v Index offset r.1 r.0 None None) o) sized ∙ made.cell,
       record {
         four = omega (arith, made.span.1, c.if-size-lt3.false);
         most = omega (arith, made.span.1, c.if-size-gt52.false);
