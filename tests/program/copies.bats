@@ -45,6 +45,23 @@ load common
     expect 1 "$version"$'\n' '' check "$work/copied.db"
 }
 
+# `mend` looks at the first bytes before it writes the first change, which is its last step here.
+@test 'mend has the note on a copied file also where its last change is one of the first bytes' {
+    needs python3
+    python3 - "$data/whole.db" "$work/copied.db" << 'END'
+import sys
+page = bytearray(open(sys.argv[1], "rb").read())
+page[80:512] = ("\u00e9" * 216).encode()
+page[100:108] = bytes([13, 0, 0, 0, 0, 2, 0, 0])
+page[0] = ord("X")
+open(sys.argv[2], "wb").write(page)
+END
+    for limit in 1 2; do
+        dbck mend --limit "$limit" "$work/copied.db"
+        row "mend --limit $limit" grep -q 'from 80 on are well-formed UTF-8' "$work/err"
+    done
+}
+
 @test 'a file that is written while it is read has a note, also where the second of its last change stays' {
     cp "$data/empty.db" "$work/noted.db"
     truncate -s 8192000 "$work/noted.db"

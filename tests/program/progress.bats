@@ -68,6 +68,15 @@ progress_of_large() {
     row 'progress beside a log' ended 0 $'dbck: note: *\r\n'"dbck: 65536 of 660* pages, 99%"$'\r'"$blank" ''
 }
 
+# The first change of `mend` makes the file readable. Each run after it reads all of it, and the last text is that of the last run.
+@test 'progress of mend is shown also of a file that is refused, with the number of the run' {
+    progress_of_large
+    put_at "$work/large.db" 0 X
+    on_terminal "'$DBCK' mend '$work/large.db' > '$work/report'"
+    row 'a change that makes it readable' grep -qx 'at byte 0 put 53514c69746520666f726d6174203300 for 58514c69746520666f726d6174203300' "$work/report"
+    row 'progress of a refused file' ended 3 "dbck: run 2, 65536 of $pages pages, 97%"$'\r'"*" ''
+}
+
 # `explain` reads each page that is not in use.
 @test 'progress is shown after each 65536 pages, also after the last' {
     needs_terminal

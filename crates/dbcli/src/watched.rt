@@ -6,6 +6,9 @@ use crate::progress::Progress;
 use dbsource::{Geometry, ReadFailed, Source, shape_of};
 use std::cell::Cell;
 
+// The length of the header of a file.
+const HEADER_LEN: usize = 100;
+
 /// What was seen of a source.
 #[derive(Drop)]
 pub struct Watch {
@@ -62,6 +65,19 @@ impl Watch {
         self.reads.get().saturating_sub(1)
     }
 
+    // How many pages there are, and how long each is. In a file that is refused, of which `mend` alone reads pages, each is as long as
+    // this read.
+    fn pages(&self, read: usize) -> (u64, u32) {
+        match self.geometry() {
+            Some(geometry) => (u64::from(geometry.pages), geometry.page_size),
+            None => {
+                let page_size = u32::try_from(read).unwrap_or(u32::MAX);
+                let pages = self.len().checked_div(u64::from(page_size)).unwrap_or(0);
+                (pages, page_size)
+            }
+        }
+    }
+
     // Counts a read. Nothing else is kept of most.
     fn see_read(&self, offset: u64, bytes: &[u8], is_read: bool) {
         let before = self.reads.get();
@@ -81,7 +97,8 @@ impl Watch {
             self.first.set(first_of(bytes));
             self.geometry.set(shape_of(bytes, self.len()));
         }
-        if is_read && offset == 0 {
+        // `mend` also looks at the first bytes alone, which say nothing of a copy.
+        if is_read && offset == 0 && (is_first || bytes.len() >= HEADER_LEN) {
             self.copied.set(Copied::of(bytes));
         }
     }
@@ -117,14 +134,12 @@ impl<'w, 'p, S: Source, W: Print> Watched<'w, 'p, S, W> {
         }
     }
 
-    // Shows the progress, where it is due.
+    // Shows the progress, where it is due after a read of this length.
     #[inline(never)]
-    fn show_progress(&self) {
+    fn show_progress(&self, read: usize) {
         let count = self.watch.pages_read();
-        if let Some(geometry) = self.watch.geometry()
-            && self.progress.is_due(count, geometry.page_size)
-        {
-            let pages = u64::from(geometry.pages);
+        let (pages, page_size) = self.watch.pages(read);
+        if self.progress.is_due(count, page_size) {
             self.progress
                 .show(self.watch.runs.get(), count.min(pages), pages);
         }
@@ -155,7 +170,7 @@ impl<S: Source, W: Print> Source for Watched<'_, '_, S, W> {
         let read = self.source.read_at(offset, buf);
         self.watch.see_read(offset, buf, read.is_ok());
         if self.progress.is_on() {
-            self.show_progress();
+            self.show_progress(buf.len());
         }
         read
     }
