@@ -180,12 +180,12 @@ waits_with() {
     return 1
 }
 
-# at_first_note COMMAND WORDS..: runs the program by words whose last is a file, which gets a log beside it. The first line is the note on
-# that, and cannot be written, since the pipe is full: so the program waits when it has opened the file and read nothing. Then comes the
+# at_first_note COMMAND WORDS..: runs the program by words whose last is a file, which gets a log if it has none. The first line is the note
+# on a log, and cannot be written, since the pipe is full: so the program waits when it has opened the file and read nothing. Then comes the
 # command, a line of the shell in which $pid is the program, and then it goes on.
 at_first_note() {
     local pid file=${*: -1} times=0
-    echo log > "$file-wal"
+    [ -e "$file-wal" ] || echo log > "$file-wal"
     rm -f "$work/pipe"
     mkfifo "$work/pipe"
     exec 7<> "$work/pipe"

@@ -305,6 +305,17 @@ recovering() {
     recovering "@-journal: 1 page is read from it; the database had 8 pages"$'\n'"dbck: note: @ is not checked"$'\n'"dbck: note: $database begins with zeros"$'\n'"dbck: E2 file is not a SQLite 3 database"
 }
 
+# SQLite takes such a file for a new database, and deletes the log.
+@test 'beside a file without bytes nothing of a log is read, and the note on the log says so' {
+    local note='@-wal holds nothing that SQLite would read'
+    needs python3 sqlite3
+    paired
+    cp "$work/pair.db-wal" "$work/x.db-wal"
+    : > "$work/x.db"
+    recovering "$note"$'\ndbck: note: @ is not checked\ndbck: note: @ has no bytes; to SQLite it is an empty database\ndbck: E1 file is shorter than 100 bytes'
+    row 'the tables that SQLite finds' [ "$(sqlite3 "$work/x.db" 'SELECT count(*) FROM sqlite_schema')" = 0 ]
+}
+
 @test 'no log is taken but those of the file by their names' {
     local name
     paired
@@ -521,10 +532,9 @@ END
     row 'how it ends' ended 0 '*' "dbck: note: $work/x.db-journal: 0 pages are read from it; the database had 70000 pages"$'\n*'
 }
 
-@test 'a log of another version does not fit' {
-    needs python3
-    paired
-    python3 - "$work/pair.db-wal" << 'END'
+# of_other_version LOG: a -wal has another version, and the sum of its head fits.
+of_other_version() {
+    python3 - "$1" << 'END'
 import sys
 path = sys.argv[1]
 data = bytearray(open(path, "rb").read())
@@ -537,6 +547,12 @@ for at in range(0, 24, 8):
 data[24:32] = a.to_bytes(4, "big") + b.to_bytes(4, "big")
 open(path, "wb").write(data)
 END
+}
+
+@test 'a log of another version does not fit' {
+    needs python3
+    paired
+    of_other_version "$work/pair.db-wal"
     expect 3 '' "dbck: note: $work/pair.db-wal has a version that SQLite does not open"$'\ndbck: E11 the log does not fit the database\n' check --recovered "$work/pair.db"
 }
 
@@ -581,6 +597,13 @@ END
     note=$(changed_note "$work/x.db")
     at_first_note "touch -d '2001-01-01 00:00:00.1' '$work/x.db'" check --recovered "$work/x.db"
     ended 3 '' "*dbck: note: $work/x.db and its log have pages of different sizes"$'\n'"${note%.}"$'dbck: E11 the log does not fit the database\n'
+    # A -wal of another version.
+    paired
+    of_other_version "$work/pair.db-wal"
+    journal_of "$work/pair.db" <<< 1
+    note=$(changed_note "$work/pair.db")
+    at_first_note "touch -d '2001-01-01 00:00:00.1' '$work/pair.db'" check --recovered "$work/pair.db"
+    ended 3 '' "*dbck: note: $work/pair.db-wal has a version that SQLite does not open"$'\n'"${note%.}"$'dbck: E11 the log does not fit the database\n'
 }
 
 @test 'with --recovered and --with a note says that the bytes are others' {
