@@ -77,7 +77,7 @@ pages_of() {
     done
 }
 
-@test 'no leaf of the freelist is read' {
+@test 'no leaf of the freelist is read, nor by mend of a damaged file' {
     row_of 300 65536 "$work/x.db"
     sqlite3 "$work/x.db" 'DELETE FROM t'
     [ "$(wc -c < "$work/x.db")" = "$size" ]
@@ -87,6 +87,11 @@ pages_of() {
         reads $((100 + 3 * 65536)) 8 $words "$work/x.db"
         [ "$status" = 0 ]
     done
+    # In all its runs, and looks for lost pages, mend reads less than the file.
+    put_at "$work/x.db" 72 '\01'
+    counted mend "$work/x.db"
+    [ "$(tail -n 1 "$work/out")" = ok ]
+    [ "$bytes" -lt "$size" ] || fail "$bytes bytes of $size"
 }
 
 @test 'of a refused file the header alone is read, once; by mend also with each of ten changes' {

@@ -208,6 +208,16 @@ $lost_page
     is_damaged 4096
 }
 
+# The root has one cell, of the last five bytes of its page: a child, and a key of one byte. With that child two overflow pages are lost.
+@test 'mend finds the number of a child above 4 GiB' {
+    local place
+    long_file 5
+    place=$(($(at "$root") + 65531))
+    put_at "$work/x.db" "$place" '\0\0\0\0'
+    within 20 mend "$work/x.db"
+    ended_exactly 1 $'4 faults\n'"at byte $place put $(printf %08x "$left") for 00000000"$'\n'"    page $root at byte $(at "$root")"$'\nok\n' ''
+}
+
 # in_room BYTES WORDS..: the program ends within what is said of the memory for the greatest number of pages: 7 MiB, and so many bytes for each
 # eight pages.
 in_room() {
