@@ -7,7 +7,8 @@ number of the copy. --first begins at another copy than 0, for files that nobody
 those that are refused by themselves. The changes that `mend` prints are made in a copy, by the line alone, as its reader would. Where `mend`
 says `ok`, `dbck check` has to say `ok` of that copy; the bytes that it says were there have to be there; and it has to end as `check` does:
 else the status is 1. A row of the table that is printed has, for one kind, the files, those made sound, and those that are byte for byte as
-before the injury.
+before the injury. In each row at least 90 of 100 files, rounded down, have to be sound, and as before, or the status is 1 too: docs/REPAIR.md
+has at least 98 and 96 of each kind.
 """
 
 import argparse
@@ -88,6 +89,9 @@ KINDS = {
 
 REFUSED = "any of these, and the file is refused"
 
+# Of 100 files of a kind, how many at least have to be made sound, and to be as before.
+LEAST = 90
+
 
 def run(*words):
     return subprocess.run(words, capture_output=True, text=True)
@@ -114,6 +118,16 @@ def tried(dbck, file, kind, before, complaints):
         complaints.append(f"{file}: mend says ok, and check of the changed copy does not")
     copy.unlink()
     return sound, bytes(data) == before, REFUSED if checked.returncode == 3 else kind
+
+
+def counts(kind, outcomes, complaints):
+    """How many files there are, how many of them are sound, and how many as before."""
+    files, sound, as_before = len(outcomes), sum(it[0] for it in outcomes), sum(it[1] for it in outcomes)
+    least = files * LEAST // 100
+    for what, count in (("made sound", sound), ("as before", as_before)):
+        if count < least:
+            complaints.append(f"{kind}: {count} of {files} files are {what}, fewer than {least}")
+    return files, sound, as_before
 
 
 def main():
@@ -147,7 +161,7 @@ def main():
                 file.unlink() if outcome is None or outcome[1] else None
     print("| Number | Files | made sound | as before |\n|---|---|---|---|")
     for kind, outcomes in [*found.items(), ("all", [it for some in found.values() for it in some])]:
-        print(f"| {kind} | {len(outcomes)} | {sum(it[0] for it in outcomes)} | {sum(it[1] for it in outcomes)} |")
+        print("| {} | {} | {} | {} |".format(kind, *counts(kind, outcomes, complaints)))
     print("\n".join(complaints))
     sys.exit(bool(complaints))
 

@@ -214,9 +214,9 @@ refused() {
     row 'mend of a refused file to a full disk' ended 6 '' "*$full$unwritten"
 }
 
-@test 'of databases of which numbers were overwritten, what mend calls ok is sound' {
+@test 'of databases of which numbers were overwritten, what mend calls ok is sound, and it is most of each kind' {
     needs python3 sqlite3
-    row 'numbers overwritten' tests/mend.py --copies 1 --shape rowid-512 --shape full-vacuum-512 --shape freelist-1024 "$DBCK" "$work/numbers"
+    row 'numbers overwritten' tests/mend.py --copies 3 --shape rowid-512 --shape full-vacuum-512 --shape freelist-1024 "$DBCK" "$work/numbers"
 }
 
 @test 'with --with the changes are of the file with these bytes' {
