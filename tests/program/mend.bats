@@ -86,6 +86,19 @@ before() {
     row 'two roots' is_put_back $(($(before t3) - 1)) '\0143' $(($(before t5) - 1)) '\0143'
 }
 
+# The root of u is page 66932, after the 66930 pages of a chain.
+@test 'mend finds roots of three bytes, and children of pages above 65536' {
+    local at
+    needs sqlite3
+    made 'CREATE TABLE t(a); INSERT INTO t VALUES (zeroblob(34000000)); CREATE TABLE u(a);
+        INSERT INTO u VALUES (zeroblob(300)), (zeroblob(300)), (zeroblob(300));'
+    cp "$work/x.db" "$work/kept.db"
+    row 'a root of three bytes' is_put_back $(($(before u) - 3)) '\0\0\01'
+    cp "$work/kept.db" "$work/x.db"
+    at=$(sqlite3 "$work/x.db" "SELECT (rootpage - 1) * 512 + 8 FROM sqlite_schema WHERE name = 'u'")
+    row "a child, at $at" is_put_back "$at" '\0\0\0\0'
+}
+
 @test 'mend finds the encoding, and roots of each' {
     local at encoding
     needs sqlite3
@@ -113,24 +126,27 @@ for one, other in itertools.combinations(places, 2):
 END
 }
 
-# The rows come from the last key to the first, so the leaves are in no order of their numbers: only the keys say which is which.
-@test 'mend finds which leaf of an index is where by doubles, also beside integers, and by texts that differ late' {
-    local what column keys value one other
+# The rows come from the last key to the first, or in any order, so the leaves are in no order of their numbers: only the keys say which is
+# which.
+@test 'mend finds which leaf of an index is where by doubles, also beside integers, texts that differ late or in case, and a second column' {
+    local what column of keys value one other
     needs python3 sqlite3
-    while IFS='|' read -r what column keys value; do
-        made "CREATE TABLE t(a $column); CREATE INDEX i ON t(a); WITH RECURSIVE k(n) AS (SELECT $keys UNION ALL SELECT n - 1 FROM k WHERE n > 1)
-            INSERT INTO t SELECT $value FROM k;"
+    while IFS='|' read -r what column of keys value; do
+        made "CREATE TABLE t(a $column, b DEFAULT 7); CREATE INDEX i ON t($of);
+            WITH RECURSIVE k(n) AS (SELECT $keys UNION ALL SELECT n - 1 FROM k WHERE n > 1) INSERT INTO t(a) SELECT $value FROM k;"
         while read -r one other; do
             row "$what: $one and $other" is_put_back "$one" '\0\0\0\0' "$other" '\0\0\0\0'
             cp "$work/was.db" "$work/x.db"
         done < <(pairs_of i)
     done << 'END'
-doubles|REAL|150|n * 1.3 - 90
-doubles of which every second one is stored as an integer|REAL|150|n * 0.5 - 30
-doubles and integers in any column||150|CASE n % 2 WHEN 0 THEN n - 70 ELSE n - 70.3 END
-texts|TEXT|25|printf('%066d%04d', 0, n)
+doubles|REAL|a|150|n * 1.3 - 90
+doubles of which every second one is stored as an integer|REAL|a|150|n * 0.5 - 30
+doubles and integers in any column||a|150|CASE n % 2 WHEN 0 THEN n - 70 ELSE n - 70.3 END
+texts|TEXT|a|25|printf('%066d%04d', 0, n)
+texts of which every second one has a capital letter|TEXT COLLATE NOCASE|a|25|printf('%s%065d', char(n % 2 * 32 + 64 + n), n)
+integers after a column that is 7 in each row|INT|b, a|200|n * 7919 % 211
 END
-    [ "$rows" -gt 30 ]
+    [ "$rows" -gt 50 ]
 }
 
 @test 'mend finds the numbers of the header and in the heads and pointers of page 1 and interior pages' {
@@ -143,6 +159,8 @@ a_size_that_is_too_small 31 \014
 the_write_version 18 \0143
 a_pointer_of_an_interior_page 524 \0\0
 a_pointer_of_page_1 108 \0\0
+the_least_payload_fraction 22 \041
+the_payload_fraction_of_leaves 23 \041
 END
     cp "$data/whole.db" "$work/x.db"
     put_at "$work/x.db" 18 '\02\02'
@@ -151,12 +169,32 @@ END
         made 'CREATE TABLE t(a); CREATE TABLE u(a)'
         row "the head of page 1, at $at" is_put_back "$at" '\07'
     done
+    made "$(printf 'CREATE TABLE t%d(a);' {1..60})"
+    row 'the right child of page 1' is_put_back 108 '\0\0\0\0'
+    rm "$work/x.db"
+    sqlite3 "$work/x.db" 'PRAGMA page_size = 65536; CREATE TABLE t(a)'
+    row 'the content start of an empty page of 65536 bytes' is_put_back 65541 '\0\03'
 }
 
-@test 'mend finds an entry of the second page of the pointer map' {
+# Pages 2 and 6 are the root and a leaf of t, and pages 3 and 4 those of i.
+@test 'mend finds the types of interior pages and leaves, of a table and of an index' {
+    local page
+    needs sqlite3
+    made 'CREATE TABLE t(a); CREATE INDEX i ON t(a); WITH RECURSIVE k(n) AS (SELECT 1 UNION ALL SELECT n + 1 FROM k WHERE n < 400)
+        INSERT INTO t SELECT n FROM k;'
+    cp "$work/x.db" "$work/kept.db"
+    for page in 2 3 4 6; do
+        row "the type of page $page" is_put_back $((512 * (page - 1))) '\0'
+        cp "$work/kept.db" "$work/x.db"
+    done
+}
+
+@test 'mend finds an entry of the second page of the pointer map, and of the first page of a chain' {
     needs sqlite3
     made 'PRAGMA auto_vacuum = full; CREATE TABLE t(a); INSERT INTO t VALUES (zeroblob(150000))'
     row 'an entry for page 107' is_put_back 53272 n
+    cp "$work/was.db" "$work/x.db"
+    row 'an entry for page 4, the first of a chain' is_put_back 517 '\07\07\07\07\07'
 }
 
 @test 'beside a page that is lost for good mend finds a number' {
@@ -164,6 +202,15 @@ END
     tests/small/make.py "$work/two.txt" "$work/two" > "$work/list"
     dbck mend "$work/two/0.db"
     ended 1 $'*at byte 2056 put 00000007 for 00000000\n    page 5 at byte 2048\n    1 fault is left\n1 fault is left\n' ''
+}
+
+# Pages 3 to 7 are the leaves of t, of four rows each.
+@test 'beside three pages that are lost for good mend finds the type of a fourth' {
+    needs sqlite3
+    made 'CREATE TABLE t(a); WITH RECURSIVE k(n) AS (SELECT 1 UNION ALL SELECT n + 1 FROM k WHERE n < 20) INSERT INTO t SELECT zeroblob(100) FROM k;'
+    dd if=/dev/zero of="$work/x.db" bs=512 seek=2 count=3 conv=notrunc status=none
+    put_at "$work/x.db" 3072 '\0'
+    exactly 1 $'4 faults\nat byte 3072 put 0d for 00\n    page 7 at byte 3072\n    3 faults are left\n3 faults are left\n' '' mend "$work/x.db"
 }
 
 # refused NAME OFFSET BYTES TEXT [WORDS..]: NAME.db of tests with these bytes at an offset is refused, and mend writes this, and the notes and
