@@ -149,6 +149,34 @@ END
     [ "$rows" -gt 50 ]
 }
 
+# chains_of: of each two rows in x.db with a first overflow page 42 bytes after the begin of their cells, where its number is.
+chains_of() {
+    python3 - "$work/x.db" << 'END'
+import itertools, sys
+data = open(sys.argv[1], "rb").read()
+places = {}
+for begin in range(512, len(data), 512):
+    page = data[begin : begin + 512]
+    for k in range(int.from_bytes(page[3:5], "big") if page[0] == 13 else 0):
+        at = int.from_bytes(page[8 + 2 * k : 10 + 2 * k], "big")
+        places[page[at + 2]] = begin + at + 42
+for one, other in itertools.combinations(sorted(places), 2):
+    print(places[one], places[other])
+END
+}
+
+# The leaves have higher numbers than most of the chains.
+@test 'mend finds which overflow chain is of which row by the order of the rows' {
+    local one other
+    needs python3 sqlite3
+    made 'CREATE TABLE t(a); WITH RECURSIVE k(n) AS (SELECT 1 UNION ALL SELECT n + 1 FROM k WHERE n < 14) INSERT INTO t SELECT zeroblob(1500) FROM k;'
+    while read -r one other; do
+        row "$one and $other" is_put_back "$one" '\0\0\0\0' "$other" '\0\0\0\0'
+        cp "$work/was.db" "$work/x.db"
+    done < <(chains_of)
+    [ "$rows" = 91 ]
+}
+
 @test 'mend finds the numbers of the header and in the heads and pointers of page 1 and interior pages' {
     needs sqlite3
     while read -r what at bytes; do

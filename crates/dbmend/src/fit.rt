@@ -54,6 +54,8 @@ pub(crate) struct Around {
     pub(crate) keys: Span,
     pub(crate) own: Span,
     pub(crate) near: [u32; 2],
+    // The first overflow pages of the rows before and after it. Rows that are added in their order have them in that order.
+    pub(crate) chains: Option<[u32; 2]>,
 }
 
 impl Around {
@@ -64,6 +66,17 @@ impl Around {
             keys: Span::UNKNOWN,
             own: Span::UNKNOWN,
             near: [near, near],
+            chains: None,
+        }
+    }
+
+    // How far a page is from the chain of the row before, if it is between this and that of the row after.
+    fn chain_distance(&self, page: u32) -> Option<u32> {
+        let [before, behind] = self.chains?;
+        if page < behind {
+            page.checked_sub(before)
+        } else {
+            None
         }
     }
 
@@ -132,8 +145,12 @@ pub(crate) fn fit_of(around: &Around, root: &Root) -> Fit {
     if is_tight(&around.keys, &root.keys) {
         points += 1;
     }
-    Fit::new(
-        keys.saturating_add(points),
-        distance(root.page, &around.near),
-    )
+    let away = match around.chain_distance(root.page) {
+        Some(away) => {
+            points += 1;
+            away
+        }
+        None => distance(root.page, &around.near),
+    };
+    Fit::new(keys.saturating_add(points), away)
 }

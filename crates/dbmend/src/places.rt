@@ -65,12 +65,56 @@ fn child_place(view: &PageView<'_>, at: u32, item: u32) -> Place {
             keys,
             own: Span::of(view),
             near: [before, behind],
+            chains: None,
         },
     }
 }
 
+// The first overflow page of a cell, if no other cell is wrong that names it.
+fn chain<A: Allocator>(desk: &Desk<A>, view: &PageView<'_>, number: u32, cell: u32) -> Option<u32> {
+    if cell >= view.cells() {
+        return None;
+    }
+    let page = view.cell(cell).ok()?.overflow?;
+    match mark(desk, page) {
+        Mark::FirstOverflow(from) if from == number => Some(page),
+        _ => None,
+    }
+}
+
+// The chains of the nearest rows before and after a cell that are not this one, where there is such a row.
+fn chains<A: Allocator>(
+    desk: &Desk<A>,
+    view: &PageView<'_>,
+    number: u32,
+    cell: u32,
+    page: u32,
+) -> Option<[u32; 2]> {
+    let mut around = [0, u32::MAX];
+    if !matches!(view.kind(), PageKind::LeafTable) {
+        return None;
+    }
+    for i in 0..view.cells() {
+        match chain(desk, view, number, i) {
+            Some(other) if other != page && i < cell => around[0] = other,
+            Some(other) if other != page && i > cell => {
+                around[1] = other;
+                break;
+            }
+            _ => {}
+        }
+    }
+    (around != [0, u32::MAX]).then_some(around)
+}
+
 // The reference of an item of a page of a tree, if it names this page.
-fn tree_place(view: &PageView<'_>, number: u32, item: u32, page: u32) -> Option<Place> {
+fn tree_place<A: Allocator>(
+    desk: &Desk<A>,
+    view: &PageView<'_>,
+    number: u32,
+    item: u32,
+    page: u32,
+) -> Option<Place> {
     if item > view.cells() {
         return None;
     }
@@ -86,16 +130,20 @@ fn tree_place(view: &PageView<'_>, number: u32, item: u32, page: u32) -> Option<
         return None;
     }
     let at = cell.offset.checked_add(cell.len)?.checked_sub(4)?;
-    Some(Place {
-        at,
-        around: Around::beside(Kind::Other, number),
-    })
+    let mut around = Around::beside(Kind::Other, number);
+    around.chains = chains(desk, view, number, item, page);
+    Some(Place { at, around })
 }
 
 // Any reference of a page of a tree that names this page.
-fn tree_place_of(view: &PageView<'_>, number: u32, page: u32) -> Option<Place> {
+fn tree_place_of<A: Allocator>(
+    desk: &Desk<A>,
+    view: &PageView<'_>,
+    number: u32,
+    page: u32,
+) -> Option<Place> {
     for item in 0..view.cells().saturating_add(1) {
-        if let Some(place) = tree_place(view, number, item, page) {
+        if let Some(place) = tree_place(desk, view, number, item, page) {
             return Some(place);
         }
     }
@@ -109,10 +157,10 @@ fn place_of<A: Allocator>(desk: &Desk<A>, want: &Want, paper: &Paper<A>) -> Opti
     }
     match (desk.marks().get(want.page), want.number) {
         (Mark::Root | Mark::Child(_), Number::Reference(item, page)) => {
-            tree_place(&paper.view()?, want.page, item, page)
+            tree_place(desk, &paper.view()?, want.page, item, page)
         }
         (Mark::Root | Mark::Child(_), Number::Any(page) | Number::Before(page, _)) => {
-            tree_place_of(&paper.view()?, want.page, page)
+            tree_place_of(desk, &paper.view()?, want.page, page)
         }
         (Mark::FirstOverflow(_) | Mark::LaterOverflow(_), _) => Some(Place::next(want.page)),
         (Mark::Trunk, Number::Reference(item, _)) => trunk_place(paper, item),
