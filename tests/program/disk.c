@@ -5,6 +5,7 @@
 //   ERROR        the number of the error of such a read, if not EIO
 //   AT, NAME     a read of that file that begins there fails, and no other read that comes to these bytes
 //   SHORT        how many bytes a read gives at most
+//   LONGEST      a read that asks for more bytes fails
 //   INTERRUPTED  every second read is interrupted
 //   HIDDEN       what is at a path that ends so cannot be looked at
 //   HIDDEN_LINK  nor whether that path is a link
@@ -13,6 +14,7 @@
 #include <dlfcn.h>
 #include <errno.h>
 #include <fcntl.h>
+#include <limits.h>
 #include <stdarg.h>
 #include <stdio.h>
 #include <stdlib.h>
@@ -49,6 +51,10 @@ ssize_t pread(int file, void *bytes, size_t count, off_t from) {
     usleep(number("SLOW", 0));
     if (getenv("INTERRUPTED") && ++reads % 2) {
         errno = EINTR;
+        return -1;
+    }
+    if (count > (size_t)number("LONGEST", LONG_MAX)) {
+        errno = EIO;
         return -1;
     }
     if (bad >= 0 && from < bad + 4096 && from + (off_t)count > bad && is_named(file)) {

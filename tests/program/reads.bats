@@ -190,6 +190,34 @@ pages_of() {
     done
 }
 
+# On an SSD a read takes less than 2 ms, on a turning disk longer.
+@test 'each MiB of a file on a turning disk is read as a whole, and then its pages' {
+    needs python3
+    row_of 300 65536 "$work/x.db"
+    on_disk SLOW=9000
+    options=("${as[@]}")
+    counted check "$work/x.db"
+    [ "$status" = 0 ]
+    [ "$bytes" -gt $((2 * size - 2097152)) ] || fail "$bytes bytes of $size"
+    [ "$bytes" -lt $((2 * size + 2097152)) ] || fail "$bytes bytes of $size"
+}
+
+# All 300 pages are read, but the header states that all but 3 are in the freelist, and then all but 2.
+@test 'a turning disk reads each MiB as a whole where one page in 100 is used, and none where one in 150 is' {
+    needs python3
+    row_of 300 65536 "$work/x.db"
+    on_disk SLOW=2500
+    options=("${as[@]}")
+    put_at "$work/x.db" 36 '\0\0\01\051'
+    counted check "$work/x.db"
+    [ "$status" = 1 ]
+    [ "$bytes" -gt $((2 * size - 2097152)) ] || fail "one in 100: $bytes bytes of $size"
+    put_at "$work/x.db" 36 '\0\0\01\052'
+    counted check "$work/x.db"
+    [ "$status" = 1 ]
+    [ "$bytes" -lt $((size + 65536)) ] || fail "one in 150: $bytes bytes of $size"
+}
+
 @test 'of a file that is mostly free a disk reads what is used' {
     needs python3
     row_of 300 65536 "$work/x.db"
@@ -250,6 +278,21 @@ END
     [ "$bytes" -gt $((1024 * 1048576)) ] || fail "$bytes bytes"
     [ "$bytes" -lt $((1100 * 1048576)) ] || fail "$bytes bytes"
     [ "$memory" -lt 65536 ] || fail "$memory KiB"
+}
+
+# The header states that a tenth is used, which of 256 MiB is 25 whole ones.
+@test 'where a disk reads a file from its end on of which a tenth is used, it takes 25 MiB at once at most' {
+    needs python3
+    python3 tests/program/make.py back 10 "$work/x.db"
+    # Of 360448 pages 324403 are in the freelist: 4f333 in hexadecimal.
+    put_at "$work/x.db" 36 '\x00\x04\xf3\x33'
+    on_disk SLOW=1000
+    options=("${as[@]}")
+    counted check --limit 1 "$work/x.db"
+    [ "$status" = 1 ]
+    # Four pages with their MiB, three with their 16 MiB, and four with 25.
+    [ "$bytes" -gt $((140 * 1048576)) ] || fail "$bytes bytes"
+    [ "$bytes" -lt $((160 * 1048576)) ] || fail "$bytes bytes"
 }
 
 @test 'pages of each size that a slow disk gives in any order are what the file has' {

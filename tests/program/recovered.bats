@@ -587,6 +587,26 @@ END
     [ "$rows" = 3 ]
 }
 
+# The reads of the database and then of its journal take 200 ms each, and the journal is written in the first of them.
+@test 'a journal that is written while it is read has a note' {
+    local note pid
+    needs python3
+    cp "$data/empty.db" "$work/x.db"
+    journal_of "$work/x.db" <<< 1
+    note=$(changed_note "$work/x.db-journal")
+    on_disk SLOW=200000
+    "${as[@]}" "$DBCK" check --recovered "$work/x.db" > "$work/out" 2> "$work/err" < /dev/null 3>&- &
+    pid=$!
+    until waits_with "$pid" "$work/x.db-journal"; do
+        kill -0 "$pid" 2> "$work/why" || fail 'the program ended before the journal was written'
+        sleep 0.01
+    done
+    touch -d '2001-01-01 00:00:00.1' "$work/x.db-journal"
+    status=0
+    wait "$pid" || status=$?
+    ended_exactly 0 $'ok\n' "dbck: note: $work/x.db-journal: 1 page is read from it; the database had 1 page"$'\n'"${note%.}"
+}
+
 @test 'a file that is written before it is found that its log does not fit has a note' {
     local note
     needs python3

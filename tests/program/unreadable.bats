@@ -102,6 +102,16 @@ END
     done
 }
 
+# Here each page alone can be read.
+@test 'where a read of several pages fails, each of them is read alone' {
+    local longest
+    row_of 2002 4096 "$work/x.db"
+    for longest in 4096 16384 131072; do
+        on_disk "LONGEST=$longest"
+        exactly 0 $'ok\n' '' check "$work/x.db"
+    done
+}
+
 # Page 33, the first of the third MiB, is in the freelist, and pages after it are used.
 @test 'a bad block of a page that is not read is passed over' {
     needs sqlite3
