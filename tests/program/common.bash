@@ -297,6 +297,17 @@ open(path + "-journal", "wb").write(out)
 ' "$1"
 }
 
+# with_zeros: makes cold.db, hot.db and wal.db, each with a log of 64 MiB that ends in zeros which nobody needs: a journal that begins with 0, one
+# that gives page 1, and a -wal without a head. Their names are in `logs`.
+with_zeros() {
+    local name
+    needs python3
+    logs=(cold.db-journal hot.db-journal wal.db-wal)
+    for name in "${logs[@]}"; do cp "$data/empty.db" "$work/${name%-*}"; done
+    journal_of "$work/hot.db" <<< 1
+    for name in "${logs[@]}"; do sparse "$work/$name" 67108864; done
+}
+
 # paired: makes pair.db, whose last transaction is in pair.db-wal alone, and whole.db, which SQLite recovered of a copy of both.
 paired() {
     {

@@ -151,6 +151,35 @@ END
     [ $((many - few)) -lt 512 ] || fail "$few KiB and $many KiB"
 }
 
+# The last of the frames alone commits them. Each is that of page 2 which the log of few.db ends with.
+@test 'a log of one transaction takes no memory for pages that it has anew' {
+    local few many
+    logged few <<< 'INSERT INTO t VALUES (1)'
+    put_at "$work/few.db" 72 '\01'
+    cp "$work/few.db" "$work/many.db"
+    python3 - "$work" << 'END'
+import sys
+sys.path.insert(0, "tests")
+from logs import order_of, stated, sums
+wal = open(sys.argv[1] + "/few.db-wal", "rb").read()
+page, order, before = wal[-512:], order_of(wal), stated(wal, 24)
+# What a page does to the sums before it is the same each time.
+none, first, second = (sums(order, start, page) for start in ((0, 0), (1, 0), (0, 1)))
+with open(sys.argv[1] + "/many.db-wal", "wb") as many:
+    many.write(wal[:32])
+    for pages in [0] * 99999 + [2]:
+        head = (2).to_bytes(4, "big") + pages.to_bytes(4, "big")
+        a, b = sums(order, before, head)
+        before = [(n + a * (f - n) + b * (s - n)) & 0xFFFFFFFF for n, f, s in zip(none, first, second)]
+        many.write(head + wal[16:24] + b"".join(n.to_bytes(4, "big") for n in before) + page)
+END
+    dbck check --recovered "$work/many.db"
+    row 'the frames of one transaction' ended 1 '*' "dbck: note: $work/many.db-wal: 1 page of 1 transaction is read from it"$'\n'
+    few=$(least_memory check --recovered "$work/few.db")
+    many=$(least_memory check --recovered "$work/many.db")
+    row "$few KiB and $many KiB" [ $((many - few)) -lt 512 ]
+}
+
 @test 'a log of 1.2 GB takes little of the stack' {
     paired
     sparse "$work/pair.db-wal" 1200000000

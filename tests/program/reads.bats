@@ -306,3 +306,13 @@ END
         as=()
     done
 }
+
+@test 'of a log no more is read than is needed' {
+    local name
+    with_zeros
+    for name in "${logs[@]}"; do
+        counted check --recovered "$work/${name%-*}"
+        row "the report beside $name" [ "$(cat "$work/out")" = ok ]
+        row "$bytes bytes beside $name" [ "$bytes" -lt 2200000 ]
+    done
+}

@@ -92,6 +92,20 @@ noted() {
     exactly 4 '' "dbck: note: $(realpath "$work")/pair.db-wal: a directory"$'\n'"$unread" check --recovered "$work/links/link.db"
 }
 
+@test 'the note on the journal of a link names the one that is read' {
+    local journal
+    needs python3
+    journaled
+    journal=$(realpath "$work")/then.db-journal
+    mkdir "$work/links"
+    ln -s ../then.db "$work/links/link.db"
+    echo log > "$work/links/link.db-journal"
+    expect 0 $'ok\n' "dbck: note: $journal: +([0-9]) pages are read from it; the database had +([0-9]) pages"$'\n' check --recovered "$work/links/link.db"
+    # One that is too long is not read.
+    sparse "$journal" 34359738368
+    exactly 4 '' "dbck: note: $journal has 32 GiB or more, and is not read"$'\n'"$unread" check --recovered "$work/links/link.db"
+}
+
 @test 'a log that leads to itself is E8, and is not passed over' {
     local suffix
     for suffix in journal wal; do
@@ -585,6 +599,23 @@ x.db-journal touch -d '2001-01-01 00:00:00.1'
 x.db-wal echo more >>
 END
     [ "$rows" = 3 ]
+}
+
+@test 'the note on a log that is written while a link is read names the one that is read' {
+    local name note notes real
+    needs python3
+    real=$(realpath "$work")
+    cp "$data/empty.db" "$work/x.db"
+    ln -s x.db "$work/link.db"
+    journal_of "$work/x.db" <<< 1
+    echo log > "$work/x.db-wal"
+    notes="dbck: note: $real/x.db-journal: 1 page is read from it; the database had 1 page"$'\n'
+    notes+="dbck: note: $real/x.db-wal holds nothing that SQLite would read"$'\n'
+    for name in x.db-journal x.db-wal; do
+        note=$(changed_note "$real/$name")
+        at_first_note "touch -d '2001-01-01 00:00:00.1' '$work/$name'" check --recovered "$work/link.db"
+        row "$name that is written" ended_exactly 0 $'ok\n' "$notes${note%.}"
+    done
 }
 
 # The reads of the database and then of its journal take 200 ms each, and the journal is written in the first of them.

@@ -41,6 +41,15 @@ dbck_rows() {
     row 'the row of a tree after its faults' ended 1 $'P01 page 2 item 0 value 0: unknown page type\nsqlite_schema\t-\t2\t-\t0\t0\t400\t0\t-\t1024\n' ''
 }
 
+@test 'in one log the notes come after the report' {
+    cp "$data/two-owners.db" "$work/x.db"
+    printf sevenby >> "$work/x.db"
+    for command in "${five[@]}"; do
+        "$DBCK" "$command" "$work/x.db" > "$work/log" 2>&1 < /dev/null 3>&- || status=$?
+        row "the last line of $command" [ "$(tail -n 1 "$work/log")" = 'dbck: note: 7 bytes after page 13 are not read' ]
+    done
+}
+
 # to_full_disk WORDS..: runs the program with an output that takes nothing.
 to_full_disk() {
     status=0

@@ -140,3 +140,18 @@ END
         exactly 4 '' "dbck: note: $work/x.db: the 4096 bytes at 4194304 cannot be read"$'\n'"$unread" check "$work/x.db"
     done
 }
+
+@test 'a bad block in a part of a log that is not needed is passed over' {
+    local name note
+    with_zeros
+    while read -r note; do
+        name=${note%%[: ]*}
+        on_disk BAD=33554432 "NAME=/$name"
+        exactly 0 $'ok\n' "dbck: note: $work/$note"$'\n' check --recovered "$work/${name%-*}"
+    done << 'END'
+cold.db-journal begins with 0, and is not rolled back: SQLite does not need it
+hot.db-journal: 1 page is read from it; the database had 1 page
+wal.db-wal holds nothing that SQLite would read
+END
+    [ "$rows" = 3 ]
+}
