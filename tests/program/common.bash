@@ -297,8 +297,8 @@ open(path + "-journal", "wb").write(out)
 ' "$1"
 }
 
-# with_zeros: makes cold.db, hot.db and wal.db, each with a log of 64 MiB that ends in zeros which nobody needs: a journal that begins with 0, one
-# that gives page 1, and a -wal without a head. Their names are in `logs`.
+# with_zeros: makes cold.db, hot.db and wal.db, each with a log of 64 MiB that ends in zeros which nobody needs: a journal that begins with
+# 0, one that gives page 1, and a -wal without a head. Their names are in `logs`.
 with_zeros() {
     local name
     needs python3

@@ -55,16 +55,16 @@ are_put() {
     [ "$rows" -gt 140 ]
 }
 
-# is_put_back OFFSET BYTES..: x.db gets these bytes at these offsets, and with the changes that mend writes it is as it was.
+# is_put_back OFFSET BYTES..: of x.db with these bytes at these offsets mend writes the changes with which it is as it was. It stays so.
 is_put_back() {
-    cp "$work/x.db" "$work/was.db"
+    cp "$work/x.db" "$work/wrong.db"
     while [ $# -gt 0 ]; do
-        put_at "$work/x.db" "$1" "$2"
+        put_at "$work/wrong.db" "$1" "$2"
         shift 2
     done
-    dbck mend "$work/x.db"
+    dbck mend "$work/wrong.db"
     cp "$work/out" "$work/lines"
-    are_put "$work/x.db" "$work/lines" && cmp "$work/put.db" "$work/was.db"
+    are_put "$work/wrong.db" "$work/lines" && cmp "$work/put.db" "$work/x.db"
 }
 
 # made SQL: makes x.db, with pages of 512 bytes.
@@ -92,9 +92,7 @@ before() {
     needs sqlite3
     made 'CREATE TABLE t(a); INSERT INTO t VALUES (zeroblob(34000000)); CREATE TABLE u(a);
         INSERT INTO u VALUES (zeroblob(300)), (zeroblob(300)), (zeroblob(300));'
-    cp "$work/x.db" "$work/kept.db"
     row 'a root of three bytes' is_put_back $(($(before u) - 3)) '\0\0\01'
-    cp "$work/kept.db" "$work/x.db"
     at=$(sqlite3 "$work/x.db" "SELECT (rootpage - 1) * 512 + 8 FROM sqlite_schema WHERE name = 'u'")
     row "a child, at $at" is_put_back "$at" '\0\0\0\0'
 }
@@ -136,7 +134,6 @@ END
             WITH RECURSIVE k(n) AS (SELECT $keys UNION ALL SELECT n - 1 FROM k WHERE n > 1) INSERT INTO t(a) SELECT $value FROM k;"
         while read -r one other; do
             row "$what: $one and $other" is_put_back "$one" '\0\0\0\0' "$other" '\0\0\0\0'
-            cp "$work/was.db" "$work/x.db"
         done < <(pairs_of i)
     done << 'END'
 doubles|REAL|a|150|n * 1.3 - 90
@@ -172,7 +169,6 @@ END
     made 'CREATE TABLE t(a); WITH RECURSIVE k(n) AS (SELECT 1 UNION ALL SELECT n + 1 FROM k WHERE n < 14) INSERT INTO t SELECT zeroblob(1500) FROM k;'
     while read -r one other; do
         row "$one and $other" is_put_back "$one" '\0\0\0\0' "$other" '\0\0\0\0'
-        cp "$work/was.db" "$work/x.db"
     done < <(chains_of)
     [ "$rows" = 91 ]
 }
@@ -210,10 +206,8 @@ END
     needs sqlite3
     made 'CREATE TABLE t(a); CREATE INDEX i ON t(a); WITH RECURSIVE k(n) AS (SELECT 1 UNION ALL SELECT n + 1 FROM k WHERE n < 400)
         INSERT INTO t SELECT n FROM k;'
-    cp "$work/x.db" "$work/kept.db"
     for page in 2 3 4 6; do
         row "the type of page $page" is_put_back $((512 * (page - 1))) '\0'
-        cp "$work/kept.db" "$work/x.db"
     done
 }
 
@@ -221,7 +215,6 @@ END
     needs sqlite3
     made 'PRAGMA auto_vacuum = full; CREATE TABLE t(a); INSERT INTO t VALUES (zeroblob(150000))'
     row 'an entry for page 107' is_put_back 53272 n
-    cp "$work/was.db" "$work/x.db"
     row 'an entry for page 4, the first of a chain' is_put_back 517 '\07\07\07\07\07'
 }
 

@@ -20,6 +20,12 @@ counted() {
     calls=$((calls - zero))
 }
 
+# counted_on_disk SETTING..: the runs that are counted have their files on such a disk: see disk.c.
+counted_on_disk() {
+    on_disk "$@"
+    options=("${as[@]}")
+}
+
 # reads BYTES CALLS WORDS..: the program reads exactly so many bytes, by at most so many calls. A read that takes long counts as one from a
 # device, after which the MiB around it is read as a whole; so this is of the best of many runs. What is read twice is so in each.
 reads() {
@@ -179,8 +185,7 @@ pages_of() {
 @test 'of a file on a disk each MiB is read as a whole, and then its pages' {
     needs python3
     row_of 300 65536 "$work/x.db"
-    on_disk SLOW=1000
-    options=("${as[@]}")
+    counted_on_disk SLOW=1000
     for words in check explain mend; do
         counted "$words" "$work/x.db"
         [ "$status" = 0 ]
@@ -194,8 +199,7 @@ pages_of() {
 @test 'each MiB of a file on a turning disk is read as a whole, and then its pages' {
     needs python3
     row_of 300 65536 "$work/x.db"
-    on_disk SLOW=9000
-    options=("${as[@]}")
+    counted_on_disk SLOW=9000
     counted check "$work/x.db"
     [ "$status" = 0 ]
     [ "$bytes" -gt $((2 * size - 2097152)) ] || fail "$bytes bytes of $size"
@@ -206,8 +210,7 @@ pages_of() {
 @test 'a turning disk reads each MiB as a whole where one page in 100 is used, and none where one in 150 is' {
     needs python3
     row_of 300 65536 "$work/x.db"
-    on_disk SLOW=2500
-    options=("${as[@]}")
+    counted_on_disk SLOW=2500
     put_at "$work/x.db" 36 '\0\0\01\051'
     counted check "$work/x.db"
     [ "$status" = 1 ]
@@ -222,36 +225,19 @@ pages_of() {
     needs python3
     row_of 300 65536 "$work/x.db"
     sqlite3 "$work/x.db" 'DELETE FROM t'
-    on_disk SLOW=1000
-    options=("${as[@]}")
+    counted_on_disk SLOW=1000
     counted check "$work/x.db"
     [ "$status" = 0 ]
     # Pages 1 and 2 and the trunk, each perhaps with what comes after it.
     [ "$bytes" -lt $((100 + 8 * 65536)) ] || fail "$bytes bytes of $size"
 }
 
-# page_1_in_wal FILE: a transaction after which page 1, and a new page, are in its -wal alone.
-page_1_in_wal() {
-    python3 - "$1" << 'END'
-import shutil, sqlite3, sys
-made = sys.argv[1] + ".made"
-shutil.copy(sys.argv[1], made)
-db = sqlite3.connect(made, isolation_level=None)
-db.execute("PRAGMA journal_mode = WAL")
-db.execute("PRAGMA wal_autocheckpoint = 0")
-db.execute("CREATE TABLE u(a)")
-for suffix in ("", "-wal"):
-    shutil.copy(made + suffix, sys.argv[1] + suffix)
-END
-}
-
-# Page 1 is then not read from the file, so the share of pages in use is known by a read of its header alone.
+# Page 1 is not read from the file then, so the share of pages in use is known by a read of its header alone.
 @test 'of a file that is mostly free a disk reads what is used, also where page 1 is in a log' {
     needs python3
     row_of 300 65536 "$work/x.db"
     sqlite3 "$work/x.db" 'DELETE FROM t'
-    on_disk SLOW=1000
-    options=("${as[@]}")
+    counted_on_disk SLOW=1000
     journal_of "$work/x.db" <<< 1
     counted check --recovered "$work/x.db"
     row 'the page of a journal' grep -q 'journal: 1 page .* read from it' "$work/err"
@@ -259,7 +245,12 @@ END
     # Pages 2 and 3, each perhaps with what comes after it, and the journal, perhaps twice.
     row "$bytes bytes beside a journal of $log" [ "$bytes" -lt $((100 + 8 * 65536 + 2 * log)) ]
     rm "$work/x.db-journal"
-    page_1_in_wal "$work/x.db"
+    logged x 65536 << 'END'
+INSERT INTO t VALUES (zeroblob(298 * 65532))
+DELETE FROM t
+PRAGMA wal_checkpoint(TRUNCATE)
+CREATE TABLE u(a)
+END
     counted check --recovered "$work/x.db"
     row 'the pages of a -wal' grep -q 'wal: . pages of 1 transaction are read from it' "$work/err"
     log=$(wc -c < "$work/x.db-wal")
@@ -270,8 +261,7 @@ END
 @test 'where a disk reads a file from its end on, it takes 256 MiB at once at most, and no memory for them' {
     needs python3
     python3 tests/program/make.py back 10 "$work/x.db"
-    on_disk SLOW=1000
-    options=("${as[@]}")
+    counted_on_disk SLOW=1000
     counted check --limit 1 "$work/x.db"
     [ "$(cat "$work/out")" = $'N01 page 3 item 0 value 0: page is not in use\nmore 360434' ] # of 360448 pages 13 are in use
     # Four pages with their MiB, three with their 16 MiB, and four with 256.
@@ -286,8 +276,7 @@ END
     python3 tests/program/make.py back 10 "$work/x.db"
     # Of 360448 pages 324403 are in the freelist: 4f333 in hexadecimal.
     put_at "$work/x.db" 36 '\x00\x04\xf3\x33'
-    on_disk SLOW=1000
-    options=("${as[@]}")
+    counted_on_disk SLOW=1000
     counted check --limit 1 "$work/x.db"
     [ "$status" = 1 ]
     # Four pages with their MiB, three with their 16 MiB, and four with 25.
