@@ -227,13 +227,15 @@ altered() {
     cold 'has fewer than 512 bytes, and is not rolled back: ask for all of it'
 }
 
-# name_super NAME: puts the name of a super-journal to the end of then.db-journal.
+# name_super NAME: puts the name of a super-journal to the end of then.db-journal. A @ in it stands for a byte of 0.
 name_super() {
     python3 - "$work/then.db-journal" "$1" << 'END'
-import sys
+import os, sys
 with open(sys.argv[1], "ab") as journal:
-    name = sys.argv[2].encode()
-    journal.write(name + len(name).to_bytes(4, "big") + sum(name).to_bytes(4, "big") + bytes.fromhex("d9d505f920a163d7"))
+    name = os.fsencode(sys.argv[2]).replace(b"@", b"\0")
+    # SQLite adds the bytes as signed ones.
+    total = sum(byte - 256 * (byte > 127) for byte in name) % 2**32
+    journal.write(name + len(name).to_bytes(4, "big") + total.to_bytes(4, "big") + bytes.fromhex("d9d505f920a163d7"))
 END
 }
 
@@ -269,6 +271,31 @@ import sqlite3, sys
 sqlite3.connect(sys.argv[1]).execute("SELECT count(*) FROM t").fetchone()
 END
     cmp "$work/then.db" "$work/before.db"
+}
+
+@test 'the name of a super-journal ends at a byte of 0' {
+    journaled_alone
+    dbck check "$work/before.db"
+    cp "$work/out" "$work/wanted"
+    name_super "$work/main.db-mj1@more"
+    cold "names the super-journal $work/main.db-mj1, which is not here, and is not rolled back (see the manual)"
+    echo then.db-journal > "$work/main.db-mj1"
+    dbck check --recovered "$work/then.db"
+    cmp "$work/out" "$work/wanted"
+    # SQLite reads the name so.
+    python3 - "$work/then.db" << 'END'
+import sqlite3, sys
+sqlite3.connect(sys.argv[1]).execute("SELECT count(*) FROM t").fetchone()
+END
+    cmp "$work/then.db" "$work/before.db"
+}
+
+@test 'of a super-journal whose name is not UTF-8 it is not known whether it is here' {
+    local name=$work/$'main\xff.db-mj1'
+    journaled_alone
+    echo then.db-journal > "$name"
+    name_super "$name"
+    cold "names a super-journal whose name is not UTF-8: it is not known whether that is here, and it is not rolled back (see the manual)"
 }
 
 @test 'a super-journal that cannot be is not here' {

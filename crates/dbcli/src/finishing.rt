@@ -33,14 +33,14 @@ pub trait Notes {
     fn report_unrun(&mut self, why: Unrun);
 }
 
-// Ends a run by a line: hands on what is pending, reports the reason to the notes, puts the line, and hands that on, as far as it can. If handing on
-// and the line both fail, no more is tried.
-fn put_last<E: Out, F: FnOnce()>(err: &mut E, line: &str, report_notes: F)
-    requires { F.pre report_notes }
+// Ends a run by a line: hands on what is pending, lets the notes be put, puts the line, and hands that on, as far as it can. If handing
+// on and the line both fail, no more is tried.
+fn put_last<E: Out, F: FnOnce()>(err: &mut E, line: &str, put_notes: F)
+    requires { F.pre put_notes }
     ensures { EndsWithLine line.now 2 (E.held err.old) (E.held err.new) }
 {
     let is_flushed = err.flush().is_ok();
-    report_notes();
+    put_notes();
     let is_put = err.put(line.as_bytes()).is_ok();
     if is_flushed || is_put {
         let _ = err.flush();

@@ -1,10 +1,10 @@
 // The notes on a rollback journal that was read.
+use crate::lookup::super_path;
 use crate::note::{NoteOut, Piece, by_number};
 use crate::shown::Shown;
 use dblog::{Cold, Journal, JournalError, Rollback};
 use dbsource::Out;
 use std::alloc::Global;
-use std::str;
 
 // How many pages the journal gives.
 fn given_pages(journal: &Journal) -> u64 {
@@ -35,9 +35,8 @@ fn put_given<N: Out>(notes: &mut NoteOut<'_, N>, name: &Shown, journal: &Journal
 }
 
 // Puts the note on a journal that names a super-journal which is not there.
-fn put_named<N: Out>(alloc: Global, notes: &mut NoteOut<'_, N>, label: &str, named: &[u8]) {
-    let named = str::from_utf8(named).unwrap_or("(not UTF-8)");
-    if let Ok(text) = format!(in alloc; "{label} names the super-journal {named}")
+fn put_absent<N: Out>(alloc: Global, notes: &mut NoteOut<'_, N>, label: &str, path: &str) {
+    if let Ok(text) = format!(in alloc; "{label} names the super-journal {path}")
         && let Ok(text) = Shown::of(alloc, text.as_str())
     {
         notes.put(
@@ -46,6 +45,10 @@ fn put_named<N: Out>(alloc: Global, notes: &mut NoteOut<'_, N>, label: &str, nam
         );
     }
 }
+
+// What is said of a journal whose super-journal cannot be looked up.
+const NOT_LOOKED_UP: &str =
+    " names a super-journal whose name is not UTF-8: it is not known whether that is here, and it is not rolled back (see the manual)";
 
 // What is said of a journal of which nothing is used.
 fn cold_text(cold: Cold) -> &'static str {
@@ -81,13 +84,15 @@ pub(crate) fn put_journal<N: Out>(
     found: &Rollback,
     is_there: bool,
 ) {
+    let Ok(name) = Shown::of(alloc, label) else {
+        return;
+    };
     match found.name() {
-        Some(named) if !is_there => put_named(alloc, notes, label, named.bytes()),
-        _ => {
-            if let Ok(name) = Shown::of(alloc, label) {
-                put_read(notes, &name, found);
-            }
-        }
+        Some(named) if !is_there => match super_path(named.bytes()) {
+            Some(path) => put_absent(alloc, notes, label, path),
+            None => notes.put(&name, &[Piece::Words(NOT_LOOKED_UP)]),
+        },
+        _ => put_read(notes, &name, found),
     }
 }
 

@@ -24,7 +24,8 @@ pub trait Lookup {
     /// As of [`metadata`](Lookup::metadata), and want of memory.
     fn link_target(&self, path: &str) -> io::Result<Option<String>>;
 
-    /// Whether a super-journal of this name is there. As for SQLite, a file without bytes is not; nor is a name that is not UTF-8.
+    /// Whether a super-journal of this name is there. As for SQLite, a file without bytes is not, and the name ends at a byte of 0. One
+    /// that is not UTF-8 cannot be looked up, and counts as not there.
     fn has_super(&self, name: &[u8]) -> bool
         ensures { finds self.now name.now result };
 }
@@ -50,6 +51,12 @@ pub(crate) fn is_nothing(path: &str, error: &io::Error) -> bool {
     }
 }
 
+// The path of the super-journal that a journal names, if it is UTF-8. As for SQLite, it ends at a byte of 0.
+pub(crate) fn super_path(name: &[u8]) -> Option<&str> {
+    let end = name.iter().position(|byte| *byte == 0);
+    str::from_utf8(&name[..end.unwrap_or(name.len())]).ok()
+}
+
 impl<R: Files + AllocGlobal> Lookup for R {
     ghost use Rattle.std.specs.Prelude.{⊤};
 
@@ -69,7 +76,7 @@ impl<R: Files + AllocGlobal> Lookup for R {
     }
 
     fn has_super(&self, name: &[u8]) -> bool {
-        let Ok(path) = str::from_utf8(name) else {
+        let Some(path) = super_path(name) else {
             return false;
         };
         match fs::metadata(self, path) {

@@ -29,7 +29,7 @@ pub enum Request<'a> {
 }
 
 // The verdict of an explanation, whose count of references goes to the notes.
-fn told_verdict<N: Notes>(
+fn reported_verdict<N: Notes>(
     answer: Result<Explanation, RunError>,
     notes: &mut N,
 ) -> Result<Verdict, RunError>
@@ -63,7 +63,7 @@ pub(crate) fn run_request<S: Source, O: Out, E: Out, N: Notes>(
 {
     match request {
         Request::Report(command) => run(alloc, command, source, out, err),
-        Request::Explain { limit } => told_verdict(explain(alloc, limit, source, out), notes),
+        Request::Explain { limit } => reported_verdict(explain(alloc, limit, source, out), notes),
         Request::Map { name } => map(alloc, name, source, out),
     }
 }

@@ -3,11 +3,8 @@ ghost use Rattle.std.specs.Prelude.{◌≡◌, ◌-◌, ◌++◌, length, replic
 
 use crate::copied::Copied;
 use crate::progress::Progress;
-use dbsource::{Geometry, ReadFailed, Source, shape_of};
+use dbsource::{Geometry, HEADER_LEN, ReadFailed, Source, shape_of};
 use std::cell::Cell;
-
-// The length of the header of a file.
-const HEADER_LEN: usize = 100;
 
 /// What was seen of a source.
 #[derive(Drop)]

@@ -7,8 +7,8 @@ ghost use Rattle.dbformat.specs.Header.{magic, stored_page_sizes, page_size, is_
 
 use dbformat::{u16_at, u32_at};
 
-// The bytes of a header.
-pub(crate) const HEADER_LEN: usize = 100;
+/// The number of bytes of a header.
+pub const HEADER_LEN: usize = 100;
 
 // The first 16 bytes of a database.
 const MAGIC: &[u8; 16] = b"SQLite format 3\0";

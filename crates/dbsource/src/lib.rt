@@ -47,6 +47,7 @@ pub use file_source::FileSource;
 pub use geometry::shape_of;
 pub use headed_source::HeadedSource;
 pub use header::Header;
+pub use header_words::HEADER_LEN;
 pub use log_source::{LogSource, log_source_keeps_its_log};
 pub use memory::NoMemory;
 pub use memory_out::MemOut;

@@ -15,15 +15,15 @@ returns-in-Report-clause-writes g c =
 
 pub returns-in-Explain-clause-read : goal.returns-in-Explain-clause-read
 returns-in-Explain-clause-read g c =
-    rw c.in-Explain.is (rw c.told_verdict.ensures (read_weaker _ _ c.explain.ensures.read (λ ranges p. p) (λ file ranges p t. (t.0, t.1.0))))
+    rw c.in-Explain.is (rw c.reported_verdict.ensures (read_weaker _ _ c.explain.ensures.read (λ ranges p. p) (λ file ranges p t. (t.0, t.1.0))))
 
 pub returns-in-Explain-clause-writes : goal.returns-in-Explain-clause-writes
 returns-in-Explain-clause-writes g c =
-    rw c.in-Explain.is (rw c.told_verdict.ensures (explain_fails (verdict_in c.explain.result) c.in-Explain.limit (g.O.Out.held c.args.out.now)
+    rw c.in-Explain.is (rw c.reported_verdict.ensures (explain_fails (verdict_in c.explain.result) c.in-Explain.limit (g.O.Out.held c.args.out.now)
     (g.O.Out.held c.explain.new.out) (g.E.Out.held c.args.err.now) c.explain.ensures.failed.writes))
 
 pub returns-in-Explain-clause-refused : goal.returns-in-Explain-clause-refused
-returns-in-Explain-clause-refused g c = rw c.told_verdict.ensures (record {
+returns-in-Explain-clause-refused g c = rw c.reported_verdict.ensures (record {
   asked = c.explain.ensures.refused.asked;
   first = c.explain.ensures.refused.unwritten;
   second = refused_unwritten (verdict_in c.explain.result) c.args.err.now;
@@ -53,7 +53,7 @@ pub returns-in-Report-clause-refused : goal.returns-in-Report-clause-refused
 returns-in-Report-clause-refused g c = c.run.ensures.refused
 
 pub returns-in-Explain-clause-reads : goal.returns-in-Explain-clause-reads
-returns-in-Explain-clause-reads g c = rw c.told_verdict.ensures c.explain.ensures.failed.reads
+returns-in-Explain-clause-reads g c = rw c.reported_verdict.ensures c.explain.ensures.failed.reads
 
 pub returns-in-Explain-clause-second : goal.returns-in-Explain-clause-second
 returns-in-Explain-clause-second g c = λ is. refl
