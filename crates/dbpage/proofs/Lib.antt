@@ -1,5 +1,6 @@
 pub mod Blanks
 pub mod CellLemmas
+pub mod Fives
 pub mod FreeblockLemmas
 pub mod Items
 pub mod Lanes

@@ -1,5 +1,6 @@
 pub mod Beginning
 pub mod ByteRuns
+pub mod Five
 pub mod Freeblocks
 pub mod Head
 pub mod Marking

@@ -1,18 +1,21 @@
 // Leaves of tables whose cells come in no order, as rows that were not inserted by rising rowids: each item is noted, and a walk from
 // each to the next says whether two share a byte.
-ghost use Rattle.std.specs.Prelude.{◌≡◌, ℕ, None, ◌+◌, ◌<◌, ◌≤◌, ◌^◌, length, MatchBool, MatchOption};
+ghost use Rattle.std.specs.Prelude.{◌≡◌, ℕ, None, Ok, ◌+◌, ◌<◌, ◌≤◌, ◌^◌, length, MatchBool, MatchOption};
 ghost use Rattle.dbformat.specs.Head.{content_start};
-ghost use Rattle.dbformat.specs.Cell.{count};
+ghost use Rattle.dbformat.specs.Cell.{cell, count};
 ghost use Rattle.dbformat.specs.Coverage.{items};
 ghost use Rattle.dbformat.specs.declared.PageKind.TheVariants.{LeafTable};
+ghost use Rattle.dbpage.specs.Five.{IsLast};
 ghost use Rattle.dbpage.specs.Marking.{cell_spans};
 ghost use Rattle.dbpage.specs.Notes.{AreNotedIn, HaveNotes, end_at};
-ghost use Rattle.dbpage.specs.Packed.{AddUpTo, IsPacked, IsUnpacked, key_at};
+ghost use Rattle.dbpage.specs.Packed.{AddUpTo, IsAboveLast, IsPacked, IsUnpacked, key_at};
 
+use crate::cell::Cell;
 use crate::common_cells::MarkedCells;
 use crate::notes::{clear_notes, held_in_order, note};
-use crate::packed::{CellSums, Packed};
+use crate::packed::{CellSums, Packed, is_rising};
 use crate::view::PageView;
+use crate::whole_cells::key_of_five;
 use dbformat::PageKind;
 
 impl<'a> PageView<'a> {
@@ -60,7 +63,8 @@ impl<'a> PageView<'a> {
         ensures { MatchOption result (IsUnpacked self.now)
             (λ r. AddUpTo self.now (count self.now) r.0 × AreNotedIn self.now (cell_spans self.now) table.new r.1 × (r.1 < 2 ^ 28)) }
     {
-        let noted = self.note_whole_cells(first, table)?;
+        let far = self.note_far_cells(first, table)?;
+        let noted = self.note_whole_cells(far, table)?;
         let mut sums = noted.sums;
         let mut held = noted.held;
         for i in noted.cells..self.cells {
@@ -73,9 +77,9 @@ impl<'a> PageView<'a> {
         Some((sums, held))
     }
 
-    // `note_cells` of the first cells, while they are whole.
+    // `note_cells` of the first cells, while they are whole and their rowids have five bytes, which are compared as they are.
     #[inline(always)]
-    fn note_whole_cells(&self, first: Option<i64>, table: &mut [u8]) -> Option<MarkedCells>
+    fn note_far_cells(&self, first: Option<i64>, table: &mut [u8]) -> Option<MarkedCells>
         requires kind { self.now.kind ≡ LeafTable }
         requires room { self.now.usable ≤ length table.old }
         requires short { self.now.usable < 16384 }
@@ -89,14 +93,69 @@ impl<'a> PageView<'a> {
             sums: CellSums::new(first),
             held: 0,
         };
+        // Where the first rowid has fewer bytes or more, the loop would end at once.
+        let Some(268435456..=34359738367) = first else {
+            return Some(noted);
+        };
+        let mut last = 0;
+        for i in 0..self.cells {
+            if !self.note_far_cell(i, &mut noted, &mut last, table)? {
+                return Some(with_last(noted, last));
+            }
+        }
+        Some(with_last(noted, last))
+    }
+
+    // Notes cell `i`, after those before it, if it is whole and its rowid has five bytes: and answers whether it is.
+    #[inline(always)]
+    fn note_far_cell(
+        &self,
+        i: u32,
+        noted: &mut MarkedCells,
+        last: &mut u64,
+        table: &mut [u8],
+    ) -> Option<bool>
+        requires kind { self.now.kind ≡ LeafTable }
+        requires room { self.now.usable ≤ length table.old }
+        requires short { self.now.usable < 16384 }
+        requires within { i < count self.now }
+        requires next { noted.old.cells ≡ i }
+        requires before { HaveNotes self.now table.old noted.old }
+        requires last { IsLast i last.old noted.old.sums.last }
+        ensures { MatchOption result (IsUnpacked self.now) (λ is_far. HaveNotes self.now table.new noted.new
+            × IsLast noted.new.cells last.new noted.new.sums.last × MatchBool is_far (noted.new.cells ≡ i + 1) (noted.new.cells ≡ i)) }
+    {
+        let Some((cell, five)) = self.far_leaf_cell(i) else {
+            return Some(false);
+        };
+        if five <= *last {
+            return None;
+        }
+        if !self.note_read(i, &cell, noted, table) {
+            return None;
+        }
+        *last = five;
+        Some(true)
+    }
+
+    // `note_cells` of the next cells, while they are whole.
+    #[inline(always)]
+    fn note_whole_cells(&self, begun: MarkedCells, table: &mut [u8]) -> Option<MarkedCells>
+        requires kind { self.now.kind ≡ LeafTable }
+        requires room { self.now.usable ≤ length table.old }
+        requires short { self.now.usable < 16384 }
+        requires before { HaveNotes self.now table.old begun }
+        ensures { MatchOption result (IsUnpacked self.now) (HaveNotes self.now table.new) }
+    {
+        let mut noted = begun;
         // The first has a turn of its own: after it, each cell has one before it.
-        if self.cells == 0 {
+        if begun.cells == self.cells {
             return Some(noted);
         }
-        if !self.note_whole_cell(0, &mut noted, table)? {
+        if !self.note_whole_cell(begun.cells, &mut noted, table)? {
             return Some(noted);
         }
-        for i in 1..self.cells {
+        for i in begun.cells + 1..self.cells {
             if !self.note_whole_cell(i, &mut noted, table)? {
                 break;
             }
@@ -116,21 +175,41 @@ impl<'a> PageView<'a> {
         ensures { MatchOption result (IsUnpacked self.now) (λ is_whole. HaveNotes self.now table.new noted.new
             × MatchBool is_whole (noted.new.cells ≡ i + 1) (noted.new.cells ≡ i)) }
     {
-        // This gives the proof what is known of the view.
-        let _ = &self.usable;
         let Some(cell) = self.whole_leaf_cell(i) else {
             return Some(false);
         };
-        if !self.add_read(i, &cell, &mut noted.sums) {
+        if !is_rising(noted.sums.last, cell.key) {
             return None;
         }
-        let len = cell.len.max(4);
-        if !note(table, self.start, cell.offset, len) {
+        if !self.note_read(i, &cell, noted, table) {
             return None;
+        }
+        Some(true)
+    }
+
+    // Notes cell `i`, which was read and whose key rises, after those before it. False where it shares a byte with one of them.
+    #[inline(always)]
+    fn note_read(&self, i: u32, found: &Cell<'a>, noted: &mut MarkedCells, table: &mut [u8]) -> bool
+        requires room { self.now.usable ≤ length table.old }
+        requires short { self.now.usable < 16384 }
+        requires within { i < count self.now }
+        requires next { noted.old.cells ≡ i }
+        requires before { HaveNotes self.now table.old noted.old }
+        requires read { cell self.now i ≡ Ok found.now }
+        requires rising { IsAboveLast noted.old.sums.last found.now.key }
+        ensures { MatchBool result (HaveNotes self.now table.new noted.new × (noted.new.cells ≡ i + 1)
+            × (noted.new.sums.last ≡ found.now.key)) (IsUnpacked self.now) }
+    {
+        // This gives the proof what is known of the view.
+        let _ = &self.usable;
+        self.add_above(i, found, &mut noted.sums);
+        let len = found.len.max(4);
+        if !note(table, self.start, found.offset, len) {
+            return false;
         }
         noted.held += len;
         noted.cells = i + 1;
-        Some(true)
+        true
     }
 
     // Notes what the good freeblocks hold, after the `held` bytes of the cells.
@@ -151,4 +230,19 @@ impl<'a> PageView<'a> {
         }
         Some(all)
     }
+}
+
+// The same, with the key of the last cell made of its five bytes: a loop that is followed by this makes no other.
+#[inline(always)]
+fn with_last(noted: MarkedCells, last: u64) -> MarkedCells
+    requires { IsLast noted.cells last noted.sums.last }
+    ensures { result ≡ noted }
+{
+    let mut keyed = noted;
+    keyed.sums.last = if noted.cells == 0 {
+        None
+    } else {
+        Some(key_of_five(last))
+    };
+    keyed
 }

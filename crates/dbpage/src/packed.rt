@@ -243,13 +243,28 @@ impl<'a> PageView<'a> {
         if !is_rising(sums.last, found.key) {
             return false;
         }
+        self.add_above(i, found, sums);
+        true
+    }
+
+    // `add_read` of a cell whose key rises.
+    #[inline(always)]
+    pub(crate) fn add_above(&self, i: u32, found: &Cell<'a>, sums: &mut CellSums)
+        requires within { i < count self.now }
+        requires read { cell self.now i ≡ Ok found.now }
+        requires before { AddUpTo self.now i sums.old }
+        requires rising { IsAboveLast sums.old.last found.now.key }
+        ensures added { AddUpTo self.now (i + 1) sums.new }
+        ensures last { sums.new.last ≡ found.now.key }
+    {
+        // This gives the proof what is known of the view.
+        let _ = &self.usable;
         sums.payload += found.local.len() as u32;
         sums.greatest = sums.greatest.max(found.size);
         sums.last = found.key;
         if found.overflow.is_some() {
             sums.has_overflow = true;
         }
-        true
     }
 
     // The key of the first cell of a page of this kind, where there is one and it has a key. No cell of a leaf of an index is read for it.

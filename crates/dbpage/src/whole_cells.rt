@@ -1,15 +1,47 @@
 // The commonest cells, each wholly on its page, read in the shortest way: `None` also where another way is needed.
-ghost use Rattle.std.specs.Prelude.{◌≡◌, ◌+◌, ◌<◌, ◌≤◌, IfSome, IsTrue, Ok, Some, slice_index};
+ghost use Rattle.std.specs.Prelude.{◌≡◌, ◌+◌, ◌<◌, ◌≤◌, IfSome, IsTrue, Ok, Some, length, slice_index};
 ghost use Rattle.dbformat.specs.Cell.{bytes_from, cell, cell_at, count};
 ghost use Rattle.dbformat.specs.Head.{content_start};
-ghost use Rattle.dbformat.specs.Varint.{varint};
+ghost use Rattle.dbformat.specs.Varint.{signed, varint};
 ghost use Rattle.dbpage.specs.Beginning.{EndsAt, IsShort};
+ghost use Rattle.dbpage.specs.Five.{IsFive, value_of_five};
 ghost use Rattle.dbformat.specs.declared.PageKind.TheVariants.{LeafIndex, LeafTable};
 
 use crate::cell::{Cell, CellStart};
 use crate::view::PageView;
+use byteorder::{BigEndian, ByteOrder};
 use dbbytes::{most_local, short_varint, varint_of_nine};
 use dbformat::PayloadKind;
+
+// Of each of five bytes, the bit that says that more follow.
+const MORE_BITS: u64 = 0x80_8080_8080;
+
+// What these bits are in a number of five bytes.
+const FIVE_BYTES: u64 = 0x80_8080_8000;
+
+// The bytes of the number that `bytes` begin with, if they are five, as one number.
+#[inline(always)]
+fn five_bytes(bytes: &[u8]) -> Option<u64>
+    requires { 8 ≤ length bytes.now }
+    ensures value { IfSome result (λ five. varint bytes.now ≡ Some (value_of_five five, 5)) }
+    ensures five { IfSome result IsFive }
+{
+    let five = BigEndian::read_u64(bytes) / 16777216;
+    if five & MORE_BITS != FIVE_BYTES {
+        return None;
+    }
+    Some(five)
+}
+
+// The rowid that these five bytes spell.
+#[inline(always)]
+pub(crate) fn key_of_five(five: u64) -> i64
+    ensures { result ≡ signed (value_of_five five) }
+{
+    let first = five / 4294967296 % 128 * 268435456 + five / 16777216 % 128 * 2097152;
+    let value = first + five / 65536 % 128 * 16384 + five / 256 % 128 * 128 + five % 128;
+    value.cast_signed()
+}
 
 impl<'a> PageView<'a> {
     // `cell` of a leaf of a table, if all of it is on the page and it ends at `end`.
@@ -114,6 +146,78 @@ impl<'a> PageView<'a> {
         Some(self.whole_cell(PayloadKind::TableLeaf, start, size, None, key))
     }
 
+    // `whole_leaf_cell` whose size has one byte or two and whose rowid has five, and these five bytes as a number, for a loop that
+    // compares rowids and needs none of their values.
+    #[inline(always)]
+    pub(crate) fn far_leaf_cell(&self, i: u32) -> Option<(Cell<'a>, u64)>
+        requires within { i < count self.now }
+        requires kind { self.now.kind ≡ LeafTable }
+        ensures { IfSome result (λ r. (cell self.now i ≡ Ok r.0) × (r.0.key ≡ Some (signed (value_of_five r.1))) × IsFive r.1) }
+    {
+        let offset = self.pointer(i);
+        // A size of two bytes, the eight that are read of the rowid, and more are before the end.
+        if offset < self.start || offset > self.usable - 13 {
+            return None;
+        }
+        let (found, five) = self.far_table_leaf_cell(offset)?;
+        Some((found, five))
+    }
+
+    // `table_leaf_cell`, as `far_leaf_cell` has it.
+    #[inline(always)]
+    fn far_table_leaf_cell(&self, offset: u32) -> Option<(Cell<'a>, u64)>
+        requires room { offset + 13 ≤ self.now.usable }
+        requires most { self.now.usable ≤ 65536 }
+        ensures { IfSome result (λ r. (cell_at LeafTable self.now offset ≡ Some r.0) × (r.0.key ≡ Some (signed (value_of_five r.1))) × IsFive r.1) }
+    {
+        let (size, size_len) = self.short_varint_at(offset)?;
+        // With this length as a constant, less is to be kept.
+        if size_len == 1 {
+            return self.sized_far_leaf_cell(CellStart { offset, before: 1 }, size);
+        }
+        if size_len == 2 {
+            return self.sized_far_leaf_cell(CellStart { offset, before: 2 }, size);
+        }
+        None
+    }
+
+    // `far_table_leaf_cell` after its size, which `before` bytes give.
+    #[inline(always)]
+    fn sized_far_leaf_cell(&self, start: CellStart, size: u64) -> Option<(Cell<'a>, u64)>
+        requires room { start.offset + 13 ≤ self.now.usable }
+        requires most { self.now.usable ≤ 65536 }
+        requires some { (0 < start.before) × (start.before ≤ 2) }
+        requires size { varint (bytes_from self.now start.offset) ≡ Some (size, start.before) }
+        ensures { IfSome result (λ r. (cell_at LeafTable self.now start.offset ≡ Some r.0) × (r.0.key ≡ Some (signed (value_of_five r.1))) × IsFive r.1) }
+    {
+        let offset = start.offset;
+        let five = self.five_bytes_at(offset + start.before)?;
+        let before = start.before + 5;
+        if size > u64::from(most_local(PayloadKind::TableLeaf, self.usable)) {
+            return None;
+        }
+        let size = size as u32;
+        if offset + before + size > self.usable {
+            return None;
+        }
+        let key = Some(key_of_five(five));
+        let whole = CellStart { offset, before };
+        Some((
+            self.whole_cell(PayloadKind::TableLeaf, whole, size, None, key),
+            five,
+        ))
+    }
+
+    // The bytes of the number at `offset`, if they are five.
+    #[inline(always)]
+    fn five_bytes_at(&self, offset: u32) -> Option<u64>
+        requires { offset + 8 ≤ self.now.usable }
+        ensures value { IfSome result (λ five. varint (bytes_from self.now offset) ≡ Some (value_of_five five, 5)) }
+        ensures five { IfSome result IsFive }
+    {
+        five_bytes(&self.bytes[offset as usize..self.usable as usize])
+    }
+
     // `cell` of a leaf of an index, if all of it is on the page and it has 4 to 53 bytes.
     #[inline(always)]
     pub(crate) fn short_index_cell(&self, i: u32) -> Option<Cell<'a>>
@@ -132,7 +236,7 @@ impl<'a> PageView<'a> {
         self.short_index_leaf_cell(offset)
     }
 
-    // Whether there is a byte that can be the size of a cell, and one of so many bytes would end within the usable ones.
+    // Whether a cell that begins here, with a size of one byte, ends on the page.
     #[inline(always)]
     fn ends_short_cell(&self, offset: u32) -> bool
         ensures { IsTrue result → (offset + 4 ≤ self.now.usable) × (offset + 1 + slice_index self.now.bytes offset ≤ self.now.usable) }
