@@ -13,6 +13,23 @@ use arrayvec::ArrayVec;
 use std::alloc::{Allocator, Global};
 use std::marker::Model;
 
+/// Reads a page of a buffer's size into the buffer: asks for its bytes once.
+///
+/// # Errors
+///
+/// [`ReadFailed`] exactly where the source failed. The bytes of the buffer are then unspecified.
+pub fn load_page<S: Source>(source: &mut S, page: u32, buffer: &mut [u8]) -> Result<(), ReadFailed>
+    requires page { 1 ≤ page }
+    requires size { length buffer.old ≤ 65536 }
+    ensures told { (S.held source.new).bytes ≡ (S.held source.old).bytes }
+    ensures count { (S.held source.new).failures ≡ failures_after is_any result (S.held source.old).failures }
+    ensures trail { S.step (S.held source.old).trail (answer result ((page - 1) * length buffer.old) buffer.new) (S.held source.new).trail }
+    ensures bytes { OnOk result (IfSome (S.held source.old).bytes (λ file. IsRangeOf file ((page - 1) * length buffer.old) buffer.new)) }
+{
+    let offset = (page as u64 - 1) * buffer.len() as u64;
+    source.read_at(offset, buffer)
+}
+
 /// The 22 buffers that a walk reads pages into, each of a page's size: 20 for the levels of a tree, one for the page of
 /// a chain or of the pointer map, and one that counts the uses of a page's bytes.
 #[derive(Drop)]

@@ -35,7 +35,7 @@ mod source;
 mod stream_out;
 mod used_share;
 
-pub use bench::Bench;
+pub use bench::{Bench, load_page};
 pub use buffered_out::BufferedOut;
 pub use change::{Change, ChangeError};
 pub use changes::Changes;

@@ -1,5 +1,5 @@
 -- A walk beside the pages of a tree: along an overflow chain, or along the freelist.
-use Rattle.std.specs.Prelude.{◌≡◌, ℕ, Bool, true, false, List, [], ◌∷◌, Option, None, Result, Ok, Err, IfErr, IfOk, IfSome}
+use Rattle.std.specs.Prelude.{◌≡◌, ℕ, ◌≤◌, Bool, true, false, List, [], ◌∷◌, length, Option, None, Result, Ok, Err, IfErr, IfOk, IfSome}
 use Rattle.dbsurvey.specs.Story.{Go}
 use Rattle.dbformat.specs.File.{geometry, page_bytes}
 use Rattle.dbformat.specs.Reference.{Reference}
@@ -7,7 +7,6 @@ use Rattle.dbmarks.specs.Marking.{AreMarksOf}
 use Rattle.dbmarks.specs.Reads.{Reads}
 use Rattle.dbmarks.specs.declared.marks.Mark.{Mark}
 use Rattle.dbsource.specs.Answers as answers
-use Rattle.dbsource.specs.Bench.{Pages}
 use Rattle.dbsource.specs.Errors.{is_read_failed}
 use Rattle.dbsource.specs.Failures.{failures_after}
 use Rattle.dbsource.specs.Sources.{HasLog, SourceState}
@@ -20,19 +19,24 @@ use Rattle.dbwalk.specs.Entered.{Enters, IsNext, IsStepOf}
 use Rattle.dbwalk.specs.Reporting.{IsReadOrWrite, SinkState, SinkWalks}
 use Rattle.dbwalk.specs.declared.entering.Step.{Step}
 
+-- a buffer for a page with this usable size
+pub record IsPageBuffer (usable : ℕ) (buffer : List ℕ) : Type 0 where
+  pub least : 480 ≤ usable
+  pub within : usable ≤ length buffer
+  pub most : length buffer ≤ 65536
+
 -- What it leaves of what it borrows. The source failed exactly where ReadFailed is answered, and a sink that failed is shut; there is no
--- error but these. Of the page buffers only that for pages of no tree may have changed.
-pub record LeavesBeside {A : Type 0} (r : Result A RunError) (old new : SourceState) (before after : SinkState) (had has : Pages) : Type 0 where
+-- error but these.
+pub record LeavesBeside {A : Type 0} (r : Result A RunError) (old new : SourceState) (before after : SinkState) : Type 0 where
   pub reads : new.failures ≡ failures_after is_read_failed r old.failures
   pub writes : SinkWalks r before after
   pub only : IfErr r IsReadOrWrite
-  pub bench : has ≡ record had { chain = has.chain }
 
--- And there is a log of the reads, each page once, and this holds of each file that agrees with the answers.
-pub record WalksBeside {A : Type 0} (step : answers.Step) (r : Result A RunError) (old new : SourceState) (before after : SinkState) (had has : Pages)
+-- And there is a log of the reads, each page of this size once, and this holds of each file that agrees with the answers.
+pub record WalksBeside {A : Type 0} (step : answers.Step) (r : Result A RunError) (old new : SourceState) (before after : SinkState) (size : ℕ)
     (marks marks' : List Mark) (says : List ℕ → Type 0) : Type 0 where
-  pub log : HasLog step (Reads had.geometry.page_size marks marks') (λ file. had.geometry ≡ geometry file → says file) old new
-  pub beside : LeavesBeside r old new before after had has
+  pub log : HasLog step (Reads size marks marks') (λ file. size ≡ (geometry file).page_size → says file) old new
+  pub beside : LeavesBeside r old new before after
 
 -- a reference was followed, and its page marked and read; or it was refused, which was reported; or nothing was reported
 abbrev pub Opens : {S : Type 0} → (S → Finding → S → Type 0) → List ℕ → List Reference → Reference → Result Bool RunError → List Mark → S → S → List ℕ → Type 0

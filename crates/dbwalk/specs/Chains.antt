@@ -70,6 +70,7 @@ walked_chain chain number usable left found seen = record {
 
 -- the reference of a cell to the first page of its chain
 pub record IsChainOf (file : List ℕ) (chain : Chain) (c : Reference) : Type 0 where
+  pub usable : chain.usable ≡ usable_size file
   pub page : c.page ≡ chain.first
   pub role : role_of c ≡ first_overflow chain.left
   pub from : from_of c ≡ chain.page
@@ -101,18 +102,19 @@ pub record IsOverflowVisited {S : Type 0} (takes : S → Finding → S → Type 
   pub fed : (c : Reference) → c.page ≡ place.step.page → bytes_left (role_of c) ≡ Some place.left → Feeds old (held_bytes file c) new
 
 -- what the fault of the reference at a place of a chain goes back to, where the page before it has these bytes; and at no place
-abbrev pub place_cause : Chain → ChainPlace → ℕ → List ℕ → Cause
-place_cause chain place usable here =
-    cause.Chain (walked_chain chain place.number usable place.left place.number (seen_before usable place.number here))
+abbrev pub place_cause : Chain → ChainPlace → List ℕ → Cause
+place_cause chain place here =
+    cause.Chain (walked_chain chain place.number chain.usable place.left place.number (seen_before chain.usable place.number here))
 
-abbrev pub known_cause : Option ChainPage → ℕ → List ℕ → Cause
-known_cause None usable here = cause.Itself
-known_cause (Some at) usable here = place_cause at.chain.now at.place usable here
+abbrev pub known_cause : Option ChainPage → List ℕ → Cause
+known_cause None here = cause.Itself
+known_cause (Some at) here = place_cause at.chain.now at.place here
 
 -- Along the chain below c: the reference at this place is left, a sieve was fed the pages so far, and the last one was read.
 pub record IsOnWay {S : Type 0} (takes : S → Finding → S → Type 0) (file : List ℕ) (W : List Reference) (c : Reference) (before : S) (chain : Chain)
     (place : ChainPlace) (marks : List Mark) (now : S) (old new : Option RowSieve) (here : List ℕ) : Type 0 where
-  pub at : IsAtStep takes file W c before place.step (place_cause chain place (usable_size file) here) marks now
+  pub usable : chain.usable ≡ usable_size file
+  pub at : IsAtStep takes file W c before place.step (place_cause chain place here) marks now
   pub pages : List Reference
   pub fed : FeedsPages file old pages new
   pub since : at.visited ≡ W ++ pages

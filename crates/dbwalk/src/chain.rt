@@ -1,6 +1,6 @@
 // The walk along an overflow chain (Database File Format, 1.7).
 ghost use Rattle.std.specs.Prelude.{◌≡◌, ◌+◌, ◌≤◌, ◌<◌, ◌∷◌, ℕ, List, [], Option, length, IfSome, IfOk, OnOk, is_some};
-ghost use Rattle.dbformat.specs.FixedPages.{IsPageNumber};
+ghost use Rattle.dbformat.specs.FixedPages.{IsInRange, IsPageNumber};
 ghost use Rattle.dbsurvey.specs.Story.{Go};
 ghost use Rattle.dbformat.specs.File.{geometry, page_bytes};
 ghost use Rattle.dbformat.specs.Header.{usable_size};
@@ -11,7 +11,7 @@ ghost use Rattle.dbwalk.specs.Chains.{IsChainOf, IsOnWay, IsOverflowVisited, Fee
 ghost use Rattle.dbwalk.specs.Done.{IsDone};
 ghost use Rattle.dbwalk.specs.Entered.{IsNext};
 ghost use Rattle.dbmarks.specs.Marking.{AreMarksOf};
-ghost use Rattle.dbwalk.specs.Beside.{LeavesBeside, Turns, WalksBeside};
+ghost use Rattle.dbwalk.specs.Beside.{IsPageBuffer, LeavesBeside, Turns, WalksBeside};
 ghost use Rattle.dbwalk.specs.Reporting.{SinkMoves};
 ghost use Rattle.dbmarks.specs.Reads.{Reads};
 ghost use Rattle.dbsource.specs.Sources.{HasLog};
@@ -32,6 +32,8 @@ pub const CHAIN: usize = 20;
 pub(crate) struct Chain<'a> {
     /// The number of the tree's start.
     pub(crate) start: u32,
+    /// The usable size of the file's pages.
+    pub(crate) usable: u32,
     /// The children on the way to the page of the cell.
     pub(crate) path: &'a [u32],
     /// The page of the cell.
@@ -91,28 +93,29 @@ fn visit_overflow<K: Sink>(
 // Goes on by one page, if the next one may be followed.
 fn enter_overflow<S: Source, K: Sink, A: Allocator>(
     source: &mut S,
-    bench: &mut Bench<A>,
+    buffer: &mut [u8],
     marks: &mut Marks<A>,
     at: ChainPage<'_>,
     sieve: &mut Option<RowSieve>,
     sink: &mut K,
 ) -> Result<Option<ChainPlace>, RunError>
     requires place { IsPlace at.place }
-    ensures walks { WalksBeside S.step result (S.held source.old) (S.held source.new) (K.held sink.old) (K.held sink.new) bench.old bench.new
+    requires buffer { IsPageBuffer at.chain.now.usable buffer.old }
+    ensures walks { WalksBeside S.step result (S.held source.old) (S.held source.new) (K.held sink.old) (K.held sink.new) (length buffer.old)
         marks.old marks.new (λ file. (W : List Reference) (c : Reference) (before : K) (first : Option RowSieve)
-        → IsOnWay K.takes file W c before at.entry.chain.now at.entry.place marks.old sink.old first sieve.old bench.old.chain
+        → IsOnWay K.takes file W c before at.entry.chain.now at.entry.place marks.old sink.old first sieve.old buffer.old
         → Turns K.takes file W c before (λ place. IsOnWay K.takes file W c before at.entry.chain.now place marks.new sink.new first sieve.new
-        bench.new.chain) (FeedsChain file W c first sieve.new) result marks.new sink.new) }
+        buffer.new) (FeedsChain file W c first sieve.new) result marks.new sink.new) }
     ensures kept { is_some sieve.new ≡ is_some sieve.old }
     ensures next { IfOk result (λ o. IfSome o (λ next. IsPlace next × (next.left < at.entry.place.left))) }
 {
     let place = at.place;
-    if !enter_beside(source, bench, marks, place.step, Some(at), sink)? {
+    if !enter_beside(source, buffer, marks, place.step, Some(at), sink)? {
         return Ok(None);
     }
-    let usable = bench.geometry().usable;
+    let usable = at.chain.usable;
     let room = usable - 4;
-    let next = visit_overflow(bench.page(CHAIN), usable, at, sieve, sink);
+    let next = visit_overflow(&*buffer, usable, at, sieve, sink);
     if place.left <= room {
         return Ok(None);
     }
@@ -139,18 +142,19 @@ fn enter_overflow<S: Source, K: Sink, A: Allocator>(
 /// was then given a beginning of what is reported otherwise.
 pub(crate) fn walk_chain<S: Source, K: Sink, A: Allocator>(
     source: &mut S,
-    bench: &mut Bench<A>,
+    buffer: &mut [u8],
     marks: &mut Marks<A>,
     chain: &Chain<'_>,
     sieve: &mut Option<RowSieve>,
     sink: &mut K,
 ) -> Result<(), RunError>
-    requires { IsPageNumber chain.now.page × (chain.now.left ≤ most_payload) }
-    ensures log { HasLog S.step (Reads bench.old.geometry.page_size marks.old marks.new) (λ file. bench.old.geometry ≡ geometry file
+    requires chain { IsPageNumber chain.now.page × (chain.now.left ≤ most_payload) }
+    requires buffer { IsPageBuffer chain.now.usable buffer.old }
+    ensures log { HasLog S.step (Reads (length buffer.old) marks.old marks.new) (λ file. length buffer.old ≡ (geometry file).page_size
         → (W : List Reference) (c : Reference) → IsChainOf file chain.now c → IsNext W c → AreMarksOf file W marks.old
         → IsDone K.takes file W (Go c ∷ []) result marks.new sink.old sink.new × OnOk result (FeedsChain file W c sieve.old sieve.new))
         (S.held source.old) (S.held source.new) }
-    ensures beside { LeavesBeside result (S.held source.old) (S.held source.new) (K.held sink.old) (K.held sink.new) bench.old bench.new }
+    ensures beside { LeavesBeside result (S.held source.old) (S.held source.new) (K.held sink.old) (K.held sink.new) }
     ensures kept { is_some sieve.new ≡ is_some sieve.old }
 {
     let step = Step {
@@ -167,7 +171,7 @@ pub(crate) fn walk_chain<S: Source, K: Sink, A: Allocator>(
     };
     while let Some(next) = enter_overflow(
         source,
-        bench,
+        buffer,
         marks,
         ChainPage {
             chain: &*chain,
@@ -195,12 +199,15 @@ pub(crate) fn walk_unfed<S: Source, K: Sink, A: Allocator>(
     chain: &Chain<'_>,
     sink: &mut K,
 ) -> Result<(), RunError>
-    requires { IsPageNumber chain.now.page × (chain.now.left ≤ most_payload) }
+    requires chain { IsPageNumber chain.now.page × (chain.now.left ≤ most_payload) }
+    requires usable { IsInRange bench.old.geometry × (chain.now.usable ≡ bench.old.geometry.usable) }
     ensures log { HasLog S.step (Reads bench.old.geometry.page_size marks.old marks.new) (λ file. bench.old.geometry ≡ geometry file
         → (W : List Reference) (c : Reference) → IsChainOf file chain.now c → IsNext W c → AreMarksOf file W marks.old
         → IsDone K.takes file W (Go c ∷ []) result marks.new sink.old sink.new)
         (S.held source.old) (S.held source.new) }
-    ensures beside { LeavesBeside result (S.held source.old) (S.held source.new) (K.held sink.old) (K.held sink.new) bench.old bench.new }
+    ensures beside { LeavesBeside result (S.held source.old) (S.held source.new) (K.held sink.old) (K.held sink.new) }
+    ensures bench { bench.new ≡ record bench.old { chain = bench.new.chain } }
 {
-    walk_chain(source, bench, marks, chain, &mut None, sink)
+    let (_, buffer) = bench.chain(0);
+    walk_chain(source, buffer, marks, chain, &mut None, sink)
 }

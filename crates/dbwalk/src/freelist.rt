@@ -10,7 +10,7 @@ ghost use Rattle.dbformat.specs.Reference.{trunk, Way, Reference, role_of};
 ghost use Rattle.dbformat.specs.Survey.{rules_of};
 ghost use Rattle.dbformat.specs.Story.{Event};
 ghost use Rattle.dbsource.specs.declared.error.RunError.TheVariants as run_error;
-ghost use Rattle.dbwalk.specs.Beside.{Turns, WalksBeside};
+ghost use Rattle.dbwalk.specs.Beside.{IsPageBuffer, Turns, WalksBeside};
 ghost use Rattle.dbwalk.specs.Done.{IsDone, IsLeft};
 ghost use Rattle.dbwalk.specs.Entered.{IsNext};
 ghost use Rattle.dbwalk.specs.Trunks.{LeavesErrands, IsFirstTrunk, IsOnTrunks, OpensTrunk, next_step};
@@ -23,7 +23,6 @@ ghost use Rattle.dbsource.specs.Errors.{is_read_failed, is_write_failed};
 ghost use Rattle.dbsource.specs.Sources.{Asks};
 
 use crate::beside::enter_beside;
-use crate::chain::CHAIN;
 use crate::entering::{Step, ask, enter, itself};
 use crate::{Cause, Fault, Mark, Marks, Sink};
 use dbformat::{FREELIST_START, FaultCode, u32_at};
@@ -115,25 +114,59 @@ fn next_trunk(bytes: &[u8], page: u32, item: u32) -> Option<Step>
 // Goes on by one trunk, if the next one may be followed.
 fn enter_trunk<S: Source, K: Sink, A: Allocator>(
     source: &mut S,
-    bench: &mut Bench<A>,
+    buffer: &mut [u8],
+    usable: u32,
     marks: &mut Marks<A>,
     step: Step,
     sink: &mut K,
 ) -> Result<Option<Step>, RunError>
-    requires { step.mark ≡ use_mark.Trunk }
-    ensures walks { WalksBeside S.step result (S.held source.old) (S.held source.new) (K.held sink.old) (K.held sink.new) bench.old bench.new
-        marks.old marks.new (λ file. (W : List Reference) (c : Reference) (before : K) → IsOnTrunks K.takes file W c before step marks.old sink.old
+    requires mark { step.mark ≡ use_mark.Trunk }
+    requires buffer { IsPageBuffer usable buffer.old }
+    ensures walks { WalksBeside S.step result (S.held source.old) (S.held source.new) (K.held sink.old) (K.held sink.new) (length buffer.old)
+        marks.old marks.new (λ file. usable ≡ usable_size file
+        → (W : List Reference) (c : Reference) (before : K) → IsOnTrunks K.takes file W c before step marks.old sink.old
         → Turns K.takes file W c before (λ next. IsOnTrunks K.takes file W c before next marks.new sink.new) Unit result marks.new sink.new) }
     ensures trunk { IfOk result (λ o. IfSome o (λ next. next.mark ≡ use_mark.Trunk)) }
     ensures less { IfOk result (λ o. IfSome o (λ next. unmarked_pages marks.new < unmarked_pages marks.old)) }
 {
-    if !enter_beside(source, bench, marks, step, None, sink)? {
+    if !enter_beside(source, buffer, marks, step, None, sink)? {
         return Ok(None);
     }
-    let usable = bench.geometry().usable;
-    let bytes = bench.page(CHAIN);
+    let bytes = &*buffer;
     let item = open_trunk(bytes, usable, marks, step.page, sink)?;
     Ok(next_trunk(bytes, step.page, item))
+}
+
+// Walks along the trunks from the first one, each read into the buffer. At Ok the sink is open.
+fn walk_trunks<S: Source, K: Sink, A: Allocator>(
+    source: &mut S,
+    buffer: &mut [u8],
+    usable: u32,
+    marks: &mut Marks<A>,
+    first: u32,
+    sink: &mut K,
+) -> Result<(), RunError>
+    requires buffer { IsPageBuffer usable buffer.old }
+    requires open { (K.held sink.old).is_shut ≡ false }
+    ensures asks { Asks S.step (Reads (length buffer.old) marks.old marks.new) (λ file. length buffer.old ≡ (geometry file).page_size
+        → usable ≡ usable_size file → (W : List Reference) (c : Reference) → IsFirstTrunk first c → IsNext W c → AreMarksOf file W marks.old
+        → IsDone K.takes file W (Go c ∷ []) result marks.new sink.old sink.new)
+        is_read_failed result (S.held source.old) (S.held source.new) }
+    ensures writes { SinkAfter is_write_failed result (K.held sink.old) (K.held sink.new) }
+    ensures shut { IfErr result (λ e. (K.held sink.new).is_shut ≡ is_write_failed e) }
+    ensures only { IfErr result IsReadOrWrite }
+{
+    let mut step = Step {
+        page: first,
+        mark: Mark::Trunk,
+        from: 0,
+        item: FREELIST_START,
+        is_too_deep: false,
+    };
+    while let Some(next) = enter_trunk(source, buffer, usable, marks, step, sink)? {
+        step = next;
+    }
+    ask(sink)
 }
 
 /// Walks along the freelist from its first trunk: marks each trunk and then reads it, and marks its leaves, which are not read.
@@ -160,15 +193,7 @@ pub fn walk_freelist<S: Source, K: Sink, A: Allocator>(
     ensures only { IfErr result IsReadOrWrite }
     ensures bench { bench.new ≡ record bench.old { chain = bench.new.chain } }
 {
-    let mut step = Step {
-        page: first,
-        mark: Mark::Trunk,
-        from: 0,
-        item: FREELIST_START,
-        is_too_deep: false,
-    };
-    while let Some(next) = enter_trunk(source, bench, marks, step, sink)? {
-        step = next;
-    }
-    ask(sink)
+    let usable = bench.geometry().usable;
+    let (_, buffer) = bench.chain(0);
+    walk_trunks(source, buffer, usable, marks, first, sink)
 }

@@ -118,7 +118,8 @@ pub(crate) fn walk_overflow<A: Allocator, S: Source, K: Sink>(
     sink: &mut K,
 ) -> Result<(), RunError>
     requires { IsPageNumber at.page × IfSome at.cell.overflow (λ o. o.1 ≤ most_payload) }
-    ensures beside { LeavesBeside result (S.held source.old) (S.held source.new) (K.held sink.old) (K.held sink.new) bench.old bench.new }
+    ensures beside { LeavesBeside result (S.held source.old) (S.held source.new) (K.held sink.old) (K.held sink.new) }
+    ensures bench { bench.new ≡ record bench.old { chain = bench.new.chain } }
     ensures kept { is_some sieve.new ≡ is_some sieve.old }
     ensures log { HasLog S.step (Reads bench.old.geometry.page_size marks.old marks.new) (λ file. bench.old.geometry ≡ shape_of file
         → AtOverflow file at.entry.tree.now bench.old.levels at.entry.page at.entry.item at.entry.cell marks.old (λ U c.
@@ -130,6 +131,7 @@ pub(crate) fn walk_overflow<A: Allocator, S: Source, K: Sink>(
         Some((first, left)) => {
             let chain = Chain {
                 start: at.tree.start,
+                usable: bench.geometry().usable,
                 path: at.tree.path.as_slice(),
                 page: at.page,
                 cell: at.item,
@@ -137,7 +139,8 @@ pub(crate) fn walk_overflow<A: Allocator, S: Source, K: Sink>(
                 first,
                 left,
             };
-            walk_chain(source, bench, marks, &chain, sieve, sink)
+            let (_, buffer) = bench.chain(0);
+            walk_chain(source, buffer, marks, &chain, sieve, sink)
         }
     }
 }

@@ -126,6 +126,7 @@ impl<A: Allocator, S: Source, K: Sink, T: Taker> TreeWalk<'_, '_, '_, '_, A, S, 
                 frames.push(frame.stepped());
                 let chain = Chain {
                     start: self.tree.start,
+                    usable: bench.geometry().usable,
                     path: self.tree.path.as_slice(),
                     page: frame.page,
                     cell: frame.next / 3,

@@ -1,6 +1,6 @@
 -- One turn of the walk along a chain.
 use Rattle.std.proofs.Common.{◌≡◌, ℕ, ◌+◌, ◌-◌, ◌≤◌, ◌<◌, true, false, List, [], ◌∷◌, ◌++◌, Bool, Option, Some, None, Ok, refl, sym, ap, subst, ◌∙◌}
-use Rattle.std.proofs.Common.{append_assoc, arith, cond, ◌==◌, IfSome}
+use Rattle.std.proofs.Common.{ap₂, append_assoc, arith, cond, ◌==◌, IfSome}
 use Rattle.dbwalk.proofs.Common.{Moves, Go, errands_of, AreQuiet, page_bytes, usable_size, overflow_next, first_overflow, Reference, role_of, from_of}
 use Rattle.dbwalk.proofs.Common.{bytes_left, at_page, own_visit, story_of, RowSieve, Mark, FirstOverflow, LaterOverflow, seen_bytes, seen_from, EntersBeside}
 use Rattle.dbwalk.proofs.Common.{Opens, Turns, is_followed, rules_of, IsChainOf, next_of, FeedsPages, FeedsChain, IsLeft, IsNext, Finding, reported_at}
@@ -46,7 +46,7 @@ module _ {S : Type 0} {takes : S → Finding → S → Type 0} {file : List ℕ}
 
   -- its page is entered, and visited
   module _ {b : Bool} {marks' : List Mark} {m t : S} {here : List ℕ} {new : Option RowSieve} (is : b ≡ true)
-      (h : EntersBeside takes file place.step (place_cause chain place (usable_size file) read) marks s (Ok b) marks' m here)
+      (h : EntersBeside takes file place.step (place_cause chain place read) marks s (Ok b) marks' m here)
       (visit : here ≡ page_bytes file place.step.page → IsOverflowVisited takes file chain place old new m t) where
     entered : Opens takes file on.at.visited on.at.d (Ok true) marks' s m here
     entered = turn_entered on.at h is
@@ -87,6 +87,7 @@ module _ {S : Type 0} {takes : S → Finding → S → Type 0} {file : List ℕ}
           let head = head_next file chain on.at.visited place.number on.at.d on.on on.head on.at.rest.past (chain_few chain place.number on.at.d on.on) rest
           after in
           record {
+            usable = on.usable;
             at = record {
               visited = V;
               d = next_of on.at.d rest after;
@@ -97,8 +98,8 @@ module _ {S : Type 0} {takes : S → Finding → S → Type 0} {file : List ℕ}
                 item = refl;
                 deep = refl;
               };
-              cause_is = refusal_here file chain (place.number + 1) rest (next_of on.at.d rest after) V
-                  (seen_after (usable_size file) place.number here ∙ ap (seen_bytes (usable_size file)) entered.1) refl on_chain head;
+              cause_is = refusal_here file chain (place.number + 1) rest (next_of on.at.d rest after) V on.usable
+                  (seen_after chain.usable place.number here ∙ ap₂ seen_bytes on.usable entered.1) refl on_chain head;
               rest = subst (λ es. IsLeft takes file W (Go c ∷ []) before V es (marks', t))
                   (ap (λ es. es ++ []) (more_errands file on.at.d place.left on.left (subst (λ k. k < place.left) rooms l)
                   ∙ ap (λ k. Go (next_of on.at.d (place.left - k) after) ∷ []) (sym rooms))) left;
@@ -126,6 +127,7 @@ pub way_start : {S : Type 0} (takes : S → Finding → S → Type 0) (file : Li
     }) marks
     s sieve sieve here
 way_start takes file W c chain marks s sieve here h next m = record {
+  usable = h.usable;
   at = record {
     visited = W;
     d = c;
@@ -136,7 +138,7 @@ way_start takes file W c chain marks s sieve here h next m = record {
       item = h.item;
       deep = overflow_shallow c chain.left (ap bytes_left h.role);
     };
-    cause_is = refusal_here file chain 0 chain.left c W (sym (none_from file c chain.left h.role)) (ap bytes_left h.role) h.place
+    cause_is = refusal_here file chain 0 chain.left c W h.usable (sym (none_from file c chain.left h.role)) (ap bytes_left h.role) h.place
         (head_start file chain W c h);
     rest = left_start takes file W (Go c ∷ []) s marks m next ((λ e i. absurd i), tt);
   };

@@ -64,14 +64,15 @@ head_cause file V chain number left more seen d h on head =
     })
 
 -- that of a reference that is refused
-pub refusal_here : (file : List ℕ) (chain : Chain) (number left : ℕ) (d : Reference) (V : List Reference) {seen : SeenBytes} → seen ≡ seen_from file d
-    → bytes_left (role_of d) ≡ Some left → IsOnChain chain number d → HasHead file chain V d
-    → refusal_cause file V d ≡ cause.Chain (walked_chain chain number (usable_size file) left number seen)
-refusal_here file chain number left d V z h on head =
+pub refusal_here : (file : List ℕ) (chain : Chain) (number left : ℕ) (d : Reference) (V : List Reference) {seen : SeenBytes}
+    → chain.usable ≡ usable_size file → seen ≡ seen_from file d → bytes_left (role_of d) ≡ Some left → IsOnChain chain number d → HasHead file chain V d
+    → refusal_cause file V d ≡ cause.Chain (walked_chain chain number chain.usable left number seen)
+refusal_here file chain number left d V u z h on head =
     let n : number + 0 ≡ number = omega arith in
     ap (refusal_of file V d (rowids_of file V d)) (no_tree (role_of d) h)
     ∙ head_cause file V chain number left 0 (seen_from file d) d h on head
-    ∙ ap₂ (λ n b. cause.Chain (walked_chain chain number (usable_size file) left n b)) n (sym z)
+    ∙ ap (λ n. cause.Chain (walked_chain chain number (usable_size file) left n (seen_from file d))) n
+    ∙ ap₂ (λ u b. cause.Chain (walked_chain chain number u left number b)) (sym u) (sym z)
   where
     no_tree : (r : Role) → bytes_left r ≡ Some left → tree_kind r ≡ None
     no_tree (root kind) e = cc

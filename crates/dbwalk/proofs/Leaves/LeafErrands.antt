@@ -103,15 +103,16 @@ none_done takes file U c i overflow marks s e m =
 -- the first reference of a chain
 pub chain_start : (chain : Chain) (file : List ℕ) (kind : TreeKind) (k : ℕ) (children : List ℕ) (c : Reference) (levels : List (List ℕ)) (p i first left : ℕ)
     → IsLeafAt file kind k children c levels p
-    → chain.start ≡ k → chain.path.now ≡ children → chain.page ≡ p → chain.cell ≡ i → chain.first ≡ first → chain.left ≡ left → cell_rowid file p i
-    ≡ chain.rowid
+    → chain.usable ≡ usable_size file → chain.start ≡ k → chain.path.now ≡ children → chain.page ≡ p → chain.cell ≡ i → chain.first ≡ first
+    → chain.left ≡ left → cell_rowid file p i ≡ chain.rowid
     → IsChainOf file chain (record {
       address = then_step c.address (overflow_step i);
       page = first;
       role =
           record { role = first_overflow left; from = c.page; item = i };
     })
-chain_start chain file kind k children c levels p i first left at start path page item one rest rowid = record {
+chain_start chain file kind k children c levels p i first left at usables start path page item one rest rowid = record {
+  usable = usables;
   page = sym one;
   role = ap first_overflow (sym rest);
   from = at.page ∙ sym page;

@@ -5,6 +5,7 @@ use Rattle.dbwalk.proofs.Common.{Changes, Pages, SourceState, IsUse, page_mark, 
 use Rattle.std.specs.Option.{option_map_or}
 use Rattle.std.proofs.lemmas.Bool.Decides.{nat_tests}
 use Rattle.std.proofs.lemmas.List.{length-map}
+use Rattle.dbwalk.specs.Beside.{IsPageBuffer}
 use Rattle.dbformat.specs.FixedPages.{IsInRange}
 use Rattle.dbformat.specs.declared.Geometry.{Geometry}
 use Rattle.dbsource.specs.Answers.{IsRangeOf, Step, answer}
@@ -22,6 +23,12 @@ whole_page e range l = omega (arith, range.usable, ap (λ g. g.page_size) e)
 
 pub usable_page : {g h : Geometry} {bytes : List ℕ} → g ≡ h → IsInRange g → length bytes ≡ h.page_size → IsUsable g.usable bytes
 usable_page e range l = record { whole = whole_page e range l; least = range.usable.0; most = omega (arith, range.usable, range.page_size) }
+
+-- a buffer of a bench
+pub page_buffer : {g h : Geometry} {bytes : List ℕ} → g ≡ h → IsInRange g → length bytes ≡ h.page_size → IsPageBuffer g.usable bytes
+page_buffer e range l =
+    let same = ap (λ g. g.page_size) e in
+    record { least = range.usable.0; within = whole_page e range l; most = omega (arith, range.page_size, same, l) }
 
 get_set : {X : Type 0} (xs : List X) (i : ℕ) (x y : X) → slice_get (set xs i x) i ≡ Some y → y ≡ x
 get_set [] i x y e = cc

@@ -1,10 +1,13 @@
 -- What a walk beside the pages of a tree leaves, part after part.
 use Rattle.std.proofs.Common.{◌≡◌, ℕ, Bool, true, false, inl, inr, List, [], ◌∷◌, Option, Some, None, Result, Ok, Err, refl, sym, ap, subst, ◌∙◌, IfErr, IfSome}
-use Rattle.dbwalk.proofs.Common.{Go, is_followed, geometry, Reference, rules_of, Finding, Cause, KeepsMarks, Mark, Pages, is_read_failed, failures_after}
+use Rattle.dbwalk.proofs.Common.{Go, is_followed, geometry, Reference, rules_of, Finding, Cause, KeepsMarks, Mark, is_read_failed, failures_after}
 use Rattle.dbwalk.proofs.Common.{SourceState, RunError, WriteFailed, EntersBeside, Opens, Turns, WalksBeside, IsDone, IsReadOrWrite, SinkMoves, SinkState}
 use Rattle.dbwalk.proofs.Common.{SinkWalks}
+use Rattle.dbformat.specs.declared.Geometry.{Geometry}
 use Rattle.dbmarks.proofs.Readings.{log_then, reads_none}
+use Rattle.dbmarks.specs.Reads.{Reads}
 use Rattle.dbsource.proofs.Logs.{has_none, has_weaker}
+use Rattle.dbsource.specs.Sources.{HasLog}
 use Rattle.dbsource.specs.declared.error.RunError.TheVariants.{ReadFailed}
 use Rattle.dbwalk.specs.Beside.{IsAtStep, LeavesBeside}
 use Rattle.dbwalk.specs.declared.entering.Step.{Step}
@@ -13,93 +16,84 @@ use Rattle.dbwalk.proofs.Reporting.Sinks.{walks_after, walks_as, walks_err, walk
 use Rattle.dbsource.specs.Answers as answers
 
 -- nothing was read
-pub beside_reported : {A : Type 0} {x : A} {s : SourceState} {a b : SinkState} {p : Pages} → SinkMoves a b → LeavesBeside (Ok x) s s a b p p
-beside_reported moves = record { reads = refl; writes = walks_ok moves; only = tt; bench = refl }
+pub beside_reported : {A : Type 0} {x : A} {s : SourceState} {a b : SinkState} → SinkMoves a b → LeavesBeside (Ok x) s s a b
+beside_reported moves = record { reads = refl; writes = walks_ok moves; only = tt }
 
-pub beside_shut : {A : Type 0} {r : Result A RunError} {s : SourceState} {a b : SinkState} {p : Pages} → r ≡ Err WriteFailed → SinkWalks r a b
-    → LeavesBeside r s s a b p p
+pub beside_shut : {A : Type 0} {r : Result A RunError} {s : SourceState} {a b : SinkState} → r ≡ Err WriteFailed → SinkWalks r a b → LeavesBeside r s s a b
 beside_shut {A = A} {s = s} q walks = record {
   reads = subst (λ (r : Result A RunError). s.failures ≡ failures_after is_read_failed r s.failures) (sym q) refl;
   writes = walks;
   only = subst (λ (r : Result A RunError). IfErr r IsReadOrWrite) (sym q) (inr refl);
-  bench = refl;
 }
 
 -- a page of no tree could not be read, or was read
-pub beside_unread : {A : Type 0} {r : Result A RunError} {s t : SourceState} {a b : SinkState} (p : Pages) {p' : Pages} {bytes : List ℕ} → r ≡ Err ReadFailed
-    → t.failures ≡ failures_after {A = A} is_read_failed (Err ReadFailed) s.failures
-    → SinkMoves a b → b.is_shut ≡ false → p' ≡ record p { chain = bytes } → LeavesBeside r s t a b p p'
-beside_unread {A = A} {s = s} {t = t} p q count moves still only = record {
+pub beside_unread : {A : Type 0} {r : Result A RunError} {s t : SourceState} {a b : SinkState} → r ≡ Err ReadFailed
+    → t.failures ≡ failures_after {A = A} is_read_failed (Err ReadFailed) s.failures → SinkMoves a b → b.is_shut ≡ false → LeavesBeside r s t a b
+beside_unread {A = A} {s = s} {t = t} q count moves still = record {
   reads = subst (λ (r : Result A RunError). t.failures ≡ failures_after is_read_failed r s.failures) (sym q) count;
   writes = walks_err q moves still;
   only = subst (λ (r : Result A RunError). IfErr r IsReadOrWrite) (sym q) (inl refl);
-  bench = only ∙ ap (λ x. record p { chain = x }) (sym (ap (λ (p : Pages). p.chain) only));
 }
 
-pub beside_read : {A : Type 0} {x : A} {s t : SourceState} {a b : SinkState} (p : Pages) {p' : Pages} {bytes : List ℕ} → t.failures ≡ s.failures
-    → SinkMoves a b → p' ≡ record p { chain = bytes } → LeavesBeside (Ok x) s t a b p p'
-beside_read p count moves only = record {
-  reads = count;
-  writes = walks_ok moves;
-  only = tt;
-  bench = only ∙ ap (λ x. record p { chain = x }) (sym (ap (λ (p : Pages). p.chain) only));
-}
+pub beside_read : {A : Type 0} {x : A} {s t : SourceState} {a b : SinkState} → t.failures ≡ s.failures → SinkMoves a b → LeavesBeside (Ok x) s t a b
+beside_read count moves = record { reads = count; writes = walks_ok moves; only = tt }
 
 -- the same of an answer of another type
-pub beside_ok : {A B : Type 0} {x : A} {y : B} {s t : SourceState} {a b : SinkState} {p q : Pages} → LeavesBeside (Ok x) s t a b p q
-    → LeavesBeside (Ok y) s t a b p q
-beside_ok h = record { reads = h.reads; writes = walks_ok h.writes.moves; only = tt; bench = h.bench }
+pub beside_ok : {A B : Type 0} {x : A} {y : B} {s t : SourceState} {a b : SinkState} → LeavesBeside (Ok x) s t a b → LeavesBeside (Ok y) s t a b
+beside_ok h = record { reads = h.reads; writes = walks_ok h.writes.moves; only = tt }
 
-pub beside_as : {A B : Type 0} {r : Result B RunError} {e : RunError} {s t : SourceState} {a b : SinkState} {p q : Pages} → r ≡ Err e
-    → LeavesBeside {A = A} (Err e) s t a b p q → LeavesBeside r s t a b p q
+pub beside_as : {A B : Type 0} {r : Result B RunError} {e : RunError} {s t : SourceState} {a b : SinkState} → r ≡ Err e
+    → LeavesBeside {A = A} (Err e) s t a b → LeavesBeside r s t a b
 beside_as {B = B} {s = s} {t = t} is h = record {
   reads = subst (λ (r : Result B RunError). t.failures ≡ failures_after is_read_failed r s.failures) (sym is) h.reads;
   writes = walks_as is h.writes;
   only = subst (λ (r : Result B RunError). IfErr r IsReadOrWrite) (sym is) h.only;
-  bench = h.bench;
 }
 
 -- one after another
-pub beside_then : {A B : Type 0} {x : A} {r : Result B RunError} {s t u : SourceState} {a b c : SinkState} {o p q : Pages} → LeavesBeside (Ok x) s t a b o p
-    → LeavesBeside r t u b c p q → LeavesBeside r s u a c o q
-beside_then {r = r} {q = q} h k = record {
+pub beside_then : {A B : Type 0} {x : A} {r : Result B RunError} {s t u : SourceState} {a b c : SinkState} → LeavesBeside (Ok x) s t a b
+    → LeavesBeside r t u b c → LeavesBeside r s u a c
+beside_then {r = r} h k = record {
   reads = k.reads ∙ ap (failures_after is_read_failed r) h.reads;
   writes = walks_after k.writes h.writes.moves;
   only = k.only;
-  bench = k.bench ∙ ap (λ (p : Pages). record p { chain = q.chain }) h.bench;
 }
 
 -- The same with the log of the reads, and what holds of each file.
 
 -- nothing was read
-pub walk_unread : {A : Type 0} {r : Result A RunError} {step : answers.Step} {s : SourceState} {a b : SinkState} {p : Pages} {l m : List Mark}
-    {T : List ℕ → Type 0} → LeavesBeside r s s a b p p → KeepsMarks l m → ((file : List ℕ) → T file) → WalksBeside step r s s a b p p l m T
-walk_unread {s = s} {p = p} {l = l} {m = m} beside keeps says =
-    record { log = has_none s s refl refl (reads_none p.geometry.page_size l m keeps) (λ file e. says file); beside = beside }
+pub walk_unread : {A : Type 0} {r : Result A RunError} {step : answers.Step} {s : SourceState} {a b : SinkState} {size : ℕ} {l m : List Mark}
+    {T : List ℕ → Type 0} → LeavesBeside r s s a b → KeepsMarks l m → ((file : List ℕ) → T file) → WalksBeside step r s s a b size l m T
+walk_unread {s = s} {size = size} {l = l} {m = m} beside keeps says =
+    record { log = has_none s s refl refl (reads_none size l m keeps) (λ file e. says file); beside = beside }
 
 -- an error of a part, and what was reported after one
-pub walk_as : {A B : Type 0} {r : Result B RunError} {e : RunError} {step : answers.Step} {s t : SourceState} {a b : SinkState} {o p : Pages} {l m : List Mark}
-    {P T : List ℕ → Type 0} → r ≡ Err e → WalksBeside {A = A} step (Err e) s t a b o p l m P → ((file : List ℕ) → P file → T file)
-    → WalksBeside step r s t a b o p l m T
+pub walk_as : {A B : Type 0} {r : Result B RunError} {e : RunError} {step : answers.Step} {s t : SourceState} {a b : SinkState} {size : ℕ} {l m : List Mark}
+    {P T : List ℕ → Type 0} → r ≡ Err e → WalksBeside {A = A} step (Err e) s t a b size l m P → ((file : List ℕ) → P file → T file)
+    → WalksBeside step r s t a b size l m T
 walk_as q h says = record { log = has_weaker _ _ h.log (λ log k. k) (λ file f e. says file (f e)); beside = beside_as q h.beside }
 
-pub walk_reported : {A B : Type 0} {x : A} {y : B} {step : answers.Step} {s t : SourceState} {a b c : SinkState} {o p : Pages} {l m : List Mark}
-    {P T : List ℕ → Type 0} → WalksBeside step (Ok x) s t a b o p l m P → SinkMoves b c → ((file : List ℕ) → o.geometry ≡ geometry file → P file → T file)
-    → WalksBeside step (Ok y) s t a c o p l m T
+pub walk_reported : {A B : Type 0} {x : A} {y : B} {step : answers.Step} {s t : SourceState} {a b c : SinkState} {size : ℕ} {l m : List Mark}
+    {P T : List ℕ → Type 0} → WalksBeside step (Ok x) s t a b size l m P → SinkMoves b c → ((file : List ℕ) → P file → T file)
+    → WalksBeside step (Ok y) s t a c size l m T
 walk_reported h moves says = record {
-  log = has_weaker _ _ h.log (λ log k. k) (λ file f e. says file e (f e));
+  log = has_weaker _ _ h.log (λ log k. k) (λ file f e. says file (f e));
   beside = beside_then h.beside (beside_reported moves);
 }
 
 -- one part after another
-pub walk_then : {A B : Type 0} {x : A} {r : Result B RunError} {step : answers.Step} {s t u : SourceState} {a b c : SinkState} {o p q : Pages}
-    {l m n : List Mark} {P Q T : List ℕ → Type 0} → WalksBeside step (Ok x) s t a b o p l m P → WalksBeside step r t u b c p q m n Q
-    → ((file : List ℕ) → o.geometry ≡ geometry file → P file → Q file → T file) → WalksBeside step r s u a c o q l n T
-walk_then h k says = record {
-  log = log_then _ _ (ap (λ (b : Pages). b.geometry.page_size) h.beside.bench) h.log k.log
-      (λ file f g e. says file e (f e) (g (ap (λ (b : Pages). b.geometry) h.beside.bench ∙ e)));
-  beside = beside_then h.beside k.beside;
-}
+pub walk_then : {A B : Type 0} {x : A} {r : Result B RunError} {step : answers.Step} {s t u : SourceState} {a b c : SinkState} {size size' : ℕ}
+    {l m n : List Mark} {P Q T : List ℕ → Type 0} → size' ≡ size → WalksBeside step (Ok x) s t a b size l m P → WalksBeside step r t u b c size' m n Q
+    → ((file : List ℕ) → P file → Q file → T file) → WalksBeside step r s u a c size l n T
+walk_then same h k says =
+    record { log = log_then _ _ same h.log k.log (λ file f g e. says file (f e) (g (same ∙ e))); beside = beside_then h.beside k.beside }
+
+-- what a log by the size of pages says by the geometry
+pub log_shaped : {step : answers.Step} {s t : SourceState} {size : ℕ} {shape : Geometry} {l m : List Mark} {P Q : List ℕ → Type 0} → size ≡ shape.page_size
+    → HasLog step (Reads size l m) (λ file. size ≡ (geometry file).page_size → P file) s t → ((file : List ℕ) → shape ≡ geometry file → P file → Q file)
+    → HasLog step (Reads shape.page_size l m) (λ file. shape ≡ geometry file → Q file) s t
+log_shaped {l = l} {m = m} same h says = has_weaker _ _ h (λ log k. subst (λ n. Reads n l m log) same k)
+    (λ file f e. says file e (f (same ∙ ap (λ s. s.page_size) e)))
 
 -- A turn, by what it answers.
 

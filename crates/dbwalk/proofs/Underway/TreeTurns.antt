@@ -193,10 +193,10 @@ module _ {P : Type 0} {moves : P → Item → P → Type 0} {file : List ℕ} {W
           other e = cc
 
       -- it is the one that a call is given, and all visits so far are before it
-      pub chain_is : (chain : Chain) → chain.start ≡ tree.start → chain.path.now ≡ path_of fs → chain.page ≡ f.page → chain.cell ≡ f.next / 3 → chain.first
-          ≡ first → chain.left ≡ left → chain.rowid ≡ rowid → IsChainOf file chain chained
-      chain_is chain starts ways pages items ones rests keys =
-          chain_start chain file tree.kind tree.start (path_of fs) top levels f.page h.n first left top_at starts ways pages
+      pub chain_is : (chain : Chain) → chain.usable ≡ usable_size file → chain.start ≡ tree.start → chain.path.now ≡ path_of fs → chain.page ≡ f.page
+          → chain.cell ≡ f.next / 3 → chain.first ≡ first → chain.left ≡ left → chain.rowid ≡ rowid → IsChainOf file chain chained
+      chain_is chain usables starts ways pages items ones rests keys =
+          chain_start chain file tree.kind tree.start (path_of fs) top levels f.page h.n first left top_at usables starts ways pages
           (items ∙ ap (λ s. s / 3) h.step ∙ third h.n) ones rests
           (rowid_in file tree.kind f.page v h.n (ap (λ p. undamaged tree.kind p (usable_size file) (page_bytes file p)) on_page
           ∙ sym (view_is file top tree.kind role) ∙ viewed) ∙ ap (λ r. option_and_then (λ c. c.key) (result_ok r)) h.read ∙ sym (keys ∙ h.key))

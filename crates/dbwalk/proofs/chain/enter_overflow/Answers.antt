@@ -1,5 +1,4 @@
-use Rattle.std.proofs.Common.{rules, arith, refl, ℕ, ◌+◌, ◌-◌, ap, ◌∙◌, ◌≤◌, ◌<◌, inl}
-use Rattle.dbformat.specs.Payload.{overflow_next}
+use Rattle.std.proofs.Common.{rules, arith, refl, ℕ, ◌+◌, ◌-◌, ap, ◌≤◌, ◌<◌, inl}
 use Rattle.dbwalk.proofs.Chaining.ChainTurns.{fed_so_far, turn_last, turn_more}
 use Rattle.dbwalk.proofs.Reporting.Besides.{turn_on, turn_refused, turn_stopped, walk_as, walk_reported}
 use Rattle.dbwalk.proofs.Reporting.Sinks.{err_is}
@@ -17,25 +16,23 @@ returns-in_err-enter_beside-clause-walks g c =
 
 pub returns-then-not-branch-clause-walks : goal.returns-then-not-branch-clause-walks
 returns-then-not-branch-clause-walks g c = walk_reported c.in_ok-enter_beside.ensures.walks (inl refl)
-    (λ file e opens W d before first on. turn_refused on.at opens c.if-not-branch.true (fed_so_far on))
+    (λ file opens W d before first on. turn_refused on.at opens c.if-not-branch.true (fed_so_far on))
 
 pub returns-then-place-room-clause-walks : goal.returns-then-place-room-clause-walks
 returns-then-place-room-clause-walks g c =
     let walks = c.in_ok-enter_beside.ensures.walks in
-    walk_reported walks c.visit_overflow-next.ensures.moves (λ file e opens W d before first on.
-    let u = ap (λ s. s.usable) (c.geometry-usable.ensures.value ∙ ap (λ b. b.geometry) walks.beside.bench ∙ e) in
-    turn_last on c.if-not-branch.false opens (λ k. c.visit_overflow-next.ensures.visited file (c.page.ensures.bytes ∙ k) u) (ap (λ s. s - 4) u)
+    walk_reported walks c.visit_overflow-next.ensures.moves (λ file opens W d before first on.
+    turn_last on c.if-not-branch.false opens (λ k. c.visit_overflow-next.ensures.visited file k on.usable) (ap (λ s. s - 4) on.usable)
     c.if-place-room.true)
 
 pub returns-clause-walks : goal.returns-clause-walks
 returns-clause-walks g c =
     let walks = c.in_ok-enter_beside.ensures.walks in
-    walk_reported walks c.visit_overflow-next.ensures.moves (λ file e opens W d before first on.
-    let u = ap (λ s. s.usable) (c.geometry-usable.ensures.value ∙ ap (λ b. b.geometry) walks.beside.bench ∙ e) in
-    turn_on (turn_more on c.if-not-branch.false opens (λ k. c.visit_overflow-next.ensures.visited file (c.page.ensures.bytes ∙ k) u) (ap (λ s. s - 4) u)
-    c.if-place-room.false (c.visit_overflow-next.ensures.next ∙ ap overflow_next c.page.ensures.bytes)))
+    walk_reported walks c.visit_overflow-next.ensures.moves (λ file opens W d before first on.
+    turn_on (turn_more on c.if-not-branch.false opens (λ k. c.visit_overflow-next.ensures.visited file k on.usable) (ap (λ s. s - 4) on.usable)
+    c.if-place-room.false c.visit_overflow-next.ensures.next))
 
 pub returns-clause-next : goal.returns-clause-next
 returns-clause-next g c =
-    let on = place_on _ _ _ _ c.requires.place.counted c.geometry-usable.ensures.range.usable.0 c.if-place-room.false in
+    let on = place_on _ _ _ _ c.requires.place.counted c.requires.buffer.least c.if-place-room.false in
     (record { named = c.in_ok-enter_beside.ensures.page (search rules); used = record { some = refl; cleared = refl }; counted = on.0 }, on.1)

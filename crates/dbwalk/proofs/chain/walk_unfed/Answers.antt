@@ -1,5 +1,12 @@
-use Rattle.dbsource.proofs.Logs.{has_weaker}
+use Rattle.std.proofs.Common.{refl, sym}
+use Rattle.dbwalk.proofs.Pages.Levels.{page_buffer}
+use Rattle.dbwalk.proofs.Reporting.Besides.{log_shaped}
 use Rattle.dbwalk.proofs.chain.walk_unfed.Goals as goal
 
 pub returns-clause-log : goal.returns-clause-log
-returns-clause-log g c = has_weaker _ _ c.walk_chain.ensures.log (λ log r. r) (λ file h e W d is next m. (h e W d is next m).0)
+returns-clause-log g c = log_shaped c.chain-buffer.ensures.len.1 c.walk_chain.ensures.log (λ file e done W d is next m. (done W d is next m).0)
+
+pub walk_chain-requires : goal.walk_chain-requires
+walk_chain-requires g c =
+    let b = page_buffer refl c.requires.usable.0 c.chain-buffer.ensures.len.1 in
+    record { chain = c.requires.chain; buffer = rw (sym c.requires.usable.1) at b }

@@ -19,21 +19,20 @@ returns-clause-less g c = if_some_all _ c.next_trunk.result (λ next.
 pub returns-in_err-enter_beside-clause-walks : goal.returns-in_err-enter_beside-clause-walks
 returns-in_err-enter_beside-clause-walks g c =
     let q = err_is c.from_residual.ensures.1 in
-    walk_as q c.in_err-enter_beside.ensures.walks (λ file opens W d before on. turn_stopped on.at q opens)
+    walk_as q c.in_err-enter_beside.ensures.walks (λ file opens usable W d before on. turn_stopped on.at q opens)
 
 pub returns-then-not-branch-clause-walks : goal.returns-then-not-branch-clause-walks
 returns-then-not-branch-clause-walks g c = walk_reported c.in_ok-enter_beside.ensures.walks (inl refl)
-    (λ file e opens W d before on. turn_refused on.at opens c.if-not-branch.true (λ f. tt))
+    (λ file opens usable W d before on. turn_refused on.at opens c.if-not-branch.true (λ f. tt))
 
 pub returns-in_err-item-clause-walks : goal.returns-in_err-item-clause-walks
 returns-in_err-item-clause-walks g c =
     let walks = c.in_ok-enter_beside.ensures.walks in
     let r = err_is c.from_residual-in_err-item.ensures.1 in
-    walk_then walks (walk_unread {T = λ file. Unit {0}}
+    walk_then refl walks (walk_unread {T = λ file. Unit {0}}
     (beside_shut (r ∙ ap Err c.in_err-item.ensures.only) (walks_as r c.in_err-item.ensures.writes)) c.open_trunk.ensures.keeps (λ file. tt))
-    (λ file e opens none W d before on.
-    let u = ap (λ s. s.usable) (c.geometry-usable.ensures.value ∙ ap (λ b. b.geometry) walks.beside.bench ∙ e) in
-    let b = c.page-bytes.ensures.bytes ∙ trunk_read on opens c.if-not-branch.false in
+    (λ file opens none u W d before on.
+    let b = trunk_read on opens c.if-not-branch.false in
     turn_failed r
     (trunk_opened on opens c.if-not-branch.false (Err c.in_err-item.field-0.0) c.open_trunk.new.marks c.open_trunk.new.sink
     (λ U e old p k f m h. c.in_err-item.ensures.opened file W d before U e old p k b u f m h)))
@@ -41,10 +40,9 @@ returns-in_err-item-clause-walks g c =
 pub returns-clause-walks : goal.returns-clause-walks
 returns-clause-walks g c =
     let walks = c.in_ok-enter_beside.ensures.walks in
-    walk_then walks (walk_unread {T = λ file. Unit {0}} (beside_reported c.in_ok-item.ensures.writes.moves) c.open_trunk.ensures.keeps (λ file. tt))
-    (λ file e opens none W d before on.
-    let u = ap (λ s. s.usable) (c.geometry-usable.ensures.value ∙ ap (λ b. b.geometry) walks.beside.bench ∙ e) in
-    let b = c.page-bytes.ensures.bytes ∙ trunk_read on opens c.if-not-branch.false in
+    walk_then refl walks (walk_unread {T = λ file. Unit {0}} (beside_reported c.in_ok-item.ensures.writes.moves) c.open_trunk.ensures.keeps (λ file. tt))
+    (λ file opens none u W d before on.
+    let b = trunk_read on opens c.if-not-branch.false in
     let o = trunk_opened on opens c.if-not-branch.false (Ok c.in_ok-item.item) c.open_trunk.new.marks c.open_trunk.new.sink
     (λ U e old p k f m h. c.in_ok-item.ensures.opened file W d before U e old p k b u f m h) in
     let p = sym on.at.is.page in
@@ -53,13 +51,12 @@ returns-clause-walks g c =
 
 pub open_trunk-requires : goal.open_trunk-requires
 open_trunk-requires g c =
-    let r = c.geometry-usable.ensures.range in
-    let e = ap (λ s. s.page_size) c.geometry-usable.ensures.value in
-    record { usable = (omega (arith, r.usable), omega (arith, r.usable, r.page_size), omega (arith, r.usable, e, c.page-bytes.ensures.len)) }
+    let b = c.requires.buffer in
+    let same = c.enter_beside.auto.buffer in
+    record { usable = (b.least, omega (arith, b.within, b.most), omega (arith, same, b.within)) }
 
 pub next_trunk-requires : goal.next_trunk-requires
-next_trunk-requires g c =
-    omega (arith, c.geometry-usable.ensures.range.page_size.0, ap (λ s. s.page_size) c.geometry-usable.ensures.value, c.page-bytes.ensures.len)
+next_trunk-requires g c = omega (arith, c.requires.buffer.least, c.requires.buffer.within, c.enter_beside.auto.buffer)
 
 -- the next step is to a trunk
 next_marked : (page from item : ℕ) → IfSome (next_step page from item) (λ next. next.mark ≡ Trunk)

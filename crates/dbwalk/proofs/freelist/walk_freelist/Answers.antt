@@ -1,68 +1,18 @@
-use Rattle.std.proofs.Common.{◌≡◌, ◌<◌, inl, [], ◌∷◌, refl, subst, IfSome}
-use Rattle.dbwalk.proofs.Common.{Go, is_read_failed, failures_after, IsDone, unmarked_pages, Trunk, reported_below}
-use Rattle.dbmarks.proofs.Readings.{keeps_same}
-use Rattle.dbwalk.proofs.FreeTrunks.{trunks_start}
-use Rattle.dbwalk.proofs.Reporting.Sinks.{err_is, asked_both, asked_open, asked_walks, moves_some, walks_as, walks_end}
-use Rattle.dbwalk.proofs.Reporting.Besides.{beside_as, beside_then, beside_reported, turned_on, walk_then, walk_reported, walk_unread}
+use Rattle.std.proofs.Common.{ap, ◌∙◌}
+use Rattle.dbwalk.proofs.Pages.Levels.{page_buffer}
+use Rattle.dbwalk.proofs.Reporting.Besides.{log_shaped}
 use Rattle.dbwalk.proofs.freelist.walk_freelist.Goals as goal
-
-pub loop-next-init : goal.loop-next-init
-loop-next-init g c = record {
-  walks = walk_unread (beside_reported (inl refl)) (keeps_same c.args.marks.now) (λ file W d h next m.
-      trunks_start g.K.Sink.takes file W d c.args.first c.args.marks.now c.args.sink.now h next m);
-  trunk = refl;
-}
-
-pub returns-in_err-next-clause-asks : goal.returns-in_err-next-clause-asks
-returns-in_err-next-clause-asks g c =
-    let q = err_is c.from_residual.ensures.1 in
-    let walks = walk_then c.loop-next.invariant.walks c.in_err-next.ensures.walks (λ file e way turned W d h next m.
-    rw q (turned W d c.args.sink.now (way W d h next m)).stopped) in
-    record { log = walks.log; count = (beside_as q walks.beside).reads }
-
-pub loop-next-preserved : goal.loop-next-preserved
-loop-next-preserved g c = record {
-  walks = walk_reported (walk_then c.loop-next.invariant.walks c.in_ok-next.ensures.walks (λ file e way turned W d h next m.
-      turned_on (turned W d c.args.sink.now (way W d h next m)) c.in-Some.is)) (inl refl) (λ file e way. way);
-  trunk = subst (λ o. IfSome o (λ next. next.mark ≡ Trunk)) c.in-Some.is c.in_ok-next.ensures.trunk;
-}
 
 pub returns-clause-asks : goal.returns-clause-asks
 returns-clause-asks g c =
-    let shut = (g.K.Sink.held c.enter_trunk.new.sink).is_shut in
-    let walks = walk_then c.loop-next.invariant.walks c.in_ok-next.ensures.walks (λ file e way turned W d h next m.
-    let done = ((turned W d c.args.sink.now (way W d h next m)).ended c.in_default.is).0 in
-    asked_both (λ r. IsDone g.K.Sink.takes file W (Go d ∷ []) r c.enter_trunk.new.marks c.args.sink.now c.enter_trunk.new.sink) shut c.ask.ensures
-    done (record {
-      marked = tt;
-      reported = moves_some g.K.Sink.takes c.args.sink.now c.enter_trunk.new.sink
-          (reported_below file W (Go d ∷ [])) done.reported;
-    })) in
+    let asks = c.walk_trunks.ensures.asks in
     record {
-      log = walks.log;
-      count = asked_both (λ r. (g.S.Source.held c.enter_trunk.new.source).failures
-          ≡ failures_after is_read_failed r (g.S.Source.held c.args.source.now).failures) shut c.ask.ensures
-          walks.beside.reads walks.beside.reads;
+      log = log_shaped c.chain-buffer.ensures.len.1 asks.log (λ file e done. done (ap (λ s. s.usable) (c.geometry-usable.ensures.value ∙ e)));
+      count = asks.count;
     }
 
-pub returns-clause-writes : goal.returns-clause-writes
-returns-clause-writes g c = walks_end c.ask.result
-    (asked_walks c.ask.ensures (beside_then c.loop-next.invariant.walks.beside c.in_ok-next.ensures.walks.beside).writes.moves) c.requires.«open»
-    (asked_open _ c.ask.ensures)
-
-pub returns-in_err-next-clause-writes : goal.returns-in_err-next-clause-writes
-returns-in_err-next-clause-writes g c =
-    let q = err_is c.from_residual.ensures.1 in
-    walks_end c.from_residual.result (walks_as q (beside_then c.loop-next.invariant.walks.beside c.in_err-next.ensures.walks.beside).writes)
-    c.requires.«open» (rw q tt)
-
-pub returns-clause-shut : goal.returns-clause-shut
-returns-clause-shut g c = (asked_walks c.ask.ensures (beside_then c.loop-next.invariant.walks.beside c.in_ok-next.ensures.walks.beside).writes.moves).shut
-
-pub returns-in_err-next-clause-shut : goal.returns-in_err-next-clause-shut
-returns-in_err-next-clause-shut g c =
-    (walks_as (err_is c.from_residual.ensures.1) c.in_err-next.ensures.walks.beside.writes).shut
-
-pub loop-next-smaller : goal.loop-next-smaller
-loop-next-smaller g c =
-    subst (λ o. IfSome o (λ next. unmarked_pages c.enter_trunk.new.marks < unmarked_pages c.loop-next.marks)) c.in-Some.is c.in_ok-next.ensures.less
+pub walk_trunks-requires : goal.walk_trunks-requires
+walk_trunks-requires g c = record {
+  buffer = page_buffer c.geometry-usable.ensures.value c.geometry-usable.ensures.range c.chain-buffer.ensures.len.1;
+  «open» = c.requires.«open»;
+}

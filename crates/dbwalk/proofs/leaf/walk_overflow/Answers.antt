@@ -1,10 +1,10 @@
-use Rattle.std.proofs.Common.{rules, ◌≤◌, inl, refl, subst, IfSome}
+use Rattle.std.proofs.Common.{◌≤◌, inl, refl, ap, subst, ◌∙◌, IfSome}
 use Rattle.dbwalk.proofs.Common.{most_payload}
-use Rattle.dbsource.proofs.Logs.{has_weaker}
 use Rattle.dbmarks.proofs.Readings.{log_none}
 use Rattle.dbwalk.proofs.Leaves.LeafErrands.{none_done, chain_start}
 use Rattle.dbwalk.proofs.Chaining.Feedings.{on_ok, feeds_nothing, feeds_chain}
-use Rattle.dbwalk.proofs.Reporting.Besides.{beside_reported}
+use Rattle.dbwalk.proofs.Reporting.Besides.{beside_reported, log_shaped}
+use Rattle.dbwalk.proofs.Pages.Levels.{page_buffer}
 use Rattle.dbwalk.proofs.leaf.walk_overflow.Goals as goal
 
 pub returns-in-None-clause-log : goal.returns-in-None-clause-log
@@ -15,18 +15,21 @@ returns-in-None-clause-log g c = log_none c.args.bench.now.geometry.page_size c.
     ))
 
 pub returns-in-Some-clause-log : goal.returns-in-Some-clause-log
-returns-in-Some-clause-log g c = has_weaker _ _ c.walk_chain.ensures.log (λ log r. r) (λ file h e U d at row past m.
+returns-in-Some-clause-log g c = log_shaped c.chain-buffer.ensures.len.1 c.walk_chain.ensures.log (λ file e h U d at row past m.
     let t = c.args.at.tree.now in
     let next = rw c.in-Some.is at past in
-    let k = h e U _ (chain_start _ file t.kind t.start t.path.items d c.args.bench.now.levels c.args.at.page c.args.at.item c.in-Some.first c.in-Some.left at
-    refl c.as_slice.ensures.value refl refl refl refl row) next m in (
+    let k = h U _ (chain_start _ file t.kind t.start t.path.items d c.args.bench.now.levels c.args.at.page c.args.at.item c.in-Some.first c.in-Some.left at
+    (ap (λ s. s.usable) (c.geometry.ensures.value ∙ e)) refl c.as_slice.ensures.value refl refl refl refl row) next m in (
       rw c.in-Some.is k.0,
       on_ok c.walk_chain.result k.1 (feeds_chain file U d c.args.at.item c.in-Some.first c.in-Some.left c.args.at.cell.overflow c.args.sieve.now
           c.walk_chain.new.sieve c.in-Some.is next),
     ))
 
 pub walk_chain-requires : goal.walk_chain-requires
-walk_chain-requires g c = (search rules, (c.requires.0, subst (λ o. IfSome o (λ o. o.1 ≤ most_payload)) c.in-Some.is c.requires.1))
+walk_chain-requires g c = record {
+  chain = (c.requires.0, subst (λ o. IfSome o (λ o. o.1 ≤ most_payload)) c.in-Some.is c.requires.1);
+  buffer = page_buffer c.geometry.ensures.value c.geometry.ensures.range c.chain-buffer.ensures.len.1;
+}
 
 pub returns-in-None-clause-beside : goal.returns-in-None-clause-beside
 returns-in-None-clause-beside g c = beside_reported (inl refl)

@@ -102,7 +102,7 @@ returns-in-Key-clause-log g c = log_none _ _ _ _ refl (λ file e coded W d befor
 pub returns-in-Chain-clause-open : goal.returns-in-Chain-clause-open
 returns-in-Chain-clause-open g c =
     let n = c.walk_unfed.new.bench in
-    let same = c.walk_unfed.ensures.beside.bench in
+    let same = c.walk_unfed.ensures.bench in
     on_ok_all c.walk_unfed.result (step_on (at_turn c.requires c.in-Chain.is) c.stepped-in-Chain.ensures (goes_on (Chain _
     _ _) tt) c.push-in-Chain.ensures.items n.geometry.usable
     c.args.self.now.tree.kind n.levels (ap (λ (p : Pages). p.geometry.usable) same) refl (λ m l. ap (λ (p : Pages). slice_get p.levels m) same))
@@ -118,9 +118,8 @@ returns-in-Chain-clause-log g c = has_weaker _ _ c.walk_unfed.ensures.log (λ lo
     let here = next_here c.args.frames.now.items c.args.frame walk candidate (ap (λ s. s.usable) e) (next_at refl c.in-Chain.is c.requires.step) in
     let n = c.walk_unfed.new in
     let r = c.walk_unfed.result in
-    let is = chain_is c.args.frames.now.items c.args.frame walk candidate c.stepped-in-Chain.ensures here _ refl (c.as_slice.ensures.value
-    ∙ c.requires.path) refl refl
-    refl refl refl in
+    let is = chain_is c.args.frames.now.items c.args.frame walk candidate c.stepped-in-Chain.ensures here _
+    (ap (λ s. s.usable) (c.geometry.ensures.value ∙ e)) refl (c.as_slice.ensures.value ∙ c.requires.path) refl refl refl refl refl in
     let next = chain_next c.args.frames.now.items c.args.frame walk candidate c.stepped-in-Chain.ensures here in
     let done = aside_done g.K.Sink.takes g.T.Taker.takes g.T.Taker.refuses file walk.now
     (chained c.args.frames.now.items c.args.frame walk candidate c.stepped-in-Chain.ensures here) refl r c.args.self.now.marks.now n.marks c.args.self.now.tree
@@ -128,13 +127,14 @@ returns-in-Chain-clause-log g c = has_weaker _ _ c.walk_unfed.ensures.log (λ lo
     c.args.self.now.taker.now c.walk_unfed.ensures.beside.only walk.under.at
     (h e walk.now.visits _ is next walk.under.at.0) in
     turned_chain c.args.frames.now.items c.args.frame walk candidate c.stepped-in-Chain.ensures here (fails g.T.Taker.refuses) n.marks
-    (n.sink, c.args.self.now.taker.now) c.push-in-Chain.ensures.items (ap (λ (p : Pages). p.levels) c.walk_unfed.ensures.beside.bench) r done)
+    (n.sink, c.args.self.now.taker.now) c.push-in-Chain.ensures.items (ap (λ (p : Pages). p.levels) c.walk_unfed.ensures.bench) r done)
 
 pub returns-in-Chain-clause-walked : goal.returns-in-Chain-clause-walked
 returns-in-Chain-clause-walked g c =
     let done = c.walk_unfed.ensures.beside in
-    walked_by g.S.Source.held g.K.Sink.held g.T.Taker.refusals (refl, refl, refl, refl, refl, refl, refl) (ap (λ (p : Pages). p.geometry) done.bench) done.reads
-    done.writes (none_refused c.walk_unfed.result (g.T.Taker.refusals c.args.self.now.taker.now) done.only)
+    walked_by g.S.Source.held g.K.Sink.held g.T.Taker.refusals (refl, refl, refl, refl, refl, refl, refl)
+    (ap (λ (p : Pages). p.geometry) c.walk_unfed.ensures.bench) done.reads done.writes
+    (none_refused c.walk_unfed.result (g.T.Taker.refusals c.args.self.now.taker.now) done.only)
     (read_or_write c.args.self.now.tree.start c.walk_unfed.result done.only) (λ l. refl)
 
 pub enter_child-requires : goal.enter_child-requires

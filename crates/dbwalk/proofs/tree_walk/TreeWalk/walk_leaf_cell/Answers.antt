@@ -68,7 +68,7 @@ pub returns-in_err-walk_overflow-clause-walked : goal.returns-in_err-walk_overfl
 returns-in_err-walk_overflow-clause-walked g c =
     let e = c.in_err-walk_overflow.ensures.beside in
     walked_err g.S.Source.held g.K.Sink.held g.T.Taker.refusals (err_is c.from_residual.ensures.1) e.only (refl, refl, refl, refl, refl, refl, refl)
-    (ap (λ (p : Pages). p.geometry) e.bench) e.reads e.writes refl (λ l. refl)
+    (ap (λ (p : Pages). p.geometry) c.in_err-walk_overflow.ensures.bench) e.reads e.writes refl (λ l. refl)
 
 -- without a sieve nothing can fail there, and only the tree of the schema has one
 row_error : (start : ℕ) {e : RunError} → IsWriteOrMemory e → (1 ≤ start → ◌≡◌ {A = Result (Unit {0}) RunError} (Err e) (Ok tt))
@@ -82,7 +82,7 @@ returns-in_err-report_row-clause-walked g c =
     (c.walk_overflow.ensures.kept ∙ ap is_some (c.begin_row.ensures.other later ∙ c.requires.2 later)))).0) in
     walked_as g.S.Source.held g.K.Sink.held g.T.Taker.refusals {R = Unit {0}} (err_is c.from_residual-in_err-report_row.ensures.1)
     (walked_by g.S.Source.held g.K.Sink.held g.T.Taker.refusals (refl, refl, refl, refl, refl, refl, refl) (ap (λ (p : Pages). p.geometry)
-    c.walk_overflow.ensures.beside.bench) (unread e.only c.in_ok-walk_overflow.ensures.beside.reads)
+    c.walk_overflow.ensures.bench) (unread e.only c.in_ok-walk_overflow.ensures.beside.reads)
     (walks_after e.writes c.in_ok-walk_overflow.ensures.beside.writes.moves) e.refusals no.0 (λ l. absurd (no.1 l)))
 
 pub returns-clause-empty : goal.returns-clause-empty
@@ -93,7 +93,7 @@ pub returns-clause-walked : goal.returns-clause-walked
 returns-clause-walked g c =
     let e = c.in_ok-report_row.ensures in
     walked_by g.S.Source.held g.K.Sink.held g.T.Taker.refusals (refl, refl, refl, refl, refl, c.report_rowid.ensures.others.0, c.report_rowid.ensures.others.1)
-    (ap (λ (p : Pages). p.geometry) c.walk_overflow.ensures.beside.bench) c.in_ok-walk_overflow.ensures.beside.reads
+    (ap (λ (p : Pages). p.geometry) c.walk_overflow.ensures.bench) c.in_ok-walk_overflow.ensures.beside.reads
     (walks_ok (moves_then (moves_then c.in_ok-walk_overflow.ensures.beside.writes.moves e.writes.moves) c.report_rowid.ensures.reported.count)) e.refusals tt
     (λ later. (e.none (gone c.walk_overflow.new.sieve
     (c.walk_overflow.ensures.kept ∙ ap is_some (c.begin_row.ensures.other later ∙ c.requires.2 later)))).2)
