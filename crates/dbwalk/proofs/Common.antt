@@ -59,7 +59,7 @@ pub use Rattle.dbwalk.specs.Chains.{Feeds, FeedsChain, FeedsPages, IsChainOf, Is
 pub use Rattle.dbwalk.specs.Done.{IsDone, IsLeft, IsTreeDone}
 pub use Rattle.dbwalk.specs.Entered.{Enters, IsNext, refused_reported}
 pub use Rattle.dbwalk.specs.Found.{HasPageAt, damaged_row, inner_cause, page_findings, view_cause, view_row, with_leaf}
-pub use Rattle.dbwalk.specs.LeafCells.{AreBefore, AreRisingFrom, HasCell, HasCells, HasSpan, is_late, key_cause, late_reported, order_reported}
+pub use Rattle.dbwalk.specs.LeafCells.{AreBefore, AreRisingFrom, HasCell, HasSpan, is_late, key_cause, late_reported, order_reported}
 pub use Rattle.dbwalk.specs.LeafCells.{overflow_errands}
 pub use Rattle.dbwalk.specs.LeafCells.{placed, top_after}
 pub use Rattle.dbwalk.specs.Points.{IsAtTurn}
@@ -69,7 +69,7 @@ pub use Rattle.dbwalk.specs.Reporting.{IsReadOrWrite, IsReportedTo, IsWriteOrMem
 pub use Rattle.dbwalk.specs.Trunks.{IsFirstTrunk, IsOnTrunks, leaves_from, next_step, trunk_step}
 pub use Rattle.dbwalk.specs.Underway.{HasDone, IsAt, IsEntered, IsInterior, IsUnderway, IsWalkingOn, done_below, entered, tree_walk}
 pub use Rattle.dbwalk.specs.Walked.{IsTreeError, SaysOfFiles, Walked}
-pub use Rattle.dbwalk.specs.Walking.{AreCalls, AreOpen, AreOpenFrames, AreRead, IsCandidate, IsLeafAt, IsOpen, IsStepped, child_at, cost, errands_from}
+pub use Rattle.dbwalk.specs.Walking.{AreCalls, AreOpen, AreOpenFrames, AreRead, IsCandidate, IsVisitAt, IsOpen, IsStepped, child_at, cost, errands_from}
 pub use Rattle.dbwalk.specs.Walking.{left_over, path_of, role_at, top_visit}
 pub use Rattle.dbwalk.specs.Watching.{Handed, StopsAt, fails, row_at, watches}
 pub use Rattle.dbwalk.specs.declared.state.Tree.{Tree}

@@ -1,12 +1,10 @@
--- What is read of the leaf at a level: its cells; its keys, if the cells have nothing else to look at; and the greatest key so
--- far.
-use Rattle.std.specs.Prelude.{◌≡◌, ℕ, zero, suc, ◌+◌, ◌-◌, ◌<◌, ◌≤◌, List, Option, Some, None, ℤ, slice_get, Bool, false, int_lt, int_le}
+-- What is read of a leaf: its cells; its keys, if the cells have nothing else to look at; and the greatest key so far.
+use Rattle.std.specs.Prelude.{◌≡◌, ℕ, zero, suc, ◌+◌, ◌-◌, ◌<◌, ◌≤◌, List, Option, Some, None, ℤ, Bool, false, int_lt, int_le}
 use Rattle.std.specs.Prelude.{if◌then◌else◌, ◌==◌, not, pos, true, [], ◌∷◌, IfSome, option_map, option_and_then}
 use Rattle.std.specs.Option.{option_or, option_map_or}
-use Rattle.dbformat.specs.Head.{View, undamaged}
+use Rattle.dbformat.specs.Head.{View}
 use Rattle.dbformat.specs.Cell.{count, cell, overflow_size}
 use Rattle.dbpage.specs.Packed.{HasRisingKeys, IsAboveLast, IsAllLocal, key_at}
-use Rattle.dbformat.specs.declared.TreeKind.{TreeKind}
 use Rattle.dbwalk.specs.declared.state.KeySpan.{KeySpan}
 use Rattle.dbsurvey.specs.Address.{IsIn, Address, IsBefore}
 use Rattle.dbformat.specs.Reference.{Reference, Way, first_overflow, link}
@@ -55,12 +53,6 @@ AreRisingFrom page v from zero greatest after = after ≡ greatest
 AreRisingFrom page v from (suc n) greatest after = (before : Option CellKey) × AreRisingFrom page v from n greatest before × IsAllLocal v (from + n)
     × IsAboveLast (key_value before) (key_at v (from + n)) × (after ≡ option_or (placed page (from + n) (key_at v (from + n))) before)
 
--- the same of the page at a level: its cells from `from` up to `end`
-pub record ArePassedAt (usable : ℕ) (kind : TreeKind) (levels : List (List ℕ)) (level page from end : ℕ) (greatest after : Option CellKey) : Type 0 where
-  pub ahead : from ≤ end
-  pub rising : (bytes : List ℕ) (v : View) → slice_get levels level ≡ Some bytes → undamaged kind page usable bytes ≡ Some v → from ≤ count v
-      → (end ≤ count v) × AreRisingFrom page v from (end - from) greatest after
-
 -- The greatest key of a walk so far, and visits before a place.
 
 -- all visits so far are before the place
@@ -72,19 +64,11 @@ abbrev pub is_late : Bool → Option ℤ → ℤ → Bool
 is_late is_rowid None value = false
 is_late is_rowid (Some top) value = if is_rowid then int_le value top else int_lt value top
 
--- What is read of the leaf at a level.
-
--- the number of its cells
-pub record HasCells (usable : ℕ) (kind : TreeKind) (levels : List (List ℕ)) (level page n : ℕ) : Type 0 where
-  pub count_is : (bytes : List ℕ) (v : View) → slice_get levels level ≡ Some bytes → undamaged kind page usable bytes ≡ Some v → n ≡ count v
-
--- the first overflow page of cell i, with the number of payload bytes on overflow pages, and its key
-pub record HasCell (usable : ℕ) (kind : TreeKind) (levels : List (List ℕ)) (level page i : ℕ) (overflow : Option (ℕ × ℕ)) (key : Option ℤ) : Type 0 where
+-- the first overflow page of cell i of a page, with the number of payload bytes on overflow pages, and its key
+pub record HasCell (v : View) (i : ℕ) (overflow : Option (ℕ × ℕ)) (key : Option ℤ) : Type 0 where
   pub most : IfSome overflow (λ o. o.1 ≤ most_payload)
-  pub chain : (bytes : List ℕ) (v : View) → slice_get levels level ≡ Some bytes → undamaged kind page usable bytes ≡ Some v → i < count v
-      → overflow ≡ option_and_then (λ c. option_map (λ p. (p, overflow_size c)) c.overflow) (result_ok (cell v i))
-  pub key_is : (bytes : List ℕ) (v : View) → slice_get levels level ≡ Some bytes → undamaged kind page usable bytes ≡ Some v → i < count v
-      → key ≡ option_and_then (λ c. c.key) (result_ok (cell v i))
+  pub chain : overflow ≡ option_and_then (λ c. option_map (λ p. (p, overflow_size c)) c.overflow) (result_ok (cell v i))
+  pub key_is : key ≡ option_and_then (λ c. c.key) (result_ok (cell v i))
 
 -- what a cell's first overflow page, with the number of payload bytes on overflow pages, leads to
 abbrev pub overflow_errands : Reference → ℕ → Option (ℕ × ℕ) → List (Errand Way Event)

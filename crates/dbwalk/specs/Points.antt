@@ -4,7 +4,6 @@ use Rattle.std.specs.Prelude.{◌≡◌, ℕ, ℤ, ◌<◌, true, false, List, [
 use Rattle.dbsurvey.specs.InOrder.{IsPast}
 use Rattle.dbsurvey.specs.Traverse.{is_followed}
 use Rattle.dbformat.specs.Address.{then_step, overflow_step}
-use Rattle.dbformat.specs.Cell.{count}
 use Rattle.dbformat.specs.File.{geometry, page_bytes}
 use Rattle.dbformat.specs.Head.{View, is_interior}
 use Rattle.dbformat.specs.Reference.{Reference, tree_view}
@@ -20,31 +19,31 @@ use Rattle.dbwalk.specs.LeafCells.{overflow_errands, AreBefore}
 use Rattle.dbmarks.specs.Marking.{AreMarksOf}
 use Rattle.dbsource.specs.declared.error.RunError.{RunError}
 use Rattle.dbwalk.specs.Underway.{HasTurned, IsAt, IsWalkingOn}
-use Rattle.dbwalk.specs.Walking.{AreOpen, IsCandidate, IsLeafAt, path_of}
+use Rattle.dbwalk.specs.Walking.{AreOpen, IsCandidate, IsVisitAt, path_of}
 use Rattle.dbwalk.specs.Steps.{HasNext}
 use Rattle.dbwalk.specs.declared.steps.Next.{Next}
 use Rattle.dbwalk.specs.declared.steps.StackFrame.{StackFrame}
 use Rattle.dbmarks.specs.declared.marks.Mark.{Mark}
 use Rattle.dbwalk.specs.declared.cells.LeafCell.{LeafCell}
+use Rattle.dbwalk.specs.declared.leaf.CellPlace.{CellPlace}
 use Rattle.dbwalk.specs.declared.state.Tree.{Tree}
 use Rattle.dbwalk.specs.declared.tree_walk.TreeWalk.{TreeWalk}
 
 -- at the overflow chain of cell i of a leaf
-abbrev pub AtOverflow : List ℕ → Tree → List (List ℕ) → ℕ → ℕ → LeafCell → List Mark → (List Reference → Reference → Type 0) → Type 0
-AtOverflow file tree levels page i read marks leaves = (U : List Reference) (c : Reference) → IsLeafAt file tree.kind tree.start tree.path.items c levels page
-    → cell_rowid file page i ≡ read.key → IsPast U (overflow_errands c i read.overflow) → AreMarksOf file U marks → leaves U c
+abbrev pub AtOverflow : List ℕ → Tree → CellPlace → LeafCell → List Mark → (List Reference → Reference → Type 0) → Type 0
+AtOverflow file tree place read marks leaves = (U : List Reference) (c : Reference) → IsVisitAt tree.kind tree.start tree.path.items c place.page
+    → cell_rowid file place.page place.item ≡ read.key → IsPast U (overflow_errands c place.item read.overflow) → AreMarksOf file U marks → leaves U c
 
--- at cell i of an undamaged leaf
-abbrev pub AtCell : {A S K T : Type 0} → List ℕ → List (List ℕ) → ℕ → ℕ → TreeWalk A S K T → (Walk → Reference → View → Type 0) → Type 0
-AtCell file levels page i walk leaves = (from : Walk) (c : Reference) (v : View)
-    → IsLeafAt file walk.tree.kind walk.tree.start walk.tree.path.items c levels page
-    → tree_view file c ≡ Some v → is_interior v.kind ≡ false → i < count v → AreBefore from.visits (then_step c.address (overflow_step i))
-    → IsAt file from walk.marks.now walk.tree → leaves from c v
+-- at a cell of an undamaged leaf with this view
+abbrev pub AtCell : {A S K T : Type 0} → List ℕ → View → CellPlace → TreeWalk A S K T → (Walk → Reference → Type 0) → Type 0
+AtCell file v place walk leaves = (from : Walk) (c : Reference) → IsVisitAt walk.tree.kind walk.tree.start walk.tree.path.items c place.page
+    → tree_view file c ≡ Some v → is_interior v.kind ≡ false → AreBefore from.visits (then_step c.address (overflow_step place.item))
+    → IsAt file from walk.marks.now walk.tree → leaves from c
 
--- at the first cell of an undamaged leaf
-abbrev pub AtLeaf : {A S K T : Type 0} → List ℕ → List (List ℕ) → ℕ → TreeWalk A S K T → (Walk → Reference → Type 0) → Type 0
-AtLeaf file levels page walk leaves = (from : Walk) (c : Reference) (v : View) → IsLeafAt file walk.tree.kind walk.tree.start walk.tree.path.items c levels page
-    → tree_view file c ≡ Some v → is_interior v.kind ≡ false → AreBefore from.visits (then_step c.address 0)
+-- at the first cell of an undamaged leaf with these bytes
+abbrev pub AtLeaf : {A S K T : Type 0} → List ℕ → List ℕ → ℕ → TreeWalk A S K T → (Walk → Reference → Type 0) → Type 0
+AtLeaf file bytes page walk leaves = (from : Walk) (c : Reference) (v : View) → IsVisitAt walk.tree.kind walk.tree.start walk.tree.path.items c page
+    → bytes ≡ page_bytes file page → tree_view file c ≡ Some v → is_interior v.kind ≡ false → AreBefore from.visits (then_step c.address 0)
     → IsAt file from walk.marks.now walk.tree → leaves from c
 
 -- at a page of a tree that was read, as far as what is reported of it requires

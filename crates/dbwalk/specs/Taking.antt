@@ -1,17 +1,15 @@
 -- Rows of the schema: what a sieve has taken of a payload, what is reported of a row, and what the taker answers.
-use Rattle.std.specs.Prelude.{◌≡◌, ℕ, ◌+◌, Bool, true, false, List, [], ◌∷◌, ◌++◌, length, map, take, nat_lt, ◌==◌, if◌then◌else◌, ◌<◌, Option}
-use Rattle.std.specs.Prelude.{Some, None, slice_get, Result, Ok, Err, filter_map, MatchResult, is_none, unwrap_or, ℤ, pos}
+use Rattle.std.specs.Prelude.{◌≡◌, ℕ, ◌+◌, Bool, true, false, List, [], ◌∷◌, ◌++◌, length, map, take, nat_lt, ◌==◌, if◌then◌else◌, Option}
+use Rattle.std.specs.Prelude.{Some, None, Result, Ok, Err, filter_map, MatchResult, is_none, unwrap_or, ℤ, pos}
 use Rattle.dbformat.specs.Address.{last_root_start, then_step, overflow_step}
 use Rattle.dbformat.specs.SchemaRow.{SchemaRow}
 use Rattle.dbwalk.specs.declared.taker.Taken.{Taken}
 use Rattle.dbwalk.specs.declared.taker.Taken.TheVariants as answer
 use Rattle.std.specs.Result.{result_ok}
-use Rattle.dbformat.specs.Cell.{Cell, cell, count}
-use Rattle.dbformat.specs.Head.{View, undamaged}
+use Rattle.dbformat.specs.Cell.{Cell}
 use Rattle.dbformat.specs.Reference.{Reference}
 use Rattle.dbformat.specs.Schema.{payload, schema}
 use Rattle.dbformat.specs.declared.Encoding.{Encoding}
-use Rattle.dbformat.specs.declared.TreeKind.{TreeKind}
 use Rattle.dbbytes.specs.Sieve.{HasTaken}
 use Rattle.dbbytes.specs.declared.sieve.RowSieve.{RowSieve}
 use Rattle.dbwalk.specs.LeafCells.{AreBefore, overflow_errands}
@@ -73,11 +71,6 @@ HasFed (Some s) size e bytes = HasTaken s size e bytes
 abbrev pub HoldsCell : Option RowSieve → Encoding → Option Cell → Type 0
 HoldsCell sieve e None = sieve ≡ None
 HoldsCell sieve e (Some x) = HasFed sieve x.size e x.local
-
--- the sieve of cell i of the leaf at a level
-pub record HasSieve (usable : ℕ) (kind : TreeKind) (levels : List (List ℕ)) (level page i : ℕ) (e : Encoding) (sieve : Option RowSieve) : Type 0 where
-  pub read : (bytes : List ℕ) (v : View) → slice_get levels level ≡ Some bytes → undamaged kind page usable bytes ≡ Some v → i < count v
-      → HoldsCell sieve e (result_ok (cell v i))
 
 -- A sieve that had taken the payload bytes in the cell has taken all of the payload that can be found, when the cell's chain
 -- was visited.

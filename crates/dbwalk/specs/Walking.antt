@@ -69,15 +69,14 @@ abbrev pub AreOpen : ℕ → TreeKind → List (List ℕ) → ℕ → List Stack
 AreOpen usable kind levels level [] = Unit {0}
 AreOpen usable kind levels level (f ∷ fs) = IsOpen usable kind levels level f.page f.next × AreOpen usable kind levels (level + 1) fs
 
--- the visit of a page of a tree whose bytes are at its level
-pub record IsLeafAt (file : List ℕ) (kind : TreeKind) (k : ℕ) (children : List ℕ) (c : Reference) (levels : List (List ℕ)) (p : ℕ) : Type 0 where
+-- the visit of a page of a tree
+pub record IsVisitAt (kind : TreeKind) (k : ℕ) (children : List ℕ) (c : Reference) (p : ℕ) : Type 0 where
   pub page : c.page ≡ p
   pub kind_is : tree_kind (role_of c) ≡ Some kind
   pub start : start_of c.address ≡ k
   pub depth : length c.address ≡ length children + 1
   pub path : child_path c.address ≡ children
   pub chain : chain_place c.address ≡ None
-  pub bytes : slice_get levels (length children) ≡ Some (page_bytes file p)
 
 -- A walk with a stack of frames, and what is left of it.
 

@@ -1,16 +1,13 @@
-// What is read of the cells of the leaf at a level of the bench.
-ghost use Rattle.std.specs.Prelude.{◌-◌, ◌<◌, ◌≤◌, length};
+// What is read of the cells of a leaf.
+ghost use Rattle.std.specs.Prelude.{◌-◌, ◌<◌, ◌≤◌};
 ghost use Rattle.dbformat.specs.Cell.{count};
-ghost use Rattle.dbwalk.specs.LeafCells.{ArePassedAt, AreRisingFrom, HasCell, HasCells};
+ghost use Rattle.dbwalk.specs.LeafCells.{AreRisingFrom, HasCell};
 ghost use Rattle.dbwalk.specs.Points.{IsSameButGreatest};
 
 use crate::CellKey;
-use crate::page::undamaged;
 use crate::state::{Tree, key_value};
-use dbformat::{SCHEMA_START, TreeKind};
+use dbformat::SCHEMA_START;
 use dbpage::{PageView, is_rising};
-use dbsource::Bench;
-use std::alloc::Allocator;
 
 /// A cell of a leaf, as far as a walk needs it: its first overflow page with the number of payload bytes on overflow pages, and
 /// its key.
@@ -20,43 +17,11 @@ pub(crate) struct LeafCell {
     pub(crate) key: Option<i64>,
 }
 
-/// The number of cells of the leaf at a level; 0 if there is no undamaged page.
-pub(crate) fn leaf_cells<A: Allocator>(
-    bench: &Bench<A>,
-    kind: TreeKind,
-    level: usize,
-    page: u32,
-) -> u32
-    requires { level < 20 }
-    ensures { HasCells bench.now.geometry.usable kind bench.now.levels level page result }
+/// Cell `i` of a page. A cell that cannot be read has neither an overflow page nor a key.
+pub(crate) fn leaf_cell(view: &PageView<'_>, i: u32) -> LeafCell
+    requires { i < count view.now }
+    ensures { HasCell view.now i result.overflow result.key }
 {
-    match undamaged(bench.page(level), page, bench.geometry().usable, kind) {
-        Ok(view) => view.cells(),
-        Err(_) => 0,
-    }
-}
-
-/// Cell `i` of the leaf at a level. A cell that cannot be read has neither an overflow page nor a key.
-pub(crate) fn leaf_cell<A: Allocator>(
-    bench: &Bench<A>,
-    kind: TreeKind,
-    level: usize,
-    page: u32,
-    i: u32,
-) -> LeafCell
-    requires { level < 20 }
-    ensures { HasCell bench.now.geometry.usable kind bench.now.levels level page i result.overflow result.key }
-{
-    let nothing = LeafCell {
-        overflow: None,
-        key: None,
-    };
-    let Ok(view) = undamaged(bench.page(level), page, bench.geometry().usable, kind) else {
-        return nothing;
-    };
-    if i >= view.cells() {
-        return nothing;
-    }
     match view.cell(i) {
         Ok(cell) => {
             let overflow = match cell.overflow {
@@ -68,36 +33,27 @@ pub(crate) fn leaf_cell<A: Allocator>(
                 key: cell.key,
             }
         }
-        Err(_) => nothing,
+        Err(_) => LeafCell {
+            overflow: None,
+            key: None,
+        },
     }
 }
 
-/// Passes over cells of the leaf at the level of the tree's path, from cell `from` on, while they have nothing but their keys
+/// Passes over cells of a leaf, from cell `from` on, while they have nothing but their keys
 /// to look at and the keys rise from above the greatest so far. Answers with the number of the first other cell, or of all
 /// cells if there is none. In the tree of the schema, whose rows are wanted, it passes over no cell.
-pub(crate) fn pass_cells<A: Allocator>(
-    bench: &Bench<A>,
-    tree: &mut Tree,
-    page: u32,
-    from: u32,
-) -> u32
-    requires { length tree.old.path.items < 20 }
-    ensures passed { ArePassedAt bench.now.geometry.usable tree.old.kind bench.now.levels (length tree.old.path.items) page from result
-        tree.old.greatest tree.new.greatest }
+pub(crate) fn pass_cells(view: &PageView<'_>, tree: &mut Tree, page: u32, from: u32) -> u32
+    requires { from ≤ count view.now }
+    ensures within { (from ≤ result) × (result ≤ count view.now) }
+    ensures rising { AreRisingFrom page view.now from (result - from) tree.old.greatest tree.new.greatest }
     ensures other { from < result → 1 ≤ tree.old.start }
     ensures others { IsSameButGreatest tree.old tree.new }
 {
     if tree.start == SCHEMA_START {
         return from;
     }
-    let usable = bench.geometry().usable;
-    let Ok(view) = undamaged(bench.page(tree.path.len()), page, usable, tree.kind) else {
-        return from;
-    };
-    if from >= view.cells() {
-        return from;
-    }
-    let rise = rise_from(&view, page, from, tree.greatest);
+    let rise = rise_from(view, page, from, tree.greatest);
     tree.greatest = rise.greatest;
     rise.end
 }

@@ -1,6 +1,7 @@
 // The cells of a leaf: their overflow chains, the rows of the schema, and their keys (Database File Format, 1.6 and 2.6).
 ghost use Rattle.std.specs.Prelude.{◌≡◌, ◌<◌, length, ◌≤◌, None, IfSome, OnOk, is_some};
-ghost use Rattle.dbformat.specs.FixedPages.{IsPageNumber};
+ghost use Rattle.dbformat.specs.Cell.{count};
+ghost use Rattle.dbformat.specs.FixedPages.{IsInRange, IsPageNumber};
 ghost use Rattle.dbsurvey.specs.Story.{errands_of};
 ghost use Rattle.dbwalk.specs.Points.{AtLeaf, IsSameButGreatest, AtCell, AtOverflow};
 ghost use Rattle.dbformat.specs.Story.{story_of};
@@ -18,46 +19,61 @@ ghost use Rattle.dbwalk.specs.Reporting.{IsReportedTo};
 ghost use Rattle.dbwalk.specs.Done.{IsDone};
 ghost use Rattle.dbmarks.specs.Reads.{Reads};
 
-use crate::cells::{LeafCell, leaf_cell, leaf_cells, pass_cells};
+use crate::cells::{LeafCell, leaf_cell, pass_cells};
 use crate::chain::{Chain, walk_chain};
+use crate::page::undamaged;
 use crate::schema_row::{RowPlace, begin_row, report_row};
 use crate::state::Tree;
 use crate::tree_walk::TreeWalk;
-use crate::{CellKey, Marks, Sink, Taker};
+use crate::{CellKey, Geometry, Marks, Sink, Taker};
 use dbbytes::RowSieve;
-use dbsource::{Bench, RunError, Source};
+use dbpage::PageView;
+use dbsource::{RunError, Source};
 use std::alloc::Allocator;
 
 impl<A: Allocator, S: Source, K: Sink, T: Taker> TreeWalk<'_, '_, '_, '_, A, S, K, T> {
-    /// Walks over the cells of an undamaged leaf that was read at the level of the tree's path. Of each cell it takes the
-    /// overflow chain, then the row, which goes to the taker, if this is the tree of the schema, and then the key.
+    /// Walks over the cells of an undamaged leaf with these bytes; pages of overflow chains are read into the buffer. Of each cell it
+    /// takes the overflow chain, then the row, which goes to the taker, if this is the tree of the schema, and then the key.
     ///
     /// # Errors
     ///
     /// [`RunError::ReadFailed`] exactly where the source failed, [`RunError::WriteFailed`] where the sink was found shut,
     /// [`RunError::OutOfMemory`] exactly where the taker was refused memory.
-    pub(crate) fn walk_leaf(&mut self, bench: &mut Bench<A>, page: u32) -> Result<(), RunError>
-        requires { (length self.old.tree.path.items < 20) × IsPageNumber page }
-        ensures walked { Walked S.held K.held T.refusals result bench.old.geometry bench.new.geometry self.old self.new }
-        ensures levels { bench.new.levels ≡ bench.old.levels }
+    pub(crate) fn walk_leaf(
+        &mut self,
+        bytes: &[u8],
+        buffer: &mut [u8],
+        shape: Geometry,
+        page: u32,
+    ) -> Result<(), RunError>
+        requires page { IsPageNumber page }
+        requires shape { IsInRange shape × (length bytes.now ≡ shape.page_size) × (length buffer.old ≡ shape.page_size) }
+        ensures walked { Walked S.held K.held T.refusals result shape shape self.old self.new }
         ensures tree { IsSameButGreatest self.old.tree self.new.tree }
-        ensures log { SaysOfFiles S.step S.held bench.old.geometry self.old self.new (λ file. AtLeaf file bench.old.levels page self.old (λ from c.
+        ensures log { SaysOfFiles S.step S.held shape self.old self.new (λ file. AtLeaf file bytes.now page self.old (λ from c.
             Does (watches K.takes T.takes) (fails T.refuses) file
             (done_below file from (errands_of (story_of file) c)) result self.old self.new)) }
     {
-        let level = self.tree.path.len();
-        let cells = leaf_cells(bench, self.tree.kind, level, page);
+        let Ok(view) = undamaged(bytes, page, shape.usable, self.tree.kind) else {
+            return Ok(());
+        };
+        let cells = view.cells();
         let mut sieve: Option<RowSieve> = None;
-        let mut i = pass_cells(bench, &mut self.tree, page, 0);
+        let mut i = pass_cells(&view, &mut self.tree, page, 0);
         while i < cells {
-            self.walk_leaf_cell(bench, page, i, &mut sieve)?;
-            i = pass_cells(bench, &mut self.tree, page, i + 1);
+            let place = CellPlace {
+                shape,
+                page,
+                item: i,
+            };
+            self.walk_leaf_cell(&view, buffer, place, &mut sieve)?;
+            i = pass_cells(&view, &mut self.tree, page, i + 1);
         }
         Ok(())
     }
 
-    /// Walks over cell `i` of the leaf at the level of the tree's path: its overflow chain; in the tree of the schema its row,
-    /// which goes to the taker; and its key. `sieve` is room for a sieve, which only the tree of the schema fills.
+    /// Walks over the cell at a place of a leaf: its overflow chain; in the tree of the schema its row, which goes to the taker;
+    /// and its key. `sieve` is room for a sieve, which only the tree of the schema fills.
     ///
     /// # Errors
     ///
@@ -65,42 +81,50 @@ impl<A: Allocator, S: Source, K: Sink, T: Taker> TreeWalk<'_, '_, '_, '_, A, S, 
     /// [`RunError::OutOfMemory`] exactly where the taker was refused memory.
     pub(crate) fn walk_leaf_cell(
         &mut self,
-        bench: &mut Bench<A>,
-        page: u32,
-        i: u32,
+        view: &PageView<'_>,
+        buffer: &mut [u8],
+        place: CellPlace,
         sieve: &mut Option<RowSieve>,
     ) -> Result<(), RunError>
-        requires { (length self.old.tree.path.items < 20) × IsPageNumber page × (1 ≤ self.old.tree.start → sieve.old ≡ None) }
-        ensures walked { Walked S.held K.held T.refusals result bench.old.geometry bench.new.geometry self.old self.new }
-        ensures levels { bench.new.levels ≡ bench.old.levels }
+        requires cell { IsPageNumber place.page × (place.item < count view.now) }
+        requires shape { IsInRange place.shape × (length buffer.old ≡ place.shape.page_size) }
+        requires none { 1 ≤ self.old.tree.start → sieve.old ≡ None }
+        ensures walked { Walked S.held K.held T.refusals result place.shape place.shape self.old self.new }
         ensures tree { IsSameButGreatest self.old.tree self.new.tree }
         ensures empty { OnOk result (1 ≤ self.old.tree.start → sieve.new ≡ None) }
-        ensures log { SaysOfFiles S.step S.held bench.old.geometry self.old self.new (λ file.
-            AtCell file bench.old.levels page i self.old (λ from c v. Does (watches K.takes T.takes) (fails T.refuses) file
-            (done_below file from (cell_errands c self.old.tree.kind v i)) result self.old self.new)) }
+        ensures log { SaysOfFiles S.step S.held place.shape self.old self.new (λ file.
+            AtCell file view.now place self.old (λ from c. Does (watches K.takes T.takes) (fails T.refuses) file
+            (done_below file from (cell_errands c self.old.tree.kind view.now place.item)) result self.old self.new)) }
     {
-        let cell = leaf_cell(bench, self.tree.kind, self.tree.path.len(), page, i);
-        begin_row(bench, &self.tree, page, i, self.encoding, sieve);
+        let (page, i) = (place.page, place.item);
+        let cell = leaf_cell(view, i);
+        begin_row(view, self.tree.start, i, self.encoding, sieve);
         let at = ReadCell {
             tree: &self.tree,
-            page,
-            item: i,
+            place,
             cell,
         };
-        walk_overflow(self.source, bench, self.marks, at, sieve, self.sink)?;
-        let place = RowPlace::new(page, i, cell.key);
-        report_row(sieve, place, self.taker, self.sink)?;
+        walk_overflow(self.source, buffer, self.marks, at, sieve, self.sink)?;
+        let row = RowPlace::new(page, i, cell.key);
+        report_row(sieve, row, self.taker, self.sink)?;
         report_rowid(&mut self.tree, page, i, cell.key, self.sink);
         Ok(())
     }
 }
 
-/// A cell of the leaf at the level of a tree's path, as it was read.
+/// The place of a cell of a leaf: the geometry of the file, the page, and the number of the cell.
+#[derive(Clone, Copy)]
+pub(crate) struct CellPlace {
+    pub(crate) shape: Geometry,
+    pub(crate) page: u32,
+    pub(crate) item: u32,
+}
+
+/// A cell of a leaf of a tree, as it was read.
 #[derive(Clone, Copy)]
 pub(crate) struct ReadCell<'a> {
     pub(crate) tree: &'a Tree,
-    pub(crate) page: u32,
-    pub(crate) item: u32,
+    pub(crate) place: CellPlace,
     pub(crate) cell: LeafCell,
 }
 
@@ -111,35 +135,34 @@ pub(crate) struct ReadCell<'a> {
 /// [`RunError::ReadFailed`] exactly where the source failed, [`RunError::WriteFailed`] where the sink was found shut.
 pub(crate) fn walk_overflow<A: Allocator, S: Source, K: Sink>(
     source: &mut S,
-    bench: &mut Bench<A>,
+    buffer: &mut [u8],
     marks: &mut Marks<A>,
     at: ReadCell<'_>,
     sieve: &mut Option<RowSieve>,
     sink: &mut K,
 ) -> Result<(), RunError>
-    requires { IsPageNumber at.page × IfSome at.cell.overflow (λ o. o.1 ≤ most_payload) }
+    requires cell { IsPageNumber at.place.page × IfSome at.cell.overflow (λ o. o.1 ≤ most_payload) }
+    requires shape { IsInRange at.place.shape × (length buffer.old ≡ at.place.shape.page_size) }
     ensures beside { LeavesBeside result (S.held source.old) (S.held source.new) (K.held sink.old) (K.held sink.new) }
-    ensures bench { bench.new ≡ record bench.old { chain = bench.new.chain } }
     ensures kept { is_some sieve.new ≡ is_some sieve.old }
-    ensures log { HasLog S.step (Reads bench.old.geometry.page_size marks.old marks.new) (λ file. bench.old.geometry ≡ shape_of file
-        → AtOverflow file at.entry.tree.now bench.old.levels at.entry.page at.entry.item at.entry.cell marks.old (λ U c.
-        IsDone K.takes file U (overflow_errands c at.entry.item at.entry.cell.overflow) result marks.new sink.old sink.new
-        × OnOk result (FeedsPayload file U c at.entry.item at.entry.cell.overflow sieve.old sieve.new))) (S.held source.old) (S.held source.new) }
+    ensures log { HasLog S.step (Reads at.entry.place.shape.page_size marks.old marks.new) (λ file. at.entry.place.shape ≡ shape_of file
+        → AtOverflow file at.entry.tree.now at.entry.place at.entry.cell marks.old (λ U c.
+        IsDone K.takes file U (overflow_errands c at.entry.place.item at.entry.cell.overflow) result marks.new sink.old sink.new
+        × OnOk result (FeedsPayload file U c at.entry.place.item at.entry.cell.overflow sieve.old sieve.new))) (S.held source.old) (S.held source.new) }
 {
     match at.cell.overflow {
         None => Ok(()),
         Some((first, left)) => {
             let chain = Chain {
                 start: at.tree.start,
-                usable: bench.geometry().usable,
+                usable: at.place.shape.usable,
                 path: at.tree.path.as_slice(),
-                page: at.page,
-                cell: at.item,
+                page: at.place.page,
+                cell: at.place.item,
                 rowid: at.cell.key,
                 first,
                 left,
             };
-            let (_, buffer) = bench.chain(0);
             walk_chain(source, buffer, marks, &chain, sieve, sink)
         }
     }

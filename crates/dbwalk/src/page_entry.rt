@@ -73,7 +73,9 @@ impl<A: Allocator, S: Source, K: Sink, T: Taker> TreeWalk<'_, '_, '_, '_, A, S, 
                 if self.tree.pass_over(keys, page) {
                     return Ok(false);
                 }
-                self.walk_leaf(bench, page)?;
+                let shape = bench.geometry();
+                let (bytes, buffer) = bench.chain(self.tree.path.len());
+                self.walk_leaf(bytes, buffer, shape, page)?;
                 Ok(false)
             }
         }

@@ -1,5 +1,7 @@
 // A row of the schema: who takes it, and what is reported of it (Database File Format, 2.6).
-ghost use Rattle.std.specs.Prelude.{◌≡◌, ℕ, List, None, Ok, IfErr, ◌<◌, ◌≤◌, length};
+ghost use Rattle.std.specs.Prelude.{◌≡◌, ℕ, List, None, Ok, IfErr, ◌<◌, ◌≤◌};
+ghost use Rattle.std.specs.Result.{result_ok};
+ghost use Rattle.dbformat.specs.Cell.{cell, count};
 ghost use Rattle.dbformat.specs.Faults.{fault};
 ghost use Rattle.dbformat.specs.SchemaRow.{schema_row};
 ghost use Rattle.dbformat.specs.Tests.{reported_if};
@@ -7,19 +9,17 @@ ghost use Rattle.dbformat.specs.declared.Encoding.{Encoding};
 ghost use Rattle.dbbytes.specs.Row.{seen};
 ghost use Rattle.dbwalk.specs.Reporting.{IsWriteOrMemory, IsReportedTo, findings, SinkWalks};
 ghost use Rattle.dbwalk.specs.Rows.{schema_row_of};
-ghost use Rattle.dbwalk.specs.Taking.{row_place, fault_of, taken_faults, ReportsRow, HasFed, HasSieve};
+ghost use Rattle.dbwalk.specs.Taking.{row_place, fault_of, taken_faults, ReportsRow, HasFed, HoldsCell};
 ghost use Rattle.dbsource.specs.Errors.{is_out_of_memory};
 ghost use Rattle.dbsource.specs.Failures.{failures_after};
 ghost use Rattle.dbformat.specs.Address.{schema_start};
 
 use crate::entering::ask;
-use crate::page::undamaged;
-use crate::state::Tree;
 use crate::{Cause, Sink, Taken, Taker};
 use dbbytes::{RowSieve, SchemaRow};
 use dbformat::{Encoding, Fault, FaultCode, RowFault, SCHEMA_START};
-use dbsource::{Bench, RunError};
-use std::alloc::Allocator;
+use dbpage::PageView;
+use dbsource::RunError;
 
 /// The place of a row of the schema: its page, the number of its cell, and its rowid.
 #[derive(Clone, Copy, Drop)]
@@ -133,25 +133,11 @@ pub(crate) fn report_row<K: Sink, T: Taker>(
     }
 }
 
-// A sieve that has taken the payload bytes in cell `i` of the leaf at the level of the tree's path; none for a cell that cannot
-// be read.
-fn row_sieve<A: Allocator>(
-    bench: &Bench<A>,
-    tree: &Tree,
-    page: u32,
-    i: u32,
-    encoding: Encoding,
-) -> Option<RowSieve>
-    requires { length tree.now.path.items < 20 }
-    ensures { HasSieve bench.now.geometry.usable tree.now.kind bench.now.levels (length tree.now.path.items) page i encoding result }
+// A sieve that has taken the payload bytes in cell `i` of a leaf; none for a cell that cannot be read.
+fn row_sieve(view: &PageView<'_>, i: u32, encoding: Encoding) -> Option<RowSieve>
+    requires { i < count view.now }
+    ensures { HoldsCell result encoding (result_ok (cell view.now i)) }
 {
-    let usable = bench.geometry().usable;
-    let Ok(view) = undamaged(bench.page(tree.path.len()), page, usable, tree.kind) else {
-        return None;
-    };
-    if i >= view.cells() {
-        return None;
-    }
     match view.cell(i) {
         Ok(cell) => {
             let mut sieve = RowSieve::new(cell.size, encoding);
@@ -165,36 +151,27 @@ fn row_sieve<A: Allocator>(
 // Puts that sieve into its place. It is a function of its own so that the sieve takes room on the stack a second time only for a row
 // of the schema.
 #[inline(never)]
-fn put_sieve<A: Allocator>(
-    bench: &Bench<A>,
-    tree: &Tree,
-    page: u32,
-    i: u32,
-    encoding: Encoding,
-    sieve: &mut Option<RowSieve>,
-)
-    requires { length tree.now.path.items < 20 }
-    ensures { HasSieve bench.now.geometry.usable tree.now.kind bench.now.levels (length tree.now.path.items) page i encoding sieve.new }
+fn put_sieve(view: &PageView<'_>, i: u32, encoding: Encoding, sieve: &mut Option<RowSieve>)
+    requires { i < count view.now }
+    ensures { HoldsCell sieve.new encoding (result_ok (cell view.now i)) }
 {
-    *sieve = row_sieve(bench, tree, page, i, encoding);
+    *sieve = row_sieve(view, i, encoding);
 }
 
-/// In the tree of the schema, sets the sieve to one that has taken the payload bytes in cell `i` of the leaf at the level of
-/// the tree's path, or to none for a cell that cannot be read. In other trees the sieve does not change.
-pub(crate) fn begin_row<A: Allocator>(
-    bench: &Bench<A>,
-    tree: &Tree,
-    page: u32,
+/// In the tree of the schema, sets the sieve to one that has taken the payload bytes in cell `i` of a leaf, or to none for a cell
+/// that cannot be read. In other trees the sieve does not change.
+pub(crate) fn begin_row(
+    view: &PageView<'_>,
+    start: u32,
     i: u32,
     encoding: Encoding,
     sieve: &mut Option<RowSieve>,
 )
-    requires { length tree.now.path.items < 20 }
-    ensures schema { tree.now.start ≡ schema_start
-        → HasSieve bench.now.geometry.usable tree.now.kind bench.now.levels (length tree.now.path.items) page i encoding sieve.new }
-    ensures other { 1 ≤ tree.now.start → sieve.new ≡ sieve.old }
+    requires { i < count view.now }
+    ensures schema { start ≡ schema_start → HoldsCell sieve.new encoding (result_ok (cell view.now i)) }
+    ensures other { 1 ≤ start → sieve.new ≡ sieve.old }
 {
-    if tree.start == SCHEMA_START {
-        put_sieve(bench, tree, page, i, encoding, sieve);
+    if start == SCHEMA_START {
+        put_sieve(view, i, encoding, sieve);
     }
 }

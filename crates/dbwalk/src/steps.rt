@@ -119,7 +119,14 @@ fn key_before<A: Allocator>(
     if item == 0 {
         return None;
     }
-    leaf_cell(bench, kind, level, page, item - 1).key
+    let usable = bench.geometry().usable;
+    let Ok(view) = undamaged(bench.page(level), page, usable, kind) else {
+        return None;
+    };
+    if item > view.cells() {
+        return None;
+    }
+    leaf_cell(&view, item - 1).key
 }
 
 // The first step from one on at which there is something, and what is there.

@@ -1,9 +1,8 @@
--- What is read of the cells of a leaf at a level.
+-- What is read of the cells of a page.
 use Rattle.std.proofs.Common.{◌≡◌, ℕ, ◌+◌, ◌<◌, ◌≤◌, Bool, true, false, cond, ◌&&◌, List, [], Option, Some, None, Ok, Err, ℤ, refl, sym, ap, arith, ◌∙◌, subst}
-use Rattle.std.proofs.Common.{◌*◌, option_map, option_and_then, nat_le, nat_lt, slice_get, slice_index_or, IfSome}
+use Rattle.std.proofs.Common.{◌*◌, option_map, nat_le, nat_lt, slice_get, slice_index_or, IfSome}
 use Rattle.dbwalk.proofs.Common.{most_payload, View, undamaged, Cell, cell, count, overflow_size, InteriorIndex, InteriorTable, LeafIndex, LeafTable, CellFault}
-use Rattle.dbwalk.proofs.Common.{TreeKind, Pages, bytes_at, HasCell, HasCells, RowSieve, HasFed, HoldsCell, IsNextStep, HasNext, Next}
-use Rattle.std.specs.Result.{result_ok}
+use Rattle.dbwalk.proofs.Common.{TreeKind, Pages, bytes_at, HasCell, IsNextStep, HasNext, Next}
 use Rattle.std.proofs.lemmas.Bool.Decides.{nat_tests}
 use Rattle.std.proofs.lemmas.Option.{get_or_from_slice_get}
 use Rattle.dbformat.specs.Varint.{varint}
@@ -11,8 +10,6 @@ use Rattle.dbformat.specs.Cell.{bytes_from, payload_cell, cell_at}
 use Rattle.dbformat.specs.declared.PageKind.{PageKind}
 use Rattle.dbformat.specs.declared.PayloadKind.{PayloadKind}
 use Rattle.dbformat.specs.declared.PayloadKind.TheVariants.{TableLeaf, Index}
-use Rattle.dbformat.specs.declared.Encoding.{Encoding}
-use Rattle.dbwalk.specs.Taking.{HasSieve}
 use Rattle.dbformat.proofs.CellParts.{at_offset, then_some}
 
 -- a payload is at most 2147483647 bytes long
@@ -57,68 +54,24 @@ module _ (b : Pages) (kind : TreeKind) (level page : ℕ) (low : level < 20) (us
   seen y v e f = sym viewed ∙ ap (λ u. undamaged kind page u bytes) usable_is
       ∙ ap (λ z. undamaged kind page b.geometry.usable z) (bytes_are ∙ at_level b level y low e) ∙ f
 
-  pub has_cells : (n : ℕ) → ((v : View) → o ≡ Some v → n ≡ count v) → HasCells b.geometry.usable kind b.levels level page n
-  has_cells n h = record { count_is = λ y v e f. h v (seen y v e f) }
-
-  pub has_cell : (i : ℕ) (overflow : Option (ℕ × ℕ)) (key : Option ℤ) → IfSome overflow (λ p. p.1 ≤ most_payload)
-      → ((v : View) → o ≡ Some v → i < count v → (overflow ≡ option_and_then (λ c. option_map (λ p. (p, overflow_size c)) c.overflow) (result_ok (cell v i)))
-      × (key ≡ option_and_then (λ c. c.key) (result_ok (cell v i))))
-      → HasCell b.geometry.usable kind b.levels level page i overflow key
-  has_cell i overflow key most h = record {
-    most = most;
-    chain = λ y v e f l. (h v (seen y v e f) l).0;
-    key_is = λ y v e f l. (h v (seen y v e f) l).1;
-  }
-
-  -- the sieve of a cell, and what is at a step
-  pub has_sieve : (i : ℕ) (e : Encoding) (sieve : Option RowSieve) → ((v : View) → o ≡ Some v → i < count v → HoldsCell sieve e (result_ok (cell v i)))
-      → HasSieve b.geometry.usable kind b.levels level page i e sieve
-  has_sieve i e sieve h = record { read = λ y v a f l. h v (seen y v a f) l }
-
   pub has_next : (s : ℕ) (next : Next) → ((v : View) → o ≡ Some v → (count v ≤ 32768) × IsNextStep v s next)
       → HasNext b.geometry.usable kind b.levels level page s next
   has_next s next h = record { few = λ y v e f. (h v (seen y v e f)).0; stands = λ y v e f. (h v (seen y v e f)).1 }
 
 -- what is read of a readable cell, and of one that is not
-module _ (w v : View) (same : Some w ≡ Some v) (i : ℕ) where
-  view_same : w ≡ v
-  view_same = cc
+module _ (v : View) (i : ℕ) where
+  pub readable : (x : Cell) (overflow : Option (ℕ × ℕ)) (key : Option ℤ) → IfSome overflow (λ o. o.1 ≤ most_payload) → cell v i ≡ Ok x
+      → overflow ≡ option_map (λ p. (p, overflow_size x)) x.overflow → key ≡ x.key → HasCell v i overflow key
+  readable x overflow key most e f g = record { most = most; chain = rw e f; key_is = rw e g }
 
-  pub readable : (x : Cell) (overflow : Option (ℕ × ℕ)) (key : Option ℤ) → cell w i ≡ Ok x → overflow ≡ option_map (λ p. (p, overflow_size x)) x.overflow → key
-      ≡ x.key
-      → (overflow ≡ option_and_then (λ c. option_map (λ p. (p, overflow_size c)) c.overflow) (result_ok (cell v i)))
-      × (key ≡ option_and_then (λ c. c.key) (result_ok (cell v i)))
-  readable x overflow key e f g =
-      let read : Ok x ≡ cell v i = sym e ∙ ap (λ w. cell w i) view_same in (
-        f ∙ ap (λ r. option_and_then (λ c. option_map (λ p. (p, overflow_size c)) c.overflow) (result_ok r)) read,
-        g
-            ∙ ap (λ r. option_and_then (λ c. c.key) (result_ok r)) read,
-      )
-
-  pub unreadable : (e : CellFault) → cell w i ≡ Err e
-      → (◌≡◌ {A = Option (ℕ × ℕ)} None (option_and_then (λ c. option_map (λ p. (p, overflow_size c)) c.overflow) (result_ok (cell v i))))
-      × (◌≡◌ {A = Option ℤ} None (option_and_then (λ c. c.key) (result_ok (cell v i))))
-  unreadable e f =
-      let read : Err e ≡ cell v i = sym f ∙ ap (λ w. cell w i) view_same in
-      let a : ◌≡◌ {A = Option (ℕ × ℕ)} None (option_and_then (λ c. option_map (λ p. (p, overflow_size c)) c.overflow) (result_ok (cell v i))) =
-      ap (λ r. option_and_then (λ c. option_map (λ p. (p, overflow_size c)) c.overflow) (result_ok r)) read in
-      let b : ◌≡◌ {A = Option ℤ} None (option_and_then (λ c. c.key) (result_ok (cell v i))) = ap (λ r. option_and_then (λ c. c.key) (result_ok r)) read in
-      (a, b)
+  pub unreadable : (e : CellFault) → cell v i ≡ Err e → HasCell v i None None
+  unreadable e f = record { most = tt; chain = rw f refl; key_is = rw f refl }
 
 pub none_seen : {X : Type 0} (v : View) → ◌≡◌ {A = Option View} None (Some v) → X
 none_seen v e = cc
 
 pub same_view : (w v : View) → Some w ≡ Some v → w ≡ v
 same_view w v e = cc
-
--- The sieve of a cell of a leaf.
-
-module _ (w v : View) (same : Some w ≡ Some v) (i : ℕ) (e : Encoding) where
-  pub holds_cell : (sieve : Option RowSieve) (x : Cell) → cell w i ≡ Ok x → HasFed sieve x.size e x.local → HoldsCell sieve e (result_ok (cell v i))
-  holds_cell sieve x read h = subst (λ r. HoldsCell sieve e (result_ok r)) (sym read ∙ ap (λ w. cell w i) (same_view w v same)) h
-
-  pub holds_none : (sieve : Option RowSieve) (f : CellFault) → cell w i ≡ Err f → sieve ≡ None → HoldsCell sieve e (result_ok (cell v i))
-  holds_none sieve f read h = subst (λ r. HoldsCell sieve e (result_ok r)) (sym read ∙ ap (λ w. cell w i) (same_view w v same)) h
 
 -- What is read of an interior page at a step.
 

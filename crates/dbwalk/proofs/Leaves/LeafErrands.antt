@@ -1,12 +1,12 @@
 -- What a cell of a leaf leads to: its overflow chain, and then its own event.
-use Rattle.std.proofs.Common.{◌≡◌, ℕ, ◌+◌, ◌*◌, ◌%◌, ◌/◌, ◌<◌, Bool, true, false, cond, inl, inr, List, [], ◌∷◌, ◌++◌, length, map, Option, Some, None, Result}
-use Rattle.std.proofs.Common.{Ok, Err, ℤ, refl, sym, ap, ap₂, subst, arith, ◌∙◌, option_map, option_and_then, option_to_list, slice_get, ◌==◌}
+use Rattle.std.proofs.Common.{◌≡◌, ℕ, ◌+◌, ◌*◌, ◌%◌, ◌/◌, Bool, true, false, cond, inl, inr, List, [], ◌∷◌, ◌++◌, length, map, Option, Some, None, Result}
+use Rattle.std.proofs.Common.{Ok, Err, refl, sym, ap, ap₂, subst, arith, ◌∙◌, option_map, option_and_then, option_to_list, ◌==◌}
 use Rattle.dbwalk.proofs.Common.{IsBefore, AreQuiet, IsPast, Moves, Errand, errand_key, errands_of, start_of, then_step, overflow_step, child_step}
 use Rattle.dbwalk.proofs.Common.{is_child_step, cell_of_step, children_on, chain_on, child_path, chain_place, View, if_of_tree, is_interior, is_same_tree}
 use Rattle.dbwalk.proofs.Common.{tree_of, undamaged, view, Cell, cell, count, overflow_size, go, report_cell, errands_in, cell_errands, errands_before}
 use Rattle.dbwalk.proofs.Common.{page_bytes, usable_size, first_overflow, Way, Reference, link, role_of, tree_kind, tree_view, right_links, Event, own_visit}
 use Rattle.dbwalk.proofs.Common.{story_of, CellFault, InteriorIndex, InteriorTable, LeafIndex, LeafTable, TreeKind, cell_rowid, Finding, IsOnChain, IsChainOf}
-use Rattle.dbwalk.proofs.Common.{IsDone, HasCells, HasCell, overflow_errands, AreBefore, AreMarksOf, IsLeafAt, Mark}
+use Rattle.dbwalk.proofs.Common.{IsDone, overflow_errands, AreBefore, AreMarksOf, IsVisitAt, Mark}
 use Rattle.std.specs.Option.{option_map_or}
 use Rattle.std.specs.Result.{result_ok}
 use Rattle.std.proofs.lemmas.List.{append-nil}
@@ -101,8 +101,8 @@ none_done takes file U c i overflow marks s e m =
     })
 
 -- the first reference of a chain
-pub chain_start : (chain : Chain) (file : List ℕ) (kind : TreeKind) (k : ℕ) (children : List ℕ) (c : Reference) (levels : List (List ℕ)) (p i first left : ℕ)
-    → IsLeafAt file kind k children c levels p
+pub chain_start : (chain : Chain) (file : List ℕ) (kind : TreeKind) (k : ℕ) (children : List ℕ) (c : Reference) (p i first left : ℕ)
+    → IsVisitAt kind k children c p
     → chain.usable ≡ usable_size file → chain.start ≡ k → chain.path.now ≡ children → chain.page ≡ p → chain.cell ≡ i → chain.first ≡ first
     → chain.left ≡ left → cell_rowid file p i ≡ chain.rowid
     → IsChainOf file chain (record {
@@ -111,7 +111,7 @@ pub chain_start : (chain : Chain) (file : List ℕ) (kind : TreeKind) (k : ℕ) 
       role =
           record { role = first_overflow left; from = c.page; item = i };
     })
-chain_start chain file kind k children c levels p i first left at usables start path page item one rest rowid = record {
+chain_start chain file kind k children c p i first left at usables start path page item one rest rowid = record {
   usable = usables;
   page = sym one;
   role = ap first_overflow (sym rest);
@@ -150,25 +150,19 @@ rowid_in file kind p v i h = by_view (view p (usable_size file) (page_bytes file
     by_view (Err e) f = cc
     by_view (Ok u) f = by_tree (is_same_tree (tree_of u.kind) kind) u f
 
--- what a program reads of the leaf at its level: its page, the number of its cells, and a cell
-module _ (file : List ℕ) {kind : TreeKind} {k : ℕ} {children : List ℕ} {c : Reference} {levels : List (List ℕ)} {p : ℕ} {v : View}
-    (at : IsLeafAt file kind k children c levels p) (viewed : tree_view file c ≡ Some v) {usable : ℕ} (usables : usable ≡ usable_size file) where
-  pub seen_here : undamaged kind p usable (page_bytes file p) ≡ Some v
-  seen_here = ap (λ u. undamaged kind p u (page_bytes file p)) usables ∙ ap (λ q. undamaged kind q (usable_size file) (page_bytes file q)) (sym at.page)
-      ∙ sym (view_is file c kind at.kind_is) ∙ viewed
+-- what a program reads of a page of a tree
+module _ (file : List ℕ) {kind : TreeKind} {k : ℕ} {children : List ℕ} {c : Reference} {p : ℕ} {v : View} (at : IsVisitAt kind k children c p)
+    (viewed : tree_view file c ≡ Some v) where
+  seen_here : undamaged kind p (usable_size file) (page_bytes file p) ≡ Some v
+  seen_here = ap (λ q. undamaged kind q (usable_size file) (page_bytes file q)) (sym at.page) ∙ sym (view_is file c kind at.kind_is) ∙ viewed
 
   pub rowid_here : (i : ℕ) → cell_rowid file p i ≡ option_and_then (λ c. c.key) (result_ok (cell v i))
-  rowid_here i = rowid_in file kind p v i (ap (λ u. undamaged kind p u (page_bytes file p)) (sym usables) ∙ seen_here)
+  rowid_here i = rowid_in file kind p v i seen_here
 
-  pub cells_here : {level n : ℕ} → level ≡ length children → HasCells usable kind levels level p n → n ≡ count v
-  cells_here deep has = has.count_is (page_bytes file p) v (ap (slice_get levels) deep ∙ at.bytes) seen_here
-
-  pub cell_here : {level i : ℕ} {overflow : Option (ℕ × ℕ)} {key : Option ℤ} → level ≡ length children → HasCell usable kind levels level p i overflow key
-      → i < count v
-      → (overflow ≡ read_overflow (result_ok (cell v i))) × (key ≡ option_and_then (λ c. c.key) (result_ok (cell v i)))
-  cell_here deep has low =
-      let there = ap (slice_get levels) deep ∙ at.bytes in
-      (has.chain (page_bytes file p) v there seen_here low, has.key_is (page_bytes file p) v there seen_here low)
+  -- its view is that of its bytes
+  pub view_here : {usable : ℕ} {bytes : List ℕ} (o : Option View) → usable ≡ usable_size file → bytes ≡ page_bytes file p → undamaged kind p usable bytes ≡ o
+      → o ≡ Some v
+  view_here o usables are is = sym is ∙ ap₂ (undamaged kind p) usables are ∙ seen_here
 
 -- visits that are all before the place of its chain are before all that it leads to
 pub past_cell : (U : List Reference) (c : Reference) (i : ℕ) (overflow : Option (ℕ × ℕ)) → AreBefore U (then_step c.address (overflow_step i))

@@ -5,7 +5,7 @@ use Rattle.dbwalk.proofs.Common.{usable_size, page_bytes, start_of, View, undama
 use Rattle.dbwalk.proofs.Common.{inner_faults, tree_page_faults, tree_page_row, TreeKind, page_cause, visit_cause, reported_row, reported_fault, reported_by}
 use Rattle.dbwalk.proofs.Common.{Finding}
 use Rattle.dbwalk.proofs.Common.{Cause, RowidBounds, FaultCode, leaf_after, depth_faults, damaged_row, view_cause, with_leaf, page_findings, HasPageAt}
-use Rattle.dbwalk.proofs.Common.{IsReportedTo, SinkState, IsCandidate, role_at, IsOpen, IsLeafAt, is_followed, rules_of, Walk, IsInterior}
+use Rattle.dbwalk.proofs.Common.{IsReportedTo, SinkState, IsCandidate, role_at, IsOpen, IsVisitAt, is_followed, rules_of, Walk, IsInterior}
 use Rattle.std.specs.Option.{option_map_or}
 use Rattle.std.proofs.lemmas.List.{append-nil}
 use Rattle.std.proofs.lemmas.Bool.Decides.{nat_tests}
@@ -221,7 +221,7 @@ module _ {S : Type 0} (takes : S → Finding → S → Type 0) (held : S → Sin
 module _ (file : List ℕ) {kind : TreeKind} {k : ℕ} {children : List ℕ} {p from item : ℕ} {c : Reference} (candidate : IsCandidate kind k children p from item c)
     {levels levels' : List (List ℕ)} (there : HasPageAt levels (length children) (page_bytes file p)) (same : levels' ≡ levels) {kind' : TreeKind}
     (kinds : kind' ≡ kind) {usable : ℕ} (usables : usable ≡ usable_size file) where
-  bytes_are : (bytes : List ℕ) → slice_get levels' (length children) ≡ Some bytes → bytes ≡ page_bytes file p
+  pub bytes_are : (bytes : List ℕ) → slice_get levels' (length children) ≡ Some bytes → bytes ≡ page_bytes file p
   bytes_are bytes e = there bytes (ap (λ ls. slice_get ls (length children)) (sym same) ∙ e)
 
   view_of : (bytes : List ℕ) (o : Option View) → slice_get levels' (length children) ≡ Some bytes → undamaged kind' p usable bytes ≡ o → tree_view file c ≡ o
@@ -249,7 +249,7 @@ module _ (file : List ℕ) {kind : TreeKind} {k : ℕ} {children : List ℕ} {p 
   -- a leaf, for the state at its cells
   module _ {kind'' : TreeKind} (now_is : kind'' ≡ kind) {k' : ℕ} (starts : k' ≡ k) {children' : List ℕ} (ways : children' ≡ children)
       (found : IsOpenLeaf usable kind' levels' (length children) p) where
-    pub found_leaf : IsLeafAt file kind'' k' children' c levels' p
+    pub found_leaf : IsVisitAt kind'' k' children' c p
     found_leaf = record {
       page = candidate.page;
       kind_is = kind_is file kind k children p from item c candidate ∙ ap (λ q. Some q) (sym now_is);
@@ -257,5 +257,4 @@ module _ (file : List ℕ) {kind : TreeKind} {k : ℕ} {children : List ℕ} {p 
       depth = candidate.depth ∙ ap (λ l. length l + 1) (sym ways);
       path = candidate.path ∙ sym ways;
       chain = candidate.chain;
-      bytes = ap (λ l. slice_get levels' (length l)) ways ∙ found.there ∙ ap (λ b. Some b) (bytes_are found.bytes found.there);
     }

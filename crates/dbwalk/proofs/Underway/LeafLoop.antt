@@ -3,7 +3,7 @@ use Rattle.std.proofs.Common.{◌≡◌, ℕ, zero, suc, ◌+◌, ◌-◌, ◌<�
 use Rattle.std.proofs.Common.{subst, arith, ◌∙◌, append_assoc, flat_map, option_and_then, ◌==◌}
 use Rattle.dbwalk.proofs.Common.{IsIn, IsBefore, AreQuiet, start_of, then_step, overflow_step, schema_start, cell, count, cell_errands, errands_before, View}
 use Rattle.dbwalk.proofs.Common.{is_interior, Reference, SchemaRow, own_visit, TreeKind, RunError, Finding, visited_below, CellKey, Item, Walk, bare}
-use Rattle.dbwalk.proofs.Common.{AreRisingFrom, overflow_errands, AreBefore, IsAt, done_below, IsLeafAt, watches, Mark, Tree, Taken}
+use Rattle.dbwalk.proofs.Common.{AreRisingFrom, overflow_errands, AreBefore, IsAt, done_below, IsVisitAt, watches, Mark, Tree, Taken}
 use Rattle.std.specs.List.{range_with_len}
 use Rattle.std.specs.Result.{result_ok}
 use Rattle.std.proofs.lemmas.Bool.{cases_order}
@@ -11,7 +11,6 @@ use Rattle.std.proofs.lemmas.Grind.{flat_map-append}
 use Rattle.dbsurvey.proofs.Order.{IsIn-cases, IsBefore-trans}
 use Rattle.dbformat.proofs.Looping.{all_quiet, one_cell_more, range-parts}
 use Rattle.dbtrace.proofs.Stepping.{has_steps}
-use Rattle.dbwalk.specs.LeafCells.{ArePassedAt}
 use Rattle.dbwalk.proofs.Leaves.LeafErrands.{read_overflow}
 use Rattle.dbwalk.proofs.Underway.Visits.{before_next, before_later}
 use Rattle.dbwalk.proofs.Reporting.Belows.{visited_none, below_begins}
@@ -24,15 +23,9 @@ abbrev pub cells_done : List ℕ → Walk → Reference → TreeKind → View �
 cells_done file from c kind v i = done_below file from (errands_before c kind v i)
 
 -- the visit of the leaf, where what a program has is the same
-pub leaf_as : (file : List ℕ) (kind kind' : TreeKind) (k k' : ℕ) (children children' : List ℕ) (levels levels' : List (List ℕ)) (p : ℕ) (c : Reference) → kind'
-    ≡ kind → k' ≡ k → children' ≡ children → levels' ≡ levels → IsLeafAt file kind k children c levels p → IsLeafAt file kind' k' children' c levels' p
-leaf_as file kind kind' k k' children children' levels levels' p c a b d e leaf = rw (a, b, d, e) leaf
-
--- what is passed over, by the same bytes
-pub passed_same : (usable' usable : ℕ) (kind' kind : TreeKind) (levels' levels : List (List ℕ)) (level' level page from end : ℕ)
-    (greatest after : Option CellKey) → usable' ≡ usable → kind' ≡ kind → levels' ≡ levels → level' ≡ level
-    → ArePassedAt usable' kind' levels' level' page from end greatest after → ArePassedAt usable kind levels level page from end greatest after
-passed_same usable' usable kind' kind levels' levels level' level page from end greatest after a b c d passed = rw (← a, ← b, ← c, ← d) passed
+pub leaf_as : {kind kind' : TreeKind} {k k' : ℕ} {children children' : List ℕ} {c : Reference} {p : ℕ} → kind' ≡ kind → k' ≡ k → children' ≡ children
+    → IsVisitAt kind k children c p → IsVisitAt kind' k' children' c p
+leaf_as a b d leaf = rw (a, b, d) leaf
 
 -- cells from one on, after those before it
 pub cells_after : (c : Reference) (kind : TreeKind) (v : View) (i n : ℕ) → errands_before c kind v (i + n) ≡ errands_before c kind v i

@@ -7,7 +7,7 @@ use Rattle.dbwalk.proofs.Common.{undamaged, usable_size, first_overflow, Referen
 use Rattle.dbwalk.proofs.Common.{key_before}
 use Rattle.dbwalk.proofs.Common.{key_from, key_up_to, left_key, Finding, reported_fault, key_value, RowidBounds, Item, found, IsChainOf, IsNext, is_late}
 use Rattle.dbwalk.proofs.Common.{key_cause}
-use Rattle.dbwalk.proofs.Common.{order_reported, top_after, errands_from, child_at, top_visit, IsCandidate, IsLeafAt, IsStepped, path_of, IsEmptyAt, no_chain}
+use Rattle.dbwalk.proofs.Common.{order_reported, top_after, errands_from, child_at, top_visit, IsCandidate, IsVisitAt, IsStepped, path_of, IsEmptyAt, no_chain}
 use Rattle.dbwalk.proofs.Common.{no_child, without_key, HasLeft, IsNextStep, HasNext, HasDone, IsInterior, done_below, entered, IsWalkingOn, tree_walk, StopsAt}
 use Rattle.dbwalk.proofs.Common.{StackFrame, Mark, Tree, Next, End, Nothing}
 use Rattle.std.specs.Prelude.{unwrap_or}
@@ -64,7 +64,7 @@ module _ {P : Type 0} {moves : P → Item → P → Type 0} {file : List ℕ} {W
   way = top_candidate file tree.kind tree.start fs f [] c.page 0 tree.start c candidate on.calls
 
   -- the visit of the frame, as that of a leaf
-  top_at : IsLeafAt file tree.kind tree.start (path_of fs) top levels f.page
+  top_at : IsVisitAt tree.kind tree.start (path_of fs) top f.page
   top_at = record {
     page = sym on_page;
     kind_is = role;
@@ -72,7 +72,6 @@ module _ {P : Type 0} {moves : P → Item → P → Type 0} {file : List ℕ} {W
     depth = way.candidate.depth;
     path = way.candidate.path;
     chain = way.candidate.chain;
-    bytes = ap (slice_get levels) (path_length fs ∙ (let e : length fs ≡ 0 + length fs = omega arith in e)) ∙ read_last file levels 0 fs f on.read;
   }
 
   module _ {g : StackFrame} (stepped : IsStepped f g) where
@@ -196,7 +195,7 @@ module _ {P : Type 0} {moves : P → Item → P → Type 0} {file : List ℕ} {W
       pub chain_is : (chain : Chain) → chain.usable ≡ usable_size file → chain.start ≡ tree.start → chain.path.now ≡ path_of fs → chain.page ≡ f.page
           → chain.cell ≡ f.next / 3 → chain.first ≡ first → chain.left ≡ left → chain.rowid ≡ rowid → IsChainOf file chain chained
       chain_is chain usables starts ways pages items ones rests keys =
-          chain_start chain file tree.kind tree.start (path_of fs) top levels f.page h.n first left top_at usables starts ways pages
+          chain_start chain file tree.kind tree.start (path_of fs) top f.page h.n first left top_at usables starts ways pages
           (items ∙ ap (λ s. s / 3) h.step ∙ third h.n) ones rests
           (rowid_in file tree.kind f.page v h.n (ap (λ p. undamaged tree.kind p (usable_size file) (page_bytes file p)) on_page
           ∙ sym (view_is file top tree.kind role) ∙ viewed) ∙ ap (λ r. option_and_then (λ c. c.key) (result_ok r)) h.read ∙ sym (keys ∙ h.key))

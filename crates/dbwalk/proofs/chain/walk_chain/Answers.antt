@@ -1,4 +1,4 @@
-use Rattle.std.proofs.Common.{rules, ◌<◌, inl, refl, subst, ◌∙◌, arith, IfSome}
+use Rattle.std.proofs.Common.{◌<◌, inl, refl, subst, ◌∙◌, arith, IfSome}
 use Rattle.dbwalk.proofs.Common.{IsPlace}
 use Rattle.dbmarks.proofs.Readings.{keeps_same}
 use Rattle.dbwalk.proofs.Chaining.ChainTurns.{way_start}

@@ -1,4 +1,4 @@
-use Rattle.std.proofs.Common.{◌≤◌, inl, refl, ap, subst, ◌∙◌, IfSome}
+use Rattle.std.proofs.Common.{◌≤◌, inl, refl, ap, subst, IfSome}
 use Rattle.dbwalk.proofs.Common.{most_payload}
 use Rattle.dbmarks.proofs.Readings.{log_none}
 use Rattle.dbwalk.proofs.Leaves.LeafErrands.{none_done, chain_start}
@@ -8,27 +8,27 @@ use Rattle.dbwalk.proofs.Pages.Levels.{page_buffer}
 use Rattle.dbwalk.proofs.leaf.walk_overflow.Goals as goal
 
 pub returns-in-None-clause-log : goal.returns-in-None-clause-log
-returns-in-None-clause-log g c = log_none c.args.bench.now.geometry.page_size c.args.marks.now c.args.marks.now (g.S.Source.held c.args.source.now) refl
+returns-in-None-clause-log g c = log_none c.args.at.place.shape.page_size c.args.marks.now c.args.marks.now (g.S.Source.held c.args.source.now) refl
     (λ file e U d at row past m. (
-      none_done g.K.Sink.takes file U d c.args.at.item c.args.at.cell.overflow c.args.marks.now c.args.sink.now c.in-None.is m,
-      feeds_nothing file U d c.args.at.item c.args.at.cell.overflow c.args.sieve.now c.in-None.is,
+      none_done g.K.Sink.takes file U d c.args.at.place.item c.args.at.cell.overflow c.args.marks.now c.args.sink.now c.in-None.is m,
+      feeds_nothing file U d c.args.at.place.item c.args.at.cell.overflow c.args.sieve.now c.in-None.is,
     ))
 
 pub returns-in-Some-clause-log : goal.returns-in-Some-clause-log
-returns-in-Some-clause-log g c = log_shaped c.chain-buffer.ensures.len.1 c.walk_chain.ensures.log (λ file e h U d at row past m.
+returns-in-Some-clause-log g c = log_shaped c.requires.shape.1 c.walk_chain.ensures.log (λ file e h U d at row past m.
     let t = c.args.at.tree.now in
     let next = rw c.in-Some.is at past in
-    let k = h U _ (chain_start _ file t.kind t.start t.path.items d c.args.bench.now.levels c.args.at.page c.args.at.item c.in-Some.first c.in-Some.left at
-    (ap (λ s. s.usable) (c.geometry.ensures.value ∙ e)) refl c.as_slice.ensures.value refl refl refl refl row) next m in (
+    let k = h U _ (chain_start _ file t.kind t.start t.path.items d c.args.at.place.page c.args.at.place.item c.in-Some.first c.in-Some.left at
+    (ap (λ s. s.usable) e) refl c.as_slice.ensures.value refl refl refl refl row) next m in (
       rw c.in-Some.is k.0,
-      on_ok c.walk_chain.result k.1 (feeds_chain file U d c.args.at.item c.in-Some.first c.in-Some.left c.args.at.cell.overflow c.args.sieve.now
+      on_ok c.walk_chain.result k.1 (feeds_chain file U d c.args.at.place.item c.in-Some.first c.in-Some.left c.args.at.cell.overflow c.args.sieve.now
           c.walk_chain.new.sieve c.in-Some.is next),
     ))
 
 pub walk_chain-requires : goal.walk_chain-requires
 walk_chain-requires g c = record {
-  chain = (c.requires.0, subst (λ o. IfSome o (λ o. o.1 ≤ most_payload)) c.in-Some.is c.requires.1);
-  buffer = page_buffer c.geometry.ensures.value c.geometry.ensures.range c.chain-buffer.ensures.len.1;
+  chain = (c.requires.cell.0, subst (λ o. IfSome o (λ o. o.1 ≤ most_payload)) c.in-Some.is c.requires.cell.1);
+  buffer = page_buffer refl c.requires.shape.0 c.requires.shape.1;
 }
 
 pub returns-in-None-clause-beside : goal.returns-in-None-clause-beside

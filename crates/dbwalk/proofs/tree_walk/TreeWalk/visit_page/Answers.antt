@@ -1,4 +1,4 @@
-use Rattle.std.proofs.Common.{rules, ◌<◌, length, false, Ok, Err, refl, sym, ap, subst, ◌∙◌}
+use Rattle.std.proofs.Common.{rules, length, false, Ok, Err, refl, sym, ap, subst, ◌∙◌, slice_get}
 use Rattle.dbwalk.proofs.Common.{count, HasSpan, AreRisingFrom}
 use Rattle.std.proofs.lemmas.Bool.{false≢true}
 use Rattle.std.proofs.lemmas.Result.{err_from_is_err_and}
@@ -10,7 +10,7 @@ use Rattle.dbwalk.specs.LeafCells.{ArePassed}
 use Rattle.dbmarks.specs.Reads.{Reads}
 use Rattle.dbwalk.proofs.Leaves.RisingKeys.{rising_all}
 use Rattle.dbwalk.proofs.Pages.PageReportings.{with_span}
-use Rattle.dbwalk.proofs.Pages.PageVisits.{found_interior, found_damage, found_leaf, found_view, kind_is}
+use Rattle.dbwalk.proofs.Pages.PageVisits.{bytes_are, found_interior, found_damage, found_leaf, found_view, kind_is}
 use Rattle.dbwalk.proofs.Underway.CellSteps.{other_start, leaf_passed}
 use Rattle.dbwalk.proofs.Underway.Visits.{visited, visit_then, visit_alone, entered_past, entered_err, visited_before, page_moves, visited_at}
 use Rattle.dbwalk.proofs.Underway.Walks.{walked_as, walked_as_ok, walked_behind, walked_by}
@@ -57,7 +57,8 @@ returns-in-Damaged-clause-log g c = log_none c.args.bench.now.geometry.page_size
 
 pub returns-in_err-walk_leaf-in-Leaf-clause-log : goal.returns-in_err-walk_leaf-in-Leaf-clause-log
 returns-in_err-walk_leaf-in-Leaf-clause-log g c = has_weaker _ _ c.in_err-walk_leaf-in-Leaf.ensures.log
-    (λ log r. subst (λ n. Reads n c.args.self.now.marks.now c.walk_leaf.new.self.marks.now log) (ap (λ s. s.page_size) c.report_page.ensures.bench.0) r)
+    (λ log r. subst (λ n. Reads n c.args.self.now.marks.now c.walk_leaf.new.self.marks.now log)
+    (ap (λ s. s.page_size) (c.geometry-shape.ensures.value ∙ c.report_page.ensures.bench.0)) r)
     (λ file h e coded from d above item candidate there next followed m top first bound.
     let same = c.pass_over.ensures.others in
     let tree = c.report_page.ensures.tree in
@@ -66,9 +67,12 @@ returns-in_err-walk_leaf-in-Leaf-clause-log g c = has_weaker _ _ c.in_err-walk_l
     (length c.args.self.now.tree.path.items) c.args.page f) c.in-Leaf.is c.report_page.ensures.«open» in
     let at = found_leaf file candidate there c.report_page.ensures.bench.1 c.report_page.ensures.tree.1 (ap (λ s. s.usable) (c.report_page.ensures.bench.0 ∙ e))
     (same.1 ∙ tree.1) (same.0 ∙ tree.0) (ap (λ p. p.items) (same.3 ∙ tree.3)) found.leaf in
+    let are = bytes_are file candidate there c.report_page.ensures.bench.1 c.report_page.ensures.tree.1
+    (ap (λ s. s.usable) (c.report_page.ensures.bench.0 ∙ e)) c.chain-buffer.result.0.now
+    (ap (slice_get c.report_page.new.bench.levels) (sym (c.len.ensures.value ∙ ap (λ p. length p.items) (same.3 ∙ tree.3))) ∙ c.chain-buffer.ensures.page) in
     let here = visited_at file from d first top bound c.pass_over.new.self m (c.pass_over.ensures.kept c.if-pass_over.false ∙ tree.2 ∙ top) (same.2
     ∙ reported.1) in
-    let done = h (c.report_page.ensures.bench.0 ∙ e) coded (visited file from d) d found.leaf.view at
+    let done = h (c.geometry-shape.ensures.value ∙ c.report_page.ensures.bench.0 ∙ e) coded (visited file from d) d found.leaf.view at are
     (found_view file candidate there c.report_page.ensures.bench.1 c.report_page.ensures.tree.1 (ap (λ s. s.usable) (c.report_page.ensures.bench.0 ∙ e))
     found.leaf) found.leaf.leaf (visited_before file from d next) here in
     let q = err_from_is_err_and c.from_residual.result c.from_residual.ensures.1 in
@@ -80,7 +84,8 @@ returns-in_err-walk_leaf-in-Leaf-clause-log g c = has_weaker _ _ c.in_err-walk_l
 
 pub returns-in_ok-walk_leaf-in-Leaf-clause-log : goal.returns-in_ok-walk_leaf-in-Leaf-clause-log
 returns-in_ok-walk_leaf-in-Leaf-clause-log g c = has_weaker _ _ c.in_ok-walk_leaf-in-Leaf.ensures.log
-    (λ log r. subst (λ n. Reads n c.args.self.now.marks.now c.walk_leaf.new.self.marks.now log) (ap (λ s. s.page_size) c.report_page.ensures.bench.0) r)
+    (λ log r. subst (λ n. Reads n c.args.self.now.marks.now c.walk_leaf.new.self.marks.now log)
+    (ap (λ s. s.page_size) (c.geometry-shape.ensures.value ∙ c.report_page.ensures.bench.0)) r)
     (λ file h e coded from d above item candidate there next followed m top first bound.
     let same = c.pass_over.ensures.others in
     let tree = c.report_page.ensures.tree in
@@ -89,9 +94,12 @@ returns-in_ok-walk_leaf-in-Leaf-clause-log g c = has_weaker _ _ c.in_ok-walk_lea
     (length c.args.self.now.tree.path.items) c.args.page f) c.in-Leaf.is c.report_page.ensures.«open» in
     let at = found_leaf file candidate there c.report_page.ensures.bench.1 c.report_page.ensures.tree.1 (ap (λ s. s.usable) (c.report_page.ensures.bench.0 ∙ e))
     (same.1 ∙ tree.1) (same.0 ∙ tree.0) (ap (λ p. p.items) (same.3 ∙ tree.3)) found.leaf in
+    let are = bytes_are file candidate there c.report_page.ensures.bench.1 c.report_page.ensures.tree.1
+    (ap (λ s. s.usable) (c.report_page.ensures.bench.0 ∙ e)) c.chain-buffer.result.0.now
+    (ap (slice_get c.report_page.new.bench.levels) (sym (c.len.ensures.value ∙ ap (λ p. length p.items) (same.3 ∙ tree.3))) ∙ c.chain-buffer.ensures.page) in
     let here = visited_at file from d first top bound c.pass_over.new.self m (c.pass_over.ensures.kept c.if-pass_over.false ∙ tree.2 ∙ top) (same.2
     ∙ reported.1) in
-    let done = h (c.report_page.ensures.bench.0 ∙ e) coded (visited file from d) d found.leaf.view at
+    let done = h (c.geometry-shape.ensures.value ∙ c.report_page.ensures.bench.0 ∙ e) coded (visited file from d) d found.leaf.view at are
     (found_view file candidate there c.report_page.ensures.bench.1 c.report_page.ensures.tree.1 (ap (λ s. s.usable) (c.report_page.ensures.bench.0 ∙ e))
     found.leaf) found.leaf.leaf (visited_before file from d next) here in
     entered_past _ _ file from d _ c.in_ok-walk_leaf-in-Leaf.field-0 _ _ _
@@ -132,14 +140,21 @@ returns-in_err-walk_leaf-in-Leaf-clause-walked g c =
     let q = err_from_is_err_and c.from_residual.result c.from_residual.ensures.1 in
     let same = c.pass_over.ensures.others in
     walked_as g.S.Source.held g.K.Sink.held g.T.Taker.refusals {R = Unit {0}} (q.1 ∙ ap Err q.2)
-    (walked_behind g.S.Source.held g.K.Sink.held g.T.Taker.refusals {R = Unit {0}} {a = tt} c.in_err-walk_leaf-in-Leaf.ensures.walked
+    (walked_behind g.S.Source.held g.K.Sink.held g.T.Taker.refusals {R = Unit {0}} {a = tt}
+    (rw c.geometry-shape.ensures.value at c.in_err-walk_leaf-in-Leaf.ensures.walked)
     (walked_by g.S.Source.held g.K.Sink.held g.T.Taker.refusals
     (refl, refl, refl, refl, refl, same.0 ∙ c.report_page.ensures.tree.0, same.1 ∙ c.report_page.ensures.tree.1) c.report_page.ensures.bench.0 refl
     (walks_ok c.report_page.ensures.writes) refl tt (λ l. refl)))
 
 pub walk_leaf-requires : goal.walk_leaf-requires
 walk_leaf-requires g c =
-    (search rules, (subst (λ p. length p.items < 20) (sym (c.pass_over.ensures.others.3 ∙ c.report_page.ensures.tree.3)) c.requires.0, c.requires.1))
+    let size = ap (λ s. s.page_size) (sym c.geometry-shape.ensures.value) in
+    let len = c.chain-buffer.ensures.len in
+    record { page = c.requires.1; shape = (c.geometry-shape.ensures.range, len.0 ∙ size, len.1 ∙ size) }
+
+pub chain-buffer-requires : goal.chain-buffer-requires
+chain-buffer-requires g c =
+    (search rules, rw (c.len.ensures.value, c.pass_over.ensures.others.3, c.report_page.ensures.tree.3) c.requires.0)
 
 pub returns-then-pass_over-clause-walked : goal.returns-then-pass_over-clause-walked
 returns-then-pass_over-clause-walked g c =
@@ -152,7 +167,8 @@ pub returns-in_ok-walk_leaf-in-Leaf-clause-walked : goal.returns-in_ok-walk_leaf
 returns-in_ok-walk_leaf-in-Leaf-clause-walked g c =
     let same = c.pass_over.ensures.others in
     walked_as_ok g.S.Source.held g.K.Sink.held g.T.Taker.refusals
-    (walked_behind g.S.Source.held g.K.Sink.held g.T.Taker.refusals {R = Unit {0}} {a = tt} c.in_ok-walk_leaf-in-Leaf.ensures.walked
+    (walked_behind g.S.Source.held g.K.Sink.held g.T.Taker.refusals {R = Unit {0}} {a = tt}
+    (rw c.geometry-shape.ensures.value at c.in_ok-walk_leaf-in-Leaf.ensures.walked)
     (walked_by g.S.Source.held g.K.Sink.held g.T.Taker.refusals
     (refl, refl, refl, refl, refl, same.0 ∙ c.report_page.ensures.tree.0, same.1 ∙ c.report_page.ensures.tree.1) c.report_page.ensures.bench.0 refl
     (walks_ok c.report_page.ensures.writes) refl tt (λ l. refl)))
