@@ -22,10 +22,10 @@ use Rattle.dbwalk.specs.Beside.{IsAtStep}
 abbrev pub leaves_from : Reference → List ℕ → ℕ → ℕ → List (Errand Way Event)
 leaves_from d page j n = map (leaf_errand d page) (range_with_len j n)
 
--- something is left after some visits, or an error stopped it
-abbrev pub LeavesErrands : {S : Type 0} → (S → Finding → S → Type 0) → List ℕ → List Reference → List (Errand Way Event) → S → List (Errand Way Event)
-    → Result (Unit {0}) RunError → List Mark → S → Type 0
-LeavesErrands takes file W errands before left (Ok u) marks now = (U : List Reference) × IsLeft takes file W errands before U left (marks, now)
+-- by the answer something is left after some visits, or an error stopped it
+abbrev pub LeavesErrands : {S A : Type 0} → (S → Finding → S → Type 0) → List ℕ → List Reference → List (Errand Way Event) → S
+    → (A → List (Errand Way Event)) → Result A RunError → List Mark → S → Type 0
+LeavesErrands takes file W errands before left (Ok a) marks now = (U : List Reference) × IsLeft takes file W errands before U (left a) (marks, now)
 LeavesErrands takes file W errands before left (Err e) marks now = IsDone {A = Unit {0}} takes file W errands (Err e) marks before now
 
 -- The trunks of the freelist as a program walks them.
@@ -55,9 +55,8 @@ pub record IsOnTrunks {S : Type 0} (takes : S → Finding → S → Type 0) (fil
   pub at : IsAtStep takes file W c before place Itself marks now
   pub role : role_of at.d ≡ trunk
 
--- a trunk is open: the next one is left, from this item, or an error stopped it
+-- a trunk is open: the next one is left, from this item
 abbrev pub OpensTrunk : {S : Type 0} → (S → Finding → S → Type 0) → List ℕ → List Reference → Reference → S → Reference → Result ℕ RunError
     → List Mark → S → Type 0
-OpensTrunk takes file W c before d (Ok item) marks now = (U : List Reference)
-    × IsLeft takes file W (Go c ∷ []) before U (map (go d) (next_trunk d.page (page_bytes file d.page) item)) (marks, now)
-OpensTrunk takes file W c before d (Err e) marks now = IsDone {A = Unit {0}} takes file W (Go c ∷ []) (Err e) marks before now
+OpensTrunk takes file W c before d =
+    LeavesErrands takes file W (Go c ∷ []) before (λ item. map (go d) (next_trunk d.page (page_bytes file d.page) item))

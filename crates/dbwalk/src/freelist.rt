@@ -50,7 +50,7 @@ pub(crate) fn walk_leaves<K: Sink, A: Allocator>(
     ensures done { (file : List ℕ) (W : List Reference) (errands : List (Errand Way Event)) (before : K) (U : List Reference) (d : Reference)
         (tail : List (Errand Way Event))
         → d.page ≡ page → IsLeft K.takes file W errands before U (leaf_errands d bytes.now count ++ tail) (marks.old, sink.old)
-        → LeavesErrands K.takes file W errands before tail result marks.new sink.new }
+        → LeavesErrands K.takes file W errands before (λ u. tail) result marks.new sink.new }
 {
     for index in 0..count {
         let step = Step {

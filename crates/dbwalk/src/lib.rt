@@ -18,8 +18,9 @@
 //! an overflow chain and for the freelist, which do not change the progress, `IsDone` states the same by the visits.
 //!
 //! **Beside the pages of a tree** (specs/Beside) a walk goes from step to step: along an overflow chain, or from trunk to trunk.
-//! `enter_beside` marks and reads the page of a step. `IsAtStep` says what is left then, `Turns` what one turn leaves, and
-//! `WalksBeside` what such a walk reads and what it keeps of all that it borrows.
+//! `enter_beside` marks the page of a step and reads it into a buffer, which the bench lends once for the whole walk. `IsAtStep`
+//! says what is left then, `Turns` what one turn leaves, and `WalksBeside` what such a walk reads and what it keeps of all that
+//! it borrows.
 //!
 //! **What a call keeps** (specs/Walked). A walk over a tree is one struct, `TreeWalk`, of all that it borrows but the page
 //! buffers. One clause of each of its methods, `Walked`, says that it still borrows the same, that each failure of a source or a
@@ -37,7 +38,8 @@
 //! path stay in the bench, one level each, at most 20. After a chain the walk goes on where it left the path.
 //!
 //! **Pages reported at once** (specs/LeafCells). If one reading of a page shows all of its cells, the row and the faults come
-//! from that reading. For a leaf whose cells have nothing but their keys to look at, the first and the last key are enough.
+//! from that reading. For a leaf whose cells have nothing but their keys to look at, the first and the last key are enough. The
+//! cells of another leaf are walked over with one view of its bytes.
 //!
 //! **Rows of the schema** (specs/Taking) go to the taker in the order of their cells; its answer decides whether S04 is
 //! reported. All that is said of a walk holds for every taker. The walk over a leaf passes its cells a place for the sieve that takes a row's payload.
