@@ -117,10 +117,9 @@ impl<A: Allocator> Bench<A> {
             × OnOk result (IfSome (S.held source.old).bytes (λ file. IsRangeOf file ((page - 1) * self.old.geometry.page_size) bytes)))
             self.new }
     {
-        let offset = (page as u64 - 1) * self.geometry.page_size as u64;
         match self.levels.get_mut(level) {
-            Some(buffer) => source.read_at(offset, buffer.as_mut_slice()),
-            None => source.read_at(offset, self.chain.as_mut_slice()),
+            Some(buffer) => load_page(source, page, buffer.as_mut_slice()),
+            None => load_page(source, page, self.chain.as_mut_slice()),
         }
     }
 }
