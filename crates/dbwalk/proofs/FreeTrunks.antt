@@ -4,22 +4,16 @@ use Rattle.std.proofs.Common.{cond, Some, None, Result, refl, ◌∙◌, option_
 use Rattle.dbwalk.proofs.Common.{Errand, Go, errands_of, Reported, Due, AreQuiet, then_step, role_faults, page_faults, row_in, Moves, free_leaf, Way, Reference}
 use Rattle.dbwalk.proofs.Common.{role_of, Role, bytes_left, tree_kind, trunk, link, next_trunk, leaf_count, most_leaves, Event, at_page, own_visit, story_of}
 use Rattle.dbwalk.proofs.Common.{Mark, EntersBeside, Turns, IsNext, Enters, cause_of, refusal_cause, Finding, reported_row, reported_alone, reported_by}
-use Rattle.dbwalk.proofs.Common.{reported_at}
-use Rattle.dbwalk.proofs.Common.{leaves_from, IsFirstTrunk, IsOnTrunks, trunk_step, next_step, IsLeft, IsIn, is_followed, go, leaf_errands, fault, page_bytes}
-use Rattle.dbwalk.proofs.Common.{usable_size, rules_of, is_too_deep, L01, RunError, role_mark, AreMarksOf}
+use Rattle.dbwalk.proofs.Common.{reported_at, leaves_from, IsFirstTrunk, IsOnTrunks, trunk_step, next_step, IsLeft, IsIn, is_followed, go, leaf_errands, fault}
+use Rattle.dbwalk.proofs.Common.{page_bytes, usable_size, rules_of, is_too_deep, L01, RunError, role_mark, AreMarksOf, u32_at, all_quiet, range_with_len}
+use Rattle.dbwalk.proofs.Common.{nat_tests, append-nil, IsIn-cases, Step}
 use Rattle.dbformat.specs.Address.{freelist_start}
-use Rattle.dbformat.specs.Numbers.{u32_at}
-use Rattle.dbformat.proofs.Looping.{none_at_free_leaf, by_leaf, all_quiet}
+use Rattle.dbformat.proofs.Looping.{none_at_free_leaf, by_leaf}
 use Rattle.dbwalk.proofs.Reporting.Besides.{turn_ended, turn_entered, turn_on}
 use Rattle.dbtrace.specs.declared.Cause.TheVariants.{Itself}
 use Rattle.dbwalk.specs.Trunks.{OpensTrunk}
 use Rattle.dbwalk.proofs.Reporting.Lefts.{left_refused, left_visit, left_start, left_none, no_chain_refusal}
-use Rattle.std.specs.List.{range_with_len}
-use Rattle.std.proofs.lemmas.Bool.Decides.{nat_tests}
-use Rattle.std.proofs.lemmas.List.{append-nil}
-use Rattle.dbsurvey.proofs.Order.{IsIn-cases}
 use Rattle.dbformat.specs.Errands.{leaf_errand}
-use Rattle.dbwalk.specs.declared.entering.Step.{Step}
 
 -- leaf j of a trunk
 abbrev pub leaf_of : Reference → List ℕ → ℕ → Reference

@@ -1,31 +1,25 @@
 -- What a taker with room for 65536 roots answers, row after row of the schema.
-use Rattle.std.proofs.Common.{zero, suc, map, take, ◌≡◌, ℕ, ◌+◌, ◌≤◌, Bool, true, false, cond, not, ◌&&◌, inl, inr, List, [], ◌∷◌, ◌++◌, length, refl, sym, ap}
+use Rattle.std.proofs.Common.{map, take, ◌≡◌, ℕ, ◌+◌, ◌≤◌, Bool, true, false, cond, not, ◌&&◌, inl, inr, List, [], ◌∷◌, ◌++◌, length, refl, sym, ap}
 use Rattle.std.proofs.Common.{◌∙◌, arith, Some, None, Result, Ok, Err, subst, nat_lt, nat_le, ◌==◌, is_none, pos, if◌then◌else◌, OnOk}
 use Rattle.dbwalk.proofs.Common.{Moves, Stops, MovesBySome, Go, schema_start, start_of, fault, Reference, SchemaCell, schema, SchemaRow, reported_if, RunError}
 use Rattle.dbwalk.proofs.Common.{Refused, WriteFailed, OutOfMemory, Finding, reported_alone, visited_below, Item, found, given, given_cells, counted_findings}
-use Rattle.dbwalk.proofs.Common.{Mark}
-use Rattle.dbwalk.proofs.Common.{IsDone, IsTreeDone, Reports, tree_walk, watches, fails, row_at, Handed, Taken}
+use Rattle.dbwalk.proofs.Common.{Mark, IsDone, IsTreeDone, Reports, tree_walk, watches, fails, row_at, Handed, Taken, result_ok, cases_Bool, eqb-true}
+use Rattle.dbwalk.proofs.Common.{nat_tests, append-nil, length-append, length-map, Moves-append, some_none, some_after, ReadFailed}
 use Rattle.std.specs.List.{cons_option}
-use Rattle.std.specs.Result.{result_ok}
-use Rattle.std.proofs.lemmas.Bool.{cases_Bool, eq-eqb, eqb-true}
-use Rattle.std.proofs.lemmas.Bool.Decides.{nat_tests}
-use Rattle.std.proofs.lemmas.List.{append-nil, length-append, length-map, length-take-le, map-append, take-append-le}
+use Rattle.std.proofs.lemmas.Bool.{eq-eqb}
+use Rattle.std.proofs.lemmas.List.{take_all, length-take-le, map-append, take-append-le}
 use Rattle.std.proofs.lemmas.List.Elements.{filter_map-append}
-use Rattle.dbsurvey.proofs.Moving.{Moves-append, some_none, some_after}
 use Rattle.dbformat.specs.Address.{last_root_start}
 use Rattle.dbformat.specs.KeyFaults.{row_faults_if}
 use Rattle.dbformat.specs.Schema.{rooted_rows}
 use Rattle.dbformat.specs.declared.FaultCode.TheVariants.{S02, S04}
 use Rattle.dbformat.specs.declared.RowFault.{RowFault}
-use Rattle.dbformat.specs.declared.RowFault.TheVariants.{Malformed, Root}
-use Rattle.dbsource.specs.declared.error.RunError.TheVariants.{ReadFailed}
 use Rattle.dbtrace.specs.Item.{readable}
 use Rattle.dbtrace.specs.Starts.{AreOfEarlierStarts}
 use Rattle.dbtrace.proofs.Folding.{is_fold}
 use Rattle.dbwalk.specs.Taking.{answer_to, held_after, is_full, HasRootRoom, StartsEmpty, roots_after, ListTakes, first_roots, gives, readable_rows, fault_of}
 use Rattle.dbwalk.specs.Taking.{HandsRow, FailsRow}
 use Rattle.dbwalk.specs.Reporting.{findings}
-use Rattle.dbwalk.specs.declared.taker.Taken.TheVariants as answer
 
 -- how many roots it holds after this many rows with a root
 abbrev pub held_of : ℕ → ℕ
@@ -33,49 +27,15 @@ held_of roots = if nat_le last_root_start roots then last_root_start else roots
 
 -- it has room exactly if fewer than 65536 came
 has_room : (roots : ℕ) → nat_lt (held_of roots) last_root_start ≡ not (nat_le last_root_start roots)
-has_room roots = elim (cases_Bool (nat_le last_root_start roots)) [
-  | inl e ↦ (let f : nat_lt 65536 65536 ≡ false = refl in
-      ap (λ b. nat_lt (cond b last_root_start roots) last_root_start) e ∙ f ∙ sym (ap not e))
-  | inr e ↦ (let f : nat_lt roots 65536 ≡ true = grind (arith, nat_tests) in
-      ap (λ b. nat_lt (cond b last_root_start roots) last_root_start) e ∙ f ∙ sym (ap not e))
-]
+has_room roots = grind (arith, nat_tests)
 
 -- Full is the answer to a root exactly if 65536 came before
 pub full_is : (roots root : ℕ) → is_full (answer_to (held_of roots) root) ≡ (not (root == 0) && nat_le last_root_start roots)
-full_is roots root = by_root (root == 0)
-  where
-    by_room : (b : Bool) → is_full (cond (not b) answer.Taken answer.Full) ≡ b
-    by_room true = refl
-    by_room false = refl
-
-    by_root : (b : Bool) → is_full (cond b answer.NoRoot (cond (nat_lt (held_of roots) last_root_start) answer.Taken answer.Full))
-        ≡ (not b && nat_le last_root_start roots)
-    by_root true = refl
-    by_root false = ap (λ r. is_full (cond r answer.Taken answer.Full)) (has_room roots) ∙ by_room (nat_le last_root_start roots)
+full_is roots root = let room = has_room roots in grind (arith, nat_tests)
 
 -- one row more
 pub held_more : (roots root : ℕ) → held_after (held_of roots) root ≡ held_of (roots + cond (root == 0) 0 1)
-held_more roots root = by_root (root == 0)
-  where
-    full : nat_le last_root_start roots ≡ true → cond (not (nat_le last_root_start roots)) (held_of roots + 1) (held_of roots) ≡ held_of (roots + 1)
-    full e =
-        let f : nat_le last_root_start (roots + 1) ≡ true = grind (arith, nat_tests) in
-        ap (λ b. cond (not b) (held_of roots + 1) (held_of roots)) e ∙ ap (λ b. cond b last_root_start roots) e
-        ∙ sym (ap (λ b. cond b last_root_start (roots + 1)) f)
-
-    room : nat_le last_root_start roots ≡ false → cond (not (nat_le last_root_start roots)) (held_of roots + 1) (held_of roots) ≡ held_of (roots + 1)
-    room e =
-        let here : held_of roots ≡ roots = ap (λ b. cond b last_root_start roots) e in
-        ap (λ b. cond (not b) (held_of roots + 1) (held_of roots)) e ∙ ap (λ n. n + 1) here ∙ elim (cases_Bool (nat_le last_root_start (roots + 1))) [
-          | inl f ↦ (let n : roots + 1 ≡ 65536 = grind (arith, nat_tests) in n ∙ sym (ap (λ b. cond b last_root_start (roots + 1)) f))
-          | inr f ↦ sym (ap (λ b. cond b last_root_start (roots + 1)) f)
-        ]
-
-    by_root : (b : Bool) → cond b (held_of roots) (cond (nat_lt (held_of roots) last_root_start) (held_of roots + 1) (held_of roots))
-        ≡ held_of (roots + cond b 0 1)
-    by_root true = let z : roots ≡ roots + 0 = omega arith in ap held_of z
-    by_root false = ap (λ r. cond r (held_of roots + 1) (held_of roots)) (has_room roots)
-        ∙ elim (cases_Bool (nat_le last_root_start roots)) [ inl e ↦ full e | inr e ↦ room e ]
+held_more roots root = grind (arith, nat_tests)
 
 -- What a taker answers to the row of a cell is what is reported of it: S04 if it answers Full.
 module _ {T : Type 0} (takes : T → SchemaRow → Taken → T → Type 0) (held : T → ℕ) (room : HasRootRoom takes held) (s t : T) (row : SchemaRow) (a : Taken)
@@ -95,15 +55,7 @@ list_has_room {E} entry = record {
   where
     by_root : (s : List E) (row : SchemaRow) (b c : Bool) → length (cond b s (cond c (s ++ entry row ∷ []) s))
         ≡ cond b (length s) (cond c (length s + 1) (length s))
-    by_root s row true c = refl
-    by_root s row false true = length-append s (entry row ∷ [])
-    by_root s row false false = refl
-
-take_whole : {X : Type 0} (n : ℕ) (xs : List X) → length xs ≤ n → take n xs ≡ xs
-take_whole zero [] h = refl
-take_whole zero (x ∷ xs) h = absurd (omega (arith, h))
-take_whole (suc n) [] h = refl
-take_whole (suc n) (x ∷ xs) h = ap (λ l. x ∷ l) (take_whole n xs (omega (arith, h)))
+    by_root s row b c = grind (arith, length-append)
 
 module _ {E : Type 0} (entry : SchemaRow → E) (rows : List SchemaRow) where
   is_room : nat_le last_root_start (length rows) ≡ false → length rows + 1 ≤ 65536
@@ -116,7 +68,7 @@ module _ {E : Type 0} (entry : SchemaRow → E) (rows : List SchemaRow) where
   pub first_count : length (first_roots entry rows) ≡ held_of (length rows)
   first_count = length-map (take last_root_start rows) entry ∙ elim (cases_Bool (nat_le last_root_start (length rows))) [
     | inl e ↦ length-take-le last_root_start rows (is_full_there e) ∙ sym (ap (λ b. cond b last_root_start (length rows)) e)
-    | inr e ↦ (let l : length rows ≤ 65536 = omega (arith, is_room e) in ap length (take_whole last_root_start rows l)
+    | inr e ↦ (let l : length rows ≤ 65536 = omega (arith, is_room e) in ap length (take_all last_root_start rows l)
         ∙ sym (ap (λ b. cond b last_root_start (length rows)) e))
   ]
 
@@ -131,8 +83,8 @@ module _ {E : Type 0} (entry : SchemaRow → E) (rows : List SchemaRow) where
           let l : length rows ≤ 65536 = omega (arith, is_room e) in
           let m : length (rows ++ row ∷ []) ≤ 65536 = let k : length (rows ++ row ∷ []) ≡ length rows + 1 =
           length-append rows (row ∷ []) in omega (arith, k, is_room e) in
-          ap (λ xs. map entry xs ++ entry row ∷ []) (take_whole last_root_start rows l) ∙ sym (map-append entry rows (row ∷ []))
-          ∙ ap (map entry) (sym (take_whole last_root_start (rows ++ row ∷ []) m))
+          ap (λ xs. map entry xs ++ entry row ∷ []) (take_all last_root_start rows l) ∙ sym (map-append entry rows (row ∷ []))
+          ∙ ap (map entry) (sym (take_all last_root_start (rows ++ row ∷ []) m))
 
       by_root : (b : Bool) → cond b (first_roots entry rows)
           (cond (nat_lt (length (first_roots entry rows)) last_root_start) (first_roots entry rows ++ entry row ∷ []) (first_roots entry rows))
@@ -158,12 +110,10 @@ module _ {S T : Type 0} (keeps : T → SchemaRow → Taken → T → Type 0) (he
   row_counted h = by_row c.row h
     where
       bad_row : (f : RowFault) → fault_of (row_at c).0 f ∷ [] ≡ row_faults_if (nat_le last_root_start roots) (with_row (Err f))
-      bad_row Malformed = refl
-      bad_row (Root value) = refl
+      bad_row f = grind arith
 
       by_root : (row : SchemaRow) (b : Bool) → cond b 0 1 ≡ length (cons_option (cond b None (Some row)) [])
-      by_root row true = refl
-      by_root row false = refl
+      by_root row b = grind arith
 
       by_row : (row : Result SchemaRow RowFault) → HandsRow reports keeps ((row_at c).0, row) w x → IsCounted (with_row row)
       by_row (Err f) h = let z : roots ≡ roots + 0 = omega arith in

@@ -1,6 +1,6 @@
 -- The point of a walk at which a part of it begins, by the state that the program keeps. What the part leaves is stated for all
 -- visits and references at that point.
-use Rattle.std.specs.Prelude.{◌≡◌, ℕ, ℤ, ◌<◌, true, false, List, [], ◌∷◌, ◌++◌, length, Option, Some, Result}
+use Rattle.std.specs.Prelude.{◌≡◌, ℕ, ℤ, ◌<◌, ◌≤◌, true, false, List, [], ◌∷◌, ◌++◌, length, Option, Some, Result}
 use Rattle.dbsurvey.specs.InOrder.{IsPast}
 use Rattle.dbsurvey.specs.Traverse.{is_followed}
 use Rattle.dbformat.specs.Address.{then_step, overflow_step}
@@ -19,7 +19,7 @@ use Rattle.dbwalk.specs.LeafCells.{overflow_errands, AreBefore}
 use Rattle.dbmarks.specs.Marking.{AreMarksOf}
 use Rattle.dbsource.specs.declared.error.RunError.{RunError}
 use Rattle.dbwalk.specs.Underway.{HasTurned, IsAt, IsWalkingOn}
-use Rattle.dbwalk.specs.Walking.{AreOpen, IsCandidate, IsVisitAt, path_of}
+use Rattle.dbwalk.specs.Walking.{AreOpen, IsCandidate, IsVisitAt, cost, path_of}
 use Rattle.dbwalk.specs.Steps.{HasNext}
 use Rattle.dbwalk.specs.declared.steps.Next.{Next}
 use Rattle.dbwalk.specs.declared.steps.StackFrame.{StackFrame}
@@ -94,3 +94,11 @@ pub record IsAtTurn (usable : ℕ) (kind : TreeKind) (levels : List (List ℕ)) 
   pub opened : AreOpen usable kind levels 0 (frames ++ (frame ∷ []))
   pub path : way ≡ path_of frames
   pub step : HasNext usable kind levels (length frames) frame.page frame.next next
+
+-- what a turn leaves of the frames, by the frames below and the one that was taken: they are open, the way ends at the last, and fewer turns are left
+pub record LeavesFrames (usable : ℕ) (levels : List (List ℕ)) (below : List StackFrame) (taken : StackFrame) (frames : List StackFrame)
+    (old new : List Mark) (tree : Tree) : Type 0 where
+  pub few : length frames ≤ 20
+  pub opened : AreOpen usable tree.kind levels 0 frames
+  pub path : (fs : List StackFrame) (f : StackFrame) → frames ≡ fs ++ (f ∷ []) → tree.path.items ≡ path_of fs
+  pub ends : cost new frames < cost old (below ++ (taken ∷ []))

@@ -2,7 +2,7 @@
 ghost use Rattle.std.specs.Prelude.{◌≡◌, ◌+◌, ◌≤◌, ◌<◌, ◌∷◌, ℕ, List, [], Option, length, IfSome, IfOk, OnOk, is_some};
 ghost use Rattle.dbformat.specs.FixedPages.{IsInRange, IsPageNumber};
 ghost use Rattle.dbsurvey.specs.Story.{Go};
-ghost use Rattle.dbformat.specs.File.{geometry, page_bytes};
+ghost use Rattle.dbformat.specs.File.{page_bytes};
 ghost use Rattle.dbformat.specs.Header.{usable_size};
 ghost use Rattle.dbformat.specs.Payload.{most_payload, overflow_next};
 ghost use Rattle.dbformat.specs.Reference.{Reference};
@@ -11,10 +11,8 @@ ghost use Rattle.dbwalk.specs.Chains.{IsChainOf, IsOnWay, IsOverflowVisited, Fee
 ghost use Rattle.dbwalk.specs.Done.{IsDone};
 ghost use Rattle.dbwalk.specs.Entered.{IsNext};
 ghost use Rattle.dbmarks.specs.Marking.{AreMarksOf};
-ghost use Rattle.dbwalk.specs.Beside.{IsPageBuffer, LeavesBeside, Turns, WalksBeside};
+ghost use Rattle.dbwalk.specs.Beside.{IsPageBuffer, Turns, WalksBeside};
 ghost use Rattle.dbwalk.specs.Reporting.{SinkMoves};
-ghost use Rattle.dbmarks.specs.Reads.{Reads};
-ghost use Rattle.dbsource.specs.Sources.{HasLog};
 
 use crate::beside::enter_beside;
 use crate::entering::Step;
@@ -150,11 +148,9 @@ pub(crate) fn walk_chain<S: Source, K: Sink, A: Allocator>(
 ) -> Result<(), RunError>
     requires chain { IsPageNumber chain.now.page × (chain.now.left ≤ most_payload) }
     requires buffer { IsPageBuffer chain.now.usable buffer.old }
-    ensures log { HasLog S.step (Reads (length buffer.old) marks.old marks.new) (λ file. length buffer.old ≡ (geometry file).page_size
-        → (W : List Reference) (c : Reference) → IsChainOf file chain.now c → IsNext W c → AreMarksOf file W marks.old
-        → IsDone K.takes file W (Go c ∷ []) result marks.new sink.old sink.new × OnOk result (FeedsChain file W c sieve.old sieve.new))
-        (S.held source.old) (S.held source.new) }
-    ensures beside { LeavesBeside result (S.held source.old) (S.held source.new) (K.held sink.old) (K.held sink.new) }
+    ensures walks { WalksBeside S.step result (S.held source.old) (S.held source.new) (K.held sink.old) (K.held sink.new) (length buffer.old)
+        marks.old marks.new (λ file. (W : List Reference) (c : Reference) → IsChainOf file chain.now c → IsNext W c → AreMarksOf file W marks.old
+        → IsDone K.takes file W (Go c ∷ []) result marks.new sink.old sink.new × OnOk result (FeedsChain file W c sieve.old sieve.new)) }
     ensures kept { is_some sieve.new ≡ is_some sieve.old }
 {
     let step = Step {
@@ -201,11 +197,9 @@ pub(crate) fn walk_unfed<S: Source, K: Sink, A: Allocator>(
 ) -> Result<(), RunError>
     requires chain { IsPageNumber chain.now.page × (chain.now.left ≤ most_payload) }
     requires usable { IsInRange bench.old.geometry × (chain.now.usable ≡ bench.old.geometry.usable) }
-    ensures log { HasLog S.step (Reads bench.old.geometry.page_size marks.old marks.new) (λ file. bench.old.geometry ≡ geometry file
-        → (W : List Reference) (c : Reference) → IsChainOf file chain.now c → IsNext W c → AreMarksOf file W marks.old
-        → IsDone K.takes file W (Go c ∷ []) result marks.new sink.old sink.new)
-        (S.held source.old) (S.held source.new) }
-    ensures beside { LeavesBeside result (S.held source.old) (S.held source.new) (K.held sink.old) (K.held sink.new) }
+    ensures walks { WalksBeside S.step result (S.held source.old) (S.held source.new) (K.held sink.old) (K.held sink.new)
+        bench.old.geometry.page_size marks.old marks.new (λ file. (W : List Reference) (c : Reference) → IsChainOf file chain.now c → IsNext W c
+        → AreMarksOf file W marks.old → IsDone K.takes file W (Go c ∷ []) result marks.new sink.old sink.new) }
     ensures bench { bench.new ≡ record bench.old { chain = bench.new.chain } }
 {
     let (_, buffer) = bench.chain(0);

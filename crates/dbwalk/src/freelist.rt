@@ -137,7 +137,7 @@ fn enter_trunk<S: Source, K: Sink, A: Allocator>(
     Ok(next_trunk(bytes, step.page, item))
 }
 
-// Walks along the trunks from the first one, each read into the buffer. At Ok the sink is open.
+// Walks along the trunks from the first one, each read into the buffer.
 fn walk_trunks<S: Source, K: Sink, A: Allocator>(
     source: &mut S,
     buffer: &mut [u8],
@@ -147,14 +147,9 @@ fn walk_trunks<S: Source, K: Sink, A: Allocator>(
     sink: &mut K,
 ) -> Result<(), RunError>
     requires buffer { IsPageBuffer usable buffer.old }
-    requires open { (K.held sink.old).is_shut ≡ false }
-    ensures asks { Asks S.step (Reads (length buffer.old) marks.old marks.new) (λ file. length buffer.old ≡ (geometry file).page_size
-        → usable ≡ usable_size file → (W : List Reference) (c : Reference) → IsFirstTrunk first c → IsNext W c → AreMarksOf file W marks.old
-        → IsDone K.takes file W (Go c ∷ []) result marks.new sink.old sink.new)
-        is_read_failed result (S.held source.old) (S.held source.new) }
-    ensures writes { SinkAfter is_write_failed result (K.held sink.old) (K.held sink.new) }
-    ensures shut { IfErr result (λ e. (K.held sink.new).is_shut ≡ is_write_failed e) }
-    ensures only { IfErr result IsReadOrWrite }
+    ensures walks { WalksBeside S.step result (S.held source.old) (S.held source.new) (K.held sink.old) (K.held sink.new) (length buffer.old)
+        marks.old marks.new (λ file. usable ≡ usable_size file → (W : List Reference) (c : Reference) → IsFirstTrunk first c → IsNext W c
+        → AreMarksOf file W marks.old → IsDone K.takes file W (Go c ∷ []) result marks.new sink.old sink.new) }
 {
     let mut step = Step {
         page: first,
@@ -166,7 +161,7 @@ fn walk_trunks<S: Source, K: Sink, A: Allocator>(
     while let Some(next) = enter_trunk(source, buffer, usable, marks, step, sink)? {
         step = next;
     }
-    ask(sink)
+    Ok(())
 }
 
 /// Walks along the freelist from its first trunk: marks each trunk and then reads it, and marks its leaves, which are not read.
@@ -195,5 +190,6 @@ pub fn walk_freelist<S: Source, K: Sink, A: Allocator>(
 {
     let usable = bench.geometry().usable;
     let (_, buffer) = bench.chain(0);
-    walk_trunks(source, buffer, usable, marks, first, sink)
+    walk_trunks(source, buffer, usable, marks, first, sink)?;
+    ask(sink)
 }

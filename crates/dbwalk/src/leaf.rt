@@ -11,13 +11,11 @@ ghost use Rattle.dbwalk.specs.Watching.{fails, watches};
 ghost use Rattle.dbformat.specs.Errands.{cell_errands};
 ghost use Rattle.dbformat.specs.Payload.{most_payload};
 ghost use Rattle.dbformat.specs.File.{geometry as shape_of};
-ghost use Rattle.dbsource.specs.Sources.{HasLog};
 ghost use Rattle.dbwalk.specs.LeafCells.{overflow_errands, late_reported, top_after};
 ghost use Rattle.dbwalk.specs.Taking.{FeedsPayload};
-ghost use Rattle.dbwalk.specs.Beside.{LeavesBeside};
+ghost use Rattle.dbwalk.specs.Beside.{WalksBeside};
 ghost use Rattle.dbwalk.specs.Reporting.{IsReportedTo};
 ghost use Rattle.dbwalk.specs.Done.{IsDone};
-ghost use Rattle.dbmarks.specs.Reads.{Reads};
 
 use crate::cells::{LeafCell, leaf_cell, pass_cells};
 use crate::chain::{Chain, walk_chain};
@@ -143,12 +141,12 @@ pub(crate) fn walk_overflow<A: Allocator, S: Source, K: Sink>(
 ) -> Result<(), RunError>
     requires cell { IsPageNumber at.place.page × IfSome at.cell.overflow (λ o. o.1 ≤ most_payload) }
     requires shape { IsInRange at.place.shape × (length buffer.old ≡ at.place.shape.page_size) }
-    ensures beside { LeavesBeside result (S.held source.old) (S.held source.new) (K.held sink.old) (K.held sink.new) }
-    ensures kept { is_some sieve.new ≡ is_some sieve.old }
-    ensures log { HasLog S.step (Reads at.entry.place.shape.page_size marks.old marks.new) (λ file. at.entry.place.shape ≡ shape_of file
+    ensures walks { WalksBeside S.step result (S.held source.old) (S.held source.new) (K.held sink.old) (K.held sink.new)
+        at.entry.place.shape.page_size marks.old marks.new (λ file. at.entry.place.shape ≡ shape_of file
         → AtOverflow file at.entry.tree.now at.entry.place at.entry.cell marks.old (λ U c.
         IsDone K.takes file U (overflow_errands c at.entry.place.item at.entry.cell.overflow) result marks.new sink.old sink.new
-        × OnOk result (FeedsPayload file U c at.entry.place.item at.entry.cell.overflow sieve.old sieve.new))) (S.held source.old) (S.held source.new) }
+        × OnOk result (FeedsPayload file U c at.entry.place.item at.entry.cell.overflow sieve.old sieve.new))) }
+    ensures kept { is_some sieve.new ≡ is_some sieve.old }
 {
     match at.cell.overflow {
         None => Ok(()),

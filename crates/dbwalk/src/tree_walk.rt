@@ -1,13 +1,10 @@
 // One walk over a tree, and a turn of it: a step of the last frame.
-ghost use Rattle.arrayvec.specs.ArrayVec.{array_vec_len};
-ghost use Rattle.std.specs.Prelude.{◌≡◌, ◌≤◌, ◌<◌, ◌++◌, [], ◌∷◌, List, OnOk};
+ghost use Rattle.std.specs.Prelude.{◌≡◌, ◌++◌, [], ◌∷◌, OnOk};
 ghost use Rattle.dbtrace.specs.declared.Cause.TheVariants as cause;
 ghost use Rattle.dbwalk.specs.Walked.{SaysOfFiles, Walked};
 ghost use Rattle.dbwalk.specs.Watching.{fails, watches};
-ghost use Rattle.dbwalk.specs.Walking.{AreOpen, path_of, cost};
-ghost use Rattle.dbwalk.specs.declared.steps.StackFrame.{StackFrame};
 ghost use Rattle.dbwalk.specs.declared.steps.Next.TheVariants.{Child};
-ghost use Rattle.dbwalk.specs.Points.{IsAtTurn, TakesTurn};
+ghost use Rattle.dbwalk.specs.Points.{IsAtTurn, LeavesFrames, TakesTurn};
 
 use crate::chain::{Chain, walk_unfed};
 use crate::entering::enter;
@@ -46,10 +43,8 @@ impl<A: Allocator, S: Source, K: Sink, T: Taker> TreeWalk<'_, '_, '_, '_, A, S, 
     ) -> Result<(), RunError>
         requires { IsAtTurn bench.old.geometry.usable self.old.tree.kind bench.old.levels self.old.tree.path.items frames.old.items frame (Child page key) }
         ensures walked { Walked S.held K.held T.refusals result bench.old.geometry bench.new.geometry self.old self.new }
-        ensures few { OnOk result (array_vec_len frames.new ≤ 20) }
-        ensures open { OnOk result (AreOpen bench.new.geometry.usable self.new.tree.kind bench.new.levels 0 frames.new.items) }
-        ensures path { OnOk result ((fs : List StackFrame) (f : StackFrame) → frames.new.items ≡ fs ++ (f ∷ []) → self.new.tree.path.items ≡ path_of fs) }
-        ensures ends { OnOk result (cost self.new.marks.now frames.new.items < cost self.old.marks.now (frames.old.items ++ (frame ∷ []))) }
+        ensures left { OnOk result (LeavesFrames bench.new.geometry.usable bench.new.levels frames.old.items frame frames.new.items
+            self.old.marks.now self.new.marks.now self.new.tree) }
         ensures log { SaysOfFiles S.step S.held bench.old.geometry self.old self.new (λ file. TakesTurn (watches K.takes T.takes) (fails T.refuses) file result
             (frames.old.items ++ (frame ∷ []), bench.old.levels) self.old (frames.new.items, bench.new.levels) self.new) }
     {
@@ -94,10 +89,8 @@ impl<A: Allocator, S: Source, K: Sink, T: Taker> TreeWalk<'_, '_, '_, '_, A, S, 
     ) -> Result<(), RunError>
         requires { IsAtTurn bench.old.geometry.usable self.old.tree.kind bench.old.levels self.old.tree.path.items frames.old.items frame next }
         ensures walked { Walked S.held K.held T.refusals result bench.old.geometry bench.new.geometry self.old self.new }
-        ensures few { OnOk result (array_vec_len frames.new ≤ 20) }
-        ensures open { OnOk result (AreOpen bench.new.geometry.usable self.new.tree.kind bench.new.levels 0 frames.new.items) }
-        ensures path { OnOk result ((fs : List StackFrame) (f : StackFrame) → frames.new.items ≡ fs ++ (f ∷ []) → self.new.tree.path.items ≡ path_of fs) }
-        ensures ends { OnOk result (cost self.new.marks.now frames.new.items < cost self.old.marks.now (frames.old.items ++ (frame ∷ []))) }
+        ensures left { OnOk result (LeavesFrames bench.new.geometry.usable bench.new.levels frames.old.items frame frames.new.items
+            self.old.marks.now self.new.marks.now self.new.tree) }
         ensures log { SaysOfFiles S.step S.held bench.old.geometry self.old self.new (λ file. TakesTurn (watches K.takes T.takes) (fails T.refuses) file result
             (frames.old.items ++ (frame ∷ []), bench.old.levels) self.old (frames.new.items, bench.new.levels) self.new) }
     {

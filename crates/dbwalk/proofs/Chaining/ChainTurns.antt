@@ -1,16 +1,12 @@
 -- One turn of the walk along a chain.
-use Rattle.std.proofs.Common.{◌≡◌, ℕ, ◌+◌, ◌-◌, ◌≤◌, ◌<◌, true, false, List, [], ◌∷◌, ◌++◌, Bool, Option, Some, None, Ok, refl, sym, ap, subst, ◌∙◌}
-use Rattle.std.proofs.Common.{ap₂, append_assoc, arith, cond, ◌==◌, IfSome}
+use Rattle.std.proofs.Common.{◌≡◌, ℕ, ◌+◌, ◌-◌, ◌≤◌, ◌<◌, true, false, List, [], ◌∷◌, ◌++◌, Bool, Option, Some, None, Ok, refl, sym, ap, subst, ◌∙◌, ap₂}
+use Rattle.std.proofs.Common.{append_assoc, arith, IfSome}
 use Rattle.dbwalk.proofs.Common.{Moves, Go, errands_of, AreQuiet, page_bytes, usable_size, overflow_next, first_overflow, Reference, role_of, from_of}
 use Rattle.dbwalk.proofs.Common.{bytes_left, at_page, own_visit, story_of, RowSieve, Mark, FirstOverflow, LaterOverflow, seen_bytes, seen_from, EntersBeside}
 use Rattle.dbwalk.proofs.Common.{Opens, Turns, is_followed, rules_of, IsChainOf, next_of, FeedsPages, FeedsChain, IsLeft, IsNext, Finding, reported_at}
-use Rattle.dbwalk.proofs.Common.{role_mark}
-use Rattle.dbwalk.proofs.Common.{AreMarksOf}
-use Rattle.std.proofs.lemmas.Bool.Decides.{nat_tests}
-use Rattle.std.proofs.lemmas.List.{append-nil}
+use Rattle.dbwalk.proofs.Common.{role_mark, AreMarksOf, nat_tests, append-nil, all_quiet, Chain}
 use Rattle.dbformat.specs.Reference.{overflow_links}
-use Rattle.dbformat.proofs.Looping.{by_chain, all_quiet}
-use Rattle.dbwalk.specs.declared.chain.Chain.{Chain}
+use Rattle.dbformat.proofs.Looping.{by_chain}
 use Rattle.dbwalk.specs.declared.chain.ChainPlace.{ChainPlace}
 use Rattle.dbtrace.specs.Causes.{nothing_seen}
 use Rattle.dbwalk.proofs.Reporting.Besides.{turn_ended, turn_entered}
@@ -26,9 +22,7 @@ if_some_all Q (Some x) f = f x
 
 -- after a page of the chain
 seen_after : (usable number : ℕ) (here : List ℕ) → seen_before usable (number + 1) here ≡ seen_bytes usable here
-seen_after usable number here =
-    let some : ((number + 1) == 0) ≡ false = grind (arith, nat_tests) in
-    ap (λ b. cond b nothing_seen (seen_bytes usable here)) some
+seen_after usable number here = grind (arith, nat_tests)
 
 quiet_chain : (file : List ℕ) (d : Reference) (left : ℕ) → bytes_left (role_of d) ≡ Some left → AreQuiet own_visit (errands_of (story_of file) d)
 quiet_chain file d left h = subst (λ es. AreQuiet own_visit es) (sym (by_chain file d left h))

@@ -3,16 +3,13 @@ use Rattle.std.proofs.Common.{◌≡◌, ℕ, true, inl, inr, List, [], ◌∷�
 use Rattle.std.proofs.Common.{Ok, Err, flat_map, filter, nat_eq, OnOk}
 use Rattle.dbwalk.proofs.Common.{IsIn, Address, IsBefore, Go, is_followed, then_step, overflow_step, Cell, page_bytes, Reference, role_of, bytes_left}
 use Rattle.dbwalk.proofs.Common.{first_overflow, payload, rules_of, RowSieve, IsNext, FeedsChain, Feeds, FeedsPages, visited_below, usable_size, overflow_bytes}
-use Rattle.dbwalk.proofs.Common.{HasFed, FeedsPayload}
-use Rattle.std.specs.Prelude.{unwrap_or}
+use Rattle.dbwalk.proofs.Common.{HasFed, FeedsPayload, unwrap_or, eqb-true, append-nil, flat_map-append}
 use Rattle.std.specs.List.{starts_with}
-use Rattle.std.proofs.lemmas.Bool.{cases_Bool, and_parts, eqb-true}
-use Rattle.std.proofs.lemmas.List.{append-nil}
+use Rattle.std.proofs.lemmas.Bool.{and_parts}
 use Rattle.std.proofs.lemmas.List.Elements.{filter-append}
 use Rattle.dbformat.specs.Schema.{chain, held_bytes}
 use Rattle.dbformat.specs.declared.Encoding.{Encoding}
 use Rattle.dbbytes.specs.Sieve.{HasTaken}
-use Rattle.std.proofs.lemmas.Grind.{flat_map-append}
 use Rattle.dbwalk.proofs.Reporting.Belows.{below_begins, visited_none, visited_refused}
 use Rattle.dbsurvey.proofs.Beginnings.{begins}
 use Rattle.dbsurvey.proofs.Lists.{filter-all, filter-none}
@@ -29,10 +26,7 @@ begins_not (x ∷ a) (y ∷ b) (inr k) e = begins_not a b k.1 (and_parts (nat_eq
 -- before a cell's chain nothing of it was visited
 pub chain_before : (W : List Reference) (a : Address) (i : ℕ) → ((u : Reference) → IsIn u W → IsBefore u.address (then_step a (overflow_step i))) → chain W a i
     ≡ []
-chain_before W a i h = filter-none (λ r. starts_with nat_eq r.address place) W (λ u j. elim (cases_Bool (starts_with nat_eq u.address place)) [
-  | inl e ↦ absurd (begins_not place u.address (h u j) e)
-  | inr e ↦ e
-])
+chain_before W a i h = filter-none (λ r. starts_with nat_eq r.address place) W (λ u j. let no = begins_not place u.address (h u j) in grind arith)
   where
     place : Address
     place = then_step a (overflow_step i)

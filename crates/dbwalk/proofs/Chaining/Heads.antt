@@ -1,20 +1,16 @@
 -- The cell that an overflow chain belongs to, by the visits so far.
-use Rattle.std.proofs.Common.{◌≡◌, ℕ, ◌+◌, ◌-◌, ◌≤◌, Bool, true, false, cond, inl, inr, List, [], ◌∷◌, ◌++◌, length, take, Option, Some, None, refl, sym, ap}
+use Rattle.std.proofs.Common.{◌≡◌, ℕ, ◌+◌, ◌-◌, ◌≤◌, true, false, cond, inl, inr, List, [], ◌∷◌, ◌++◌, length, take, Option, Some, None, refl, sym, ap}
 use Rattle.std.proofs.Common.{ap₂, ◌∙◌, arith, find, ◌==◌}
-use Rattle.dbwalk.proofs.Common.{Address, Go, then_step, chain_place, chain_on, is_child_step, cell_of_step, usable_size, Role, root, first_overflow}
-use Rattle.dbwalk.proofs.Common.{later_overflow, trunk, free_leaf, Reference, role_of, from_of, item_of, bytes_left, tree_kind, cell_rowid, is_same}
+use Rattle.dbwalk.proofs.Common.{Address, Go, then_step, chain_place, chain_on, usable_size, Role}
+use Rattle.dbwalk.proofs.Common.{Reference, role_of, from_of, item_of, bytes_left, tree_kind, cell_rowid, is_same}
 use Rattle.dbwalk.proofs.Common.{chain_cause, seen_from, refusal_cause, refusal_of, rowids_of, Cause, IsChainOf, IsOnChain, next_of, walked_chain, IsNext}
-use Rattle.std.specs.Option.{option_map_or, option_or}
+use Rattle.dbwalk.proofs.Common.{option_map_or, option_or, cases_Bool, eqb-true, nat_tests, length-append, Chain}
 use Rattle.std.proofs.Math.Seq.{take-length}
-use Rattle.std.proofs.lemmas.Bool.{cases_Bool}
-use Rattle.std.proofs.lemmas.Bool.Decides.{nat_tests}
-use Rattle.std.proofs.lemmas.List.{length-append, take-append-le}
+use Rattle.std.proofs.lemmas.List.{take-append-le}
 use Rattle.std.proofs.lemmas.List.Folds.{find-append}
-use Rattle.dbformat.specs.Reference.{child}
 use Rattle.dbtrace.specs.Causes.{chain_number, head_address, chain_head, chain_of, pages_for}
 use Rattle.dbtrace.specs.declared.SeenBytes.{SeenBytes}
 use Rattle.dbwalk.specs.Chains.{HasHead}
-use Rattle.dbwalk.specs.declared.chain.Chain.{Chain}
 use Rattle.dbwalk.proofs.Chaining.Overflows.{next_on_chain}
 use Rattle.dbwalk.proofs.Trees.Bounds.{first_here}
 use Rattle.dbtrace.specs.declared.Cause.TheVariants as cause
@@ -28,12 +24,7 @@ chain_few chain number d on = by_address d.address on.place
   where
     few : (steps : List ℕ) (i n : ℕ) → chain_on steps ≡ Some (i, n) → n ≤ length steps
     few [] i n e = absurd (let k : None ≡ Some (i, n) = e in cc)
-    few (step ∷ steps) i n e = by_step (is_child_step step) e (few steps i n)
-      where
-        by_step : (b : Bool) → cond b (chain_on steps) (Some (cell_of_step step, length steps)) ≡ Some (i, n)
-            → (chain_on steps ≡ Some (i, n) → n ≤ length steps) → n ≤ length (step ∷ steps)
-        by_step true e f = let l = f e in omega arith
-        by_step false e f = let k : ◌≡◌ {A = ℕ × ℕ} (cell_of_step step, length steps) (i, n) = cc in let l : length steps ≡ n = ap (λ x. x.1) k in omega arith
+    few (step ∷ steps) i n e = let rest = few steps i n in grind arith
 
     by_address : (a : Address) → chain_place a ≡ Some (chain.cell, number) → number ≤ length a
     by_address [] e = absurd (let k : None ≡ Some (chain.cell, number) = e in cc)
@@ -75,12 +66,7 @@ refusal_here file chain number left d V u z h on head =
     ∙ ap₂ (λ u b. cause.Chain (walked_chain chain number u left number b)) (sym u) (sym z)
   where
     no_tree : (r : Role) → bytes_left r ≡ Some left → tree_kind r ≡ None
-    no_tree (root kind) e = cc
-    no_tree (child kind) e = cc
-    no_tree (first_overflow n) e = refl
-    no_tree (later_overflow n) e = refl
-    no_tree trunk e = refl
-    no_tree free_leaf e = refl
+    no_tree r e = grind arith
 
 -- at the first page
 pub head_start : (file : List ℕ) (chain : Chain) (V : List Reference) (c : Reference) → IsChainOf file chain c → HasHead file chain V c
@@ -105,24 +91,18 @@ module _ (file : List ℕ) (chain : Chain) (V : List Reference) (number : ℕ) (
   by_number n e h = sym (ap (λ b. cond b (Some d) (searched V (head_address d.address))) (ap (λ m. m == 0) h ∙ e)) ∙ head.found
 
   pub head_visited : HasHead file chain (V ++ d ∷ []) d
-  head_visited = elim (cases_Bool (chain_number d.address == 0)) [
-    | inl e ↦ record {
-      head = head.head;
-      found = ap (λ b. cond b (Some d) (searched (V ++ d ∷ []) (head_address d.address))) e
-          ∙ sym (ap (λ b. cond b (Some d) (searched V (head_address d.address))) e) ∙ head.found;
-      from = head.from;
-      item = head.item;
-      rowid = head.rowid;
-    }
-    | inr e ↦ record {
-      head = head.head;
-      found = ap (λ b. cond b (Some d) (searched (V ++ d ∷ []) (head_address d.address))) e
-          ∙ found_still (head_address d.address) head.head (by_number (chain_number d.address) e refl);
-      from = head.from;
-      item = head.item;
-      rowid = head.rowid;
-    }
-  ]
+  head_visited = record {
+    head = head.head;
+    found = elim (cases_Bool (chain_number d.address == 0)) [
+      | inl e ↦ ap (λ b. cond b (Some d) (searched (V ++ d ∷ []) (head_address d.address))) e
+          ∙ sym (ap (λ b. cond b (Some d) (searched V (head_address d.address))) e) ∙ head.found
+      | inr e ↦ ap (λ b. cond b (Some d) (searched (V ++ d ∷ []) (head_address d.address))) e
+          ∙ found_still (head_address d.address) head.head (by_number (chain_number d.address) e refl)
+    ];
+    from = head.from;
+    item = head.item;
+    rowid = head.rowid;
+  }
 
   -- and of the next one
   module _ (past : IsNext V d) (few : number ≤ length d.address) (left page : ℕ) where
@@ -142,11 +122,8 @@ module _ (file : List ℕ) (chain : Chain) (V : List Reference) (number : ℕ) (
     later : (n : ℕ) → chain_number (then_step d.address 0) ≡ n + 1 → (c : Reference) → searched (V ++ d ∷ []) (head_address (then_step d.address 0)) ≡ Some c
         → chain_head (V ++ d ∷ []) (next_of d left page) ≡ Some c
     later n e c f =
-        let test : ((n + 1) == 0) ≡ false = some n in
+        let test : ((n + 1) == 0) ≡ false = grind (arith, nat_tests) in
         ap (λ b. cond b (Some (next_of d left page)) (searched (V ++ d ∷ []) (head_address (then_step d.address 0)))) (ap (λ m. m == 0) e ∙ test) ∙ f
-      where
-        some : (n : ℕ) → ((n + 1) == 0) ≡ false
-        some n = grind (arith, nat_tests)
 
     pub head_next : HasHead file chain (V ++ d ∷ []) (next_of d left page)
     head_next = elim (cases_Bool (chain_number d.address == 0)) [
@@ -167,15 +144,9 @@ module _ (file : List ℕ) (chain : Chain) (V : List Reference) (number : ℕ) (
       }
     ]
       where
-        zero_is : (n : ℕ) → (n == 0) ≡ true → n ≡ 0
-        zero_is n e = grind (arith, nat_tests)
-
         first : (chain_number d.address == 0) ≡ true → head_address d.address ≡ d.address
-        first e = ap (λ n. take (length d.address - n) d.address) (zero_is (chain_number d.address) e)
+        first e = ap (λ n. take (length d.address - n) d.address) (eqb-true (chain_number d.address) 0 e)
             ∙ (let z : length d.address - 0 ≡ length d.address = omega arith in ap (λ k. take k d.address) z) ∙ take-length d.address
 
-        one : (c : Reference) → Some d ≡ Some c → d ≡ c
-        one c e = cc
-
         self : (chain_number d.address == 0) ≡ true → d ≡ head.head
-        self e = one head.head (sym (ap (λ b. cond b (Some d) (searched V (head_address d.address))) e) ∙ head.found)
+        self e = let s : Some d ≡ Some head.head = sym (ap (λ b. cond b (Some d) (searched V (head_address d.address))) e) ∙ head.found in cc

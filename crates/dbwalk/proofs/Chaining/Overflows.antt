@@ -2,18 +2,14 @@
 use Rattle.std.proofs.Common.{◌≡◌, ℕ, ◌+◌, ◌-◌, ◌*◌, ◌≤◌, ◌<◌, Bool, true, false, cond, not, ◌&&◌, List, [], ◌∷◌, ◌++◌, length, map, take, drop, Option, Some}
 use Rattle.std.proofs.Common.{None, refl, sym, ap, ◌∙◌, arith, option_to_list, nat_le, nat_lt, ◌==◌, pos}
 use Rattle.dbwalk.proofs.Common.{Go, errands_of, start_of, then_step, is_child_step, cell_of_step, children_on, chain_on, child_path, chain_place, go, fault}
-use Rattle.dbwalk.proofs.Common.{geometry, page_bytes, usable_size, overflow_next, role_faults, page_faults, Role, root, first_overflow, later_overflow, trunk}
-use Rattle.dbwalk.proofs.Common.{free_leaf, Reference, role_of, bytes_left, link, row_in, at_page, story_of, is_too_deep, reported_if, IsOnChain, next_of}
-use Rattle.dbwalk.proofs.Common.{cause_of}
-use Rattle.dbwalk.proofs.Common.{Cause, reported_row, reported_fault, reported_by, reported_at}
-use Rattle.std.proofs.lemmas.Bool.Decides.{nat_tests}
-use Rattle.std.proofs.lemmas.List.{length-append, append-nil}
+use Rattle.dbwalk.proofs.Common.{geometry, page_bytes, usable_size, overflow_next, role_faults, page_faults, Role, later_overflow}
+use Rattle.dbwalk.proofs.Common.{Reference, role_of, bytes_left, link, row_in, at_page, story_of, is_too_deep, reported_if, IsOnChain, next_of}
+use Rattle.dbwalk.proofs.Common.{cause_of, Cause, reported_row, reported_fault, reported_by, reported_at, nat_tests, length-append, append-nil, Fault}
+use Rattle.dbwalk.proofs.Common.{Chain}
 use Rattle.dbformat.specs.Counts.{overflow_counts}
 use Rattle.dbformat.specs.PageFaults.{overflow_fault}
-use Rattle.dbformat.specs.Reference.{child}
 use Rattle.dbformat.specs.Rows.{StatRow, overflow_page_row}
 use Rattle.dbformat.specs.declared.counts.Counts.{Counts}
-use Rattle.dbformat.specs.declared.Fault.{Fault}
 use Rattle.dbformat.specs.declared.FaultCode.TheVariants.{O01}
 use Rattle.dbwalk.specs.declared.sink.Row.{Row}
 use Rattle.dbwalk.specs.Rows.{row_of}
@@ -21,7 +17,6 @@ use Rattle.dbformat.specs.declared.PageType.{PageType}
 use Rattle.dbformat.specs.declared.PageType.TheVariants.{Overflow}
 use Rattle.dbformat.proofs.Looping.{by_chain}
 use Rattle.dbsource.specs.Answers.{IsRangeOf}
-use Rattle.dbwalk.specs.declared.chain.Chain.{Chain}
 
 -- the bytes that a load leaves are those of the page
 pub page_read : (file bytes : List ℕ) (size p : ℕ) → length bytes ≡ size → IsRangeOf file ((p - 1) * size) bytes → (geometry file).page_size ≡ size → bytes
@@ -37,19 +32,11 @@ pub reported_overflow : (file : List ℕ) (U : List Reference) (c : Reference) (
 unfolding page_faults
 reported_overflow file U c left h = by_role (role_of c) h
   where
-    same : (l : ℕ) → Some l ≡ Some left → l ≡ left
-    same l e = cc
-
     by_role : (role : Role) → bytes_left role ≡ Some left → map reported_row (option_to_list (row_in role file c))
         ++ reported_by (cause_of file U (at_page c)) (role_faults role file U c)
         ≡ reported_row (overflow_page_row c (usable_size file) left)
         ∷ reported_by (cause_of file U (at_page c)) (overflow_fault (usable_size file) left c.page (page_bytes file c.page))
-    by_role (root kind) e = cc
-    by_role (child kind) e = cc
-    by_role (first_overflow l) e = rw (same l e) refl
-    by_role (later_overflow l) e = rw (same l e) refl
-    by_role trunk e = cc
-    by_role free_leaf e = cc
+    by_role role e = grind arith
 
 pub row_is : (start start' : ℕ) (path path' : List ℕ) (chain chain' : Option (ℕ × ℕ)) (page page' : ℕ) (type type' : PageType) (counts counts' : Counts)
     → start ≡ start' → path ≡ path' → chain ≡ chain' → page ≡ page' → type ≡ type' → counts ≡ counts'
@@ -93,12 +80,7 @@ overflow_shallow c left h = by_role (role_of c) h
   where
     by_role : (role : Role) → bytes_left role ≡ Some left
         → is_too_deep (record { address = c.address; page = c.page; role = record { role = role; from = 0; item = 0 } }) ≡ false
-    by_role (root kind) e = cc
-    by_role (child kind) e = cc
-    by_role (first_overflow l) e = refl
-    by_role (later_overflow l) e = refl
-    by_role trunk e = cc
-    by_role free_leaf e = cc
+    by_role role e = grind arith
 
 -- what it leads to: the next page, if bytes are left after it
 pub more_errands : (file : List ℕ) (c : Reference) (left : ℕ) → bytes_left (role_of c) ≡ Some left → usable_size file - 4 < left
@@ -127,16 +109,7 @@ place_by (Some place) s = Some (place.0, place.1 + 1)
 pub steps_then : (steps : List ℕ) (s : ℕ) → (children_on (steps ++ s ∷ []) ≡ children_on steps ++ child_by (chain_on steps) s)
     × (chain_on (steps ++ s ∷ []) ≡ place_by (chain_on steps) s)
 steps_then [] s = (refl, refl)
-steps_then (t ∷ steps) s = by_step (is_child_step t) (steps_then steps s)
-  where
-    by_step : (b : Bool) → (children_on (steps ++ s ∷ []) ≡ children_on steps ++ child_by (chain_on steps) s)
-        × (chain_on (steps ++ s ∷ []) ≡ place_by (chain_on steps) s)
-        → (cond b (cell_of_step t ∷ children_on (steps ++ s ∷ [])) []
-        ≡ cond b (cell_of_step t ∷ children_on steps) [] ++ child_by (cond b (chain_on steps) (Some (cell_of_step t, length steps))) s)
-        × (cond b (chain_on (steps ++ s ∷ [])) (Some (cell_of_step t, length (steps ++ s ∷ [])))
-        ≡ place_by (cond b (chain_on steps) (Some (cell_of_step t, length steps))) s)
-    by_step true h = (ap (λ l. cell_of_step t ∷ l) h.0, h.1)
-    by_step false h = (refl, ap (λ n. Some (cell_of_step t, n)) (length-append steps (s ∷ [])))
+steps_then (t ∷ steps) s = let rest = steps_then steps s in (grind (arith, length-append), grind (arith, length-append))
 
 pub next_on_chain : (chain : Chain) (number : ℕ) (c : Reference) (left page : ℕ) → IsOnChain chain number c → IsOnChain chain (number + 1) (next_of c left page)
 next_on_chain chain number c left page h = by_address c.address h.start h.path h.place

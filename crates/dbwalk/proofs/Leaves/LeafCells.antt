@@ -1,16 +1,14 @@
 -- What is read of the cells of a page.
-use Rattle.std.proofs.Common.{◌≡◌, ℕ, ◌+◌, ◌<◌, ◌≤◌, Bool, true, false, cond, ◌&&◌, List, [], Option, Some, None, Ok, Err, ℤ, refl, sym, ap, arith, ◌∙◌, subst}
+use Rattle.std.proofs.Common.{◌≡◌, ℕ, ◌+◌, ◌<◌, ◌≤◌, Bool, true, cond, ◌&&◌, List, [], Option, Some, None, Ok, Err, ℤ, refl, sym, ap, arith, ◌∙◌, subst}
 use Rattle.std.proofs.Common.{◌*◌, option_map, nat_le, nat_lt, slice_get, slice_index_or, IfSome}
 use Rattle.dbwalk.proofs.Common.{most_payload, View, undamaged, Cell, cell, count, overflow_size, InteriorIndex, InteriorTable, LeafIndex, LeafTable, CellFault}
-use Rattle.dbwalk.proofs.Common.{TreeKind, Pages, bytes_at, HasCell, IsNextStep, HasNext, Next}
-use Rattle.std.proofs.lemmas.Bool.Decides.{nat_tests}
+use Rattle.dbwalk.proofs.Common.{TreeKind, Pages, bytes_at, HasCell, IsNextStep, HasNext, Next, nat_tests, PageKind, at_offset}
 use Rattle.std.proofs.lemmas.Option.{get_or_from_slice_get}
 use Rattle.dbformat.specs.Varint.{varint}
 use Rattle.dbformat.specs.Cell.{bytes_from, payload_cell, cell_at}
-use Rattle.dbformat.specs.declared.PageKind.{PageKind}
 use Rattle.dbformat.specs.declared.PayloadKind.{PayloadKind}
 use Rattle.dbformat.specs.declared.PayloadKind.TheVariants.{TableLeaf, Index}
-use Rattle.dbformat.proofs.CellParts.{at_offset, then_some}
+use Rattle.dbformat.proofs.CellParts.{then_some}
 
 -- a payload is at most 2147483647 bytes long
 
@@ -22,8 +20,7 @@ payload_size v kind offset before size left key x e = by_test _ _ e (λ f. fits 
     fits end f = grind (arith, nat_tests)
 
     by_test : (b : Bool) (y : Cell) → cond b (Some y) None ≡ Some x → (b ≡ true → y.size ≤ most_payload) → x.size ≤ most_payload
-    by_test true y e l = let same : y ≡ x = cc in subst (λ x. x.size ≤ most_payload) same (l refl)
-    by_test false y e l = cc
+    by_test b y e l = grind arith
 
 cell_at_size : (kind : PageKind) (v : View) (offset : ℕ) (x : Cell) → cell_at kind v offset ≡ Some x → x.size ≤ most_payload
 cell_at_size LeafTable v offset x e =

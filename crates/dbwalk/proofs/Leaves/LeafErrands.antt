@@ -1,25 +1,18 @@
 -- What a cell of a leaf leads to: its overflow chain, and then its own event.
-use Rattle.std.proofs.Common.{◌≡◌, ℕ, ◌+◌, ◌*◌, ◌%◌, ◌/◌, Bool, true, false, cond, inl, inr, List, [], ◌∷◌, ◌++◌, length, map, Option, Some, None, Result}
-use Rattle.std.proofs.Common.{Ok, Err, refl, sym, ap, ap₂, subst, arith, ◌∙◌, option_map, option_and_then, option_to_list, ◌==◌}
+use Rattle.std.proofs.Common.{◌≡◌, ℕ, ◌+◌, ◌*◌, ◌%◌, ◌/◌, false, cond, inl, inr, List, [], ◌∷◌, ◌++◌, length, map, Option, Some, None, Result, Ok}
+use Rattle.std.proofs.Common.{Err, refl, sym, ap, ap₂, subst, arith, ◌∙◌, option_map, option_and_then, option_to_list}
 use Rattle.dbwalk.proofs.Common.{IsBefore, AreQuiet, IsPast, Moves, Errand, errand_key, errands_of, start_of, then_step, overflow_step, child_step}
-use Rattle.dbwalk.proofs.Common.{is_child_step, cell_of_step, children_on, chain_on, child_path, chain_place, View, if_of_tree, is_interior, is_same_tree}
-use Rattle.dbwalk.proofs.Common.{tree_of, undamaged, view, Cell, cell, count, overflow_size, go, report_cell, errands_in, cell_errands, errands_before}
+use Rattle.dbwalk.proofs.Common.{is_child_step, cell_of_step, children_on, chain_on, child_path, chain_place, View, if_of_tree, is_interior}
+use Rattle.dbwalk.proofs.Common.{undamaged, view, Cell, cell, count, overflow_size, go, report_cell, errands_in, cell_errands, errands_before}
 use Rattle.dbwalk.proofs.Common.{page_bytes, usable_size, first_overflow, Way, Reference, link, role_of, tree_kind, tree_view, right_links, Event, own_visit}
 use Rattle.dbwalk.proofs.Common.{story_of, CellFault, InteriorIndex, InteriorTable, LeafIndex, LeafTable, TreeKind, cell_rowid, Finding, IsOnChain, IsChainOf}
-use Rattle.dbwalk.proofs.Common.{IsDone, overflow_errands, AreBefore, AreMarksOf, IsVisitAt, Mark}
-use Rattle.std.specs.Option.{option_map_or}
-use Rattle.std.specs.Result.{result_ok}
-use Rattle.std.proofs.lemmas.List.{append-nil}
-use Rattle.std.proofs.lemmas.Bool.Decides.{nat_tests}
+use Rattle.dbwalk.proofs.Common.{IsDone, overflow_errands, AreBefore, AreMarksOf, IsVisitAt, Mark, option_map_or, result_ok, append-nil, nat_tests, child}
+use Rattle.dbwalk.proofs.Common.{PageKind, Chain, Fits, at_offset, cell_fits}
 use Rattle.dbformat.specs.Head.{right_number}
-use Rattle.dbformat.specs.Reference.{child}
 use Rattle.dbformat.proofs.Looping.{by_cell}
 use Rattle.dbformat.specs.declared.HeadFault.{HeadFault}
-use Rattle.dbformat.specs.declared.PageKind.{PageKind}
-use Rattle.dbwalk.specs.declared.chain.Chain.{Chain}
 use Rattle.dbwalk.proofs.Pages.PageReportings.{view_is}
 use Rattle.dbwalk.proofs.Reporting.Belows.{visited_none, reported_none}
-use Rattle.dbformat.proofs.CellParts.{Fits, at_offset, cell_fits}
 use Rattle.dbwalk.proofs.Chaining.Overflows.{child_by, place_by, steps_then}
 
 -- a leaf's cells have no left child
@@ -35,17 +28,11 @@ leaf_left v i x leaf e = let at = at_offset v i x e in of_leaf v.kind x leaf (ce
 
 -- the address of a cell's first overflow page
 
-step_rest : (i : ℕ) → (3 * i) % 3 ≡ 0
-step_rest i = omega arith
-
 step_cell : (i : ℕ) → (3 * i) / 3 ≡ i
 step_cell i = omega arith
 
-zero_one : (n : ℕ) → n ≡ 0 → (n == 1) ≡ false
-zero_one n e = grind (arith, nat_tests)
-
 no_child_step : (i : ℕ) → is_child_step (overflow_step i) ≡ false
-no_child_step i = zero_one ((3 * i) % 3) (step_rest i)
+no_child_step i = let rest : 3 * i % 3 ≡ 0 = omega arith in grind (arith, nat_tests)
 
 pub chain_first : (steps : List ℕ) (i : ℕ) → chain_on steps ≡ None → (children_on (steps ++ (overflow_step i ∷ [])) ≡ children_on steps)
     × (chain_on (steps ++ (overflow_step i ∷ [])) ≡ Some (i, 0))
@@ -73,8 +60,7 @@ errands_split c kind v i overflow leaf e = by_cell (cell v i) refl ∙ ap (λ w.
   where
     by_overflow : (x : Cell) (o : Option ℕ) → map (go c) (option_to_list (option_map (link c.page (overflow_step i) i (first_overflow (overflow_size x))) o))
         ≡ overflow_errands c i (option_map (λ p. (p, overflow_size x)) o)
-    by_overflow x None = refl
-    by_overflow x (Some p) = refl
+    by_overflow x o = grind arith
 
     by_cell : (r : Result Cell CellFault) → cell v i ≡ r → option_map_or (errands_in c kind v i) (result_ok r) []
         ≡ overflow_errands c i (read_overflow (result_ok r)) ++ own_errands c v i (result_ok r)
@@ -128,10 +114,7 @@ chain_start chain file kind k children c p i first left at usables start path pa
           role =
               record { role = first_overflow left; from = c.page; item = i };
         })
-    by_address [] s d q n = absurd (none (length children) d)
-      where
-        none : (m : ℕ) → 0 ≡ m + 1 → ⊥
-        none m e = omega arith
+    by_address [] s d q n = absurd (omega (arith, d))
     by_address (x ∷ a) s d q n = let f = chain_first a i n in record
         { start = s ∙ sym start; path = f.0 ∙ q ∙ sym path; place = f.1 ∙ ap (λ j. Some (j, 0)) (sym item) }
 
@@ -140,15 +123,9 @@ pub rowid_in : (file : List ℕ) (kind : TreeKind) (p : ℕ) (v : View) (i : ℕ
     → cell_rowid file p i ≡ option_and_then (λ c. c.key) (result_ok (cell v i))
 rowid_in file kind p v i h = by_view (view p (usable_size file) (page_bytes file p)) h
   where
-    by_tree : (b : Bool) (u : View) → cond b (Some u) None ≡ Some v → option_and_then (λ c. c.key) (result_ok (cell u i))
-        ≡ option_and_then (λ c. c.key) (result_ok (cell v i))
-    by_tree true u e = let same : u ≡ v = cc in ap (λ v. option_and_then (λ c. c.key) (result_ok (cell v i))) same
-    by_tree false u e = cc
-
     by_view : (w : Result View HeadFault) → if_of_tree kind w ≡ Some v
         → option_and_then (λ v. option_and_then (λ c. c.key) (result_ok (cell v i))) (result_ok w) ≡ option_and_then (λ c. c.key) (result_ok (cell v i))
-    by_view (Err e) f = cc
-    by_view (Ok u) f = by_tree (is_same_tree (tree_of u.kind) kind) u f
+    by_view w e = grind arith
 
 -- what a program reads of a page of a tree
 module _ (file : List ℕ) {kind : TreeKind} {k : ℕ} {children : List ℕ} {c : Reference} {p : ℕ} {v : View} (at : IsVisitAt kind k children c p)

@@ -2,12 +2,8 @@
 use Rattle.std.proofs.Common.{◌≡◌, ℕ, zero, suc, ◌+◌, ◌-◌, ◌<◌, ◌≤◌, Bool, true, false, Option, Some, None, Ok, ℤ, ◌<ℤ◌, refl, sym, ap, subst, arith, ◌∙◌}
 use Rattle.std.proofs.Common.{is_some, option_and_then}
 use Rattle.dbwalk.proofs.Common.{View, Cell, cell, count, InteriorIndex, InteriorTable, LeafIndex, LeafTable, IsAboveLast, IsAllLocal, key_at, key_value}
-use Rattle.dbwalk.proofs.Common.{CellKey, HasSpan, AreRisingFrom, placed}
-use Rattle.std.specs.Option.{option_or}
-use Rattle.std.specs.Result.{result_ok}
-use Rattle.dbformat.specs.declared.PageKind.{PageKind}
+use Rattle.dbwalk.proofs.Common.{CellKey, HasSpan, AreRisingFrom, placed, option_or, result_ok, PageKind, Fits, at_offset, cell_fits}
 use Rattle.dbwalk.specs.declared.state.KeySpan.{KeySpan}
-use Rattle.dbformat.proofs.CellParts.{Fits, at_offset, cell_fits}
 
 -- the cells of a table have keys, and those of an index have none
 

@@ -1,18 +1,14 @@
 -- The bytes at the levels of a bench after a page was read, and the number of pages that are left without a mark.
-use Rattle.std.proofs.Common.{◌≡◌, ℕ, zero, suc, ◌-◌, ◌*◌, ◌<◌, ◌≤◌, Bool, true, false, cond, List, [], ◌∷◌, length, set, Some, None, Result, refl}
-use Rattle.std.proofs.Common.{sym, ap, subst, arith, ◌∙◌, slice_get, nat_lt, count_by, ◌==◌, IfSome, OnOk}
-use Rattle.dbwalk.proofs.Common.{Changes, Pages, SourceState, IsUse, page_mark, unmarked_pages, KeepsMarks, Mark, Unmarked, HasPageAt}
-use Rattle.std.specs.Option.{option_map_or}
-use Rattle.std.proofs.lemmas.Bool.Decides.{nat_tests}
-use Rattle.std.proofs.lemmas.List.{length-map}
+use Rattle.std.proofs.Common.{◌≡◌, ℕ, zero, suc, ◌-◌, ◌*◌, ◌<◌, ◌≤◌, Bool, true, false, cond, List, [], ◌∷◌, length, set, Some, None, Result, refl, sym, ap}
+use Rattle.std.proofs.Common.{subst, arith, ◌∙◌, slice_get, nat_lt, count_by, ◌==◌, IfSome, OnOk}
+use Rattle.dbwalk.proofs.Common.{Changes, Pages, SourceState, IsUse, page_mark, unmarked_pages, KeepsMarks, Mark, Unmarked, HasPageAt, option_map_or, nat_tests}
+use Rattle.dbwalk.proofs.Common.{length-map, Geometry, Reads}
 use Rattle.dbwalk.specs.Beside.{IsPageBuffer}
 use Rattle.dbformat.specs.FixedPages.{IsInRange}
-use Rattle.dbformat.specs.declared.Geometry.{Geometry}
 use Rattle.dbsource.specs.Answers.{IsRangeOf, Step, answer}
 use Rattle.dbsource.specs.Sources.{HasLog}
 use Rattle.dbsource.specs.declared.source.ReadFailed.{ReadFailed}
 use Rattle.dbmarks.specs.Marking.{is_none, cleared}
-use Rattle.dbmarks.specs.Reads.{Reads}
 use Rattle.dbmarks.proofs.Readings.{log_load, log_page}
 use Rattle.dbwalk.specs.Found.{IsUsable}
 use Rattle.dbsurvey.proofs.Lists.{count_more}

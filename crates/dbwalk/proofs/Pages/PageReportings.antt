@@ -1,31 +1,22 @@
 -- What is reported of a page, as the program reports it.
-use Rattle.std.proofs.Common.{◌≡◌, ℕ, Bool, true, false, List, [], ◌∷◌, ◌++◌, map, Option, Some, None, refl, ap, ◌∙◌, zero, suc, ◌+◌, ◌<◌, ◌&&◌, length, Result}
-use Rattle.std.proofs.Common.{Ok, Err, sym, subst, arith, inl, inr, max, fold, sum_by, cond, append-nil, Less, Equal, Greater, ◌≤◌, option_to_list}
+use Rattle.std.proofs.Common.{◌≡◌, ℕ, Bool, true, false, List, [], ◌∷◌, ◌++◌, map, Option, Some, None, refl, ap, ◌∙◌, zero, suc, ◌+◌, ◌<◌, ◌&&◌, length}
+use Rattle.std.proofs.Common.{Err, sym, subst, arith, inl, inr, max, fold, sum_by, cond, append-nil, Less, Equal, Greater, ◌≤◌, option_to_list}
 use Rattle.std.proofs.Common.{option_and_then, flat_map, ◌==◌, filter_map, option_map, IsSomeAnd, IfSome, IsOk}
-use Rattle.dbwalk.proofs.Common.{usable_size, page_bytes, start_of, child_path, chain_place, View, undamaged, Role, root, first_overflow, later_overflow, trunk}
-use Rattle.dbwalk.proofs.Common.{free_leaf, Reference, role_of, tree_kind, tree_view, bytes_left, tree_page_faults, role_faults, page_faults, cell_fault}
+use Rattle.dbwalk.proofs.Common.{usable_size, page_bytes, start_of, child_path, chain_place, View, undamaged, Role}
+use Rattle.dbwalk.proofs.Common.{Reference, role_of, tree_kind, tree_view, bytes_left, tree_page_faults, role_faults, page_faults, cell_fault}
 use Rattle.dbwalk.proofs.Common.{cell_faults, inner_faults, tree_page_row, row_in, TreeKind, chain_cause, seen_bytes, key_up_to, page_cause, visit_cause}
 use Rattle.dbwalk.proofs.Common.{reported_row, reported_by, Finding, Progress, cause_by, depth_faults, rowids_by, Cause, RowidBounds, FaultCode, at_page}
-use Rattle.dbwalk.proofs.Common.{view_row}
-use Rattle.dbwalk.proofs.Common.{damaged_row, inner_cause, view_cause, with_leaf, page_findings, IsReportedTo, SinkState, Cell, cell, cells, count, CellFault}
-use Rattle.dbwalk.proofs.Common.{first_cells, payload_of, greatest_of}
-use Rattle.dbformat.specs.Reference.{child}
-use Rattle.dbformat.specs.PageFaults.{depth_fault, fragment_fault, freeblock_fault, coverage_fault, empty_fault}
-use Rattle.dbformat.specs.declared.Fault.{Fault}
+use Rattle.dbwalk.proofs.Common.{view_row, damaged_row, inner_cause, view_cause, with_leaf, page_findings, IsReportedTo, SinkState, Cell, cell, cells, count}
+use Rattle.dbwalk.proofs.Common.{CellFault, first_cells, payload_of, greatest_of, child, Fault, TreeLeaf, range_with_len, is_none, common_steps}
+use Rattle.dbwalk.proofs.Common.{flat_map-append, nat_tests, Moves-append, result_ok, cases_order}
+use Rattle.dbformat.specs.PageFaults.{fragment_fault, freeblock_fault, coverage_fault, empty_fault}
 use Rattle.dbtrace.specs.Causes.{page_facts}
 use Rattle.dbformat.specs.Runs.{content_run}
-use Rattle.dbtrace.specs.declared.TreeLeaf.{TreeLeaf}
 use Rattle.dbtrace.proofs.Causing.{inner_codes, inner_same, reported_by-append, tree_same, page_same}
 use Rattle.dbtrace.proofs.Depths.{no_depth, reported_same as reported_alike}
 use Rattle.dbwalk.proofs.Reporting.Sinks.{moves_then}
-use Rattle.std.specs.List.{range_with_len, cons_option}
-use Rattle.std.specs.Option.{is_none}
-use Rattle.std.proofs.lemmas.Grind.{common_steps, flat_map-append}
-use Rattle.std.proofs.lemmas.Bool.Decides.{nat_tests}
-use Rattle.dbsurvey.proofs.Moving.{Moves-append}
+use Rattle.std.specs.List.{cons_option}
 use Rattle.dbformat.proofs.Looping.{range-one-more}
-use Rattle.std.specs.Result.{result_ok}
-use Rattle.std.proofs.lemmas.Bool.{cases_order}
 use Rattle.std.specs.Ordering.{is_lt, nat_cmp, ord_max}
 use Rattle.std.specs.Cmp.{nat_cmp_is}
 use Rattle.std.proofs.lemmas.List.Elements.{filter_map-append}
@@ -60,45 +51,22 @@ page_causes file U p c {kind} role =
     other = with_leaf (visit_cause (rowids_by p (key_up_to file U c)) file c) (rowids_by p (key_up_to file U c)) p.leaf
 
     no_chain : (r : Role) → tree_kind r ≡ Some kind → bytes_left r ≡ None
-    no_chain (root k) e = refl
-    no_chain (child k) e = refl
-    no_chain (first_overflow left) e = cc
-    no_chain (later_overflow left) e = cc
-    no_chain trunk e = cc
-    no_chain free_leaf e = cc
+    no_chain r e = grind arith
 
 module _ (file : List ℕ) (c : Reference) (kind : TreeKind) (role : tree_kind (role_of c) ≡ Some kind) where
   faults_are : page_faults file [] c ≡ tree_page_faults kind (is_child (role_of c)) c.page (usable_size file) (page_bytes file c.page)
   unfolding page_faults
   faults_are = by_role (role_of c) role
     where
-      same : (x y : TreeKind) → Some x ≡ Some y → x ≡ y
-      same x y e = cc
-
-      alone : (fs : List Fault) → fs ++ depth_fault file [] c ≡ fs
-      alone fs = ap (λ l. fs ++ l) (no_depth file c) ∙ append-nil fs
-
       by_role : (r : Role) → tree_kind r ≡ Some kind → role_faults r file [] c
           ≡ tree_page_faults kind (is_child r) c.page (usable_size file) (page_bytes file c.page)
-      by_role (root k) e = alone (tree_page_faults k false c.page (usable_size file) (page_bytes file c.page))
-          ∙ ap (λ k. tree_page_faults k false c.page (usable_size file) (page_bytes file c.page)) (same k kind e)
-      by_role (child k) e = alone (tree_page_faults k true c.page (usable_size file) (page_bytes file c.page))
-          ∙ ap (λ k. tree_page_faults k true c.page (usable_size file) (page_bytes file c.page)) (same k kind e)
-      by_role (first_overflow left) e = cc
-      by_role (later_overflow left) e = cc
-      by_role trunk e = cc
-      by_role free_leaf e = cc
+      by_role r e = let none = no_depth file c in grind (arith, common_steps)
 
   row_is : (o : Option View) → tree_view file c ≡ o → row_in (role_of c) file c ≡ Some (tree_page_row c o)
   row_is o f = by_role (role_of c) role
     where
       by_role : (r : Role) → tree_kind r ≡ Some kind → row_in r file c ≡ Some (tree_page_row c o)
-      by_role (root k) e = ap (λ o. Some (tree_page_row c o)) f
-      by_role (child k) e = ap (λ o. Some (tree_page_row c o)) f
-      by_role (first_overflow left) e = cc
-      by_role (later_overflow left) e = cc
-      by_role trunk e = cc
-      by_role free_leaf e = cc
+      by_role r e = grind arith
 
   -- the view of the page is that of its bytes
   pub view_is : tree_view file c ≡ undamaged kind c.page (usable_size file) (page_bytes file c.page)
@@ -151,20 +119,14 @@ faults_then why {takes = takes} {held = held} {s} {m} {t} L M h k =
 -- one element more of a range
 
 pub faults_more : (f : ℕ → List Fault) (n : ℕ) → flat_map f (range_with_len 0 (n + 1)) ≡ flat_map f (range_with_len 0 n) ++ f n
-faults_more f n = ap (flat_map f) (range-one-more n) ∙ flat_map-append f (range_with_len 0 n) (n ∷ [])
-    ∙ ap (λ l. flat_map f (range_with_len 0 n) ++ l) (append-nil (f n))
+faults_more f n = rw (range-one-more n) (simp (flat_map-append, append-nil))
 
 pub none_more : (fs gs : List Fault) → (length (fs ++ gs) == 0) ≡ ((length fs == 0) && (length gs == 0))
-none_more [] gs = refl
-none_more (f ∷ fs) gs = some (length (fs ++ gs)) ∙ ap (λ b. b && (length gs == 0)) (sym (some (length fs)))
-  where
-    some : (n : ℕ) → (suc n == 0) ≡ false
-    some n = grind (arith, nat_tests)
+none_more fs gs = grind (arith, common_steps, nat_tests)
 
 -- whether a fault was found
 pub none_found : (found : Option Fault) (fs : List Fault) → option_to_list found ≡ fs → is_none found ≡ (length fs == 0)
-none_found None fs e = ap (λ l. length l == 0) e
-none_found (Some f) fs e = let some : false ≡ (1 == 0) = grind (arith, nat_tests) in some ∙ ap (λ l. length l == 0) e
+none_found found fs e = grind (arith, nat_tests)
 
 -- What is reported of the faults within a page, where their cause is that of the page.
 pub inner_reported : (rowids : RowidBounds) (v : View) (number : ℕ) (is_child : Bool) → number ≡ v.number → (why : Cause) → why
@@ -230,12 +192,8 @@ ord_max-max a b = elim (cases_order a b) [
 pub no_cell_faults : (v : View) → ((i : ℕ) → i < count v → IsOk (cell v i)) → cell_faults v ≡ []
 no_cell_faults v whole = below (count v) (omega arith)
   where
-    by_cell : (i : ℕ) (r : Result Cell CellFault) → cell v i ≡ r → IsOk r → cell_fault v i ≡ []
-    by_cell i (Ok x) e h = rw e refl
-    by_cell i (Err f) e h = cc
-
     one : (i : ℕ) → IsOk (cell v i) → cell_fault v i ≡ []
-    one i h = by_cell i (cell v i) refl h
+    one i h = grind arith
 
     below : (n : ℕ) → n ≤ count v → flat_map (cell_fault v) (range_with_len 0 n) ≡ []
     below zero l = refl

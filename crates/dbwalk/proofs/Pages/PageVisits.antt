@@ -1,21 +1,13 @@
 -- What is reported of a page, by what a program finds of it.
-use Rattle.std.proofs.Common.{◌≡◌, ℕ, ◌+◌, true, false, not, ◌&&◌, cond, List, [], ◌∷◌, ◌++◌, length, map, Option, Some, None, refl, sym, ap, ap₂, arith, ◌∙◌}
-use Rattle.std.proofs.Common.{Bool, subst, ◌-◌, nat_lt, pos, ◌==◌, slice_get}
-use Rattle.dbwalk.proofs.Common.{usable_size, page_bytes, start_of, View, undamaged, is_interior, fault, reported_if, Reference, role_of, tree_kind, tree_view}
+use Rattle.std.proofs.Common.{◌≡◌, ℕ, ◌+◌, true, false, not, ◌&&◌, List, [], ◌∷◌, ◌++◌, length, map, Option, Some, None, sym, ap, ap₂, arith, ◌∙◌}
+use Rattle.std.proofs.Common.{Bool, subst, ◌-◌, nat_lt, ◌==◌, slice_get}
+use Rattle.dbwalk.proofs.Common.{usable_size, page_bytes, start_of, View, undamaged, is_interior, reported_if, Reference, role_of, tree_kind, tree_view}
 use Rattle.dbwalk.proofs.Common.{inner_faults, tree_page_faults, tree_page_row, TreeKind, page_cause, visit_cause, reported_row, reported_fault, reported_by}
-use Rattle.dbwalk.proofs.Common.{Finding}
-use Rattle.dbwalk.proofs.Common.{Cause, RowidBounds, FaultCode, leaf_after, depth_faults, damaged_row, view_cause, with_leaf, page_findings, HasPageAt}
-use Rattle.dbwalk.proofs.Common.{IsReportedTo, SinkState, IsCandidate, role_at, IsOpen, IsVisitAt, is_followed, rules_of, Walk, IsInterior}
-use Rattle.std.specs.Option.{option_map_or}
-use Rattle.std.proofs.lemmas.List.{append-nil}
-use Rattle.std.proofs.lemmas.Bool.Decides.{nat_tests}
+use Rattle.dbwalk.proofs.Common.{Finding, Cause, RowidBounds, FaultCode, leaf_after, depth_faults, damaged_row, view_cause, with_leaf, page_findings, HasPageAt}
+use Rattle.dbwalk.proofs.Common.{IsReportedTo, SinkState, IsCandidate, role_at, IsOpen, IsVisitAt, is_followed, rules_of, Walk, IsInterior, option_map_or}
+use Rattle.dbwalk.proofs.Common.{append-nil, nat_tests, Fault, TreeLeaf}
 use Rattle.dbformat.specs.Address.{depth}
 use Rattle.dbformat.specs.PageFaults.{is_leaf_of}
-use Rattle.dbformat.specs.declared.Fault.{Fault}
-use Rattle.dbformat.specs.declared.FaultCode.TheVariants.{T05}
-use Rattle.dbtrace.specs.Causes.{leaf_at}
-use Rattle.dbtrace.specs.declared.TreeLeaf.{TreeLeaf}
-use Rattle.dbtrace.specs.Progress.{depth_of}
 use Rattle.dbwalk.specs.LeafCells.{first_of, depth_reported}
 use Rattle.dbwalk.specs.Found.{undamaged_findings, damaged_findings, IsDamagedAt, IsOpenLeaf}
 use Rattle.dbtrace.proofs.Causing.{inner_codes, inner_same}
@@ -24,19 +16,11 @@ use Rattle.dbwalk.proofs.Pages.PageReportings.{is_child, page_reported, view_is,
 -- a page that is no leaf has no fault of its depth, and leaves the depth of the first leaf
 no_leaf : (file : List ℕ) (rowids : RowidBounds) (leaf : Option TreeLeaf) (c : Reference) → is_leaf_of file (start_of c.address) c ≡ false
     → (depth_faults file leaf c ≡ []) × (leaf_after file leaf rowids c ≡ leaf)
-no_leaf file rowids leaf c e = (
-  ap (λ b. reported_if (b && not (depth c.address == depth_of leaf (depth c.address))) (fault T05 c.page 0 (pos (depth c.address)))) e,
-  by_first leaf,
-)
-  where
-    by_first : (leaf : Option TreeLeaf) → leaf_after file leaf rowids c ≡ leaf
-    by_first (Some d) = refl
-    by_first None = ap (λ b. cond b (Some (leaf_at rowids c)) None) e
+no_leaf file rowids leaf c e = (grind arith, grind arith)
 
 -- a fault that is reported, where a test holds
 pub reported_once : (why : FaultCode → Cause) (b : Bool) (f : Fault) → reported_by why (reported_if b f) ≡ reported_if b (reported_fault f (why f.code))
-reported_once why true f = refl
-reported_once why false f = refl
+reported_once why b f = grind arith
 
 -- a leaf has one if its depth is not that of the first leaf; if there is none yet, it is the first itself
 at_leaf : (file : List ℕ) (why : FaultCode → Cause) (rowids : RowidBounds) (leaf : Option TreeLeaf) (c : Reference) (n : ℕ)
@@ -44,12 +28,7 @@ at_leaf : (file : List ℕ) (why : FaultCode → Cause) (rowids : RowidBounds) (
     → depth c.address ≡ n
     → (reported_by (with_leaf why rowids leaf) (depth_faults file leaf c) ≡ depth_reported rowids leaf c.page n)
     × (leaf_after file leaf rowids c ≡ Some (first_of rowids leaf c.page n))
-at_leaf file why rowids leaf c n e d = by_first leaf
-  where
-    by_first : (leaf : Option TreeLeaf) → (reported_by (with_leaf why rowids leaf) (depth_faults file leaf c) ≡ depth_reported rowids leaf c.page n)
-        × (leaf_after file leaf rowids c ≡ Some (first_of rowids leaf c.page n))
-    by_first (Some m) = (reported_once (with_leaf why rowids (Some m)) _ _ ∙ rw (e, d) refl, refl)
-    by_first None = (reported_once (with_leaf why rowids None) _ _ ∙ rw (e, d) refl, rw (e, d) refl)
+at_leaf file why rowids leaf c n e d = (grind arith, grind arith)
 
 module _ (file : List ℕ) (kind : TreeKind) (k : ℕ) (path : List ℕ) (p from item : ℕ) (c : Reference) (candidate : IsCandidate kind k path p from item c) where
   role_is : role_of c ≡ role_at kind path
@@ -59,22 +38,14 @@ module _ (file : List ℕ) (kind : TreeKind) (k : ℕ) (path : List ℕ) (p from
   kind_is = ap tree_kind role_is ∙ by_path path
     where
       by_path : (path : List ℕ) → tree_kind (role_at kind path) ≡ Some kind
-      by_path [] = refl
-      by_path (n ∷ path) = refl
+      by_path path = grind arith
 
   -- a page is a child where the way to it is not empty
   pub child_is : is_child (role_of c) ≡ nat_lt 1 (length path + 1)
   child_is = ap is_child role_is ∙ by_path path
     where
-      more : (n : ℕ) → true ≡ nat_lt 1 (n + 1 + 1)
-      more n = grind (arith, nat_tests)
-
-      none : (n : ℕ) → n ≡ 0 → false ≡ nat_lt 1 (n + 1)
-      none n e = grind (arith, nat_tests)
-
       by_path : (path : List ℕ) → is_child (role_at kind path) ≡ nat_lt 1 (length path + 1)
-      by_path [] = none 0 refl
-      by_path (n ∷ path) = more (length path) ∙ ap (λ m. nat_lt 1 (m + 1)) (let e : length path + 1 ≡ length (n ∷ path) = omega arith in e)
+      by_path path = grind (arith, nat_tests)
 
   abbrev bytes : List ℕ
   bytes = page_bytes file p

@@ -1,8 +1,7 @@
 -- What is reported and visited below some errands, errand by errand, and call after call.
 use Rattle.std.proofs.Common.{◌≡◌, ℕ, true, false, inl, inr, List, [], ◌∷◌, ◌++◌, refl, sym, ap, ◌∙◌, append_assoc}
 use Rattle.dbwalk.proofs.Common.{Address, IsIn, is_followed, Errand, Go, errands_of, AreQuiet, geometry, Way, Reference, rules_of, Event, at_page, at_refused}
-use Rattle.dbwalk.proofs.Common.{own_visit, story_of, reported_at, reported_below, visited_below}
-use Rattle.std.proofs.lemmas.List.{append-nil}
+use Rattle.dbwalk.proofs.Common.{own_visit, story_of, reported_at, reported_below, visited_below, append-nil, are_rules, is_story}
 use Rattle.dbsurvey.specs.Survey.{IsPart, children}
 use Rattle.dbsurvey.specs.Traverse.{part_of}
 use Rattle.dbsurvey.specs.Story.{goes}
@@ -11,7 +10,7 @@ use Rattle.dbsurvey.proofs.Traversal.{traverse_part, free_at_most}
 use Rattle.dbsurvey.proofs.Remaining.{rest_none, rest_skip, rest_visit, rest_join}
 use Rattle.dbsurvey.proofs.ReadBack.{below_none, below_refused, below_visit, below_join}
 use Rattle.dbsurvey.proofs.Reportings.{goes-append, goes-of}
-use Rattle.dbformat.proofs.Theory.{are_rules, is_story, shows_visits}
+use Rattle.dbformat.proofs.Theory.{shows_visits}
 
 module _ (file : List ℕ) where
   abbrev pages : ℕ

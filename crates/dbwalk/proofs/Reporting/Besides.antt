@@ -1,16 +1,12 @@
 -- What a walk beside the pages of a tree leaves, part after part.
 use Rattle.std.proofs.Common.{◌≡◌, ℕ, Bool, true, false, inl, inr, List, [], ◌∷◌, Option, Some, None, Result, Ok, Err, refl, sym, ap, subst, ◌∙◌, IfErr, IfSome}
-use Rattle.dbwalk.proofs.Common.{Go, is_followed, geometry, Reference, rules_of, Finding, Cause, KeepsMarks, Mark, is_read_failed, failures_after}
-use Rattle.dbwalk.proofs.Common.{SourceState, RunError, WriteFailed, EntersBeside, Opens, Turns, WalksBeside, IsDone, IsReadOrWrite, SinkMoves, SinkState}
-use Rattle.dbwalk.proofs.Common.{SinkWalks}
-use Rattle.dbformat.specs.declared.Geometry.{Geometry}
-use Rattle.dbmarks.proofs.Readings.{log_then, reads_none}
-use Rattle.dbmarks.specs.Reads.{Reads}
-use Rattle.dbsource.proofs.Logs.{has_none, has_weaker}
+use Rattle.dbwalk.proofs.Common.{Go, is_followed, geometry, Reference, rules_of, Finding, Cause, KeepsMarks, Mark, is_read_failed, failures_after, SourceState}
+use Rattle.dbwalk.proofs.Common.{RunError, WriteFailed, EntersBeside, Opens, Turns, WalksBeside, IsDone, IsReadOrWrite, SinkMoves, SinkState, SinkWalks}
+use Rattle.dbwalk.proofs.Common.{Geometry, log_then, Reads, has_weaker, ReadFailed, Step}
+use Rattle.dbmarks.proofs.Readings.{reads_none}
+use Rattle.dbsource.proofs.Logs.{has_none}
 use Rattle.dbsource.specs.Sources.{HasLog}
-use Rattle.dbsource.specs.declared.error.RunError.TheVariants.{ReadFailed}
 use Rattle.dbwalk.specs.Beside.{IsAtStep, LeavesBeside}
-use Rattle.dbwalk.specs.declared.entering.Step.{Step}
 use Rattle.dbwalk.proofs.Reporting.Lefts.{left_unreported, refused_last}
 use Rattle.dbwalk.proofs.Reporting.Sinks.{walks_after, walks_as, walks_err, walks_ok}
 use Rattle.dbsource.specs.Answers as answers
@@ -39,9 +35,6 @@ pub beside_read : {A : Type 0} {x : A} {s t : SourceState} {a b : SinkState} →
 beside_read count moves = record { reads = count; writes = walks_ok moves; only = tt }
 
 -- the same of an answer of another type
-pub beside_ok : {A B : Type 0} {x : A} {y : B} {s t : SourceState} {a b : SinkState} → LeavesBeside (Ok x) s t a b → LeavesBeside (Ok y) s t a b
-beside_ok h = record { reads = h.reads; writes = walks_ok h.writes.moves; only = tt }
-
 pub beside_as : {A B : Type 0} {r : Result B RunError} {e : RunError} {s t : SourceState} {a b : SinkState} → r ≡ Err e
     → LeavesBeside {A = A} (Err e) s t a b → LeavesBeside r s t a b
 beside_as {B = B} {s = s} {t = t} is h = record {
@@ -87,6 +80,15 @@ pub walk_then : {A B : Type 0} {x : A} {r : Result B RunError} {step : answers.S
     → ((file : List ℕ) → P file → Q file → T file) → WalksBeside step r s u a c size l n T
 walk_then same h k says =
     record { log = log_then _ _ same h.log k.log (λ file f g e. says file (f e) (g (same ∙ e))); beside = beside_then h.beside k.beside }
+
+-- by another name of the size
+pub walk_sized : {A : Type 0} {r : Result A RunError} {step : answers.Step} {s t : SourceState} {a b : SinkState} {size size' : ℕ} {l m : List Mark}
+    {P T : List ℕ → Type 0} → size ≡ size' → WalksBeside step r s t a b size l m P → ((file : List ℕ) → P file → T file)
+    → WalksBeside step r s t a b size' l m T
+walk_sized {l = l} {m = m} is h says = record {
+  log = has_weaker _ _ h.log (λ log k. subst (λ n. Reads n l m log) is k) (λ file f e. says file (f (is ∙ e)));
+  beside = h.beside;
+}
 
 -- what a log by the size of pages says by the geometry
 pub log_shaped : {step : answers.Step} {s t : SourceState} {size : ℕ} {shape : Geometry} {l m : List Mark} {P Q : List ℕ → Type 0} → size ≡ shape.page_size

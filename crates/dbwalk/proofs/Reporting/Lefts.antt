@@ -1,28 +1,24 @@
 -- What is left of a walk, step by step.
 use Rattle.std.proofs.Common.{◌≡◌, ℕ, true, false, inl, inr, List, [], ◌∷◌, ◌++◌, Ok, Err, refl, sym, ap, subst, ◌∙◌, append_assoc, ◌-◌, Bool, set, Option}
-use Rattle.std.proofs.Common.{Some, None, pos}
+use Rattle.std.proofs.Common.{Some, None, pos, arith}
 use Rattle.dbwalk.proofs.Common.{IsIn, IsBefore, IsLeftOf, is_followed, Moves, MovesBySome, step_of, Errand, Go, errand_key, errands_of, AreQuiet, IsPast}
 use Rattle.dbwalk.proofs.Common.{geometry, Way, Reference, role_of, bytes_left, tree_kind, from_of, item_of, rules_of, is_too_deep, Event, at_page, at_refused}
 use Rattle.dbwalk.proofs.Common.{own_visit, story_of, RunError, Mark, AreMarksOf, page_mark, chain_cause, seen_from, refusal_cause, refusal_of, rowids_of}
 use Rattle.dbwalk.proofs.Common.{Cause, Finding, reported_at, reported_below, visited_below, reported_fault, IsDone, IsLeft, Enters, IsNext, refused_reported}
-use Rattle.dbwalk.proofs.Common.{FaultCode}
-use Rattle.dbwalk.proofs.Common.{Unmarked, Trunk, FirstOverflow, LaterOverflow}
-use Rattle.std.proofs.lemmas.List.{append-nil}
+use Rattle.dbwalk.proofs.Common.{FaultCode, Unmarked, append-nil, IsIn-cases, IsIn-right, Moves-append, some_after}
+use Rattle.dbwalk.proofs.Common.{are_rules, is_story, Step}
 use Rattle.dbsurvey.specs.Story.{AreErrandsApart}
-use Rattle.dbsurvey.proofs.Order.{IsIn-cases, IsIn-right, EachPair-append, EachPair-left, EachPair-right, IsLeftOf-before, IsLeftOf-longer}
-use Rattle.dbsurvey.proofs.Moving.{Moves-append, some_after, some_first}
+use Rattle.dbsurvey.proofs.Order.{EachPair-append, EachPair-left, EachPair-right, IsLeftOf-before, IsLeftOf-longer}
+use Rattle.dbsurvey.proofs.Moving.{some_first}
 use Rattle.dbsurvey.proofs.Past.{past_visit, past_join, errands_apart}
 use Rattle.dbsurvey.proofs.Reportings.{errands_at-step}
 use Rattle.dbformat.specs.Survey.{refused}
-use Rattle.dbformat.proofs.Theory.{are_rules, is_story}
 use Rattle.dbmarks.specs.Marking.{visit_mark, refusal_by}
 use Rattle.dbtrace.specs.declared.Cause.TheVariants.{Itself}
 use Rattle.dbwalk.specs.Entered.{IsStepOf}
 use Rattle.dbwalk.proofs.Reporting.Belows.{visited_none, visited_refused, visited_visit, visited_join, reported_none, reported_join, reported_refused}
 use Rattle.dbwalk.proofs.Reporting.Belows.{reported_visit}
 use Rattle.dbformat.specs.ReferenceFaults.{refusal_fault}
-use Rattle.dbmarks.specs.declared.marks.Mark.TheVariants.{Fixed, Root, FreeLeaf, Child}
-use Rattle.dbwalk.specs.declared.entering.Step.{Step}
 use Rattle.dbmarks.proofs.Markings.{refused-by_mark, followed-unrefused, followed-refused, marked-visit}
 
 past_rest : (U : List Reference) (e : Errand Way Event) (es : List (Errand Way Event)) → IsPast U (e ∷ es) → IsPast U es
@@ -139,22 +135,7 @@ refused_last takes file W errands before U marks marks' s t d left e =
 
 -- only a page without a mark is followed, by a reference that does not lead too deep
 pub refusal_none : (o : Option Mark) (deep : Bool) → refusal_by o deep ≡ None → (o ≡ Some Unmarked) × (deep ≡ false)
-refusal_none (Some Unmarked) false e = (refl, refl)
-refusal_none None deep e = absurd (cc)
-refusal_none (Some Fixed) deep e = absurd (cc)
-refusal_none (Some Unmarked) true e = absurd (cc)
-refusal_none (Some Root) true e = absurd (cc)
-refusal_none (Some Root) false e = absurd (cc)
-refusal_none (Some Trunk) true e = absurd (cc)
-refusal_none (Some Trunk) false e = absurd (cc)
-refusal_none (Some FreeLeaf) true e = absurd (cc)
-refusal_none (Some FreeLeaf) false e = absurd (cc)
-refusal_none (Some (FirstOverflow from)) true e = absurd (cc)
-refusal_none (Some (FirstOverflow from)) false e = absurd (cc)
-refusal_none (Some (LaterOverflow from)) true e = absurd (cc)
-refusal_none (Some (LaterOverflow from)) false e = absurd (cc)
-refusal_none (Some (Child from)) true e = absurd (cc)
-refusal_none (Some (Child from)) false e = absurd (cc)
+refusal_none o deep e = (grind arith, grind arith)
 
 -- a reference to a page of no chain and no tree goes back to nothing else
 pub no_chain_refusal : (file : List ℕ) (W : List Reference) (c : Reference) → tree_kind (role_of c) ≡ None → bytes_left (role_of c) ≡ None

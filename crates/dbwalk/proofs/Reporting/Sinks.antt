@@ -1,9 +1,8 @@
 -- What calls of a sink leave of its state, call after call.
 use Rattle.std.proofs.Common.{◌≡◌, Bool, true, false, inl, inr, List, [], ◌∷◌, Result, Ok, Err, refl, sym, ap, subst, ◌∙◌, if◌then◌else◌, IfErr, OnOk, IsErrAnd}
 use Rattle.dbwalk.proofs.Common.{Moves, MovesBySome, is_write_failed, RunError, Refused, OutOfMemory, WriteFailed, SinkAfter, SinkMoves, SinkState, SinkWalks}
-use Rattle.std.proofs.lemmas.Result.{err_from_is_err_and}
+use Rattle.dbwalk.proofs.Common.{err_from_is_err_and, ReadFailed}
 use Rattle.std.proofs.lemmas.Bool.{false≢true}
-use Rattle.dbsource.specs.declared.error.RunError.TheVariants.{ReadFailed}
 use Rattle.dbwalk.specs.Reporting.{HasFailed}
 
 -- what the exit of a `?` answers, where the error is known

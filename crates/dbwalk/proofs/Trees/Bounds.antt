@@ -1,13 +1,10 @@
 -- The key of the innermost cell whose left child leads to a page, by the frames above it.
-use Rattle.std.proofs.Common.{◌≡◌, ℕ, ℤ, ◌-◌, Bool, true, false, cond, not, ◌&&◌, inl, inr, List, [], ◌∷◌, ◌++◌, length, map, drop, take, Option, Some, None}
-use Rattle.std.proofs.Common.{refl, Result, Ok, Err, sym, ap, ◌∙◌, append_assoc, arith, find, option_and_then}
-use Rattle.dbwalk.proofs.Common.{IsIn, Address, IsBefore, Go, cell_of_step, start_of, then_step, child_number, page_bytes, View, if_of_tree, is_same_tree}
-use Rattle.dbwalk.proofs.Common.{tree_of, undamaged, view, usable_size, Reference, role_of, tree_kind, tree_view, TreeKind, is_same, key_from, key_up_to}
-use Rattle.dbwalk.proofs.Common.{left_key, root_of, IsNext, AreOpenFrames, child_at, top_visit, StackFrame}
-use Rattle.std.specs.Prelude.{unwrap_or}
-use Rattle.std.specs.Option.{option_map_or, option_or}
-use Rattle.std.specs.Result.{result_ok}
-use Rattle.std.proofs.lemmas.List.{append-nil}
+use Rattle.std.proofs.Common.{◌≡◌, ℕ, ℤ, ◌-◌, Bool, false, cond, not, ◌&&◌, inl, inr, List, [], ◌∷◌, ◌++◌, length, map, drop, take, Option, Some, None}
+use Rattle.std.proofs.Common.{refl, Result, sym, ap, ◌∙◌, append_assoc, arith, find, option_and_then}
+use Rattle.dbwalk.proofs.Common.{IsIn, Address, IsBefore, Go, cell_of_step, start_of, then_step, child_number, page_bytes, View, if_of_tree}
+use Rattle.dbwalk.proofs.Common.{undamaged, view, usable_size, Reference, role_of, tree_kind, tree_view, TreeKind, is_same, key_from, key_up_to}
+use Rattle.dbwalk.proofs.Common.{left_key, root_of, IsNext, AreOpenFrames, child_at, top_visit, StackFrame, unwrap_or, option_map_or, option_or, result_ok}
+use Rattle.dbwalk.proofs.Common.{append-nil}
 use Rattle.std.proofs.lemmas.List.Folds.{find-append}
 use Rattle.dbsurvey.specs.InOrder.{is_before}
 use Rattle.dbsurvey.proofs.Order.{IsBefore-beginning}
@@ -21,13 +18,8 @@ pub sound_in : (file : List ℕ) (kind : TreeKind) (p : ℕ) (v : View) → unda
     → sound_page file p ≡ Some v
 sound_in file kind p v h = by_view (view p (usable_size file) (page_bytes file p)) h
   where
-    by_tree : (b : Bool) (u : View) → cond b (Some u) None ≡ Some v → Some u ≡ Some v
-    by_tree true u e = e
-    by_tree false u e = cc
-
     by_view : (w : Result View HeadFault) → if_of_tree kind w ≡ Some v → result_ok w ≡ Some v
-    by_view (Err e) f = cc
-    by_view (Ok u) f = by_tree (is_same_tree (tree_of u.kind) kind) u f
+    by_view w e = grind arith
 
 -- the root
 
@@ -36,19 +28,13 @@ pub root_stays : (V T : List Reference) (a : Address) (c : Reference) → root_o
 root_stays V T a c e = find-append (λ u. is_same u.address (take 1 a)) V T ∙ ap (λ o. option_or o (find (λ u. is_same u.address (take 1 a)) T)) e
 
 pub root_address : (a : Address) (k : ℕ) → length a ≡ 1 → start_of a ≡ k → a ≡ k ∷ []
-root_address [] k l s = absurd (none l)
-  where
-    none : ◌≡◌ {A = ℕ} 0 1 → ⊥
-    none e = omega arith
+root_address [] k l s = absurd (omega arith)
 root_address (x ∷ []) k l s = ap (λ y. y ∷ []) s
 root_address (x ∷ y ∷ a) k l s = absurd (omega arith)
 
 -- an address of one step
 one_step : (a : Address) → length a ≡ 1 → (take 1 a ≡ a) × (drop 1 a ≡ [])
-one_step [] e = absurd (none e)
-  where
-    none : ◌≡◌ {A = ℕ} 0 1 → ⊥
-    none e = omega arith
+one_step [] e = absurd (omega arith)
 one_step (x ∷ []) e = (refl, refl)
 one_step (x ∷ y ∷ a) e = absurd (omega arith)
 
@@ -106,12 +92,10 @@ key_up_to_itself file V c = by_address c.address refl
             (ap not (is_before-from (x ∷ []) (x ∷ y ∷ a) (IsBefore-beginning (x ∷ []) y a)))
           where
             by_both : (b : Bool) {d : Bool} → d ≡ false → (b && d) ≡ false
-            by_both true f = f
-            by_both false f = refl
+            by_both b f = grind arith
 
         alone : (o : Option Reference) → option_or o None ≡ o
-        alone None = refl
-        alone (Some u) = refl
+        alone o = grind arith
 
 -- the pages below it
 module _ (file : List ℕ) (kind : TreeKind) where

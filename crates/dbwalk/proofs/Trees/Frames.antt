@@ -4,12 +4,11 @@ use Rattle.std.proofs.Common.{◌≡◌, ℕ, suc, ◌+◌, ◌<◌, List, [], �
 use Rattle.std.proofs.Common.{slice_get, OnOk}
 use Rattle.dbwalk.proofs.Common.{child_step, cell_of_step, page_bytes, IsAtTurn, AreCalls, AreRead, IsOpen, IsStepped, AreOpen, cost, path_of, StackFrame}
 use Rattle.dbwalk.proofs.Common.{IsPageNumber, count, undamaged, View, TreeKind, unmarked_pages, Mark, IsEmptyAt, no_chain, no_child, without_key, IsNextStep}
-use Rattle.dbwalk.proofs.Common.{HasNext, Next, End, Nothing, Key}
+use Rattle.dbwalk.proofs.Common.{HasNext, Next, End, Nothing, Key, Tree, common_steps, length-map, length-append, unreadable}
+use Rattle.dbwalk.specs.Points.{LeavesFrames}
 use Rattle.dbwalk.specs.Walking.{frames_cost}
-use Rattle.std.proofs.lemmas.Grind.{common_steps}
-use Rattle.std.proofs.lemmas.List.{map-append, length-map, length-append}
+use Rattle.std.proofs.lemmas.List.{map-append}
 use Rattle.dbformat.specs.FixedPages.{most_pages}
-use Rattle.dbwalk.specs.Steps.{unreadable}
 use Rattle.dbwalk.specs.declared.steps.Next.TheVariants.{Chain, Child}
 
 -- Frames and the pages at their levels, as a turn changes them.
@@ -30,14 +29,8 @@ no_end (y ∷ xs) x e = cc
 
 pub last_same : {X : Type 0} (xs ys : List X) (x y : X) → xs ++ (x ∷ []) ≡ ys ++ (y ∷ []) → (xs ≡ ys) × (x ≡ y)
 last_same [] [] x y e = (refl, cc)
-last_same [] (z ∷ ys) x y e = absurd (no_end ys y (tail e))
-  where
-    tail : {X : Type 0} {x z : X} {ys : List X} → x ∷ [] ≡ z ∷ ys → [] ≡ ys
-    tail e = cc
-last_same (z ∷ xs) [] x y e = absurd (no_end xs x (tail e))
-  where
-    tail : {X : Type 0} {x z : X} {ys : List X} → z ∷ ys ≡ x ∷ [] → [] ≡ ys
-    tail e = cc
+last_same [] (z ∷ ys) x y e = absurd (no_end ys y (let t : [] ≡ ys ++ (y ∷ []) = cc in t))
+last_same (z ∷ xs) [] x y e = absurd (no_end xs x (let t : [] ≡ xs ++ (x ∷ []) = cc in t))
 last_same (z ∷ xs) (w ∷ ys) x y e =
     let f : z ≡ w = cc in
     let g : xs ++ (x ∷ []) ≡ ys ++ (y ∷ []) = cc in
@@ -256,6 +249,21 @@ module _ {usable : ℕ} {kind : TreeKind} {levels : List (List ℕ)} {fs : List 
           let l = s.most in
           let n = on.next in
           omega arith
+
+-- what a turn leaves that puts the frame back a step on
+pub left_on : {usable : ℕ} {kind : TreeKind} {levels : List (List ℕ)} {way : List ℕ} {fs : List StackFrame} {f : StackFrame} {next next' : Next}
+    → IsAtTurn usable kind levels way fs f next' → next' ≡ next → IsOn next → {g : StackFrame} → IsStepped f g → {items : List StackFrame}
+    → items ≡ fs ++ (g ∷ []) → {usable' : ℕ} {levels' : List (List ℕ)} {tree : Tree} → usable' ≡ usable → tree.kind ≡ kind → tree.path.items ≡ way
+    → ((n : ℕ) → n < length (fs ++ (g ∷ [])) → slice_get levels' n ≡ slice_get levels n) → {old new : List Mark} → unmarked_pages new ≤ unmarked_pages old
+    → LeavesFrames usable' levels' fs f items old new tree
+left_on {fs = fs} {next = next} turn is there {g} on are usables kinds ways same {old} {new} fewer =
+    let s = at_turn turn is in
+    record {
+      few = (let n = ap length are ∙ length-append fs (g ∷ []) in let l = turn.few in omega arith);
+      opened = step_on s on (goes_on next there) are _ _ _ usables kinds same;
+      path = path_last _ _ _ _ are (ways ∙ turn.path);
+      ends = ends_on s on old new are fewer;
+    }
 
 -- the way to a child of the last frame's page
 module _ (fs : List StackFrame) {f g : StackFrame} (on : IsStepped f g) {children : List ℕ}

@@ -2,10 +2,8 @@
 use Rattle.std.proofs.Common.{◌≡◌, ℕ, suc, ◌+◌, ◌-◌, ◌*◌, ◌%◌, true, cond, List, [], ◌∷◌, ◌++◌, length, Option, Some, None, refl, sym, ap, subst, arith, ◌∙◌}
 use Rattle.std.proofs.Common.{append_assoc, ◌==◌}
 use Rattle.dbwalk.proofs.Common.{start_of, then_step, child_step, is_child_step, cell_of_step, children_on, chain_on, child_path, chain_place, Reference}
-use Rattle.dbwalk.proofs.Common.{TreeKind, child_at, top_visit, AreCalls, IsCandidate, role_at, path_of, StackFrame}
-use Rattle.std.proofs.lemmas.Bool.Decides.{nat_tests}
-use Rattle.std.proofs.lemmas.List.{append-nil, length-append}
-use Rattle.dbformat.specs.Reference.{child}
+use Rattle.dbwalk.proofs.Common.{TreeKind, child_at, top_visit, AreCalls, IsCandidate, role_at, path_of, StackFrame, nat_tests, append-nil, length-append}
+use Rattle.dbwalk.proofs.Common.{child}
 use Rattle.dbwalk.proofs.Chaining.Overflows.{child_by, place_by, steps_then}
 
 is_child : (n : ℕ) → is_child_step (child_step n) ≡ true

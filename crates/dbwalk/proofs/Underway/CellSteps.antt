@@ -1,32 +1,24 @@
 -- The step at the place of a cell's key: of an interior page or a leaf, with a key or without, and of the schema's rows. And
 -- cells of a leaf that have nothing but their keys to look at, while the keys rise: they hand out nothing, and change only the
 -- greatest key.
-use Rattle.std.proofs.Common.{◌≡◌, ℕ, ℤ, int_lt, Bool, true, false, cond, not, ◌&&◌, List, [], ◌∷◌, ◌++◌, map, Option, Some, None, refl, sym, ap, ◌∙◌, zero}
+use Rattle.std.proofs.Common.{◌≡◌, ℕ, ℤ, int_lt, Bool, true, false, cond, not, List, [], ◌∷◌, ◌++◌, map, Option, Some, None, refl, sym, ap, ◌∙◌, zero}
 use Rattle.std.proofs.Common.{suc, ◌+◌, ◌<◌, ◌≤◌, ◌<ℤ◌, arith, Ok, Err, Result, subst, flat_map, int_le, ◌==◌, option_and_then}
 use Rattle.dbwalk.proofs.Common.{start_of, schema_start, Cell, cell, count, View, is_interior, Reference, role_of, tree_kind, tree_view, SchemaCell}
-use Rattle.dbwalk.proofs.Common.{schema_cell, at_key, own_visit, story_of, reported_if, fault, T06, FaultCode, left_rows, RowidBounds, Finding, reported_fault}
-use Rattle.dbwalk.proofs.Common.{reported_by}
-use Rattle.dbwalk.proofs.Common.{Cause, CellKey, Item, found, given, items_at, Progress, cause_by, rows_of, key_value, Walk, advance, run_below, bare, is_late}
-use Rattle.dbwalk.proofs.Common.{key_cause, order_reported, placed, top_after, AreRisingFrom, IsIn, Address, AreQuiet, Due, errands_of, errands_in}
-use Rattle.dbwalk.proofs.Common.{cell_errands}
-use Rattle.dbwalk.proofs.Common.{report_cell, CellFault, TreeKind, IsAboveLast, IsAllLocal, key_at, IsAt, HasDone, done_below, Mark, Tree}
-use Rattle.std.proofs.lemmas.List.{append-nil}
+use Rattle.dbwalk.proofs.Common.{at_key, own_visit, story_of, reported_if, fault, T06, FaultCode, left_rows, RowidBounds, Finding, reported_fault}
+use Rattle.dbwalk.proofs.Common.{reported_by, Cause, CellKey, Item, found, given, items_at, Progress, cause_by, rows_of, key_value, Walk, advance, run_below}
+use Rattle.dbwalk.proofs.Common.{bare, is_late, key_cause, order_reported, placed, top_after, AreRisingFrom, IsIn, Address, AreQuiet, Due, errands_of}
+use Rattle.dbwalk.proofs.Common.{errands_in, cell_errands, report_cell, CellFault, TreeKind, IsAboveLast, IsAllLocal, key_at, IsAt, HasDone, done_below, Mark}
+use Rattle.dbwalk.proofs.Common.{Tree, append-nil, range_with_len, option_map_or, option_or, result_ok, flat_map-append, all_quiet, has_steps, nat_tests}
 use Rattle.dbformat.specs.KeyFaults.{key_of}
 use Rattle.dbformat.proofs.Places.{cell_key}
 use Rattle.dbtrace.specs.Progress.{late_faults, greatest_after}
 use Rattle.dbtrace.proofs.Keys.{le_is}
-use Rattle.std.specs.List.{range_with_len}
-use Rattle.std.specs.Option.{option_map_or, option_or}
-use Rattle.std.specs.Result.{result_ok}
 use Rattle.std.proofs.lemmas.Int.{ints}
-use Rattle.std.proofs.lemmas.Grind.{flat_map-append}
 use Rattle.dbsurvey.proofs.Ordering.{IsIn-from_flat_map}
 use Rattle.dbformat.proofs.Cells.{is_of_kind}
-use Rattle.dbformat.proofs.Looping.{range-more, all_quiet}
-use Rattle.dbtrace.proofs.Stepping.{has_steps}
+use Rattle.dbformat.proofs.Looping.{range-more}
 use Rattle.dbwalk.proofs.Pages.PageVisits.{reported_once}
 use Rattle.dbwalk.proofs.Trees.Stacking.{cells_in}
-use Rattle.std.proofs.lemmas.Bool.Decides.{nat_tests}
 use Rattle.dbwalk.proofs.Leaves.LeafErrands.{leaf_errands_are}
 
 -- the fault of a cell's key, if it has one, as the program reports it
@@ -50,15 +42,10 @@ module _ (file : List ℕ) (r : Reference) (v : View) (n : ℕ) (x : Cell) where
           ∙ ap (λ c. reported_if (is_late (not (is_interior v.kind)) (Some m.value) value) (reported_fault (fault T06 r.page n value) c)) e
         where
           by_rowid : (b : Bool) → cond b (int_le value m.value) (int_lt value m.value) ≡ cond b (not (int_lt m.value value)) (int_lt value m.value)
-          by_rowid true = le_is value m.value
-          by_rowid false = refl
+          by_rowid b = grind (arith, le_is)
 
   greatest_is : (top : Option CellKey) → greatest_after top (key_of r v (n, x)) ≡ top_after top r.page n x.key
-  greatest_is top = by_key x.key top
-    where
-      by_key : (o : Option ℤ) (top : Option CellKey) → greatest_after top (key_of r v (n, record x { key = o })) ≡ top_after top r.page n o
-      by_key None top = refl
-      by_key (Some value) top = refl
+  greatest_is top = grind arith
 
   -- what the cell hands out, where these are its rows of the schema: the rows, and then the key's fault
   pub cell_items : (U : List Reference) (p : Progress) (rows : List SchemaCell) → rows_of file U r v (n, x) ≡ rows
@@ -74,11 +61,7 @@ module _ (file : List ℕ) (r : Reference) (v : View) (n : ℕ) (x : Cell) where
 
 -- cells of interior pages, and of trees that are not the schema's, are of no row
 pub no_row_inside : (file : List ℕ) (U : List Reference) (r : Reference) (v : View) (x : ℕ × Cell) → is_interior v.kind ≡ true → rows_of file U r v x ≡ []
-no_row_inside file U r v x inside = by_start (start_of r.address == schema_start) (schema_cell file U r x ∷ [])
-  where
-    by_start : (b : Bool) (rows : List SchemaCell) → cond (b && not (is_interior v.kind)) rows [] ≡ []
-    by_start true rows = rw inside refl
-    by_start false rows = refl
+no_row_inside file U r v x inside = grind arith
 
 pub no_row_elsewhere : (file : List ℕ) (U : List Reference) (r : Reference) (v : View) (x : ℕ × Cell) → (start_of r.address == schema_start) ≡ false
     → rows_of file U r v x ≡ []
@@ -149,10 +132,7 @@ module _ (file : List ℕ) (r : Reference) (kind : TreeKind) (v : View) (leaf : 
 
 -- a start after the first is not the schema's
 pub other_start : (a : Address) (k : ℕ) → start_of a ≡ k → 1 ≤ k → (start_of a == schema_start) ≡ false
-other_start a k e l = apart (start_of a) (omega arith)
-  where
-    apart : (n : ℕ) → 1 ≤ n → (n == 0) ≡ false
-    apart n l = grind (arith, nat_tests)
+other_start a k e l = grind (arith, nat_tests)
 
 module _ {P : Type 0} (moves : P → Item → P → Type 0) (stops : P → Item → P → Type 0) (file : List ℕ) (now : Walk) (c : Reference) (kind : TreeKind)
     (v : View) where

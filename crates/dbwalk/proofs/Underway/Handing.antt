@@ -3,13 +3,11 @@ use Rattle.std.proofs.Common.{◌≡◌, Bool, inl, inr, List, [], ◌∷◌, �
 use Rattle.dbwalk.proofs.Common.{Moves, Stops, MovesBySome, SchemaCell, SchemaRow, RunError, Refused, WriteFailed, OutOfMemory, Finding, Item, found, given}
 use Rattle.dbwalk.proofs.Common.{given_cells, counted_findings, IsReadOrWrite, Reports, ReportsRow, watches, fails, row_at, StopsAt, Handed, Taken, AreQuiet}
 use Rattle.dbwalk.proofs.Common.{Errand, geometry, rules_of, Way, Event, own_visit, story_of, Walk, bare, run_below, AreMarksOf, IsAt, HasDone, done_below}
-use Rattle.dbwalk.proofs.Common.{Mark, Tree}
-use Rattle.dbsurvey.proofs.Moving.{Moves-append, some_first, some_after, stops_first, stops_after}
-use Rattle.dbsource.specs.declared.error.RunError.TheVariants.{ReadFailed}
+use Rattle.dbwalk.proofs.Common.{Mark, Tree, Moves-append, some_after, ReadFailed, has_steps}
+use Rattle.dbsurvey.proofs.Moving.{some_first, stops_first, stops_after}
 use Rattle.dbsurvey.specs.Story.{reporting_of}
 use Rattle.dbsurvey.proofs.Advancing.{run_visits}
 use Rattle.dbtrace.specs.Walk.{machine}
-use Rattle.dbtrace.proofs.Stepping.{has_steps}
 use Rattle.dbwalk.proofs.Reporting.Sinks.{asked, asked_both, moves_some}
 
 -- items that give no row

@@ -5,15 +5,10 @@ use Rattle.dbwalk.proofs.Common.{Moves, Errand, start_of, then_step, overflow_st
 use Rattle.dbwalk.proofs.Common.{Reference, SchemaCell, payload, schema_cell, SchemaRow, Event, at_key, TreeKind, RowSieve, RunError, key_before, left_rows}
 use Rattle.dbwalk.proofs.Common.{Finding, reported_below, visited_below, CellKey, Item, found, given, rows_of, Walk, bare, advance, IsDone, overflow_errands}
 use Rattle.dbwalk.proofs.Common.{late_reported, top_after, AreBefore, AreMarksOf, IsReadOrWrite, ReportsRow, HasFed, HoldsCell, FeedsPayload, IsAt, done_below}
-use Rattle.dbwalk.proofs.Common.{watches, fails, StopsAt, Handed, Mark, Tree, Taken}
-use Rattle.std.specs.Result.{result_ok}
-use Rattle.std.proofs.lemmas.Bool.{cases_Bool, eqb-true}
-use Rattle.std.proofs.lemmas.Bool.Decides.{nat_tests}
-use Rattle.std.proofs.lemmas.List.{append-nil}
+use Rattle.dbwalk.proofs.Common.{watches, fails, StopsAt, Handed, Mark, Tree, Taken, result_ok, cases_Bool, eqb-true, nat_tests, append-nil, has_steps}
 use Rattle.dbformat.specs.SchemaRow.{schema_row}
 use Rattle.dbformat.specs.declared.Encoding.{Encoding}
 use Rattle.dbtrace.proofs.Asides.{are_aside}
-use Rattle.dbtrace.proofs.Stepping.{has_steps}
 use Rattle.dbwalk.specs.Taking.{row_place}
 use Rattle.dbwalk.specs.declared.schema_row.RowPlace.{RowPlace}
 use Rattle.dbwalk.proofs.Leaves.LeafErrands.{own_errands, read_overflow, errands_split, quiet_overflow}
@@ -73,8 +68,7 @@ module _ (file : List ℕ) (from : Walk) (c : Reference) (kind : TreeKind) (v : 
     items : w.items ≡ map given (rows_behind file m.visits c v i o) ++ key_items
 
   same_faults : (top : Option CellKey) (o : Option ℤ) → order_reported_of true None top c.page i o ≡ late_reported top c.page i o
-  same_faults top None = refl
-  same_faults top (Some value) = refl
+  same_faults top o = grind arith
 
   behind : IsBehind (result_ok (cell v i)) (done_below file m own)
   behind = by_cell (result_ok (cell v i)) key_is

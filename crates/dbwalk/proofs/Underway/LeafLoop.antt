@@ -3,14 +3,10 @@ use Rattle.std.proofs.Common.{◌≡◌, ℕ, zero, suc, ◌+◌, ◌-◌, ◌<�
 use Rattle.std.proofs.Common.{subst, arith, ◌∙◌, append_assoc, flat_map, option_and_then, ◌==◌}
 use Rattle.dbwalk.proofs.Common.{IsIn, IsBefore, AreQuiet, start_of, then_step, overflow_step, schema_start, cell, count, cell_errands, errands_before, View}
 use Rattle.dbwalk.proofs.Common.{is_interior, Reference, SchemaRow, own_visit, TreeKind, RunError, Finding, visited_below, CellKey, Item, Walk, bare}
-use Rattle.dbwalk.proofs.Common.{AreRisingFrom, overflow_errands, AreBefore, IsAt, done_below, IsVisitAt, watches, Mark, Tree, Taken}
-use Rattle.std.specs.List.{range_with_len}
-use Rattle.std.specs.Result.{result_ok}
-use Rattle.std.proofs.lemmas.Bool.{cases_order}
-use Rattle.std.proofs.lemmas.Grind.{flat_map-append}
-use Rattle.dbsurvey.proofs.Order.{IsIn-cases, IsBefore-trans}
-use Rattle.dbformat.proofs.Looping.{all_quiet, one_cell_more, range-parts}
-use Rattle.dbtrace.proofs.Stepping.{has_steps}
+use Rattle.dbwalk.proofs.Common.{AreRisingFrom, overflow_errands, AreBefore, IsAt, done_below, IsVisitAt, watches, Mark, Tree, Taken, range_with_len, result_ok}
+use Rattle.dbwalk.proofs.Common.{cases_order, flat_map-append, IsIn-cases, all_quiet, has_steps}
+use Rattle.dbsurvey.proofs.Order.{IsBefore-trans}
+use Rattle.dbformat.proofs.Looping.{one_cell_more, range-parts}
 use Rattle.dbwalk.proofs.Leaves.LeafErrands.{read_overflow}
 use Rattle.dbwalk.proofs.Underway.Visits.{before_next, before_later}
 use Rattle.dbwalk.proofs.Reporting.Belows.{visited_none, below_begins}

@@ -6,9 +6,8 @@ use Rattle.dbwalk.proofs.Common.{Event, at_page, at_key, own_visit, story_of, Tr
 use Rattle.dbwalk.proofs.Common.{advance, run_below, bare, IsNext, top_after, AreMarksOf, errands_from, child_at, top_visit, left_over, IsStepped}
 use Rattle.dbwalk.proofs.Common.{AreOpenFrames, AreRead, IsReadOrWrite, IsUnderway, HasDone, IsInterior, done_below, entered, IsAt, IsWalkingOn, tree_walk}
 use Rattle.dbwalk.proofs.Common.{StopsAt, watches, fails, Handed, StackFrame, Mark, Tree, SchemaRow, Finding, reported_below, visited_below, IsDone, Taken}
-use Rattle.std.proofs.lemmas.List.{append-nil}
+use Rattle.dbwalk.proofs.Common.{append-nil, has_steps}
 use Rattle.dbtrace.specs.Steps.{IsAside}
-use Rattle.dbtrace.proofs.Stepping.{has_steps}
 use Rattle.dbwalk.specs.Walking.{IsOpenFrame}
 use Rattle.dbwalk.proofs.Trees.Bounds.{root_stays}
 use Rattle.dbwalk.proofs.Trees.Stacking.{left-push, top-push, from_first}

@@ -2,26 +2,19 @@
 use Rattle.std.proofs.Common.{◌≡◌, ℕ, suc, ◌+◌, ◌-◌, ◌*◌, ◌/◌, ◌<◌, ◌≤◌, false, true, List, [], ◌∷◌, ◌++◌, map, length, Option, Some, Ok, Err, Result, ℤ, refl}
 use Rattle.std.proofs.Common.{sym, ap, ap₂, subst, arith, ◌∙◌, Bool, option_and_then, slice_get, OnOk, IfErr}
 use Rattle.dbwalk.proofs.Common.{Moves, Go, then_step, overflow_step, child_step, cell_of_step, count, overflow_size, child_number, report_cell, page_bytes}
-use Rattle.dbwalk.proofs.Common.{View}
-use Rattle.dbwalk.proofs.Common.{undamaged, usable_size, first_overflow, Reference, role_of, tree_kind, tree_view, RunError, fault, reported_if, T06}
-use Rattle.dbwalk.proofs.Common.{key_before}
-use Rattle.dbwalk.proofs.Common.{key_from, key_up_to, left_key, Finding, reported_fault, key_value, RowidBounds, Item, found, IsChainOf, IsNext, is_late}
-use Rattle.dbwalk.proofs.Common.{key_cause}
-use Rattle.dbwalk.proofs.Common.{order_reported, top_after, errands_from, child_at, top_visit, IsCandidate, IsVisitAt, IsStepped, path_of, IsEmptyAt, no_chain}
-use Rattle.dbwalk.proofs.Common.{no_child, without_key, HasLeft, IsNextStep, HasNext, HasDone, IsInterior, done_below, entered, IsWalkingOn, tree_walk, StopsAt}
-use Rattle.dbwalk.proofs.Common.{StackFrame, Mark, Tree, Next, End, Nothing}
-use Rattle.std.specs.Prelude.{unwrap_or}
-use Rattle.std.specs.Option.{option_map_or, option_or}
-use Rattle.std.specs.Result.{result_ok}
-use Rattle.std.proofs.lemmas.List.{length-append}
-use Rattle.dbwalk.specs.Steps.{IsChainAt, IsChildAt, IsKeyAt, unreadable}
+use Rattle.dbwalk.proofs.Common.{View, undamaged, usable_size, first_overflow, Reference, role_of, tree_kind, tree_view, RunError, fault, reported_if, T06}
+use Rattle.dbwalk.proofs.Common.{key_before, key_from, key_up_to, left_key, Finding, reported_fault, key_value, RowidBounds, Item, found, IsChainOf, IsNext}
+use Rattle.dbwalk.proofs.Common.{is_late, key_cause, order_reported, top_after, errands_from, child_at, top_visit, IsCandidate, IsVisitAt, IsStepped, path_of}
+use Rattle.dbwalk.proofs.Common.{IsEmptyAt, no_chain, no_child, without_key, HasLeft, IsNextStep, HasNext, HasDone, IsInterior, done_below, entered}
+use Rattle.dbwalk.proofs.Common.{IsWalkingOn, tree_walk, StopsAt, StackFrame, Mark, Tree, Next, Nothing, unwrap_or, option_map_or, option_or, result_ok}
+use Rattle.dbwalk.proofs.Common.{length-append, unreadable, Chain}
+use Rattle.dbwalk.specs.Steps.{IsChainAt, IsChildAt, IsKeyAt}
 use Rattle.dbwalk.specs.Underway.{HasTurned}
-use Rattle.dbwalk.specs.declared.chain.Chain.{Chain}
 use Rattle.dbwalk.proofs.Leaves.LeafErrands.{chain_start, rowid_in}
 use Rattle.dbwalk.proofs.Pages.PageReportings.{view_is}
 use Rattle.dbwalk.proofs.Pages.PageVisits.{kind_is}
 use Rattle.dbwalk.proofs.Trees.Bounds.{child_key, child_up_to, root_address}
-use Rattle.dbwalk.proofs.Trees.Frames.{path_length, read_last, step_within}
+use Rattle.dbwalk.proofs.Trees.Frames.{goes_on, path_length, read_last, step_within}
 use Rattle.dbwalk.proofs.Trees.Stacking.{top_kind, step_no_chain, step_no_child, step_key, step_no_key, step_chain, step_child, step_end}
 use Rattle.dbwalk.proofs.Trees.TreeWays.{IsOnWay, child_candidate, top_candidate}
 use Rattle.dbwalk.proofs.Underway.CellSteps.{order_reported_of}
@@ -80,16 +73,13 @@ module _ {P : Type 0} {moves : P → Item → P → Type 0} {file : List ℕ} {W
     turned_empty h = by_case h
       where
         within : suc f.next ≤ 3 * count v + 2
-        within = step_within v f.next Nothing (λ e. other e) h
-          where
-            other : Nothing ≡ End → ⊥
-            other e = cc
+        within = step_within v f.next Nothing (goes_on Nothing tt) h
 
         by_case : IsEmptyAt v f.next → IsWalkingOn moves file W c before (fs ++ (g ∷ []), levels) (marks, tree) w
         by_case (no_chain n step l none) = steps.on_skip fs f on stepped within
             (subst (λ s. errands_from file top s ≡ errands_from file top (suc s)) (sym step) (step_no_chain file top tree.kind v role viewed n none))
         by_case (no_child n step l none) = steps.on_skip fs f on stepped within
-            (subst (λ s. errands_from file top s ≡ errands_from file top (suc s)) (sym step) (step_no_child file top tree.kind v role viewed n l none))
+            (subst (λ s. errands_from file top s ≡ errands_from file top (suc s)) (sym step) (step_no_child file top tree.kind v role viewed n none))
         by_case (unreadable n b step l bad) = steps.on_skip fs f on stepped within
             (subst (λ s. errands_from file top s ≡ errands_from file top (suc s)) (sym step) (step_no_key file top tree.kind v role viewed n b bad))
         by_case (without_key n x step l read none) = steps.on_cell fs f on stepped within n x w
@@ -102,20 +92,14 @@ module _ {P : Type 0} {moves : P → Item → P → Type 0} {file : List ℕ} {W
     -- a key
     module _ {value : ℤ} (h : IsKeyAt v f.next value) (x : P) where
       within_key : suc f.next ≤ 3 * count v + 2
-      within_key = step_within v f.next (step.Key value) (λ e. other e) h
-        where
-          other : step.Key value ≡ End → ⊥
-          other e = cc
+      within_key = step_within v f.next (step.Key value) (goes_on (step.Key value) tt) h
 
       key_errand : errands_from file top f.next ≡ report_cell top v h.n h.x ∷ errands_from file top (suc f.next)
       key_errand = subst (λ s. errands_from file top s ≡ report_cell top v h.n h.x ∷ errands_from file top (suc s)) (sym h.step)
           (step_key file top tree.kind v role viewed h.n h.x h.low h.read)
 
       at_cell : f.next / 3 ≡ h.n
-      at_cell = ap (λ s. s / 3) h.step ∙ item h.n
-        where
-          item : (n : ℕ) → (3 * n + 2) / 3 ≡ n
-          item n = omega arith
+      at_cell = let e = h.step in omega arith
 
       -- between the key of the cell before it and its own
       abbrev between : Option ℤ → RowidBounds
@@ -186,22 +170,16 @@ module _ {P : Type 0} {moves : P → Item → P → Type 0} {file : List ℕ} {W
           (step_chain file top tree.kind v role viewed h.n h.x first h.low h.read h.page))
 
       within_chain : suc f.next ≤ 3 * count v + 2
-      within_chain = step_within v f.next (step.Chain first left rowid) (λ e. other e) h
-        where
-          other : step.Chain first left rowid ≡ End → ⊥
-          other e = cc
+      within_chain = step_within v f.next (step.Chain first left rowid) (goes_on (step.Chain first left rowid) tt) h
 
       -- it is the one that a call is given, and all visits so far are before it
       pub chain_is : (chain : Chain) → chain.usable ≡ usable_size file → chain.start ≡ tree.start → chain.path.now ≡ path_of fs → chain.page ≡ f.page
           → chain.cell ≡ f.next / 3 → chain.first ≡ first → chain.left ≡ left → chain.rowid ≡ rowid → IsChainOf file chain chained
       chain_is chain usables starts ways pages items ones rests keys =
           chain_start chain file tree.kind tree.start (path_of fs) top f.page h.n first left top_at usables starts ways pages
-          (items ∙ ap (λ s. s / 3) h.step ∙ third h.n) ones rests
+          (items ∙ (let e = h.step in let third : f.next / 3 ≡ h.n = omega arith in third)) ones rests
           (rowid_in file tree.kind f.page v h.n (ap (λ p. undamaged tree.kind p (usable_size file) (page_bytes file p)) on_page
           ∙ sym (view_is file top tree.kind role) ∙ viewed) ∙ ap (λ r. option_and_then (λ c. c.key) (result_ok r)) h.read ∙ sym (keys ∙ h.key))
-        where
-          third : (n : ℕ) → (3 * n) / 3 ≡ n
-          third n = omega arith
 
       pub chain_next : IsNext on.now.visits chained
       chain_next = steps.next_is fs f on stepped within_chain chained chain_errand
@@ -224,29 +202,23 @@ module _ {P : Type 0} {moves : P → Item → P → Type 0} {file : List ℕ} {W
       child_errand = subst (λ s. errands_from file top s ≡ Go (child_at file tree.kind top s) ∷ errands_from file top (suc s)) (sym h.step)
           (step_child file top tree.kind v role viewed h.n number h.low h.number)
 
+      at_child : f.next / 3 ≡ h.n
+      at_child = let e = h.step in omega arith
+
       -- the key of the innermost cell whose left child leads to it
       key_is : key_from file c child ≡ option_or key f.up_to
       key_is =
           child_key file tree.kind tree.start c (root_address c.address tree.start candidate.depth candidate.start) fs v f.next
           (kind_is file tree.kind tree.start [] c.page 0 tree.start c candidate) role (steps.frames fs f on).0 viewed
-          ∙ ap (λ i. option_or (left_key v i) (key_from file c top)) (ap (λ s. s / 3) h.step ∙ third h.n)
+          ∙ ap (λ i. option_or (left_key v i) (key_from file c top)) at_child
           ∙ ap₂ (λ a b. option_or a b) (sym h.left) (sym (steps.frames fs f on).1.up_to)
-        where
-          third : (n : ℕ) → (3 * n + 1) / 3 ≡ n
-          third n = omega arith
 
       number_is : child.page ≡ number
       number_is = ap (λ o. option_map_or (λ v. unwrap_or (child_number v (cell_of_step f.next)) 0) o 0) viewed
-          ∙ ap (λ i. unwrap_or (child_number v i) 0) (ap (λ s. s / 3) h.step ∙ third h.n) ∙ ap (λ o. unwrap_or o 0) h.number
-        where
-          third : (n : ℕ) → (3 * n + 1) / 3 ≡ n
-          third n = omega arith
+          ∙ ap (λ i. unwrap_or (child_number v i) 0) at_child ∙ ap (λ o. unwrap_or o 0) h.number
 
       within_child : suc f.next ≤ 3 * count v + 2
-      within_child = step_within v f.next (step.Child number key) (λ e. other e) h
-        where
-          other : step.Child number key ≡ End → ⊥
-          other e = cc
+      within_child = step_within v f.next (step.Child number key) (goes_on (step.Child number key) tt) h
 
       child_is : IsCandidate tree.kind tree.start (path_of fs ++ (cell_of_step f.next ∷ [])) child.page top.page (cell_of_step f.next) child
       child_is = child_candidate file tree.kind tree.start (path_of fs) way.p way.from way.item top way.candidate f.next h.n h.step

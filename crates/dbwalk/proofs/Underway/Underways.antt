@@ -2,13 +2,9 @@
 use Rattle.std.proofs.Common.{◌≡◌, ℕ, inr, List, [], ◌∷◌, ◌++◌, None, Ok, Err, sym, ap, subst, ◌∙◌, append_assoc, true, option_to_list}
 use Rattle.dbwalk.proofs.Common.{IsLeftOf, AreQuiet, IsPast, Moves, Reported, Errand, Go, Due, errand_key, errands_of, is_followed, geometry, Way, Reference}
 use Rattle.dbwalk.proofs.Common.{Event, at_page, own_visit, story_of, rules_of, RunError, Item, items_at, Walk, bare, advance, run_below, AreMarksOf, IsAt}
-use Rattle.dbwalk.proofs.Common.{IsUnderway, HasDone, done_below, StopsAt, Mark, Tree}
-use Rattle.std.proofs.lemmas.List.{append-nil}
-use Rattle.dbsurvey.proofs.Moving.{Moves-append}
-use Rattle.dbsurvey.proofs.Order.{IsIn-right, EachPair-left, EachPair-right}
+use Rattle.dbwalk.proofs.Common.{IsUnderway, HasDone, done_below, StopsAt, Mark, Tree, append-nil, Moves-append, IsIn-right, are_rules, has_steps}
+use Rattle.dbsurvey.proofs.Order.{EachPair-left, EachPair-right}
 use Rattle.dbsurvey.proofs.Past.{past_join}
-use Rattle.dbformat.proofs.Theory.{are_rules}
-use Rattle.dbtrace.proofs.Stepping.{has_steps}
 use Rattle.dbwalk.proofs.Reporting.Lefts.{visit_apart, past_visit_all}
 use Rattle.dbwalk.proofs.Underway.Handing.{stop_first, stop_after}
 

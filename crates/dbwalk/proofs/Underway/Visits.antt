@@ -3,20 +3,13 @@ use Rattle.std.proofs.Common.{ℕ, ℤ, ◌<◌, inl, inr, List, [], ◌∷◌, 
 use Rattle.std.proofs.Common.{◌∙◌, OnOk, option_to_list}
 use Rattle.dbwalk.proofs.Common.{Address, IsBefore, Reference, role_of, tree_kind, TreeKind, CellKey, AreBefore, Moves, Go, errands_of, is_followed, then_step}
 use Rattle.dbwalk.proofs.Common.{SchemaRow, at_page, at_refused, story_of, rules_of, RunError, WriteFailed, OutOfMemory, Finding, reported_by, reported_row}
-use Rattle.dbwalk.proofs.Common.{Item}
-use Rattle.dbwalk.proofs.Common.{found, key_up_to, refusal_of, key_value, leaf_after, rowids_by, Cause, FaultCode, Walk, bare, advance, run_below, IsNext}
+use Rattle.dbwalk.proofs.Common.{Item, found, key_up_to, refusal_of, key_value, leaf_after, rowids_by, Cause, FaultCode, Walk, bare, advance, run_below, IsNext}
 use Rattle.dbwalk.proofs.Common.{refused_reported, AreMarksOf, Reports, page_findings, IsAt, HasDone, done_below, entered, IsEntered, watches, fails, Handed}
-use Rattle.dbwalk.proofs.Common.{Mark}
-use Rattle.dbwalk.proofs.Common.{Tree, Taken}
-use Rattle.dbsurvey.proofs.Order.{IsIn-cases, IsBefore-trans, IsBefore-beginning}
+use Rattle.dbwalk.proofs.Common.{Mark, Tree, Taken, IsIn-cases, TreeLeaf, append-nil, some_none, ReadFailed, has_steps}
+use Rattle.dbsurvey.proofs.Order.{IsBefore-trans, IsBefore-beginning}
 use Rattle.dbformat.specs.Laws.{event_row}
-use Rattle.dbtrace.specs.declared.TreeLeaf.{TreeLeaf}
-use Rattle.std.proofs.lemmas.List.{append-nil}
-use Rattle.dbsurvey.proofs.Moving.{some_none}
-use Rattle.dbsource.specs.declared.error.RunError.TheVariants.{ReadFailed}
 use Rattle.dbformat.specs.ReferenceFaults.{reference_faults}
 use Rattle.dbwalk.proofs.Trees.Bounds.{key_up_to_itself}
-use Rattle.dbtrace.proofs.Stepping.{has_steps}
 use Rattle.dbwalk.proofs.Pages.PageReportings.{page_causes}
 use Rattle.dbwalk.proofs.Underway.Handing.{done_none, done_on, found_moves, found_handed}
 use Rattle.dbtrace.specs.declared.Cause.TheVariants as cause

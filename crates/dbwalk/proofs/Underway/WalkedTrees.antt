@@ -5,15 +5,10 @@ use Rattle.dbwalk.proofs.Common.{Address, IsIn, IsBefore, start_of, schema_start
 use Rattle.dbwalk.proofs.Common.{refused_reported, IsCandidate, left_over, is_followed, geometry, page_bytes, schema, SchemaRow, at_page, at_refused, story_of}
 use Rattle.dbwalk.proofs.Common.{rules_of, RunError, WriteFailed, Finding, reported_below, visited_below, Item, found, given_cells, no_rowids, begin, advance}
 use Rattle.dbwalk.proofs.Common.{AreMarksOf, Reports, IsReadOrWrite, IsAt, HasDone, IsUnderway, IsEntered, entered, IsWalkingOn, tree_walk, IsTreeDone, watches}
-use Rattle.dbwalk.proofs.Common.{fails, Handed, StackFrame, Mark, Tree, Taken}
+use Rattle.dbwalk.proofs.Common.{fails, Handed, StackFrame, Mark, Tree, Taken, nat_tests, append-nil, some_none, ReadFailed, has_steps}
 use Rattle.dbtrace.specs.Starts.{IsOfEarlierStart, AreOfEarlierStarts}
-use Rattle.std.proofs.lemmas.Bool.Decides.{nat_tests}
-use Rattle.std.proofs.lemmas.List.{append-nil}
-use Rattle.dbsurvey.proofs.Moving.{some_none}
-use Rattle.dbsource.specs.declared.error.RunError.TheVariants.{ReadFailed}
 use Rattle.dbwalk.proofs.Underway.Visits.{refused_items}
 use Rattle.dbtrace.proofs.Folding.{is_fold}
-use Rattle.dbtrace.proofs.Stepping.{has_steps}
 use Rattle.dbmarks.specs.Marking.{marks_of}
 use Rattle.dbwalk.proofs.Trees.Bounds.{no_key_from, root_address, root_first, no_key_up_to}
 use Rattle.dbwalk.proofs.Trees.Stacking.{from_first}

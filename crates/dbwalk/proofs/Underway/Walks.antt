@@ -1,8 +1,7 @@
 -- What a call of the walk over a tree keeps, call after call.
 use Rattle.std.proofs.Common.{◌≡◌, ℕ, zero, suc, ◌≤◌, inl, inr, Result, Ok, Err, refl, sym, ap, subst, ◌∙◌, arith, IfErr}
 use Rattle.dbwalk.proofs.Common.{is_read_failed, failures_after, SourceState, RunError, IsReadOrWrite, IsWriteOrMemory, SinkWalks, SinkState, IsTreeError}
-use Rattle.dbwalk.proofs.Common.{Walked, Tree}
-use Rattle.dbformat.specs.declared.Geometry.{Geometry}
+use Rattle.dbwalk.proofs.Common.{Walked, Tree, Geometry}
 use Rattle.dbsource.specs.Errors.{is_out_of_memory}
 use Rattle.dbwalk.specs.Reporting.{IsReadWriteOrMemory}
 use Rattle.dbwalk.proofs.Reporting.Sinks.{asked, asked_both, asked_walks, walks_after, walks_as, walks_ok}

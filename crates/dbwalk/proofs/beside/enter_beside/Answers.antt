@@ -1,6 +1,6 @@
 use Rattle.std.proofs.Common.{rules, arith, ◌≡◌, ◌+◌, ◌-◌, length, set, Ok, Err, sym, ap, ◌∙◌}
-use Rattle.dbwalk.proofs.Common.{page_bytes, unmarked_pages, refusal_cause}
-use Rattle.dbmarks.proofs.Readings.{log_load, log_none, log_page, put_count}
+use Rattle.dbwalk.proofs.Common.{page_bytes, unmarked_pages, refusal_cause, log_none}
+use Rattle.dbmarks.proofs.Readings.{log_load, log_page, put_count}
 use Rattle.dbwalk.proofs.Chaining.Overflows.{page_read}
 use Rattle.dbwalk.proofs.Reporting.Besides.{beside_read, beside_shut, beside_reported, beside_unread}
 use Rattle.dbwalk.proofs.Reporting.Sinks.{err_is, walks_as}

@@ -1,8 +1,7 @@
 use Rattle.std.proofs.Common.{◌<◌, inl, refl, subst, ◌∙◌, arith, IfSome}
-use Rattle.dbwalk.proofs.Common.{IsPlace}
-use Rattle.dbmarks.proofs.Readings.{keeps_same}
+use Rattle.dbwalk.proofs.Common.{IsPlace, keeps_same}
 use Rattle.dbwalk.proofs.Chaining.ChainTurns.{way_start}
-use Rattle.dbwalk.proofs.Reporting.Besides.{beside_as, beside_ok, beside_then, beside_reported, turned_on, walk_then, walk_reported, walk_unread}
+use Rattle.dbwalk.proofs.Reporting.Besides.{beside_reported, turned_on, walk_as, walk_then, walk_reported, walk_unread}
 use Rattle.dbwalk.proofs.Reporting.Sinks.{err_is}
 use Rattle.dbwalk.proofs.chain.walk_chain.Goals as goal
 
@@ -15,10 +14,11 @@ loop-next-init g c = record {
   place = record { named = c.requires.chain.0; used = record { some = refl; cleared = refl }; counted = omega arith };
 }
 
-pub returns-in_err-next-clause-log : goal.returns-in_err-next-clause-log
-returns-in_err-next-clause-log g c =
-    (walk_then c.loop-next.invariant.size c.loop-next.invariant.walks c.in_err-next.ensures.walks (λ file way turned W d h next m.
-    rw (err_is c.from_residual.ensures.1) ((turned W d c.args.sink.now c.args.sieve.now (way W d h next m)).stopped, tt))).log
+pub returns-in_err-next-clause-walks : goal.returns-in_err-next-clause-walks
+returns-in_err-next-clause-walks g c =
+    let q = err_is c.from_residual.ensures.1 in
+    walk_as q (walk_then c.loop-next.invariant.size c.loop-next.invariant.walks c.in_err-next.ensures.walks (λ file way turned W d h next m.
+    rw q ((turned W d c.args.sink.now c.args.sieve.now (way W d h next m)).stopped, tt))) (λ file done. done)
 
 pub loop-next-preserved : goal.loop-next-preserved
 loop-next-preserved g c = record {
@@ -29,16 +29,9 @@ loop-next-preserved g c = record {
   place = (subst (λ o. IfSome o (λ next. IsPlace next × (next.left < c.loop-next.place.left))) c.in-Some.is c.in_ok-next.ensures.next).0;
 }
 
-pub returns-clause-log : goal.returns-clause-log
-returns-clause-log g c = (walk_then c.loop-next.invariant.size c.loop-next.invariant.walks c.in_ok-next.ensures.walks (λ file way turned W d h next m.
-    (turned W d c.args.sink.now c.args.sieve.now (way W d h next m)).ended c.in_default.is)).log
-
-pub returns-in_err-next-clause-beside : goal.returns-in_err-next-clause-beside
-returns-in_err-next-clause-beside g c =
-    beside_as (err_is c.from_residual.ensures.1) (beside_then c.loop-next.invariant.walks.beside c.in_err-next.ensures.walks.beside)
-
-pub returns-clause-beside : goal.returns-clause-beside
-returns-clause-beside g c = beside_then c.loop-next.invariant.walks.beside (beside_ok c.in_ok-next.ensures.walks.beside)
+pub returns-clause-walks : goal.returns-clause-walks
+returns-clause-walks g c = walk_reported (walk_then c.loop-next.invariant.size c.loop-next.invariant.walks c.in_ok-next.ensures.walks
+    (λ file way turned W d h next m. (turned W d c.args.sink.now c.args.sieve.now (way W d h next m)).ended c.in_default.is)) (inl refl) (λ file done. done)
 
 pub loop-next-smaller : goal.loop-next-smaller
 loop-next-smaller g c = (subst (λ o. IfSome o (λ next. IsPlace next × (next.left < c.loop-next.place.left))) c.in-Some.is c.in_ok-next.ensures.next).1

@@ -1,10 +1,10 @@
 use Rattle.std.proofs.Common.{refl, sym}
 use Rattle.dbwalk.proofs.Pages.Levels.{page_buffer}
-use Rattle.dbwalk.proofs.Reporting.Besides.{log_shaped}
+use Rattle.dbwalk.proofs.Reporting.Besides.{walk_sized}
 use Rattle.dbwalk.proofs.chain.walk_unfed.Goals as goal
 
-pub returns-clause-log : goal.returns-clause-log
-returns-clause-log g c = log_shaped c.chain-buffer.ensures.len.1 c.walk_chain.ensures.log (λ file e done W d is next m. (done W d is next m).0)
+pub returns-clause-walks : goal.returns-clause-walks
+returns-clause-walks g c = walk_sized c.chain-buffer.ensures.len.1 c.walk_chain.ensures.walks (λ file done W d is next m. (done W d is next m).0)
 
 pub walk_chain-requires : goal.walk_chain-requires
 walk_chain-requires g c =

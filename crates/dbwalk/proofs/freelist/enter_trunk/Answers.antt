@@ -1,7 +1,6 @@
 use Rattle.std.proofs.Common.{rules, arith, ◌≡◌, ℕ, Some, None, Ok, Err, refl, sym, ap, ap₂, ◌∙◌, inl, IfSome, ◌==◌}
-use Rattle.dbwalk.proofs.Common.{page_bytes, Trunk, next_step, trunk_step}
+use Rattle.dbwalk.proofs.Common.{page_bytes, Trunk, next_step, trunk_step, u32_at}
 use Rattle.std.proofs.lemmas.Bool.{cond_both}
-use Rattle.dbformat.specs.Numbers.{u32_at}
 use Rattle.dbwalk.proofs.Chaining.ChainTurns.{if_some_all}
 use Rattle.dbwalk.proofs.FreeTrunks.{trunk_read, trunk_opened, next_turned}
 use Rattle.dbwalk.proofs.Reporting.Sinks.{err_is, walks_as}

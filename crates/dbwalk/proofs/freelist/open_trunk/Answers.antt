@@ -1,6 +1,5 @@
 use Rattle.std.proofs.Common.{rules, ◌-◌, ◌/◌, ◌<◌, ◌≤◌, [], ◌∷◌, ◌++◌, map, refl, sym, ap, subst, ◌∙◌, pos}
-use Rattle.dbwalk.proofs.Common.{Go, go, fault, page_bytes, usable_size, next_trunk, leaf_count, most_leaves, L01, reported_alone, IsLeft}
-use Rattle.dbformat.specs.Numbers.{u32_at}
+use Rattle.dbwalk.proofs.Common.{Go, go, fault, page_bytes, usable_size, next_trunk, leaf_count, most_leaves, L01, reported_alone, IsLeft, u32_at}
 use Rattle.dbwalk.proofs.FreeTrunks.{opened_fitting, opened_crowded}
 use Rattle.dbwalk.proofs.Reporting.Sinks.{err_is, walks_as, walks_ok}
 use Rattle.dbwalk.proofs.freelist.open_trunk.Goals as goal

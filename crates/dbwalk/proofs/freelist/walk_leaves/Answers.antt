@@ -1,9 +1,8 @@
 use Rattle.std.proofs.Common.{◌≡◌, ◌+◌, ◌-◌, ◌<◌, inl, inr, ◌++◌, ◌∷◌, refl, sym, subst, arith}
-use Rattle.dbwalk.proofs.Common.{refusal_cause, IsLeft, leaves_from, KeepsMarks, Go}
-use Rattle.std.proofs.lemmas.Bool.{cases_Bool}
+use Rattle.dbwalk.proofs.Common.{refusal_cause, IsLeft, leaves_from, KeepsMarks, Go, cases_Bool, keeps_same}
 use Rattle.dbwalk.proofs.FreeTrunks.{leaf_of, leaves_more, next_of_left, leaf_entered}
 use Rattle.dbwalk.proofs.Reporting.Lefts.{left_unreported}
-use Rattle.dbmarks.proofs.Readings.{keeps_same, keeps_then, keeps_put}
+use Rattle.dbmarks.proofs.Readings.{keeps_then, keeps_put}
 use Rattle.dbwalk.proofs.Reporting.Sinks.{err_is, moves_then, walks_after, walks_as, walks_ok}
 use Rattle.dbwalk.proofs.freelist.walk_leaves.Goals as goal
 

@@ -1,21 +1,20 @@
 use Rattle.std.proofs.Common.{◌≤◌, inl, refl, ap, subst, IfSome}
-use Rattle.dbwalk.proofs.Common.{most_payload}
-use Rattle.dbmarks.proofs.Readings.{log_none}
+use Rattle.dbwalk.proofs.Common.{most_payload, keeps_same}
 use Rattle.dbwalk.proofs.Leaves.LeafErrands.{none_done, chain_start}
 use Rattle.dbwalk.proofs.Chaining.Feedings.{on_ok, feeds_nothing, feeds_chain}
-use Rattle.dbwalk.proofs.Reporting.Besides.{beside_reported, log_shaped}
+use Rattle.dbwalk.proofs.Reporting.Besides.{beside_reported, walk_sized, walk_unread}
 use Rattle.dbwalk.proofs.Pages.Levels.{page_buffer}
 use Rattle.dbwalk.proofs.leaf.walk_overflow.Goals as goal
 
-pub returns-in-None-clause-log : goal.returns-in-None-clause-log
-returns-in-None-clause-log g c = log_none c.args.at.place.shape.page_size c.args.marks.now c.args.marks.now (g.S.Source.held c.args.source.now) refl
+pub returns-in-None-clause-walks : goal.returns-in-None-clause-walks
+returns-in-None-clause-walks g c = walk_unread (beside_reported (inl refl)) (keeps_same c.args.marks.now)
     (λ file e U d at row past m. (
       none_done g.K.Sink.takes file U d c.args.at.place.item c.args.at.cell.overflow c.args.marks.now c.args.sink.now c.in-None.is m,
       feeds_nothing file U d c.args.at.place.item c.args.at.cell.overflow c.args.sieve.now c.in-None.is,
     ))
 
-pub returns-in-Some-clause-log : goal.returns-in-Some-clause-log
-returns-in-Some-clause-log g c = log_shaped c.requires.shape.1 c.walk_chain.ensures.log (λ file e h U d at row past m.
+pub returns-in-Some-clause-walks : goal.returns-in-Some-clause-walks
+returns-in-Some-clause-walks g c = walk_sized c.requires.shape.1 c.walk_chain.ensures.walks (λ file h e U d at row past m.
     let t = c.args.at.tree.now in
     let next = rw c.in-Some.is at past in
     let k = h U _ (chain_start _ file t.kind t.start t.path.items d c.args.at.place.page c.args.at.place.item c.in-Some.first c.in-Some.left at
@@ -30,6 +29,3 @@ walk_chain-requires g c = record {
   chain = (c.requires.cell.0, subst (λ o. IfSome o (λ o. o.1 ≤ most_payload)) c.in-Some.is c.requires.cell.1);
   buffer = page_buffer refl c.requires.shape.0 c.requires.shape.1;
 }
-
-pub returns-in-None-clause-beside : goal.returns-in-None-clause-beside
-returns-in-None-clause-beside g c = beside_reported (inl refl)

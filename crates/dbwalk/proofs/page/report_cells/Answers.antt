@@ -1,6 +1,5 @@
 use Rattle.std.proofs.Common.{◌==◌, ◌&&◌, length, sym, ap, ◌∙◌, flat_map}
-use Rattle.dbwalk.proofs.Common.{cell_fault, inner_cause}
-use Rattle.std.specs.List.{range_with_len}
+use Rattle.dbwalk.proofs.Common.{cell_fault, inner_cause, range_with_len}
 use Rattle.dbwalk.proofs.Pages.PageReportings.{faults_then, faults_more, none_more}
 use Rattle.dbwalk.proofs.page.report_cells.Goals as goal
 

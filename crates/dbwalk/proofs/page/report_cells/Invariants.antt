@@ -1,6 +1,5 @@
 use Rattle.std.proofs.Common.{◌≡◌, ◌==◌, length, flat_map}
-use Rattle.dbwalk.proofs.Common.{cell_fault, reported_by, inner_cause, IsReportedTo}
-use Rattle.std.specs.List.{range_with_len}
+use Rattle.dbwalk.proofs.Common.{cell_fault, reported_by, inner_cause, IsReportedTo, range_with_len}
 use Rattle.dbwalk.proofs.page.report_cells.Given as goal
 
 abbrev pub invariant-loop-i : goal.invariant-loop-i

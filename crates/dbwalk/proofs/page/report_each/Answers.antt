@@ -1,7 +1,7 @@
 use Rattle.std.proofs.Common.{◌≡◌, ◌+◌, ◌++◌, arith, take, slice_index_or, None}
+use Rattle.dbwalk.proofs.Common.{common_steps}
 use Rattle.std.specs.List.{flat_map}
 use Rattle.std.specs.Option.{option_to_list}
-use Rattle.std.proofs.lemmas.Grind.{common_steps}
 use Rattle.dbwalk.specs.Found.{inner_cause}
 use Rattle.dbwalk.proofs.Pages.PageReportings.{faults_then, reported_nothing}
 use Rattle.dbwalk.proofs.page.report_each.Goals as goal

@@ -1,6 +1,5 @@
 use Rattle.std.proofs.Common.{rules, ◌≡◌, ◌&&◌, ◌==◌, length, ap, ◌∙◌, refl, subst}
-use Rattle.dbwalk.proofs.Common.{cell_faults, reported_by, inner_cause, IsReportedTo}
-use Rattle.std.specs.Option.{is_none}
+use Rattle.dbwalk.proofs.Common.{cell_faults, reported_by, inner_cause, IsReportedTo, is_none}
 use Rattle.dbwalk.proofs.Pages.PageReportings.{inner_found, inner_reported, faults_then}
 use Rattle.dbwalk.proofs.page.report_inner.Goals as goal
 

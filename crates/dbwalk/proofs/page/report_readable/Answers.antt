@@ -1,6 +1,5 @@
 use Rattle.std.proofs.Common.{◌≡◌, [], rules, subst, ap, sym, ◌∙◌, refl}
-use Rattle.dbwalk.proofs.Common.{reported_by, inner_cause, view_cause, IsReportedTo}
-use Rattle.std.specs.Option.{is_none}
+use Rattle.dbwalk.proofs.Common.{reported_by, inner_cause, view_cause, IsReportedTo, is_none}
 use Rattle.dbwalk.proofs.Pages.PageReportings.{inner_found, inner_reported, no_cell_faults, reported_nothing}
 use Rattle.dbwalk.proofs.page.report_readable.Goals as goal
 

@@ -1,6 +1,5 @@
 use Rattle.std.proofs.Common.{[], Some, sym, ◌∙◌, subst}
-use Rattle.std.specs.Result.{result_ok}
-use Rattle.dbwalk.proofs.Common.{Cell, HoldsCell}
+use Rattle.dbwalk.proofs.Common.{result_ok, Cell, HoldsCell}
 use Rattle.dbbytes.specs.Sieve.{HasTaken}
 use Rattle.dbwalk.proofs.schema_row.row_sieve.Goals as goal
 

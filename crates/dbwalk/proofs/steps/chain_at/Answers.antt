@@ -1,6 +1,5 @@
 use Rattle.std.proofs.Common.{◌≡◌, ℕ, ◌<◌, ◌≤◌, None, Ok, refl, sym, subst, arith, ◌∙◌, ap}
-use Rattle.dbwalk.proofs.Common.{Cell, cell, count, View, InteriorTable, no_chain}
-use Rattle.dbformat.proofs.CellParts.{Fits, at_offset, cell_fits}
+use Rattle.dbwalk.proofs.Common.{Cell, cell, count, View, InteriorTable, no_chain, Fits, at_offset, cell_fits}
 use Rattle.dbwalk.proofs.Leaves.LeafCells.{no_overflow, bad_cell}
 use Rattle.dbwalk.proofs.steps.chain_at.Goals as goal
 

@@ -1,8 +1,7 @@
 use Rattle.std.proofs.Common.{◌≡◌, ◌<◌, ◌≤◌, ℕ, ℤ, false, cond, Option, Some, None, Result, Ok, Err, refl, sym, ap, subst, arith, ◌∙◌, option_and_then, ◌==◌}
-use Rattle.dbwalk.proofs.Common.{child_step, Cell, cell, child_number, count, right_child, View, CellFault, left_key, IsNextStep, no_child}
-use Rattle.std.specs.Result.{result_ok}
+use Rattle.dbwalk.proofs.Common.{child_step, Cell, cell, child_number, count, right_child, View, CellFault, left_key, IsNextStep, no_child, result_ok}
+use Rattle.dbwalk.proofs.Common.{nat_tests}
 use Rattle.std.proofs.lemmas.Bool.{eq-eqb}
-use Rattle.std.proofs.lemmas.Bool.Decides.{nat_tests}
 use Rattle.dbwalk.specs.Steps.{child_of}
 use Rattle.dbwalk.proofs.steps.child_at.Goals as goal
 

@@ -1,7 +1,5 @@
 use Rattle.std.proofs.Common.{◌≡◌, ℕ, ◌<◌, Result, Ok, Err, refl, sym, subst, arith, ◌∙◌, ap}
-use Rattle.dbwalk.proofs.Common.{key_step, Cell, cell, count, View, CellFault, InteriorIndex, IsEmptyAt, without_key}
-use Rattle.dbformat.proofs.CellParts.{Fits, at_offset, cell_fits}
-use Rattle.dbwalk.specs.Steps.{unreadable}
+use Rattle.dbwalk.proofs.Common.{key_step, Cell, cell, count, View, CellFault, InteriorIndex, IsEmptyAt, without_key, Fits, at_offset, cell_fits, unreadable}
 use Rattle.dbwalk.proofs.steps.key_at.Goals as goal
 
 -- a cell of an interior page of an index has no key

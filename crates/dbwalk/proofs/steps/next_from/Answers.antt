@@ -1,7 +1,5 @@
 use Rattle.std.proofs.Common.{◌≡◌, ℕ, ◌+◌, ◌<◌, ◌≤◌, inl, inr, subst, arith, ◌==◌}
-use Rattle.dbwalk.proofs.Common.{View, IsEmptyAt, IsNextStep}
-use Rattle.std.proofs.lemmas.Bool.{cases_Bool}
-use Rattle.std.proofs.lemmas.Bool.Decides.{nat_tests}
+use Rattle.dbwalk.proofs.Common.{View, IsEmptyAt, IsNextStep, cases_Bool, nat_tests}
 use Rattle.dbwalk.proofs.steps.next_from.Goals as goal
 
 -- one more step at which there is nothing

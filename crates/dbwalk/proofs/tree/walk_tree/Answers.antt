@@ -1,15 +1,11 @@
 use Rattle.std.proofs.Common.{rules, ◌≡◌, ◌<◌, ◌≤◌, [], false, Ok, Err, inl, inr, refl, sym, ap, subst, arith, ◌∙◌, List, IfErr, OnOk}
 use Rattle.dbwalk.proofs.Common.{geometry, page_bytes, IsPageNumber, encoding, Reference, bytes_at, is_read_failed, is_write_failed, failures_after}
 use Rattle.dbwalk.proofs.Common.{WriteFailed, Enters, refused_reported, HasPageAt, IsReadOrWrite, SinkAfter, Reports, IsTreeDone, Mark, no_rowids}
-use Rattle.std.proofs.lemmas.Result.{err_from_is_err_and}
+use Rattle.dbwalk.proofs.Common.{err_from_is_err_and, ReadFailed, Reads, log_none, log_then, has_weaker}
 use Rattle.dbsource.specs.Sources.{Asks}
-use Rattle.dbsource.specs.declared.error.RunError.TheVariants.{ReadFailed}
-use Rattle.dbmarks.specs.Reads.{Reads}
 use Rattle.dbwalk.specs.Roots.{IsRootAfter, kind_of, kind_in}
 use Rattle.dbwalk.proofs.Pages.PageVisits.{kind_is}
 use Rattle.dbwalk.proofs.Chaining.Overflows.{page_read}
-use Rattle.dbmarks.proofs.Readings.{log_none, log_then}
-use Rattle.dbsource.proofs.Logs.{has_weaker}
 use Rattle.dbwalk.proofs.Pages.Levels.{geometry_kept, log_entered, read_there}
 use Rattle.dbwalk.proofs.Trees.Bounds.{root_address}
 use Rattle.dbwalk.proofs.Underway.WalkedTrees.{candidate_as, root_next, tree_done, tree_refused, tree_unasked, tree_unread}

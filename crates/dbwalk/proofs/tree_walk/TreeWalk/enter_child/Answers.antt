@@ -2,15 +2,13 @@ use Rattle.std.proofs.Common.{rules, ◌≡◌, ℕ, ℤ, Option, ◌+◌, ◌-�
 use Rattle.std.proofs.Common.{subst, arith, ◌∙◌, Bool, Some, slice_get}
 use Rattle.dbwalk.proofs.Common.{cell_of_step, page_bytes, IsPageNumber, TreeKind, Go, Changes, Pages, IsUse, KeepsMarks, page_mark, unmarked_pages, Mark}
 use Rattle.dbwalk.proofs.Common.{Unmarked, Cause, HasPageAt, IsAtTurn, IsOpen, AreOpen, path_of, done_below, watches, fails, Next, StackFrame}
-use Rattle.std.proofs.lemmas.Result.{err_from_is_err_and}
-use Rattle.dbsource.specs.declared.error.RunError.TheVariants.{ReadFailed}
-use Rattle.dbsource.proofs.Logs.{has_weaker}
-use Rattle.dbmarks.proofs.Readings.{log_none, log_then, put_count}
+use Rattle.dbwalk.proofs.Common.{err_from_is_err_and, ReadFailed, has_weaker, log_none, log_then}
+use Rattle.dbmarks.proofs.Readings.{put_count}
 use Rattle.dbwalk.specs.declared.steps.Next.TheVariants.{Child}
 use Rattle.dbwalk.proofs.Chaining.Overflows.{page_read}
 use Rattle.dbwalk.proofs.Pages.Levels.{log_entered, geometry_kept, read_there, below_kept, keeps_fewer}
 use Rattle.dbwalk.proofs.Pages.PageVisits.{kind_is}
-use Rattle.dbwalk.proofs.Trees.Frames.{open_push, ends_on, ends_enter, path_last, at_turn, step_on, as_deep, way_on, goes_on, path_length, path_popped}
+use Rattle.dbwalk.proofs.Trees.Frames.{open_push, left_on, ends_enter, path_last, at_turn, step_on, as_deep, way_on, goes_on, path_length, path_popped}
 use Rattle.dbwalk.proofs.Underway.TreeSteps.{turned}
 use Rattle.dbwalk.proofs.Underway.TreeTurns.{next_here, child, child_asked, child_passed, child_stopped, child_entered}
 use Rattle.dbwalk.proofs.Underway.Visits.{done_from, done_refused, entered_done, rows_below, refused_handed, unasked, unread}
@@ -210,68 +208,46 @@ push-requires-3 g c =
     let low = c.tree_step-step.ensures.shallow (c.in_ok-enter.ensures.shallow (search rules)) in
     (search rules, omega (arith, low, c.len-level.ensures.value))
 
-pub returns-clause-few : goal.returns-clause-few
-returns-clause-few g c =
-    let low = c.tree_step-step.ensures.shallow (c.in_ok-enter.ensures.shallow (search rules)) in
-    omega (arith, low, c.len-level.ensures.value, c.push-3.ensures.len)
+pub returns-then-not-branch-clause-left : goal.returns-then-not-branch-clause-left
+returns-then-not-branch-clause-left g c = left_on c.requires refl tt c.stepped.ensures c.push.ensures.items refl refl refl (λ n l. refl)
+    (omega (arith, ap unmarked_pages (c.in_ok-enter.ensures.unmarked c.if-not-branch.true)))
 
-pub returns-then-not-branch-clause-open : goal.returns-then-not-branch-clause-open
-returns-then-not-branch-clause-open g c = step_on (at_turn c.requires refl) c.stepped.ensures (goes_on (Child _ _) tt)
-    c.push.ensures.items c.args.bench.now.geometry.usable c.args.self.now.tree.kind c.args.bench.now.levels refl refl (λ n l. refl)
-
-pub returns-then-not-branch-2-clause-open : goal.returns-then-not-branch-2-clause-open
-returns-then-not-branch-2-clause-open g c =
+pub returns-then-not-branch-2-clause-left : goal.returns-then-not-branch-2-clause-left
+returns-then-not-branch-2-clause-left g c =
     let low = c.tree_step-step.ensures.shallow (c.in_ok-enter.ensures.shallow (search rules)) in
     let read = c.in_ok-load.ensures.level in
-    let n = c.visit_page.new in
-    step_on (at_turn c.requires refl) c.stepped.ensures (goes_on (Child _ _) tt)
-    c.push.ensures.items n.bench.geometry.usable n.self.tree.kind n.bench.levels (ap (λ s. s.usable) (c.visit_page.ensures.walked.shape ∙ geometry_kept read
-    low)) c.visit_page.ensures.walked.kind (kept c.args.frames.now.items c.stepped.result c.push.ensures.items c.len-level.ensures.value read low
-    c.visit_page.ensures.levels)
+    let visited = c.visit_page.ensures in
+    let less = fewer c.args.self.now.marks.now c.tree_step-step.result.page (c.in_ok-enter.ensures.marked (search rules))
+    c.tree_step-step.ensures.used visited.log.holds.kept in
+    left_on c.requires refl tt c.stepped.ensures c.push.ensures.items (ap (λ s. s.usable) (visited.walked.shape ∙ geometry_kept read low))
+    visited.walked.kind (path_popped _ _ _ _ (ap (λ p. p.items) visited.path ∙ c.push-2.ensures.items) c.pop.ensures.rest)
+    (kept c.args.frames.now.items c.stepped.result c.push.ensures.items c.len-level.ensures.value read low visited.levels) (omega (arith, less))
 
-pub returns-clause-open : goal.returns-clause-open
-returns-clause-open g c =
+pub returns-clause-left : goal.returns-clause-left
+returns-clause-left g c =
     let low = c.tree_step-step.ensures.shallow (c.in_ok-enter.ensures.shallow (search rules)) in
     let read = c.in_ok-load.ensures.level in
+    let visited = c.visit_page.ensures in
+    let less = fewer c.args.self.now.marks.now c.tree_step-step.result.page (c.in_ok-enter.ensures.marked (search rules))
+    c.tree_step-step.ensures.used visited.log.holds.kept in
     let n = c.visit_page.new in
-    let deep = as_deep c.args.frames.now.items c.stepped.ensures (way_to c.requires c.push-2.ensures.items) c.push.ensures.items c.len-level.ensures.value in
-    subst (λ l. AreOpen n.bench.geometry.usable n.self.tree.kind n.bench.levels 0 l) (sym (c.push-3.ensures.items ∙ ap (λ l. l ++ (frame_of c.args.page
-    c.or-up_to.result ∷ [])) c.push.ensures.items))
-    (open_push n.bench.geometry.usable n.self.tree.kind n.bench.levels 0 (c.args.frames.now.items ++ (c.stepped.result ∷ [])) (frame_of c.args.page
-    c.or-up_to.result) (step_on (at_turn c.requires refl) c.stepped.ensures (goes_on (Child _ _) tt) refl
-    n.bench.geometry.usable n.self.tree.kind n.bench.levels (ap (λ s. s.usable) (c.visit_page.ensures.walked.shape ∙ geometry_kept read low))
-    c.visit_page.ensures.walked.kind (kept c.args.frames.now.items c.stepped.result c.push.ensures.items c.len-level.ensures.value read low
-    c.visit_page.ensures.levels)) (subst (λ m. IsOpen n.bench.geometry.usable n.self.tree.kind n.bench.levels m c.args.page 0)
-    (let z : length c.push-2.new.self.items ≡ 0 + length (c.args.frames.now.items ++ (c.stepped.result ∷ [])) =
-    omega (arith, deep ∙ c.len-level.ensures.value ∙ ap length c.push.ensures.items) in z) (c.in_ok-visit_page.ensures.«open» (search rules))))
-
-pub returns-then-not-branch-clause-path : goal.returns-then-not-branch-clause-path
-returns-then-not-branch-clause-path g c = path_last _ _ _ _ c.push.ensures.items c.requires.path
-
-pub returns-then-not-branch-2-clause-path : goal.returns-then-not-branch-2-clause-path
-returns-then-not-branch-2-clause-path g c = path_last _ _ _ _ c.push.ensures.items
-    (path_popped _ _ _ _ (ap (λ p. p.items) c.visit_page.ensures.path ∙ c.push-2.ensures.items) c.pop.ensures.rest ∙ c.requires.path)
-
-pub returns-clause-path : goal.returns-clause-path
-returns-clause-path g c = path_last _ _ _ _ (c.push-3.ensures.items ∙ ap (λ l. l ++ (frame_of c.args.page c.or-up_to.result ∷ [])) c.push.ensures.items)
-    (ap (λ p. p.items) c.visit_page.ensures.path ∙ way_on c.args.frames.now.items c.stepped.ensures (way_to c.requires c.push-2.ensures.items))
-
-pub returns-then-not-branch-clause-ends : goal.returns-then-not-branch-clause-ends
-returns-then-not-branch-clause-ends g c = ends_on (at_turn c.requires refl) c.stepped.ensures c.args.self.now.marks.now c.enter.new.marks
-    c.push.ensures.items (omega (arith, ap unmarked_pages (c.in_ok-enter.ensures.unmarked c.if-not-branch.true)))
-
-pub returns-then-not-branch-2-clause-ends : goal.returns-then-not-branch-2-clause-ends
-returns-then-not-branch-2-clause-ends g c =
-    let less = fewer c.args.self.now.marks.now c.tree_step-step.result.page (c.in_ok-enter.ensures.marked (search rules))
-    c.tree_step-step.ensures.used c.visit_page.ensures.log.holds.kept in
-    ends_on (at_turn c.requires refl) c.stepped.ensures c.args.self.now.marks.now c.visit_page.new.self.marks.now c.push.ensures.items (omega (arith, less))
-
-pub returns-clause-ends : goal.returns-clause-ends
-returns-clause-ends g c =
-    let less = fewer c.args.self.now.marks.now c.tree_step-step.result.page (c.in_ok-enter.ensures.marked (search rules))
-    c.tree_step-step.ensures.used c.visit_page.ensures.log.holds.kept in
-    ends_enter (at_turn c.requires refl) c.stepped.ensures c.args.self.now.marks.now c.visit_page.new.self.marks.now (frame_of c.args.page c.or-up_to.result)
-    (c.push-3.ensures.items ∙ ap (λ l. l ++ (frame_of c.args.page c.or-up_to.result ∷ [])) c.push.ensures.items) less refl
+    let frame = frame_of c.args.page c.or-up_to.result in
+    let way = way_to c.requires c.push-2.ensures.items in
+    let deep = as_deep c.args.frames.now.items c.stepped.ensures way c.push.ensures.items c.len-level.ensures.value in
+    let are = c.push-3.ensures.items ∙ ap (λ l. l ++ (frame ∷ [])) c.push.ensures.items in
+    record {
+      few = omega (arith, low, c.len-level.ensures.value, c.push-3.ensures.len);
+      opened = subst (λ l. AreOpen n.bench.geometry.usable n.self.tree.kind n.bench.levels 0 l) (sym are)
+          (open_push n.bench.geometry.usable n.self.tree.kind n.bench.levels 0 (c.args.frames.now.items ++ (c.stepped.result ∷ [])) frame
+          (step_on (at_turn c.requires refl) c.stepped.ensures (goes_on (Child _ _) tt) refl _ _ _
+          (ap (λ s. s.usable) (visited.walked.shape ∙ geometry_kept read low)) visited.walked.kind
+          (kept c.args.frames.now.items c.stepped.result c.push.ensures.items c.len-level.ensures.value read low visited.levels))
+          (subst (λ m. IsOpen n.bench.geometry.usable n.self.tree.kind n.bench.levels m c.args.page 0)
+          (let z : length c.push-2.new.self.items ≡ 0 + length (c.args.frames.now.items ++ (c.stepped.result ∷ [])) =
+          omega (arith, deep ∙ c.len-level.ensures.value ∙ ap length c.push.ensures.items) in z) (c.in_ok-visit_page.ensures.«open» (search rules))));
+      path = path_last _ _ _ _ are (ap (λ p. p.items) visited.path ∙ way_on c.args.frames.now.items c.stepped.ensures way);
+      ends = ends_enter (at_turn c.requires refl) c.stepped.ensures c.args.self.now.marks.now n.self.marks.now frame are less refl;
+    }
 
 pub returns-in_err-enter-clause-walked : goal.returns-in_err-enter-clause-walked
 returns-in_err-enter-clause-walked g c =

@@ -1,12 +1,10 @@
 use Rattle.std.proofs.Common.{rules, ◌≡◌, Some, ◌/◌, ◌≤◌, false, true, inl, refl, ap, subst, arith, ◌∙◌, w64, slice_get}
-use Rattle.dbwalk.proofs.Common.{most_payload, IsPageNumber, Moves, key_value, is_late, order_reported, top_after, Pages, path_of, HasLeft, Key, Nothing, fails}
+use Rattle.dbwalk.proofs.Common.{most_payload, IsPageNumber, Moves, key_value, is_late, order_reported, top_after, Pages, path_of, HasLeft, fails}
+use Rattle.dbwalk.proofs.Common.{has_weaker, log_none}
 use Rattle.std.proofs.lemmas.Int.{to_z-of_z}
-use Rattle.dbsource.proofs.Logs.{has_weaker}
-use Rattle.dbmarks.proofs.Readings.{log_none}
-use Rattle.dbwalk.proofs.Trees.Frames.{ends_behind, ends_on, on_ok_all, next_at, at_turn, goes_on, path_last, path_popped, path_push, step_on}
+use Rattle.dbwalk.proofs.Trees.Frames.{ends_behind, left_on, on_ok_all, next_at, at_turn, path_popped, path_push}
 use Rattle.dbwalk.proofs.Leaves.LeafCells.{cell_size}
 use Rattle.dbwalk.proofs.Pages.Levels.{keeps_fewer}
-use Rattle.dbwalk.specs.declared.steps.Next.TheVariants.{Chain}
 use Rattle.dbwalk.proofs.Underway.TreeSteps.{aside_done, turned}
 use Rattle.dbwalk.proofs.Underway.Handing.{found_moves}
 use Rattle.dbwalk.proofs.Underway.TreeTurns.{next_here, turned_behind, turned_empty, left_here, turned_key, chained, chain_is, chain_next, turned_chain}
@@ -38,25 +36,24 @@ walk_unfed-requires g c =
     let most : c.in-Chain.left ≤ most_payload = omega arith in
     search rules
 
-pub returns-in-End-clause-open : goal.returns-in-End-clause-open
-returns-in-End-clause-open g c = (at_turn c.requires c.in-End.is).front
-
-pub returns-in-End-clause-ends : goal.returns-in-End-clause-ends
-returns-in-End-clause-ends g c = ends_behind (at_turn c.requires c.in-End.is) c.args.self.now.marks.now
+pub returns-in-End-clause-left : goal.returns-in-End-clause-left
+returns-in-End-clause-left g c =
+    let s = at_turn c.requires c.in-End.is in
+    record {
+      few = omega (arith, c.requires.few);
+      opened = s.front;
+      path = λ fs f e. path_popped _ _ _ _ (c.requires.path ∙ ap path_of e ∙ path_push fs f) c.pop.ensures.rest;
+      ends = ends_behind s c.args.self.now.marks.now;
+    }
 
 pub returns-in-End-clause-log : goal.returns-in-End-clause-log
 returns-in-End-clause-log g c = log_none _ _ _ _ refl (λ file e coded W d before candidate walk.
     let here = next_here c.args.frames.now.items c.args.frame walk candidate (ap (λ s. s.usable) e) (next_at refl c.in-End.is c.requires.step) in
     turned (turned_behind c.args.frames.now.items c.args.frame walk candidate here) refl refl refl refl (λ n l. refl))
 
-pub returns-in-Nothing-clause-open : goal.returns-in-Nothing-clause-open
-returns-in-Nothing-clause-open g c = step_on (at_turn c.requires c.in-Nothing.is) c.stepped.ensures (goes_on Nothing tt)
-    c.push.ensures.items c.args.bench.now.geometry.usable c.args.self.now.tree.kind c.args.bench.now.levels refl
-    refl (λ n l. refl)
-
-pub returns-in-Nothing-clause-ends : goal.returns-in-Nothing-clause-ends
-returns-in-Nothing-clause-ends g c = ends_on (at_turn c.requires c.in-Nothing.is) c.stepped.ensures c.args.self.now.marks.now c.args.self.now.marks.now
-    c.push.ensures.items (omega arith)
+pub returns-in-Nothing-clause-left : goal.returns-in-Nothing-clause-left
+returns-in-Nothing-clause-left g c =
+    left_on c.requires c.in-Nothing.is tt c.stepped.ensures c.push.ensures.items refl refl refl (λ n l. refl) (omega arith)
 
 pub returns-in-Nothing-clause-log : goal.returns-in-Nothing-clause-log
 returns-in-Nothing-clause-log g c = log_none _ _ _ _ refl (λ file e coded W d before candidate walk.
@@ -64,14 +61,11 @@ returns-in-Nothing-clause-log g c = log_none _ _ _ _ refl (λ file e coded W d b
     turned (turned_empty c.args.frames.now.items c.args.frame walk candidate c.stepped.ensures here)
     c.push.ensures.items refl refl refl (λ n l. refl))
 
-pub returns-in-Key-clause-open : goal.returns-in-Key-clause-open
-returns-in-Key-clause-open g c = step_on (at_turn c.requires c.in-Key.is) c.stepped-in-Key.ensures (goes_on (Key _) tt)
-    c.push-in-Key.ensures.items c.args.bench.now.geometry.usable
-    c.report_key.new.self.kind c.args.bench.now.levels refl c.report_key.ensures.others.1 (λ n l. refl)
-
-pub returns-in-Key-clause-ends : goal.returns-in-Key-clause-ends
-returns-in-Key-clause-ends g c = ends_on (at_turn c.requires c.in-Key.is) c.stepped-in-Key.ensures c.args.self.now.marks.now c.args.self.now.marks.now
-    c.push-in-Key.ensures.items (omega arith)
+pub returns-in-Key-clause-left : goal.returns-in-Key-clause-left
+returns-in-Key-clause-left g c =
+    let others = c.report_key.ensures.others in
+    left_on c.requires c.in-Key.is tt c.stepped-in-Key.ensures c.push-in-Key.ensures.items refl others.1 (ap (λ p. p.items) others.3) (λ n l. refl)
+    (omega arith)
 
 pub returns-in-Key-clause-log : goal.returns-in-Key-clause-log
 returns-in-Key-clause-log g c = log_none _ _ _ _ refl (λ file e coded W d before candidate walk.
@@ -99,22 +93,15 @@ returns-in-Key-clause-log g c = log_none _ _ _ _ refl (λ file e coded W d befor
     c.report_key.ensures.others.2 moved)
     c.push-in-Key.ensures.items refl refl refl (λ n l. refl))
 
-pub returns-in-Chain-clause-open : goal.returns-in-Chain-clause-open
-returns-in-Chain-clause-open g c =
-    let n = c.walk_unfed.new.bench in
+pub returns-in-Chain-clause-left : goal.returns-in-Chain-clause-left
+returns-in-Chain-clause-left g c =
     let same = c.walk_unfed.ensures.bench in
-    on_ok_all c.walk_unfed.result (step_on (at_turn c.requires c.in-Chain.is) c.stepped-in-Chain.ensures (goes_on (Chain _
-    _ _) tt) c.push-in-Chain.ensures.items n.geometry.usable
-    c.args.self.now.tree.kind n.levels (ap (λ (p : Pages). p.geometry.usable) same) refl (λ m l. ap (λ (p : Pages). slice_get p.levels m) same))
-
-pub returns-in-Chain-clause-ends : goal.returns-in-Chain-clause-ends
-returns-in-Chain-clause-ends g c =
-    let fewer = keeps_fewer c.args.self.now.marks.now c.walk_unfed.new.marks c.walk_unfed.ensures.log.holds.kept in
-    on_ok_all c.walk_unfed.result (ends_on (at_turn c.requires c.in-Chain.is) c.stepped-in-Chain.ensures c.args.self.now.marks.now c.walk_unfed.new.marks
-    c.push-in-Chain.ensures.items fewer)
+    on_ok_all c.walk_unfed.result (left_on c.requires c.in-Chain.is tt c.stepped-in-Chain.ensures c.push-in-Chain.ensures.items
+    (ap (λ (p : Pages). p.geometry.usable) same) refl refl (λ m l. ap (λ (p : Pages). slice_get p.levels m) same)
+    (keeps_fewer c.args.self.now.marks.now c.walk_unfed.new.marks c.walk_unfed.ensures.walks.log.holds.kept))
 
 pub returns-in-Chain-clause-log : goal.returns-in-Chain-clause-log
-returns-in-Chain-clause-log g c = has_weaker _ _ c.walk_unfed.ensures.log (λ log r. r) (λ file h e coded W d before candidate walk.
+returns-in-Chain-clause-log g c = has_weaker _ _ c.walk_unfed.ensures.walks.log (λ log r. r) (λ file h e coded W d before candidate walk.
     let here = next_here c.args.frames.now.items c.args.frame walk candidate (ap (λ s. s.usable) e) (next_at refl c.in-Chain.is c.requires.step) in
     let n = c.walk_unfed.new in
     let r = c.walk_unfed.result in
@@ -124,14 +111,14 @@ returns-in-Chain-clause-log g c = has_weaker _ _ c.walk_unfed.ensures.log (λ lo
     let done = aside_done g.K.Sink.takes g.T.Taker.takes g.T.Taker.refuses file walk.now
     (chained c.args.frames.now.items c.args.frame walk candidate c.stepped-in-Chain.ensures here) refl r c.args.self.now.marks.now n.marks c.args.self.now.tree
     c.args.self.now.sink.now n.sink
-    c.args.self.now.taker.now c.walk_unfed.ensures.beside.only walk.under.at
-    (h e walk.now.visits _ is next walk.under.at.0) in
+    c.args.self.now.taker.now c.walk_unfed.ensures.walks.beside.only walk.under.at
+    (h (ap (λ s. s.page_size) e) walk.now.visits _ is next walk.under.at.0) in
     turned_chain c.args.frames.now.items c.args.frame walk candidate c.stepped-in-Chain.ensures here (fails g.T.Taker.refuses) n.marks
     (n.sink, c.args.self.now.taker.now) c.push-in-Chain.ensures.items (ap (λ (p : Pages). p.levels) c.walk_unfed.ensures.bench) r done)
 
 pub returns-in-Chain-clause-walked : goal.returns-in-Chain-clause-walked
 returns-in-Chain-clause-walked g c =
-    let done = c.walk_unfed.ensures.beside in
+    let done = c.walk_unfed.ensures.walks.beside in
     walked_by g.S.Source.held g.K.Sink.held g.T.Taker.refusals (refl, refl, refl, refl, refl, refl, refl)
     (ap (λ (p : Pages). p.geometry) c.walk_unfed.ensures.bench) done.reads done.writes
     (none_refused c.walk_unfed.result (g.T.Taker.refusals c.args.self.now.taker.now) done.only)
@@ -141,22 +128,6 @@ pub enter_child-requires : goal.enter_child-requires
 enter_child-requires g c =
     let r = c.requires in
     (search rules, record { few = r.few; opened = r.opened; path = r.path; step = next_at refl c.in-Child.is r.step })
-
-pub returns-in-End-clause-path : goal.returns-in-End-clause-path
-returns-in-End-clause-path g c = λ fs f e. path_popped _ _ _ _ (c.requires.path ∙ ap path_of e ∙ path_push fs f) c.pop.ensures.rest
-
-pub returns-in-Nothing-clause-path : goal.returns-in-Nothing-clause-path
-returns-in-Nothing-clause-path g c = path_last _ _ _ _ c.push.ensures.items c.requires.path
-
-pub returns-in-Key-clause-path : goal.returns-in-Key-clause-path
-returns-in-Key-clause-path g c =
-    path_last _ _ _ _ c.push-in-Key.ensures.items (ap (λ p. p.items) c.report_key.ensures.others.3 ∙ c.requires.path)
-
-pub returns-in-Chain-clause-path : goal.returns-in-Chain-clause-path
-returns-in-Chain-clause-path g c = on_ok_all c.walk_unfed.result (path_last _ _ _ _ c.push-in-Chain.ensures.items c.requires.path)
-
-pub returns-in-Chain-clause-few : goal.returns-in-Chain-clause-few
-returns-in-Chain-clause-few g c = on_ok_all c.walk_unfed.result (omega (arith, c.push-in-Chain.ensures.len, c.requires.few))
 
 pub returns-in-End-clause-walked : goal.returns-in-End-clause-walked
 returns-in-End-clause-walked g c = walked_by g.S.Source.held g.K.Sink.held g.T.Taker.refusals (refl, refl, refl, refl, refl, refl, refl) refl refl

@@ -1,13 +1,9 @@
 use Rattle.std.proofs.Common.{rules, length, false, Ok, Err, refl, sym, ap, subst, ◌∙◌, slice_get}
-use Rattle.dbwalk.proofs.Common.{count, HasSpan, AreRisingFrom}
+use Rattle.dbwalk.proofs.Common.{count, HasSpan, AreRisingFrom, err_from_is_err_and, has_weaker, log_none, Reads}
 use Rattle.std.proofs.lemmas.Bool.{false≢true}
-use Rattle.std.proofs.lemmas.Result.{err_from_is_err_and}
 use Rattle.dbformat.proofs.Looping.{none_at_damage}
-use Rattle.dbsource.proofs.Logs.{has_weaker}
-use Rattle.dbmarks.proofs.Readings.{log_none}
 use Rattle.dbwalk.specs.Found.{IsFound}
 use Rattle.dbwalk.specs.LeafCells.{ArePassed}
-use Rattle.dbmarks.specs.Reads.{Reads}
 use Rattle.dbwalk.proofs.Leaves.RisingKeys.{rising_all}
 use Rattle.dbwalk.proofs.Pages.PageReportings.{with_span}
 use Rattle.dbwalk.proofs.Pages.PageVisits.{bytes_are, found_interior, found_damage, found_leaf, found_view, kind_is}

@@ -1,9 +1,7 @@
 use Rattle.std.proofs.Common.{◌≡◌, ◌+◌, ◌<◌, ◌≤◌, inl, Some, None, refl, sym, ap, subst, ◌∙◌, arith}
-use Rattle.dbwalk.proofs.Common.{count, fails}
-use Rattle.dbsource.proofs.Logs.{has_weaker}
+use Rattle.dbwalk.proofs.Common.{count, fails, has_weaker, log_none, log_then}
 use Rattle.dbwalk.proofs.Leaves.LeafCells.{none_seen, same_view}
 use Rattle.dbwalk.proofs.Leaves.LeafErrands.{view_here, leaf_errands_are}
-use Rattle.dbmarks.proofs.Readings.{log_none, log_then}
 use Rattle.dbwalk.proofs.Pages.Levels.{usable_page}
 use Rattle.dbwalk.proofs.Underway.Handing.{stopped_as}
 use Rattle.dbwalk.proofs.Underway.LeafLoop.{cells_done, leaf_as, on_start, on_more, on_stop, on_pass, on_end}

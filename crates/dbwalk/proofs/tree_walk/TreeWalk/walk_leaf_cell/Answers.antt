@@ -1,6 +1,5 @@
 use Rattle.std.proofs.Common.{ℕ, ◌≡◌, ◌≤◌, Result, Ok, Err, refl, sym, ap, subst, ◌∙◌, is_some}
-use Rattle.dbwalk.proofs.Common.{RunError, Moves, late_reported, top_after, IsWriteOrMemory, IsTreeError}
-use Rattle.dbsource.proofs.Logs.{has_weaker}
+use Rattle.dbwalk.proofs.Common.{RunError, Moves, late_reported, top_after, IsWriteOrMemory, IsTreeError, has_weaker}
 use Rattle.dbwalk.proofs.Leaves.LeafErrands.{past_cell, rowid_here}
 use Rattle.dbwalk.proofs.Underway.Handing.{stopped_as, found_moves}
 use Rattle.dbwalk.proofs.Underway.LeafCellRuns.{gone, chain_stops, row_reported, row_stops, key_done}
@@ -9,26 +8,26 @@ use Rattle.dbwalk.proofs.Reporting.Sinks.{err_is, moves_then, walks_after, walks
 use Rattle.dbwalk.proofs.tree_walk.TreeWalk.walk_leaf_cell.Goals as goal
 
 pub returns-in_err-walk_overflow-clause-log : goal.returns-in_err-walk_overflow-clause-log
-returns-in_err-walk_overflow-clause-log g c = has_weaker _ _ c.in_err-walk_overflow.ensures.log (λ log r. r)
+returns-in_err-walk_overflow-clause-log g c = has_weaker _ _ c.in_err-walk_overflow.ensures.walks.log (λ log r. r)
     (λ file h e coded from d at viewed leaf before isat.
     let v = c.args.view.now in
     let read = c.leaf_cell-cell.result in
     let cell = c.leaf_cell-cell.ensures in
     stopped_as (err_is c.from_residual.ensures.1)
     (chain_stops file from d c.args.self.now.tree.kind v leaf c.args.place.item read.overflow cell.chain read.key cell.key_is g.K.Sink.takes g.T.Taker.takes
-    g.T.Taker.refuses c.in_err-walk_overflow.field-0.0 c.walk_overflow.new.marks
-    (c.walk_overflow.new.marks, c.args.self.now.tree)
-    c.args.self.now.sink.now c.walk_overflow.new.sink c.args.self.now.taker.now c.in_err-walk_overflow.ensures.beside.only c.args.self.now.tree isat.1 isat.2
-    (h e from.visits d at (rowid_here file at viewed c.args.place.item ∙ sym cell.key_is)
+    g.T.Taker.refuses c.in_err-walk_overflow.field-0.0 c.walk_overflow.new.marks (c.walk_overflow.new.marks, c.args.self.now.tree)
+    c.args.self.now.sink.now c.walk_overflow.new.sink c.args.self.now.taker.now c.in_err-walk_overflow.ensures.walks.beside.only c.args.self.now.tree
+    isat.1 isat.2
+    (h (ap (λ s. s.page_size) e) e from.visits d at (rowid_here file at viewed c.args.place.item ∙ sym cell.key_is)
     (past_cell from.visits d c.args.place.item read.overflow before) isat.0).0).handed)
 
 pub returns-in_err-report_row-clause-log : goal.returns-in_err-report_row-clause-log
-returns-in_err-report_row-clause-log g c = has_weaker _ _ c.in_ok-walk_overflow.ensures.log (λ log r. r)
+returns-in_err-report_row-clause-log g c = has_weaker _ _ c.in_ok-walk_overflow.ensures.walks.log (λ log r. r)
     (λ file h e coded from d at viewed leaf before isat.
     let v = c.args.view.now in
     let read = c.leaf_cell-cell.result in
     let cell = c.leaf_cell-cell.ensures in
-    let done = h e from.visits d at (rowid_here file at viewed c.args.place.item ∙ sym cell.key_is)
+    let done = h (ap (λ s. s.page_size) e) e from.visits d at (rowid_here file at viewed c.args.place.item ∙ sym cell.key_is)
     (past_cell from.visits d c.args.place.item read.overflow before) isat.0 in
     stopped_as (err_is c.from_residual-in_err-report_row.ensures.1)
     (row_stops file from d c.args.self.now.tree.kind v leaf c.args.place.item read.overflow cell.chain read.key cell.key_is g.K.Sink.takes g.T.Taker.takes
@@ -42,11 +41,11 @@ returns-in_err-report_row-clause-log g c = has_weaker _ _ c.in_ok-walk_overflow.
     c.walk_overflow.ensures.kept c.in_err-report_row.ensures.reported)).handed)
 
 pub returns-clause-log : goal.returns-clause-log
-returns-clause-log g c = has_weaker _ _ c.in_ok-walk_overflow.ensures.log (λ log r. r) (λ file h e coded from d at viewed leaf before isat.
+returns-clause-log g c = has_weaker _ _ c.in_ok-walk_overflow.ensures.walks.log (λ log r. r) (λ file h e coded from d at viewed leaf before isat.
     let v = c.args.view.now in
     let read = c.leaf_cell-cell.result in
     let cell = c.leaf_cell-cell.ensures in
-    let done = h e from.visits d at (rowid_here file at viewed c.args.place.item ∙ sym cell.key_is)
+    let done = h (ap (λ s. s.page_size) e) e from.visits d at (rowid_here file at viewed c.args.place.item ∙ sym cell.key_is)
     (past_cell from.visits d c.args.place.item read.overflow before) isat.0 in
     let late = ap (λ top. late_reported top c.args.place.page c.args.place.item read.key) isat.1
     ∙ ap (λ p. late_reported from.state.greatest p c.args.place.item read.key) (sym at.page) in
@@ -68,7 +67,7 @@ returns-clause-log g c = has_weaker _ _ c.in_ok-walk_overflow.ensures.log (λ lo
 
 pub returns-in_err-walk_overflow-clause-walked : goal.returns-in_err-walk_overflow-clause-walked
 returns-in_err-walk_overflow-clause-walked g c =
-    let e = c.in_err-walk_overflow.ensures.beside in
+    let e = c.in_err-walk_overflow.ensures.walks.beside in
     walked_err g.S.Source.held g.K.Sink.held g.T.Taker.refusals (err_is c.from_residual.ensures.1) e.only (refl, refl, refl, refl, refl, refl, refl)
     refl e.reads e.writes refl (λ l. refl)
 
@@ -84,8 +83,8 @@ returns-in_err-report_row-clause-walked g c =
     (c.walk_overflow.ensures.kept ∙ ap is_some (c.begin_row.ensures.other later ∙ c.requires.none later)))).0) in
     walked_as g.S.Source.held g.K.Sink.held g.T.Taker.refusals {R = Unit {0}} (err_is c.from_residual-in_err-report_row.ensures.1)
     (walked_by g.S.Source.held g.K.Sink.held g.T.Taker.refusals (refl, refl, refl, refl, refl, refl, refl) refl
-    (unread e.only c.in_ok-walk_overflow.ensures.beside.reads)
-    (walks_after e.writes c.in_ok-walk_overflow.ensures.beside.writes.moves) e.refusals no.0 (λ l. absurd (no.1 l)))
+    (unread e.only c.in_ok-walk_overflow.ensures.walks.beside.reads)
+    (walks_after e.writes c.in_ok-walk_overflow.ensures.walks.beside.writes.moves) e.refusals no.0 (λ l. absurd (no.1 l)))
 
 pub returns-clause-empty : goal.returns-clause-empty
 returns-clause-empty g c = λ later. gone c.walk_overflow.new.sieve
@@ -95,9 +94,9 @@ pub returns-clause-walked : goal.returns-clause-walked
 returns-clause-walked g c =
     let e = c.in_ok-report_row.ensures in
     walked_by g.S.Source.held g.K.Sink.held g.T.Taker.refusals (refl, refl, refl, refl, refl, c.report_rowid.ensures.others.0, c.report_rowid.ensures.others.1)
-    refl c.in_ok-walk_overflow.ensures.beside.reads
-    (walks_ok (moves_then (moves_then c.in_ok-walk_overflow.ensures.beside.writes.moves e.writes.moves) c.report_rowid.ensures.reported.count)) e.refusals tt
-    (λ later. (e.none (gone c.walk_overflow.new.sieve
+    refl c.in_ok-walk_overflow.ensures.walks.beside.reads
+    (walks_ok (moves_then (moves_then c.in_ok-walk_overflow.ensures.walks.beside.writes.moves e.writes.moves) c.report_rowid.ensures.reported.count))
+    e.refusals tt (λ later. (e.none (gone c.walk_overflow.new.sieve
     (c.walk_overflow.ensures.kept ∙ ap is_some (c.begin_row.ensures.other later ∙ c.requires.none later)))).2)
 
 pub walk_overflow-requires : goal.walk_overflow-requires

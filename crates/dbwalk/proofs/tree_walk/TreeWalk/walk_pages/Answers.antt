@@ -1,8 +1,5 @@
 use Rattle.std.proofs.Common.{rules, ◌<◌, ◌++◌, [], ◌∷◌, length, Some, None, Err, refl, sym, ap, subst, arith, ◌∙◌, option_to_list}
-use Rattle.dbwalk.proofs.Common.{page_bytes, HasPageAt, IsCandidate, IsOpen, AreOpen, cost, IsAtTurn, HasNext, begin}
-use Rattle.std.proofs.lemmas.Result.{err_from_is_err_and}
-use Rattle.dbsource.proofs.Logs.{has_weaker}
-use Rattle.dbmarks.proofs.Readings.{log_then}
+use Rattle.dbwalk.proofs.Common.{page_bytes, HasPageAt, IsCandidate, IsOpen, AreOpen, cost, IsAtTurn, HasNext, begin, err_from_is_err_and, has_weaker, log_then}
 use Rattle.dbwalk.proofs.Trees.Bounds.{no_key_up_to}
 use Rattle.dbwalk.proofs.Trees.Frames.{ends_past, next_at, path_last}
 use Rattle.dbwalk.proofs.Pages.PageVisits.{kind_is}
@@ -86,7 +83,7 @@ pub loop-frame-smaller : goal.loop-frame-smaller
 loop-frame-smaller g c =
     let popped = c.pop.ensures.items ∙ ap (λ o. c.pop.new.self.items ++ option_to_list o) c.in-Some.is in
     let past = ends_past c.loop-frame.self.marks.now c.pop.new.self.items c.in-Some.frame c.step_of-next.result.0 c.step_of-next.ensures.empty.rise in
-    let ends = c.in_ok-take_step.ensures.ends in
+    let ends = c.in_ok-take_step.ensures.left.ends in
     subst (λ l. cost c.take_step.new.self.marks.now c.take_step.new.frames.items < cost c.loop-frame.self.marks.now l) (sym popped) (omega arith)
 
 pub loop-frame-preserved : goal.loop-frame-preserved
@@ -97,9 +94,9 @@ loop-frame-preserved g c =
     let popped = c.pop.ensures.items ∙ ap (λ o. c.pop.new.self.items ++ option_to_list o) c.in-Some.is in
     record {
       walked = walked_behind g.S.Source.held g.K.Sink.held g.T.Taker.refusals c.in_ok-take_step.ensures.walked inv.walked;
-      few = c.in_ok-take_step.ensures.few;
-      opened = c.in_ok-take_step.ensures.«open»;
-      path = c.in_ok-take_step.ensures.path;
+      few = c.in_ok-take_step.ensures.left.few;
+      opened = c.in_ok-take_step.ensures.left.opened;
+      path = c.in_ok-take_step.ensures.left.path;
       log = log_then _ _ (ap (λ x. x.page_size) inv.walked.shape) inv.log c.in_ok-take_step.ensures.log
           (λ file walking turned e coded W d candidate there followed next m.
           (turned (inv.walked.shape ∙ e) (inv.walked.coded ∙ coded) W d _
