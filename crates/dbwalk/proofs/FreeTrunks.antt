@@ -1,9 +1,9 @@
 -- The leaves of a trunk, one after another.
 use Rattle.std.proofs.Common.{◌≡◌, ℕ, zero, suc, ◌+◌, ◌-◌, ◌*◌, ◌<◌, true, false, inl, inr, Bool, List, [], ◌∷◌, ◌++◌, map, Ok, sym, ap, subst, arith, ◌≤◌}
-use Rattle.std.proofs.Common.{cond, Some, None, Result, refl, ◌∙◌, option_to_list, nat_le, nat_lt, ◌==◌, pos}
-use Rattle.dbwalk.proofs.Common.{Errand, Go, errands_of, Reported, Due, AreQuiet, then_step, role_faults, page_faults, row_in, Moves, free_leaf, Way, Reference}
-use Rattle.dbwalk.proofs.Common.{role_of, Role, bytes_left, tree_kind, trunk, link, next_trunk, leaf_count, most_leaves, Event, at_page, own_visit, story_of}
-use Rattle.dbwalk.proofs.Common.{Mark, EntersBeside, Turns, IsNext, Enters, cause_of, refusal_cause, Finding, reported_row, reported_alone, reported_by}
+use Rattle.std.proofs.Common.{cond, Some, None, Result, refl, ◌∙◌, nat_le, nat_lt, ◌==◌, pos}
+use Rattle.dbwalk.proofs.Common.{Errand, Go, errands_of, Reported, Due, AreQuiet, then_step, page_faults, Moves, free_leaf, Way, Reference}
+use Rattle.dbwalk.proofs.Common.{role_of, bytes_left, tree_kind, trunk, link, next_trunk, leaf_count, most_leaves, Event, at_page, own_visit, story_of}
+use Rattle.dbwalk.proofs.Common.{Mark, EntersBeside, Turns, IsNext, Enters, cause_of, refusal_cause, Finding, reported_alone, reported_by}
 use Rattle.dbwalk.proofs.Common.{reported_at, leaves_from, IsFirstTrunk, IsOnTrunks, trunk_step, next_step, IsLeft, IsIn, is_followed, go, leaf_errands, fault}
 use Rattle.dbwalk.proofs.Common.{page_bytes, usable_size, rules_of, is_too_deep, L01, RunError, role_mark, AreMarksOf, u32_at, all_quiet, range_with_len}
 use Rattle.dbwalk.proofs.Common.{nat_tests, append-nil, IsIn-cases, Step}
@@ -26,8 +26,7 @@ leaves_more d page j (suc n) h = let e : n ≡ suc n - 1 = omega arith in ap (λ
 -- nothing is reported of a free leaf
 reported_free : (file : List ℕ) (V : List Reference) (c : Reference) → role_of c ≡ free_leaf → reported_at file V (at_page c) ≡ []
 unfolding page_faults
-reported_free file V c r = ap (λ role. map reported_row (option_to_list (row_in role file c))
-    ++ reported_by (cause_of file V (at_page c)) (role_faults role file V c)) r
+reported_free file V c r = rw r refl
 
 module _ {S : Type 0} (takes : S → Finding → S → Type 0) (file : List ℕ) (W : List Reference) (errands : List (Errand Way Event)) (before : S)
     (U : List Reference) (c : Reference) (es : List (Errand Way Event)) (marks marks' : List Mark) (s t : S)
@@ -64,9 +63,7 @@ module _ (file : List ℕ) (d : Reference) (role : role_of d ≡ trunk) where
   reported_by_count : (V : List Reference) (b : Bool) → nat_lt (most_leaves (usable_size file)) (leaf_count page) ≡ b
       → reported_at file V (at_page d) ≡ reported_by (cause_of file V (at_page d)) (cond b (fault L01 d.page 0 (pos (leaf_count page)) ∷ []) [])
   unfolding page_faults
-  reported_by_count V b e =
-      ap (λ role. map reported_row (option_to_list (row_in role file d)) ++ reported_by (cause_of file V (at_page d)) (role_faults role file V d)) role
-      ∙ ap (λ b. reported_by (cause_of file V (at_page d)) (cond b (fault L01 d.page 0 (pos (leaf_count page)) ∷ []) [])) e
+  reported_by_count V b e = rw (role, e) refl
 
   -- what it leads to, by whether they fit
   abbrev leads_to : Bool → List (Errand Way Event)
@@ -107,11 +104,7 @@ module _ (file : List ℕ) (d : Reference) (role : role_of d ≡ trunk) where
 
 -- it is in no tree
 pub trunk_shallow : (c : Reference) → role_of c ≡ trunk → is_too_deep c ≡ false
-trunk_shallow c h = by_role (role_of c) h
-  where
-    by_role : (role : Role) → role ≡ trunk → is_too_deep (record { address = c.address; page = c.page; role = record { role = role; from = 0; item = 0 } })
-        ≡ false
-    by_role role e = rw e refl
+trunk_shallow c h = grind arith
 
 module _ {S : Type 0} {takes : S → Finding → S → Type 0} {file : List ℕ} {W : List Reference} {c : Reference} {before : S} {step : Step}
     {marks : List Mark} {s : S} (on : IsOnTrunks takes file W c before step marks s) where

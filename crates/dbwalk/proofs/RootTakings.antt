@@ -2,9 +2,9 @@
 use Rattle.std.proofs.Common.{map, take, ◌≡◌, ℕ, ◌+◌, ◌≤◌, Bool, true, false, cond, not, ◌&&◌, inl, inr, List, [], ◌∷◌, ◌++◌, length, refl, sym, ap}
 use Rattle.std.proofs.Common.{◌∙◌, arith, Some, None, Result, Ok, Err, subst, nat_lt, nat_le, ◌==◌, is_none, pos, if◌then◌else◌, OnOk}
 use Rattle.dbwalk.proofs.Common.{Moves, Stops, MovesBySome, Go, schema_start, start_of, fault, Reference, SchemaCell, schema, SchemaRow, reported_if, RunError}
-use Rattle.dbwalk.proofs.Common.{Refused, WriteFailed, OutOfMemory, Finding, reported_alone, visited_below, Item, found, given, given_cells, counted_findings}
+use Rattle.dbwalk.proofs.Common.{OutOfMemory, Finding, reported_alone, visited_below, Item, found, given, given_cells, counted_findings}
 use Rattle.dbwalk.proofs.Common.{Mark, IsDone, IsTreeDone, Reports, tree_walk, watches, fails, row_at, Handed, Taken, result_ok, cases_Bool, eqb-true}
-use Rattle.dbwalk.proofs.Common.{nat_tests, append-nil, length-append, length-map, Moves-append, some_none, some_after, ReadFailed}
+use Rattle.dbwalk.proofs.Common.{nat_tests, append-nil, length-append, length-map, Moves-append, some_none, some_after}
 use Rattle.std.specs.List.{cons_option}
 use Rattle.std.proofs.lemmas.Bool.{eq-eqb}
 use Rattle.std.proofs.lemmas.List.{take_all, length-take-le, map-append, take-append-le}
@@ -182,10 +182,8 @@ module _ {S T : Type 0} (takes : S → Finding → S → Type 0) (keeps : T → 
   pub counted_reported : {A : Type 0} (r : Result A RunError) (items : List Item) (w x : S × T) → held w.1 ≡ 0
       → Handed (watches takes keeps) (fails refuses) r w items x → Reports takes r w.0 (counted_findings 0 items) x.0
   counted_reported (Ok a) items w x none h = (counted_moves 0 items w x none h).0
-  counted_reported (Err (Refused e)) items w x none h = counted_some 0 items w x none h
-  counted_reported (Err ReadFailed) items w x none h = counted_some 0 items w x none h
-  counted_reported (Err WriteFailed) items w x none h = counted_some 0 items w x none h
   counted_reported (Err OutOfMemory) items w x none h = counted_refused 0 items w x none h
+  counted_reported (Err _) items w x none h = counted_some 0 items w x none h
 
 -- The walk over a tree with such a taker reports what the definitions report; and if the tree is the schema's, the taker was
 -- given the rows that can be read.

@@ -128,8 +128,7 @@ abbrev pub first_of : Reference → ℕ → ℕ → ℕ → Reference
 first_of c i first left = record {
   address = then_step c.address (overflow_step i);
   page = first;
-  role =
-      record { role = first_overflow left; from = c.page; item = i };
+  role = record { role = first_overflow left; from = c.page; item = i };
 }
 
 -- a chain: its pages are fed

@@ -49,8 +49,7 @@ head_cause file V chain number left more seen d h on head =
       item = i;
       rowid = cell_rowid file p i;
       pages = number + pages_for (usable_size file) left;
-      found = number
-          + more;
+      found = number + more;
       seen = seen;
     })
 

@@ -76,11 +76,7 @@ reported_is file U d chain number page usable left next row f u n p l on a b c e
 
 -- it is in no tree
 pub overflow_shallow : (c : Reference) (left : ℕ) → bytes_left (role_of c) ≡ Some left → is_too_deep c ≡ false
-overflow_shallow c left h = by_role (role_of c) h
-  where
-    by_role : (role : Role) → bytes_left role ≡ Some left
-        → is_too_deep (record { address = c.address; page = c.page; role = record { role = role; from = 0; item = 0 } }) ≡ false
-    by_role role e = grind arith
+overflow_shallow c left h = grind arith
 
 -- what it leads to: the next page, if bytes are left after it
 pub more_errands : (file : List ℕ) (c : Reference) (left : ℕ) → bytes_left (role_of c) ≡ Some left → usable_size file - 4 < left

@@ -94,8 +94,7 @@ pub chain_start : (chain : Chain) (file : List ℕ) (kind : TreeKind) (k : ℕ) 
     → IsChainOf file chain (record {
       address = then_step c.address (overflow_step i);
       page = first;
-      role =
-          record { role = first_overflow left; from = c.page; item = i };
+      role = record { role = first_overflow left; from = c.page; item = i };
     })
 chain_start chain file kind k children c p i first left at usables start path page item one rest rowid = record {
   usable = usables;
@@ -111,8 +110,7 @@ chain_start chain file kind k children c p i first left at usables start path pa
         → IsOnChain chain 0 (record {
           address = then_step a (overflow_step i);
           page = first;
-          role =
-              record { role = first_overflow left; from = c.page; item = i };
+          role = record { role = first_overflow left; from = c.page; item = i };
         })
     by_address [] s d q n = absurd (omega (arith, d))
     by_address (x ∷ a) s d q n = let f = chain_first a i n in record

@@ -1,8 +1,9 @@
 -- The bytes at the levels of a bench after a page was read, and the number of pages that are left without a mark.
-use Rattle.std.proofs.Common.{◌≡◌, ℕ, zero, suc, ◌-◌, ◌*◌, ◌<◌, ◌≤◌, Bool, true, false, cond, List, [], ◌∷◌, length, set, Some, None, Result, refl, sym, ap}
-use Rattle.std.proofs.Common.{subst, arith, ◌∙◌, slice_get, nat_lt, count_by, ◌==◌, IfSome, OnOk}
+use Rattle.std.proofs.Common.{◌≡◌, ℕ, suc, ◌-◌, ◌*◌, ◌<◌, ◌≤◌, false, cond, List, [], ◌∷◌, length, set, Some, Result, sym, ap}
+use Rattle.std.proofs.Common.{subst, arith, ◌∙◌, slice_get, count_by, IfSome, OnOk}
 use Rattle.dbwalk.proofs.Common.{Changes, Pages, SourceState, IsUse, page_mark, unmarked_pages, KeepsMarks, Mark, Unmarked, HasPageAt, option_map_or, nat_tests}
 use Rattle.dbwalk.proofs.Common.{length-map, Geometry, Reads}
+use Rattle.std.proofs.lemmas.Grind.{elements}
 use Rattle.dbwalk.specs.Beside.{IsPageBuffer}
 use Rattle.dbformat.specs.FixedPages.{IsInRange}
 use Rattle.dbsource.specs.Answers.{IsRangeOf, Step, answer}
@@ -27,15 +28,10 @@ page_buffer e range l =
     record { least = range.usable.0; within = whole_page e range l; most = omega (arith, range.page_size, same, l) }
 
 get_set : {X : Type 0} (xs : List X) (i : ℕ) (x y : X) → slice_get (set xs i x) i ≡ Some y → y ≡ x
-get_set [] i x y e = cc
-get_set (z ∷ xs) zero x y e = cc
-get_set (z ∷ xs) (suc i) x y e = get_set xs i x y e
+get_set xs i x y e = grind (arith, elements)
 
 get_below : {X : Type 0} (xs : List X) (i j : ℕ) (x : X) → j < i → slice_get (set xs i x) j ≡ slice_get xs j
-get_below [] i j x l = refl
-get_below (z ∷ xs) zero j x l = absurd (omega arith)
-get_below (z ∷ xs) (suc i) zero x l = refl
-get_below (z ∷ xs) (suc i) (suc j) x l = get_below xs i j x (omega arith)
+get_below xs i j x l = grind (arith, elements)
 
 -- a page got its mark, and was then read, or the source failed
 pub log_entered : {step : Step} {old new : SourceState} {size : ℕ} {marks marks' : List Mark} {p q : ℕ} {m : Mark} (r : Result (Unit {0}) ReadFailed)
@@ -52,10 +48,7 @@ module _ {old new : Pages} {level : ℕ} {P : List ℕ → Type 0} (read : Chang
   after = record old { levels = set old.levels level read.bytes }
 
   changed : new ≡ after
-  changed = read.only ∙ ap (λ b. cond b after (record old { chain = read.bytes })) (yes level low)
-    where
-      yes : (n : ℕ) → n < 20 → nat_lt n 20 ≡ true
-      yes n l = grind (arith, nat_tests)
+  changed = let is = read.only in grind (arith, nat_tests)
 
   pub geometry_kept : new.geometry ≡ old.geometry
   geometry_kept = ap (λ (b : Pages). b.geometry) changed
@@ -80,29 +73,13 @@ fewer_by (x ∷ xs) (y ∷ ys) l h =
     let rest : count_by is_none ys ≤ count_by is_none xs = fewer_by xs ys (omega arith) (λ i u. h (suc i) u) in
     let a = count_more is_none x xs in
     let b = count_more is_none y ys in
-    let one : ◌≤◌ (cond (is_none y) 1 0) (cond (is_none x) 1 0) = head (is_none x) refl in
+    let same = h 0 in
+    let one : ◌≤◌ (cond (is_none y) 1 0) (cond (is_none x) 1 0) = grind arith in
     omega arith
-  where
-    low : (b : Bool) → cond b 1 0 ≤ 1
-    low true = omega arith
-    low false = omega arith
-
-    head : (b : Bool) → is_none x ≡ b → ◌≤◌ (cond (is_none y) 1 0) (cond (is_none x) 1 0)
-    head true e = subst (λ b. ◌≤◌ (cond (is_none y) 1 0) (cond b 1 0)) (sym e) (low (is_none y))
-    head false e =
-        let s : Some y ≡ Some x = h 0 e in
-        let f : y ≡ x = cc in
-        subst (λ z. ◌≤◌ (cond (is_none z) 1 0) (cond (is_none x) 1 0)) (sym f) (same (cond (is_none x) 1 0))
-      where
-        same : (n : ℕ) → n ≤ n
-        same n = omega arith
 
 pub keeps_fewer : (old new : List Mark) → KeepsMarks old new → unmarked_pages new ≤ unmarked_pages old
 keeps_fewer old new k = fewer_by old new (sym (length-map new cleared) ∙ ap length k.fixed ∙ length-map old cleared)
     (λ i u. sym (at new i) ∙ k.marks (suc i) (ap (λ o. option_map_or is_none o false) (at old i) ∙ u) ∙ at old i)
   where
-    some : (i : ℕ) → (suc i == 0) ≡ false
-    some i = grind (arith, nat_tests)
-
     at : (marks : List Mark) (i : ℕ) → page_mark marks (suc i) ≡ slice_get marks i
-    at marks i = ap (λ b. cond b None (slice_get marks (suc i - 1))) (some i) ∙ ap (slice_get marks) (let e : suc i - 1 ≡ i = omega arith in e)
+    at marks i = grind (arith, nat_tests)

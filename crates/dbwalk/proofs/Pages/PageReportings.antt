@@ -1,21 +1,20 @@
 -- What is reported of a page, as the program reports it.
 use Rattle.std.proofs.Common.{◌≡◌, ℕ, Bool, true, false, List, [], ◌∷◌, ◌++◌, map, Option, Some, None, refl, ap, ◌∙◌, zero, suc, ◌+◌, ◌<◌, ◌&&◌, length}
 use Rattle.std.proofs.Common.{Err, sym, subst, arith, inl, inr, max, fold, sum_by, cond, append-nil, Less, Equal, Greater, ◌≤◌, option_to_list}
-use Rattle.std.proofs.Common.{option_and_then, flat_map, ◌==◌, filter_map, option_map, IsSomeAnd, IfSome, IsOk}
+use Rattle.std.proofs.Common.{option_and_then, flat_map, ◌==◌, IsSomeAnd, IfSome, IsOk}
 use Rattle.dbwalk.proofs.Common.{usable_size, page_bytes, start_of, child_path, chain_place, View, undamaged, Role}
-use Rattle.dbwalk.proofs.Common.{Reference, role_of, tree_kind, tree_view, bytes_left, tree_page_faults, role_faults, page_faults, cell_fault}
+use Rattle.dbwalk.proofs.Common.{Reference, role_of, tree_kind, tree_view, bytes_left, tree_page_faults, page_faults, cell_fault}
 use Rattle.dbwalk.proofs.Common.{cell_faults, inner_faults, tree_page_row, row_in, TreeKind, chain_cause, seen_bytes, key_up_to, page_cause, visit_cause}
 use Rattle.dbwalk.proofs.Common.{reported_row, reported_by, Finding, Progress, cause_by, depth_faults, rowids_by, Cause, RowidBounds, FaultCode, at_page}
 use Rattle.dbwalk.proofs.Common.{view_row, damaged_row, inner_cause, view_cause, with_leaf, page_findings, IsReportedTo, SinkState, Cell, cell, cells, count}
 use Rattle.dbwalk.proofs.Common.{CellFault, first_cells, payload_of, greatest_of, child, Fault, TreeLeaf, range_with_len, is_none, common_steps}
-use Rattle.dbwalk.proofs.Common.{flat_map-append, nat_tests, Moves-append, result_ok, cases_order}
+use Rattle.dbwalk.proofs.Common.{flat_map-append, nat_tests, Moves-append, cases_order}
 use Rattle.dbformat.specs.PageFaults.{fragment_fault, freeblock_fault, coverage_fault, empty_fault}
 use Rattle.dbtrace.specs.Causes.{page_facts}
 use Rattle.dbformat.specs.Runs.{content_run}
 use Rattle.dbtrace.proofs.Causing.{inner_codes, inner_same, reported_by-append, tree_same, page_same}
 use Rattle.dbtrace.proofs.Depths.{no_depth, reported_same as reported_alike}
 use Rattle.dbwalk.proofs.Reporting.Sinks.{moves_then}
-use Rattle.std.specs.List.{cons_option}
 use Rattle.dbformat.proofs.Looping.{range-one-more}
 use Rattle.std.specs.Ordering.{is_lt, nat_cmp, ord_max}
 use Rattle.std.specs.Cmp.{nat_cmp_is}
@@ -56,17 +55,10 @@ page_causes file U p c {kind} role =
 module _ (file : List ℕ) (c : Reference) (kind : TreeKind) (role : tree_kind (role_of c) ≡ Some kind) where
   faults_are : page_faults file [] c ≡ tree_page_faults kind (is_child (role_of c)) c.page (usable_size file) (page_bytes file c.page)
   unfolding page_faults
-  faults_are = by_role (role_of c) role
-    where
-      by_role : (r : Role) → tree_kind r ≡ Some kind → role_faults r file [] c
-          ≡ tree_page_faults kind (is_child r) c.page (usable_size file) (page_bytes file c.page)
-      by_role r e = let none = no_depth file c in grind (arith, common_steps)
+  faults_are = let none = no_depth file c in grind (arith, common_steps)
 
   row_is : (o : Option View) → tree_view file c ≡ o → row_in (role_of c) file c ≡ Some (tree_page_row c o)
-  row_is o f = by_role (role_of c) role
-    where
-      by_role : (r : Role) → tree_kind r ≡ Some kind → row_in r file c ≡ Some (tree_page_row c o)
-      by_role r e = grind arith
+  row_is o f = grind arith
 
   -- the view of the page is that of its bytes
   pub view_is : tree_view file c ≡ undamaged kind c.page (usable_size file) (page_bytes file c.page)
@@ -160,10 +152,7 @@ unfolding cells
 cells_all v = refl
 
 pub cells_err : (v : View) (n : ℕ) (f : CellFault) → cell v n ≡ Err f → first_cells v (n + 1) ≡ first_cells v n
-cells_err v n f e = ap (filter_map (λ i. option_map (λ c. (i, c)) (result_ok (cell v i)))) (range-one-more n)
-    ∙ filter_map-append (λ i. option_map (λ c. (i, c)) (result_ok (cell v i))) (range_with_len 0 n) (n ∷ [])
-    ∙ ap (λ c. first_cells v n ++ cons_option (option_map (λ c. (n, c)) (result_ok c)) []) e
-    ∙ append-nil (first_cells v n)
+cells_err v n f e = rw (range-one-more n) (simp (filter_map-append, e, append-nil))
 
 pub local_more : (xs : List (ℕ × Cell)) (n : ℕ) (x : Cell) → payload_of (xs ++ (n, x) ∷ []) ≡ payload_of xs + length x.local
 local_more xs n x = sum_by-append (λ (i, c). length c.local) xs ((n, x) ∷ [])

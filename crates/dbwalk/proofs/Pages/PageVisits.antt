@@ -1,11 +1,11 @@
 -- What is reported of a page, by what a program finds of it.
-use Rattle.std.proofs.Common.{◌≡◌, ℕ, ◌+◌, true, false, not, ◌&&◌, List, [], ◌∷◌, ◌++◌, length, map, Option, Some, None, sym, ap, ap₂, arith, ◌∙◌}
-use Rattle.std.proofs.Common.{Bool, subst, ◌-◌, nat_lt, ◌==◌, slice_get}
+use Rattle.std.proofs.Common.{◌≡◌, ℕ, ◌+◌, true, false, not, List, [], ◌∷◌, ◌++◌, length, map, Option, Some, None, sym, ap, ap₂, arith, ◌∙◌}
+use Rattle.std.proofs.Common.{Bool, subst, ◌-◌, nat_lt, slice_get}
 use Rattle.dbwalk.proofs.Common.{usable_size, page_bytes, start_of, View, undamaged, is_interior, reported_if, Reference, role_of, tree_kind, tree_view}
 use Rattle.dbwalk.proofs.Common.{inner_faults, tree_page_faults, tree_page_row, TreeKind, page_cause, visit_cause, reported_row, reported_fault, reported_by}
-use Rattle.dbwalk.proofs.Common.{Finding, Cause, RowidBounds, FaultCode, leaf_after, depth_faults, damaged_row, view_cause, with_leaf, page_findings, HasPageAt}
+use Rattle.dbwalk.proofs.Common.{Finding, Cause, RowidBounds, FaultCode, leaf_after, depth_faults, view_cause, with_leaf, page_findings, HasPageAt}
 use Rattle.dbwalk.proofs.Common.{IsReportedTo, SinkState, IsCandidate, role_at, IsOpen, IsVisitAt, is_followed, rules_of, Walk, IsInterior, option_map_or}
-use Rattle.dbwalk.proofs.Common.{append-nil, nat_tests, Fault, TreeLeaf}
+use Rattle.dbwalk.proofs.Common.{nat_tests, Fault, TreeLeaf, common_steps}
 use Rattle.dbformat.specs.Address.{depth}
 use Rattle.dbformat.specs.PageFaults.{is_leaf_of}
 use Rattle.dbwalk.specs.LeafCells.{first_of, depth_reported}
@@ -35,17 +35,11 @@ module _ (file : List ℕ) (kind : TreeKind) (k : ℕ) (path : List ℕ) (p from
   role_is = ap (λ w. w.role) candidate.way
 
   pub kind_is : tree_kind (role_of c) ≡ Some kind
-  kind_is = ap tree_kind role_is ∙ by_path path
-    where
-      by_path : (path : List ℕ) → tree_kind (role_at kind path) ≡ Some kind
-      by_path path = grind arith
+  kind_is = let is = role_is in grind arith
 
   -- a page is a child where the way to it is not empty
   pub child_is : is_child (role_of c) ≡ nat_lt 1 (length path + 1)
-  child_is = ap is_child role_is ∙ by_path path
-    where
-      by_path : (path : List ℕ) → is_child (role_at kind path) ≡ nat_lt 1 (length path + 1)
-      by_path path = grind (arith, nat_tests)
+  child_is = let is = role_is in grind (arith, nat_tests)
 
   abbrev bytes : List ℕ
   bytes = page_bytes file p
@@ -55,17 +49,12 @@ module _ (file : List ℕ) (kind : TreeKind) (k : ℕ) (path : List ℕ) (p from
 
   faults_as : (fs : List Fault) → tree_page_faults kind (nat_lt 1 (length path + 1)) p (usable_size file) bytes ≡ fs
       → tree_page_faults kind (is_child (role_of c)) c.page (usable_size file) (page_bytes file c.page) ≡ fs
-  faults_as fs e = ap (λ b. tree_page_faults kind b c.page (usable_size file) (page_bytes file c.page)) child_is
-      ∙ ap (λ q. tree_page_faults kind (nat_lt 1 (length path + 1)) q (usable_size file) (page_bytes file q)) candidate.page ∙ e
+  faults_as fs e = rw (child_is, candidate.page) e
 
   -- whether it is a leaf of its tree
   leaf_is : (o : Option View) → undamaged kind p (usable_size file) bytes ≡ o → is_leaf_of file (start_of c.address) c
       ≡ option_map_or (λ v. not (is_interior v.kind)) o false
-  leaf_is o e = ap (λ o. (start_of c.address == start_of c.address) && option_map_or (λ v. not (is_interior v.kind)) o false) (viewed_as o e)
-      ∙ ap (λ b. b && option_map_or (λ v. not (is_interior v.kind)) o false) (itself (start_of c.address))
-    where
-      itself : (n : ℕ) → (n == n) ≡ true
-      itself n = grind (arith, nat_tests)
+  leaf_is o e = let viewed = viewed_as o e in grind (arith, nat_tests)
 
   module _ (rowids : RowidBounds) (leaf : Option TreeLeaf) where
     -- a damaged page: its row, and its one fault
@@ -74,15 +63,12 @@ module _ (file : List ℕ) (kind : TreeKind) (k : ℕ) (path : List ℕ) (p from
         → page_findings file rowids leaf c ≡ damaged_findings k path rowids p (usable_size file) bytes f
     reported_damaged f e g =
         let why = page_cause rowids c.page (usable_size file) (page_bytes file c.page) None in
-        page_reported file c kind kind_is rowids leaf None (viewed_as None e)
-        ∙ ap (λ fs. (reported_row (tree_page_row c None) ∷ reported_by why fs) ++ reported_by (with_leaf (visit_cause rowids file c) rowids leaf)
-        (depth_faults file leaf c))
-        (faults_as (f ∷ []) g)
-        ∙ ap (λ fs. (reported_row (tree_page_row c None) ∷ reported_by why (f ∷ [])) ++ reported_by (with_leaf (visit_cause rowids file c) rowids leaf) fs)
-        (no_leaf file rowids leaf c (leaf_is None e)).0
-        ∙ append-nil (reported_row (tree_page_row c None) ∷ reported_by why (f ∷ []))
-        ∙ ap (λ r. reported_row r ∷ reported_by why (f ∷ [])) (sym (row_of_damage c p k path candidate.start candidate.path candidate.chain candidate.page))
-        ∙ ap (λ q. reported_row (damaged_row k path p) ∷ reported_by (page_cause rowids q (usable_size file) (page_bytes file q) None) (f ∷ [])) candidate.page
+        let page = page_reported file c kind kind_is rowids leaf None (viewed_as None e) in
+        let faults = faults_as (f ∷ []) g in
+        let last = (no_leaf file rowids leaf c (leaf_is None e)).0 in
+        let row = row_of_damage c p k path candidate.start candidate.path candidate.chain candidate.page in
+        let at = candidate.page in
+        grind (arith, common_steps)
 
     -- it is no leaf
     pub leaf_after_damaged : undamaged kind p (usable_size file) bytes ≡ None → leaf_after file leaf rowids c ≡ leaf
@@ -108,10 +94,8 @@ module _ (file : List ℕ) (kind : TreeKind) (k : ℕ) (path : List ℕ) (p from
 
       -- an interior page: its row, and the faults within it
       pub reported_interior : is_interior v.kind ≡ true → page_findings file rowids leaf c ≡ undamaged_findings k path rowids v (nat_lt 1 (length path + 1))
-      reported_interior e = row_and_faults
-          ∙ ap (λ fs. undamaged_findings k path rowids v (nat_lt 1 (length path + 1)) ++ reported_by (with_leaf (visit_cause rowids file c) rowids leaf) fs)
-          (no_leaf file rowids leaf c (leaf_is (Some v) viewed ∙ ap not e)).0
-          ∙ append-nil (undamaged_findings k path rowids v (nat_lt 1 (length path + 1)))
+      reported_interior e =
+          let whole = row_and_faults in let last = (no_leaf file rowids leaf c (leaf_is (Some v) viewed ∙ ap not e)).0 in grind (arith, common_steps)
 
       pub leaf_after_interior : is_interior v.kind ≡ true → leaf_after file leaf rowids c ≡ leaf
       leaf_after_interior e = (no_leaf file rowids leaf c (leaf_is (Some v) viewed ∙ ap not e)).1

@@ -2,7 +2,7 @@
 use Rattle.std.proofs.Common.{◌≡◌, ℕ, true, false, inl, inr, List, [], ◌∷◌, ◌++◌, Ok, Err, refl, sym, ap, subst, ◌∙◌, append_assoc, ◌-◌, Bool, set, Option}
 use Rattle.std.proofs.Common.{Some, None, pos, arith}
 use Rattle.dbwalk.proofs.Common.{IsIn, IsBefore, IsLeftOf, is_followed, Moves, MovesBySome, step_of, Errand, Go, errand_key, errands_of, AreQuiet, IsPast}
-use Rattle.dbwalk.proofs.Common.{geometry, Way, Reference, role_of, bytes_left, tree_kind, from_of, item_of, rules_of, is_too_deep, Event, at_page, at_refused}
+use Rattle.dbwalk.proofs.Common.{geometry, Way, Reference, role_of, bytes_left, tree_kind, rules_of, Event, at_page, at_refused}
 use Rattle.dbwalk.proofs.Common.{own_visit, story_of, RunError, Mark, AreMarksOf, page_mark, chain_cause, seen_from, refusal_cause, refusal_of, rowids_of}
 use Rattle.dbwalk.proofs.Common.{Cause, Finding, reported_at, reported_below, visited_below, reported_fault, IsDone, IsLeft, Enters, IsNext, refused_reported}
 use Rattle.dbwalk.proofs.Common.{FaultCode, Unmarked, append-nil, IsIn-cases, IsIn-right, Moves-append, some_after}
@@ -18,7 +18,6 @@ use Rattle.dbtrace.specs.declared.Cause.TheVariants.{Itself}
 use Rattle.dbwalk.specs.Entered.{IsStepOf}
 use Rattle.dbwalk.proofs.Reporting.Belows.{visited_none, visited_refused, visited_visit, visited_join, reported_none, reported_join, reported_refused}
 use Rattle.dbwalk.proofs.Reporting.Belows.{reported_visit}
-use Rattle.dbformat.specs.ReferenceFaults.{refusal_fault}
 use Rattle.dbmarks.proofs.Markings.{refused-by_mark, followed-unrefused, followed-refused, marked-visit}
 
 past_rest : (U : List Reference) (e : Errand Way Event) (es : List (Errand Way Event)) → IsPast U (e ∷ es) → IsPast U es
@@ -41,8 +40,7 @@ past_visit_all file U c es past apart u f i j = elim (IsIn-cases f (errands_of (
     | inl m ↦ past u f m (inr k)
     | inr m ↦ (elim m [
       | inl e ↦ subst (λ w. IsBefore w.address (errand_key f)) (sym e) (IsLeftOf-before c.address (errand_key f) (apart.0 f k))
-      | inr n ↦ absurd
-          n
+      | inr n ↦ absurd n
     ])
   ])
 ]
@@ -148,8 +146,7 @@ module _ (file : List ℕ) (W : List Reference) (c : Reference) (marks : List Ma
   before u i = next u (Go c) i (inl refl)
 
   refused-is : refused file W c ≡ refusal_by (page_mark marks step.page) step.is_too_deep
-  refused-is = refused-by_mark file W c marks before m ∙ ap (λ p. refusal_by (page_mark marks p) (is_too_deep c)) is.page
-      ∙ ap (λ d. refusal_by (page_mark marks step.page) d) is.deep
+  refused-is = let by = refused-by_mark file W c marks before m in let page = is.page in let deep = is.deep in grind arith
 
   pub entered_yes : refusal_by (page_mark marks step.page) step.is_too_deep ≡ None
       → (is_followed (rules_of file) W c ≡ true) × AreMarksOf file (W ++ (c ∷ [])) (set marks (step.page - 1) step.mark)
@@ -163,13 +160,9 @@ module _ (file : List ℕ) (W : List Reference) (c : Reference) (marks : List Ma
   pub entered_no : (code : FaultCode) (expected why : Cause) → expected ≡ why → refusal_by (page_mark marks step.page) step.is_too_deep ≡ Some code
       → (is_followed (rules_of file) W c ≡ false) × (refused_reported file W c expected
       ≡ reported_fault (record { code = code; page = step.from; item = step.item; value = pos step.page }) why ∷ [])
-  entered_no code expected why causes h = (
-    followed-refused file W c code before (refused-is ∙ h),
-    reported (refused file W c) (refused-is ∙ h) ∙ ap (λ p. reported_fault (record { code = code; page = from_of c; item = item_of c; value = pos p }) why
-        ∷ []) is.page
-        ∙ ap (λ f. reported_fault (record { code = code; page = f; item = item_of c; value = pos step.page }) why ∷ []) is.from
-        ∙ ap (λ i. reported_fault (record { code = code; page = step.from; item = i; value = pos step.page }) why ∷ []) is.item,
-  )
-    where
-      reported : (o : Option FaultCode) → refused file W c ≡ Some code → refused_reported file W c expected ≡ reported_fault (refusal_fault c code) why ∷ []
-      reported o e = rw e (ap (λ w. reported_fault (refusal_fault c code) w ∷ []) causes)
+  entered_no code expected why causes h =
+      let refuses = refused-is ∙ h in
+      let page = is.page in
+      let from = is.from in
+      let item = is.item in
+      (followed-refused file W c code before refuses, grind arith)

@@ -1,7 +1,7 @@
 -- What calls of a sink leave of its state, call after call.
 use Rattle.std.proofs.Common.{◌≡◌, Bool, true, false, inl, inr, List, [], ◌∷◌, Result, Ok, Err, refl, sym, ap, subst, ◌∙◌, if◌then◌else◌, IfErr, OnOk, IsErrAnd}
-use Rattle.dbwalk.proofs.Common.{Moves, MovesBySome, is_write_failed, RunError, Refused, OutOfMemory, WriteFailed, SinkAfter, SinkMoves, SinkState, SinkWalks}
-use Rattle.dbwalk.proofs.Common.{err_from_is_err_and, ReadFailed}
+use Rattle.dbwalk.proofs.Common.{Moves, MovesBySome, is_write_failed, RunError, WriteFailed, SinkAfter, SinkMoves, SinkState, SinkWalks}
+use Rattle.dbwalk.proofs.Common.{err_from_is_err_and}
 use Rattle.std.proofs.lemmas.Bool.{false≢true}
 use Rattle.dbwalk.specs.Reporting.{HasFailed}
 
@@ -40,14 +40,12 @@ walks_as q h = walks_err q h.moves h.shut
 pub walks_end : {A : Type 0} (r : Result A RunError) {a b : SinkState} → SinkWalks r a b → a.is_shut ≡ false → OnOk r (b.is_shut ≡ false)
     → SinkAfter is_write_failed r a b
 walks_end (Ok x) h o e = moves_open h.moves e
-walks_end (Err (Refused x)) h o e = moves_open h.moves h.shut
-walks_end (Err ReadFailed) h o e = moves_open h.moves h.shut
-walks_end (Err OutOfMemory) h o e = moves_open h.moves h.shut
 walks_end (Err WriteFailed) {a} {b} h o e = failed h.moves
   where
     failed : SinkMoves a b → HasFailed a b
     failed (inl same) = absurd (false≢true (sym o ∙ sym (ap (λ x. x.is_shut) same) ∙ h.shut))
     failed (inr k) = k.failed
+walks_end (Err _) h o e = moves_open h.moves h.shut
 
 -- all items are a beginning of them
 pub moves_some : {S I : Type 0} (takes : S → I → S → Type 0) (s t : S) (items : List I) → Moves takes s items t → MovesBySome takes s items t

@@ -69,8 +69,7 @@ key_up_to_itself file V c = by_address c.address refl
     along a o = option_and_then (λ root. bound_along file None (sound_page file root.page) (drop 1 a)) o
 
     nothing : (a : Address) → drop 1 a ≡ [] → (o : Option Reference) → along a o ≡ None
-    nothing a e None = refl
-    nothing a e (Some root) = ap (bound_along file None (sound_page file root.page)) e
+    nothing a e o = grind arith
 
     short : (a : Address) → drop 1 a ≡ [] → c.address ≡ a → key_up_to file (V ++ (c ∷ [])) c ≡ key_up_to file V c
     short a none e =

@@ -251,8 +251,7 @@ module _ (file : List ℕ) (r : Reference) (kind : TreeKind) (v : View) (role : 
       ∙ ap (λ i. Go (record {
         address = then_step r.address (child_step n);
         page = child_page file r (cell_of_step (child_step n));
-        role =
-            record { role = child kind; from = r.page; item = i };
+        role = record { role = child kind; from = r.page; item = i };
       })) (sym (cell_is n))
 
   -- a child that is there is the next errand

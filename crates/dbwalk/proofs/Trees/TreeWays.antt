@@ -1,19 +1,13 @@
 -- The visits of frames: each is a page of the tree, reached through the children of the frames below.
 use Rattle.std.proofs.Common.{◌≡◌, ℕ, suc, ◌+◌, ◌-◌, ◌*◌, ◌%◌, true, cond, List, [], ◌∷◌, ◌++◌, length, Option, Some, None, refl, sym, ap, subst, arith, ◌∙◌}
-use Rattle.std.proofs.Common.{append_assoc, ◌==◌}
+use Rattle.std.proofs.Common.{append_assoc}
 use Rattle.dbwalk.proofs.Common.{start_of, then_step, child_step, is_child_step, cell_of_step, children_on, chain_on, child_path, chain_place, Reference}
 use Rattle.dbwalk.proofs.Common.{TreeKind, child_at, top_visit, AreCalls, IsCandidate, role_at, path_of, StackFrame, nat_tests, append-nil, length-append}
 use Rattle.dbwalk.proofs.Common.{child}
 use Rattle.dbwalk.proofs.Chaining.Overflows.{child_by, place_by, steps_then}
 
 is_child : (n : ℕ) → is_child_step (child_step n) ≡ true
-is_child n = one ((3 * n + 1) % 3) (rest n)
-  where
-    rest : (n : ℕ) → (3 * n + 1) % 3 ≡ 1
-    rest n = omega arith
-
-    one : (m : ℕ) → m ≡ 1 → (m == 1) ≡ true
-    one m e = grind (arith, nat_tests)
+is_child n = let rest : (3 * n + 1) % 3 ≡ 1 = omega arith in grind (arith, nat_tests)
 
 children_more : (steps : List ℕ) (s : ℕ) → is_child_step s ≡ true → chain_on steps ≡ None
     → (children_on (steps ++ (s ∷ [])) ≡ children_on steps ++ (cell_of_step s ∷ [])) × (◌≡◌ {A = Option (ℕ × ℕ)} (chain_on (steps ++ (s ∷ []))) None)
@@ -40,10 +34,7 @@ module _ (file : List ℕ) (kind : TreeKind) (k : ℕ) where
 
       by_address : (a : List ℕ) → c.address ≡ a → IsCandidate kind k (l ++ (cell_of_step s ∷ [])) (child_at file kind c s).page c.page (cell_of_step s)
           (child_at file kind c s)
-      by_address [] e = absurd (none (length l) (sym (ap length e) ∙ is.depth))
-        where
-          none : (m : ℕ) → ◌≡◌ {A = ℕ} 0 (m + 1) → ⊥
-          none m e = omega arith
+      by_address [] e = let depth = is.depth in absurd (omega (arith, ap length e))
       by_address (x ∷ a) e =
           let more = children_more a s child_is (ap chain_place (sym e) ∙ is.chain) in
           let at : then_step c.address s ≡ x ∷ (a ++ (s ∷ [])) = ap (λ b. then_step b s) e in
@@ -82,6 +73,5 @@ module _ (file : List ℕ) (kind : TreeKind) (k : ℕ) where
         p = r.p;
         from = r.from;
         item = r.item;
-        candidate =
-            subst (λ q. IsCandidate kind k q r.p r.from r.item (top_visit file kind d fs)) (append_assoc l (x ∷ []) (path_of fs)) r.candidate;
+        candidate = subst (λ q. IsCandidate kind k q r.p r.from r.item (top_visit file kind d fs)) (append_assoc l (x ∷ []) (path_of fs)) r.candidate;
       }

@@ -1,16 +1,15 @@
 -- The step at the place of a cell's key: of an interior page or a leaf, with a key or without, and of the schema's rows. And
 -- cells of a leaf that have nothing but their keys to look at, while the keys rise: they hand out nothing, and change only the
 -- greatest key.
-use Rattle.std.proofs.Common.{◌≡◌, ℕ, ℤ, int_lt, Bool, true, false, cond, not, List, [], ◌∷◌, ◌++◌, map, Option, Some, None, refl, sym, ap, ◌∙◌, zero}
-use Rattle.std.proofs.Common.{suc, ◌+◌, ◌<◌, ◌≤◌, ◌<ℤ◌, arith, Ok, Err, Result, subst, flat_map, int_le, ◌==◌, option_and_then}
+use Rattle.std.proofs.Common.{◌≡◌, ℕ, ℤ, int_lt, Bool, true, false, not, List, [], ◌∷◌, ◌++◌, map, Option, Some, None, refl, sym, ap, ◌∙◌, zero}
+use Rattle.std.proofs.Common.{suc, ◌+◌, ◌<◌, ◌≤◌, ◌<ℤ◌, arith, Ok, Err, Result, subst, flat_map, ◌==◌, option_and_then}
 use Rattle.dbwalk.proofs.Common.{start_of, schema_start, Cell, cell, count, View, is_interior, Reference, role_of, tree_kind, tree_view, SchemaCell}
-use Rattle.dbwalk.proofs.Common.{at_key, own_visit, story_of, reported_if, fault, T06, FaultCode, left_rows, RowidBounds, Finding, reported_fault}
+use Rattle.dbwalk.proofs.Common.{at_key, own_visit, story_of, T06, FaultCode, left_rows, RowidBounds, Finding}
 use Rattle.dbwalk.proofs.Common.{reported_by, Cause, CellKey, Item, found, given, items_at, Progress, cause_by, rows_of, key_value, Walk, advance, run_below}
-use Rattle.dbwalk.proofs.Common.{bare, is_late, key_cause, order_reported, placed, top_after, AreRisingFrom, IsIn, Address, AreQuiet, Due, errands_of}
+use Rattle.dbwalk.proofs.Common.{bare, key_cause, order_reported, placed, top_after, AreRisingFrom, IsIn, Address, AreQuiet, Due, errands_of}
 use Rattle.dbwalk.proofs.Common.{errands_in, cell_errands, report_cell, CellFault, TreeKind, IsAboveLast, IsAllLocal, key_at, IsAt, HasDone, done_below, Mark}
 use Rattle.dbwalk.proofs.Common.{Tree, append-nil, range_with_len, option_map_or, option_or, result_ok, flat_map-append, all_quiet, has_steps, nat_tests}
 use Rattle.dbformat.specs.KeyFaults.{key_of}
-use Rattle.dbformat.proofs.Places.{cell_key}
 use Rattle.dbtrace.specs.Progress.{late_faults, greatest_after}
 use Rattle.dbtrace.proofs.Keys.{le_is}
 use Rattle.std.proofs.lemmas.Int.{ints}
@@ -30,19 +29,7 @@ module _ (file : List ℕ) (r : Reference) (v : View) (n : ℕ) (x : Cell) where
   key_faults_are : (why : FaultCode → Cause) (top : Option CellKey) → why T06 ≡ key_cause (left_rows v (n, x)) top
       → reported_by why (flat_map (late_faults top) (key_of r v (n, x)))
       ≡ order_reported_of (not (is_interior v.kind)) (left_rows v (n, x)) top r.page n x.key
-  key_faults_are why top e = by_key x.key top e
-    where
-      by_key : (o : Option ℤ) (top : Option CellKey) → why T06 ≡ key_cause (left_rows v (n, x)) top
-          → reported_by why (flat_map (late_faults top) (key_of r v (n, record x { key = o })))
-          ≡ order_reported_of (not (is_interior v.kind)) (left_rows v (n, x)) top r.page n o
-      by_key None top e = refl
-      by_key (Some value) None e = refl
-      by_key (Some value) (Some m) e = ap (reported_by why) (append-nil (late_faults (Some m) (cell_key r v n value))) ∙ reported_once why _ _
-          ∙ ap (λ late. reported_if late (reported_fault (fault T06 r.page n value) (why T06))) (sym (by_rowid (not (is_interior v.kind))))
-          ∙ ap (λ c. reported_if (is_late (not (is_interior v.kind)) (Some m.value) value) (reported_fault (fault T06 r.page n value) c)) e
-        where
-          by_rowid : (b : Bool) → cond b (int_le value m.value) (int_lt value m.value) ≡ cond b (not (int_lt m.value value)) (int_lt value m.value)
-          by_rowid b = grind (arith, le_is)
+  key_faults_are why top e = grind (arith, append-nil, le_is, reported_once)
 
   greatest_is : (top : Option CellKey) → greatest_after top (key_of r v (n, x)) ≡ top_after top r.page n x.key
   greatest_is top = grind arith

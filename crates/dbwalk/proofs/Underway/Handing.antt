@@ -1,9 +1,9 @@
 -- Items that are handed to a sink and a taker, one list after another.
-use Rattle.std.proofs.Common.{◌≡◌, Bool, inl, inr, List, [], ◌∷◌, ◌++◌, map, Result, Ok, Err, refl, sym, ap, subst, ℕ, ◌∙◌, IfErr, OnOk}
-use Rattle.dbwalk.proofs.Common.{Moves, Stops, MovesBySome, SchemaCell, SchemaRow, RunError, Refused, WriteFailed, OutOfMemory, Finding, Item, found, given}
+use Rattle.std.proofs.Common.{◌≡◌, Bool, inl, inr, List, [], ◌∷◌, ◌++◌, map, Result, Ok, Err, refl, sym, ap, subst, ℕ, ◌∙◌, IfErr, OnOk, arith}
+use Rattle.dbwalk.proofs.Common.{Moves, Stops, MovesBySome, SchemaCell, SchemaRow, RunError, WriteFailed, OutOfMemory, Finding, Item, found, given}
 use Rattle.dbwalk.proofs.Common.{given_cells, counted_findings, IsReadOrWrite, Reports, ReportsRow, watches, fails, row_at, StopsAt, Handed, Taken, AreQuiet}
 use Rattle.dbwalk.proofs.Common.{Errand, geometry, rules_of, Way, Event, own_visit, story_of, Walk, bare, run_below, AreMarksOf, IsAt, HasDone, done_below}
-use Rattle.dbwalk.proofs.Common.{Mark, Tree, Moves-append, some_after, ReadFailed, has_steps}
+use Rattle.dbwalk.proofs.Common.{Mark, Tree, Moves-append, some_after, has_steps}
 use Rattle.dbsurvey.proofs.Moving.{some_first, stops_first, stops_after}
 use Rattle.dbsurvey.specs.Story.{reporting_of}
 use Rattle.dbsurvey.proofs.Advancing.{run_visits}
@@ -37,24 +37,18 @@ asked_done {moves = moves} {stops = stops} {file = file} {done = done} {now = no
 
 -- no memory is asked for where only reading and writing can fail
 pub no_memory : {A : Type 0} (r : Result A RunError) → IfErr r IsReadOrWrite → r ≡ Err OutOfMemory → ⊥
-no_memory (Ok a) h e = cc
-no_memory (Err x) (inl h) e = cc
-no_memory (Err x) (inr h) e = cc
+no_memory r h e = grind arith
 
 module _ {P : Type 0} (moves : P → Item → P → Type 0) (stops : P → Item → P → Type 0) where
   -- an error in the first of two lists
   pub stop_first : (e : RunError) (w x : P) (L M : List Item) → StopsAt moves stops e w L x → StopsAt moves stops e w (L ++ M) x
-  stop_first (Refused r) w x L M h = some_first moves w x L M h
-  stop_first ReadFailed w x L M h = some_first moves w x L M h
-  stop_first WriteFailed w x L M h = some_first moves w x L M h
   stop_first OutOfMemory w x L M h = stops_first moves stops w x L M h
+  stop_first _ w x L M h = some_first moves w x L M h
 
   -- some items, and then an error
   pub stop_after : (e : RunError) (w m x : P) (L M : List Item) → Moves moves w L m → StopsAt moves stops e m M x → StopsAt moves stops e w (L ++ M) x
-  stop_after (Refused r) w m x L M h k = some_after moves w m x L M h k
-  stop_after ReadFailed w m x L M h k = some_after moves w m x L M h k
-  stop_after WriteFailed w m x L M h k = some_after moves w m x L M h k
   stop_after OutOfMemory w m x L M h k = stops_after moves stops w m x L M h k
+  stop_after _ w m x L M h k = some_after moves w m x L M h k
 
   -- some items, and then those of a call
   pub handed_after : {A : Type 0} (r : Result A RunError) (w m x : P) (L M : List Item) → Moves moves w L m → Handed moves stops r m M x
@@ -77,10 +71,8 @@ module _ {S T : Type 0} (takes : S → Finding → S → Type 0) (keeps : T → 
   pub found_handed : {A : Type 0} (r : Result A RunError) (fs : List Finding) (s s' : S) (t : T) → (r ≡ Err OutOfMemory → ⊥) → Reports takes r s fs s'
       → Handed (watches takes keeps) (fails refuses) r (s, t) (map found fs) (s', t)
   found_handed (Ok a) fs s s' t quiet h = found_moves fs s s' t h
-  found_handed (Err (Refused e)) fs s s' t quiet h = found_some fs s s' t h
-  found_handed (Err ReadFailed) fs s s' t quiet h = found_some fs s s' t h
   found_handed (Err OutOfMemory) fs s s' t quiet h = absurd (quiet refl)
-  found_handed (Err WriteFailed) fs s s' t quiet h = found_some fs s s' t h
+  found_handed (Err _) fs s s' t quiet h = found_some fs s s' t h
 
   -- and what findings alone left of the sink
   moves_found : (fs : List Finding) (w x : S × T) → Moves (watches takes keeps) w (map found fs) x → Moves takes w.0 fs x.0
@@ -101,19 +93,16 @@ module _ {S T : Type 0} (takes : S → Finding → S → Type 0) (keeps : T → 
   pub handed_found : {A : Type 0} (r : Result A RunError) (fs : List Finding) (w x : S × T)
       → Handed (watches takes keeps) (fails refuses) r w (map found fs) x → Reports takes r w.0 fs x.0
   handed_found (Ok a) fs w x h = moves_found fs w x h
-  handed_found (Err (Refused e)) fs w x h = some_found fs w x h
-  handed_found (Err ReadFailed) fs w x h = some_found fs w x h
-  handed_found (Err WriteFailed) fs w x h = some_found fs w x h
   handed_found (Err OutOfMemory) fs w x h = absurd (never_refused fs w x h)
+  handed_found (Err _) fs w x h = some_found fs w x h
 
   -- a row of the schema alone, and none
   pub row_handed : (r : Result (Unit {0}) RunError) (c : SchemaCell) (w x : S × T) → ReportsRow takes keeps refuses (row_at c) r w x
       → Handed (watches takes keeps) (fails refuses) r w (given c ∷ []) x
   row_handed (Ok a) c w x h = (x, h, refl)
-  row_handed (Err (Refused e)) c w x h = absurd h
-  row_handed (Err ReadFailed) c w x h = absurd h
   row_handed (Err WriteFailed) c w x h = inl h
   row_handed (Err OutOfMemory) c w x h = inl h
+  row_handed (Err _) c w x h = absurd h
 
 -- What calls have done, one after another.
 

@@ -127,8 +127,7 @@ module _ (file : List ℕ) (from : Walk) (c : Reference) (kind : TreeKind) (v : 
         by_ok (Ok a) h = (
           subst (λ U. AreMarksOf file U marks) (sym visited) h,
           top ∙ ap (λ p. p.greatest) (sym chained.0),
-          depth
-              ∙ ap (λ p. p.leaf) (sym chained.0),
+          depth ∙ ap (λ p. p.leaf) (sym chained.0),
         )
         by_ok (Err e) h = tt
 
@@ -156,8 +155,7 @@ module _ (file : List ℕ) (from : Walk) (c : Reference) (kind : TreeKind) (v : 
             → OnOk r (IsAt file (done_below file m own) marks new)
         by_ok (Ok a) h = (
           subst (λ U. AreMarksOf file U marks) (sym (behind.visits ∙ visited)) done.marked,
-          h.0 ∙ ap (λ top. top_after top c.page i key) top
-              ∙ sym behind.greatest_is,
+          h.0 ∙ ap (λ top. top_after top c.page i key) top ∙ sym behind.greatest_is,
           h.1 ∙ depth ∙ sym behind.leaf_is,
         )
         by_ok (Err e) h = tt

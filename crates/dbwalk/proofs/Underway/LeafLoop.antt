@@ -148,8 +148,7 @@ module _ (file : List ℕ) (from : Walk) (c : Reference) (kind : TreeKind) (v : 
               | inl e ↦ subst (λ n. IsBefore u.address (then_step c.address n)) e h
               | inr k ↦ (elim k [
                 | inl m ↦ IsBefore-trans u.address (then_step c.address s) (then_step c.address t) h (before_next c.address s t [] m)
-                | inr m ↦
-                    absurd (omega arith)
+                | inr m ↦ absurd (omega arith)
               ])
             ]
 

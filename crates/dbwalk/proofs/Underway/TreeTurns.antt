@@ -1,7 +1,7 @@
 -- One turn of the loop over the interior pages of a tree, by what the last frame's page has at its step.
 use Rattle.std.proofs.Common.{◌≡◌, ℕ, suc, ◌+◌, ◌-◌, ◌*◌, ◌/◌, ◌<◌, ◌≤◌, false, true, List, [], ◌∷◌, ◌++◌, map, length, Option, Some, Ok, Err, Result, ℤ, refl}
 use Rattle.std.proofs.Common.{sym, ap, ap₂, subst, arith, ◌∙◌, Bool, option_and_then, slice_get, OnOk, IfErr}
-use Rattle.dbwalk.proofs.Common.{Moves, Go, then_step, overflow_step, child_step, cell_of_step, count, overflow_size, child_number, report_cell, page_bytes}
+use Rattle.dbwalk.proofs.Common.{Moves, Go, then_step, overflow_step, child_step, cell_of_step, count, child_number, report_cell, page_bytes}
 use Rattle.dbwalk.proofs.Common.{View, undamaged, usable_size, first_overflow, Reference, role_of, tree_kind, tree_view, RunError, fault, reported_if, T06}
 use Rattle.dbwalk.proofs.Common.{key_before, key_from, key_up_to, left_key, Finding, reported_fault, key_value, RowidBounds, Item, found, IsChainOf, IsNext}
 use Rattle.dbwalk.proofs.Common.{is_late, key_cause, order_reported, top_after, errands_from, child_at, top_visit, IsCandidate, IsVisitAt, IsStepped, path_of}
@@ -76,12 +76,9 @@ module _ {P : Type 0} {moves : P → Item → P → Type 0} {file : List ℕ} {W
         within = step_within v f.next Nothing (goes_on Nothing tt) h
 
         by_case : IsEmptyAt v f.next → IsWalkingOn moves file W c before (fs ++ (g ∷ []), levels) (marks, tree) w
-        by_case (no_chain n step l none) = steps.on_skip fs f on stepped within
-            (subst (λ s. errands_from file top s ≡ errands_from file top (suc s)) (sym step) (step_no_chain file top tree.kind v role viewed n none))
-        by_case (no_child n step l none) = steps.on_skip fs f on stepped within
-            (subst (λ s. errands_from file top s ≡ errands_from file top (suc s)) (sym step) (step_no_child file top tree.kind v role viewed n none))
-        by_case (unreadable n b step l bad) = steps.on_skip fs f on stepped within
-            (subst (λ s. errands_from file top s ≡ errands_from file top (suc s)) (sym step) (step_no_key file top tree.kind v role viewed n b bad))
+        by_case (no_chain n step l none) = steps.on_skip fs f on stepped within (rw step (step_no_chain file top tree.kind v role viewed n none))
+        by_case (no_child n step l none) = steps.on_skip fs f on stepped within (rw step (step_no_child file top tree.kind v role viewed n none))
+        by_case (unreadable n b step l bad) = steps.on_skip fs f on stepped within (rw step (step_no_key file top tree.kind v role viewed n b bad))
         by_case (without_key n x step l read none) = steps.on_cell fs f on stepped within n x w
             (subst (λ s. errands_from file top s ≡ report_cell top v n x ∷ errands_from file top (suc s)) (sym step)
             (step_key file top tree.kind v role viewed n x l read))
@@ -149,25 +146,11 @@ module _ {P : Type 0} {moves : P → Item → P → Type 0} {file : List ℕ} {W
       chained = record {
         address = then_step top.address (overflow_step h.n);
         page = first;
-        role =
-            record { role = first_overflow left; from = top.page; item = h.n };
+        role = record { role = first_overflow left; from = top.page; item = h.n };
       }
 
       chain_errand : errands_from file top f.next ≡ Go chained ∷ errands_from file top (suc f.next)
-      chain_errand = subst (λ l. errands_from file top f.next
-          ≡ Go (record {
-            address = then_step top.address (overflow_step h.n);
-            page = first;
-            role =
-                record { role = first_overflow l; from = top.page; item = h.n };
-          }) ∷ errands_from file top (suc f.next)) (sym h.rest)
-          (subst (λ s. errands_from file top s ≡ Go (record {
-            address = then_step top.address (overflow_step h.n);
-            page = first;
-            role =
-                record { role = first_overflow (overflow_size h.x); from = top.page; item = h.n };
-          }) ∷ errands_from file top (suc s)) (sym h.step)
-          (step_chain file top tree.kind v role viewed h.n h.x first h.low h.read h.page))
+      chain_errand = rw (h.rest, h.step) (step_chain file top tree.kind v role viewed h.n h.x first h.low h.read h.page)
 
       within_chain : suc f.next ≤ 3 * count v + 2
       within_chain = step_within v f.next (step.Chain first left rowid) (goes_on (step.Chain first left rowid) tt) h
@@ -199,8 +182,7 @@ module _ {P : Type 0} {moves : P → Item → P → Type 0} {file : List ℕ} {W
       child = child_at file tree.kind top f.next
 
       child_errand : errands_from file top f.next ≡ Go child ∷ errands_from file top (suc f.next)
-      child_errand = subst (λ s. errands_from file top s ≡ Go (child_at file tree.kind top s) ∷ errands_from file top (suc s)) (sym h.step)
-          (step_child file top tree.kind v role viewed h.n number h.low h.number)
+      child_errand = rw h.step (step_child file top tree.kind v role viewed h.n number h.low h.number)
 
       at_child : f.next / 3 ≡ h.n
       at_child = let e = h.step in omega arith

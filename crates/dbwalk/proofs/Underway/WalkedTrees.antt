@@ -19,9 +19,9 @@ use Rattle.dbtrace.specs.declared.Cause.TheVariants as cause
 -- The root of a tree, and the end of the loop.
 
 -- a candidate by other names
-pub candidate_as : (kind kind' : TreeKind) (k k' : ℕ) (l l' : List ℕ) (p p' from item item' : ℕ) (c : Reference) → kind' ≡ kind → k' ≡ k → l' ≡ l → p' ≡ p
+pub candidate_as : {kind kind' : TreeKind} {k k' : ℕ} {l l' : List ℕ} {p p' from item item' : ℕ} {c : Reference} → kind' ≡ kind → k' ≡ k → l' ≡ l → p' ≡ p
     → item' ≡ item → IsCandidate kind k l p from item c → IsCandidate kind' k' l' p' from item' c
-candidate_as kind kind' k k' l l' p p' from item item' c a b d e f is = rw (a, b, d, e, f) is
+candidate_as a b d e f is = rw (a, b, d, e, f) is
 
 -- the root
 module _ (file : List ℕ) (kind : TreeKind) (k : ℕ) (p from item : ℕ) (W : List Reference) (c : Reference) (candidate : IsCandidate kind k [] p from item c)

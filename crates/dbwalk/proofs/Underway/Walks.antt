@@ -19,9 +19,7 @@ unread (inl w) h = rw w h
 unread (inr m) h = rw m h
 
 pub none_refused : {A : Type 0} (r : Result A RunError) (n : ℕ) → IfErr r IsReadOrWrite → n ≡ failures_after is_out_of_memory r n
-none_refused (Ok a) n h = refl
-none_refused (Err e) n (inl h) = cc
-none_refused (Err e) n (inr h) = cc
+none_refused r n h = grind arith
 
 pub read_or_write : {A : Type 0} (start : ℕ) (r : Result A RunError) → IfErr r IsReadOrWrite → IfErr r (IsTreeError start)
 read_or_write start (Ok a) h = tt
@@ -43,7 +41,7 @@ IsSame old new = (new.source.ghost_name ≡ old.source.ghost_name) × (new.marks
     × (new.sink.ghost_name ≡ old.sink.ghost_name)
     × (new.encoding ≡ old.encoding) × (new.tree.start ≡ old.tree.start) × (new.tree.kind ≡ old.tree.kind)
 
-module _ {A S K T : Type 0} (told : S → SourceState) (held : K → SinkState) (refusals : T → ℕ) where
+module _ {A S K T : Type 0} {told : S → SourceState} {held : K → SinkState} {refusals : T → ℕ} where
   pub walked_by : {R : Type 0} {r : Result R RunError} {g h : Geometry} {old new : TreeWalk A S K T} → IsSame old new → h ≡ g → (told new.source.now).failures
       ≡ failures_after is_read_failed r (told old.source.now).failures
       → SinkWalks r (held old.sink.now) (held new.sink.now) → refusals new.taker.now

@@ -1,7 +1,7 @@
-use Rattle.std.proofs.Common.{rules, ◌≡◌, ◌<◌, ◌≤◌, [], false, Ok, Err, inl, inr, refl, sym, ap, subst, arith, ◌∙◌, List, IfErr, OnOk}
+use Rattle.std.proofs.Common.{rules, ◌≡◌, ◌<◌, ◌≤◌, [], Ok, Err, inl, inr, refl, sym, ap, subst, arith, ◌∙◌, List, IfErr}
 use Rattle.dbwalk.proofs.Common.{geometry, page_bytes, IsPageNumber, encoding, Reference, bytes_at, is_read_failed, is_write_failed, failures_after}
-use Rattle.dbwalk.proofs.Common.{WriteFailed, Enters, refused_reported, HasPageAt, IsReadOrWrite, SinkAfter, Reports, IsTreeDone, Mark, no_rowids}
-use Rattle.dbwalk.proofs.Common.{err_from_is_err_and, ReadFailed, Reads, log_none, log_then, has_weaker}
+use Rattle.dbwalk.proofs.Common.{refused_reported, HasPageAt, IsReadOrWrite, SinkAfter, Reports, IsTreeDone, Mark, no_rowids}
+use Rattle.dbwalk.proofs.Common.{Reads, log_none, log_then, has_weaker}
 use Rattle.dbsource.specs.Sources.{Asks}
 use Rattle.dbwalk.specs.Roots.{IsRootAfter, kind_of, kind_in}
 use Rattle.dbwalk.proofs.Pages.PageVisits.{kind_is}
@@ -10,14 +10,13 @@ use Rattle.dbwalk.proofs.Pages.Levels.{geometry_kept, log_entered, read_there}
 use Rattle.dbwalk.proofs.Trees.Bounds.{root_address}
 use Rattle.dbwalk.proofs.Underway.WalkedTrees.{candidate_as, root_next, tree_done, tree_refused, tree_unasked, tree_unread}
 use Rattle.dbwalk.proofs.Underway.Walks.{with_memory, without_memory}
-use Rattle.dbwalk.proofs.Reporting.Sinks.{asked_both, asked_open, asked_walks, moves_open, moves_some, walks_after, walks_as, walks_end}
+use Rattle.dbwalk.proofs.Reporting.Sinks.{err_is, asked_both, asked_open, asked_walks, moves_open, moves_some, walks_after, walks_as, walks_end}
 use Rattle.dbtrace.specs.declared.Cause.TheVariants as cause
 use Rattle.dbwalk.proofs.tree.walk_tree.Goals as goal
 
 pub returns-in_err-enter-clause-asks : goal.returns-in_err-enter-clause-asks
 returns-in_err-enter-clause-asks g c =
-    let q = err_from_is_err_and c.from_residual.result c.from_residual.ensures.1 in
-    let failed = q.1 ∙ ap Err (q.2 ∙ c.in_err-enter.ensures.after_error.0) in
+    let failed = (err_is c.from_residual.ensures.1) ∙ ap Err c.in_err-enter.ensures.after_error.0 in
     record {
       log = log_none c.args.bench.now.geometry.page_size c.args.marks.now c.enter.new.marks (g.S.Source.held c.args.source.now)
           c.in_err-enter.ensures.after_error.1 (λ file e coded W d at.
@@ -26,20 +25,14 @@ returns-in_err-enter-clause-asks g c =
           let next = root_next file (kind_in file root) root.start root.page 0 root.start W d at.candidate at.early in
           let one = root_address d.address root.start at.candidate.depth at.candidate.start in
           let n = c.in_err-enter.ensures.entered file W d (cause.Rows no_rowids) is next at.marked (λ made p. sym p) in
-          subst (λ r. IsTreeDone g.K.Sink.takes g.T.Taker.takes g.T.Taker.refuses file W d r c.enter.new.marks
-          (c.args.sink.now, c.args.taker.now) (c.enter.new.sink, c.args.taker.now)) (sym failed)
-          (subst (λ s. IsTreeDone g.K.Sink.takes g.T.Taker.takes g.T.Taker.refuses file W d (Err WriteFailed) c.enter.new.marks
-          (c.args.sink.now, c.args.taker.now) (s, c.args.taker.now)) n.1
-          (tree_unasked g.K.Sink.takes g.T.Taker.takes g.T.Taker.refuses file root.start W d one at.early c.enter.new.marks c.args.sink.now
-          c.args.taker.now)));
-      count = subst (λ r. (g.S.Source.held c.args.source.now).failures ≡ failures_after is_read_failed r (g.S.Source.held c.args.source.now).failures)
-          (sym failed) refl;
+          rw (failed, ← n.1) (tree_unasked g.K.Sink.takes g.T.Taker.takes g.T.Taker.refuses file root.start W d one at.early c.enter.new.marks
+          c.args.sink.now c.args.taker.now));
+      count = rw failed refl;
     }
 
 pub returns-in_err-enter-clause-others : goal.returns-in_err-enter-clause-others
 returns-in_err-enter-clause-others g c =
-    let q = err_from_is_err_and c.from_residual.result c.from_residual.ensures.1 in
-    λ l. (refl, subst (λ r. IfErr r IsReadOrWrite) (sym (q.1 ∙ ap Err q.2)) (inr c.in_err-enter.ensures.after_error.0))
+    λ l. (refl, rw (err_is c.from_residual.ensures.1) (inr c.in_err-enter.ensures.after_error.0))
 
 pub returns-then-not-branch-clause-asks : goal.returns-then-not-branch-clause-asks
 returns-then-not-branch-clause-asks g c = record {
@@ -49,9 +42,7 @@ returns-then-not-branch-clause-asks g c = record {
       let is = c.tree_step-step.ensures.step (kind_in file root) root.start [] d refl at.candidate in
       let next = root_next file (kind_in file root) root.start root.page 0 root.start W d at.candidate at.early in
       let one = root_address d.address root.start at.candidate.depth at.candidate.start in
-      let none = subst (λ b. Enters g.K.Sink.takes file W d (cause.Rows no_rowids)
-      (Ok b) c.enter.new.marks c.args.sink.now c.enter.new.sink) c.if-not-branch.true
-      (c.in_ok-enter.ensures.entered file W d (cause.Rows no_rowids) is next at.marked (λ made p. sym p)) in
+      let none = rw c.if-not-branch.true at (c.in_ok-enter.ensures.entered file W d (cause.Rows no_rowids) is next at.marked (λ made p. sym p)) in
       tree_refused g.K.Sink.takes g.T.Taker.takes g.T.Taker.refuses file root.start W d one at.early
       (kind_is file (kind_in file root) root.start [] root.page 0 root.start d at.candidate) c.ask.result c.enter.new.marks c.args.sink.now
       c.enter.new.sink c.args.taker.now (asked_both (λ r. IfErr r IsReadOrWrite) (g.K.Sink.held c.enter.new.sink).is_shut c.ask.ensures tt (inr refl))
@@ -64,7 +55,7 @@ returns-then-not-branch-clause-asks g c = record {
 
 pub returns-in_err-load-clause-asks : goal.returns-in_err-load-clause-asks
 returns-in_err-load-clause-asks g c =
-    let q = err_from_is_err_and c.from_residual-in_err-load.result c.from_residual-in_err-load.ensures.1 in
+    let q = err_is c.from_residual-in_err-load.ensures.1 in
     let read = c.in_err-load.ensures.level in
     record {
       log = has_weaker _ _ (log_entered (Err c.in_err-load.field-0.0) read.bytes c.tree_step-step.ensures.page (c.in_ok-enter.ensures.marked (search rules))
@@ -73,23 +64,15 @@ returns-in_err-load-clause-asks g c =
           let is = c.tree_step-step.ensures.step (kind_in file root) root.start [] d refl at.candidate in
           let next = root_next file (kind_in file root) root.start root.page 0 root.start W d at.candidate at.early in
           let one = root_address d.address root.start at.candidate.depth at.candidate.start in
-          let n = subst (λ b. Enters g.K.Sink.takes file W d (cause.Rows no_rowids)
-          (Ok b) c.enter.new.marks c.args.sink.now c.enter.new.sink) c.if-not-branch.false
-          (c.in_ok-enter.ensures.entered file W d (cause.Rows no_rowids) is next at.marked (λ made p. sym p)) in
-          subst (λ r. IsTreeDone g.K.Sink.takes g.T.Taker.takes g.T.Taker.refuses file W d r c.enter.new.marks
-          (c.args.sink.now, c.args.taker.now) (c.enter.new.sink, c.args.taker.now)) (sym (q.1 ∙ ap Err q.2))
-          (subst (λ s. IsTreeDone g.K.Sink.takes g.T.Taker.takes g.T.Taker.refuses file W d (Err ReadFailed) c.enter.new.marks
-          (c.args.sink.now, c.args.taker.now) (s, c.args.taker.now)) n.2
-          (tree_unread g.K.Sink.takes g.T.Taker.takes g.T.Taker.refuses file root.start W d one at.early c.enter.new.marks c.args.sink.now
-          c.args.taker.now)));
-      count = subst (λ r. (g.S.Source.held c.load.new.source).failures ≡ failures_after is_read_failed r (g.S.Source.held c.args.source.now).failures)
-          (sym (q.1 ∙ ap Err q.2)) c.in_err-load.ensures.count;
+          let n = rw c.if-not-branch.false at (c.in_ok-enter.ensures.entered file W d (cause.Rows no_rowids) is next at.marked (λ made p. sym p)) in
+          rw (q, ← n.2) (tree_unread g.K.Sink.takes g.T.Taker.takes g.T.Taker.refuses file root.start W d one at.early c.enter.new.marks
+          c.args.sink.now c.args.taker.now));
+      count = rw q c.in_err-load.ensures.count;
     }
 
 pub returns-in_err-load-clause-others : goal.returns-in_err-load-clause-others
 returns-in_err-load-clause-others g c =
-    let q = err_from_is_err_and c.from_residual-in_err-load.result c.from_residual-in_err-load.ensures.1 in
-    λ l. (refl, subst (λ r. IfErr r IsReadOrWrite) (sym (q.1 ∙ ap Err q.2)) (inl refl))
+    λ l. (refl, rw (err_is c.from_residual-in_err-load.ensures.1) (inl refl))
 
 pub returns-clause-asks : goal.returns-clause-asks
 returns-clause-asks g c =
@@ -125,17 +108,11 @@ returns-clause-asks g c =
           let kinds = c.new-tree.ensures.names.1 ∙ c.root_kind.ensures.kind
           ∙ ap (kind_of root.kind root.page) (there (bytes_at c.load.new.self 0) c.root_kind.ensures.there) in
           let starts = c.new-tree.ensures.names.0 in
-          let n = subst (λ b. Enters g.K.Sink.takes file W d (cause.Rows no_rowids)
-          (Ok b) c.enter.new.marks c.args.sink.now c.enter.new.sink) c.if-not-branch.false
-          (c.in_ok-enter.ensures.entered file W d (cause.Rows no_rowids) is next at.marked (λ made p. sym p)) in
-          subst (λ s. IsTreeDone g.K.Sink.takes g.T.Taker.takes g.T.Taker.refuses file W d c.walk_pages.result c.walk_pages.new.self.marks.now
-          (s, c.args.taker.now) (c.walk_pages.new.self.sink.now, c.walk_pages.new.self.taker.now)) (sym n.2)
-          (tree_done g.K.Sink.takes g.T.Taker.takes g.T.Taker.refuses file root.start W d one at.early c.walk_pages.result
+          let n = rw c.if-not-branch.false at (c.in_ok-enter.ensures.entered file W d (cause.Rows no_rowids) is next at.marked (λ made p. sym p)) in
+          rw n.2 (tree_done g.K.Sink.takes g.T.Taker.takes g.T.Taker.refuses file root.start W d one at.early c.walk_pages.result
           c.walk_pages.new.self.marks.now c.walk_pages.new.self.tree (c.enter.new.sink, c.args.taker.now)
           (c.walk_pages.new.self.sink.now, c.walk_pages.new.self.taker.now)
-          (done (shape ∙ e) coded W d (candidate_as (kind_in file root) t.kind root.start t.start [] [] root.page root.page 0 root.start t.start d kinds starts
-          refl refl starts at.candidate)
-          there n.0 next n.1)));
+          (done (shape ∙ e) coded W d (candidate_as kinds starts refl refl starts at.candidate) there n.0 next n.1)));
       count = c.walk_pages.ensures.walked.reads ∙ ap (failures_after is_read_failed c.walk_pages.result) c.in_ok-load.ensures.count;
     }))))
 
@@ -171,15 +148,13 @@ returns-clause-writes g c =
 
 pub returns-in_err-enter-clause-writes : goal.returns-in_err-enter-clause-writes
 returns-in_err-enter-clause-writes g c =
-    let q = err_from_is_err_and c.from_residual.result c.from_residual.ensures.1 in
-    walks_end c.from_residual.result (walks_as (q.1 ∙ ap Err q.2) c.in_err-enter.ensures.writes) c.requires.«open»
-    (subst (λ r. OnOk r ((g.K.Sink.held c.enter.new.sink).is_shut ≡ false)) (sym (q.1 ∙ ap Err q.2)) tt)
+    let q = err_is c.from_residual.ensures.1 in
+    walks_end c.from_residual.result (walks_as q c.in_err-enter.ensures.writes) c.requires.«open»
+    (rw q tt)
 
 pub returns-in_err-load-clause-writes : goal.returns-in_err-load-clause-writes
 returns-in_err-load-clause-writes g c =
-    let q = err_from_is_err_and c.from_residual-in_err-load.result c.from_residual-in_err-load.ensures.1 in
-    subst (λ r. SinkAfter is_write_failed r (g.K.Sink.held c.args.sink.now) (g.K.Sink.held c.enter.new.sink)) (sym (q.1 ∙ ap Err q.2))
-    (moves_open c.in_ok-enter.ensures.writes.moves (c.in_ok-enter.ensures.«open» (search rules)))
+    rw (err_is c.from_residual-in_err-load.ensures.1) (moves_open c.in_ok-enter.ensures.writes.moves (c.in_ok-enter.ensures.«open» (search rules)))
 
 pub returns-then-not-branch-clause-writes : goal.returns-then-not-branch-clause-writes
 returns-then-not-branch-clause-writes g c = walks_end c.ask.result (asked_walks c.ask.ensures c.in_ok-enter.ensures.writes.moves) c.requires.«open»
@@ -192,14 +167,11 @@ returns-clause-shut g c =
 
 pub returns-in_err-enter-clause-shut : goal.returns-in_err-enter-clause-shut
 returns-in_err-enter-clause-shut g c =
-    let q = err_from_is_err_and c.from_residual.result c.from_residual.ensures.1 in
-    (walks_as (q.1 ∙ ap Err q.2) c.in_err-enter.ensures.writes).shut
+    (walks_as (err_is c.from_residual.ensures.1) c.in_err-enter.ensures.writes).shut
 
 pub returns-in_err-load-clause-shut : goal.returns-in_err-load-clause-shut
 returns-in_err-load-clause-shut g c =
-    let q = err_from_is_err_and c.from_residual-in_err-load.result c.from_residual-in_err-load.ensures.1 in
-    subst (λ r. IfErr r (λ e. (g.K.Sink.held c.enter.new.sink).is_shut ≡ is_write_failed e)) (sym (q.1 ∙ ap Err q.2))
-    (c.in_ok-enter.ensures.«open» (search rules))
+    rw (err_is c.from_residual-in_err-load.ensures.1) (c.in_ok-enter.ensures.«open» (search rules))
 
 pub returns-then-not-branch-clause-shut : goal.returns-then-not-branch-clause-shut
 returns-then-not-branch-clause-shut g c = (asked_walks c.ask.ensures c.in_ok-enter.ensures.writes.moves).shut

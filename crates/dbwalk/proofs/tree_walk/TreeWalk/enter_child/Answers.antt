@@ -2,7 +2,7 @@ use Rattle.std.proofs.Common.{rules, ◌≡◌, ℕ, ℤ, Option, ◌+◌, ◌-�
 use Rattle.std.proofs.Common.{subst, arith, ◌∙◌, Bool, Some, slice_get}
 use Rattle.dbwalk.proofs.Common.{cell_of_step, page_bytes, IsPageNumber, TreeKind, Go, Changes, Pages, IsUse, KeepsMarks, page_mark, unmarked_pages, Mark}
 use Rattle.dbwalk.proofs.Common.{Unmarked, Cause, HasPageAt, IsAtTurn, IsOpen, AreOpen, path_of, done_below, watches, fails, Next, StackFrame}
-use Rattle.dbwalk.proofs.Common.{err_from_is_err_and, ReadFailed, has_weaker, log_none, log_then}
+use Rattle.dbwalk.proofs.Common.{ReadFailed, has_weaker, log_none, log_then}
 use Rattle.dbmarks.proofs.Readings.{put_count}
 use Rattle.dbwalk.specs.declared.steps.Next.TheVariants.{Child}
 use Rattle.dbwalk.proofs.Chaining.Overflows.{page_read}
@@ -13,7 +13,7 @@ use Rattle.dbwalk.proofs.Underway.TreeSteps.{turned}
 use Rattle.dbwalk.proofs.Underway.TreeTurns.{next_here, child, child_asked, child_passed, child_stopped, child_entered}
 use Rattle.dbwalk.proofs.Underway.Visits.{done_from, done_refused, entered_done, rows_below, refused_handed, unasked, unread}
 use Rattle.dbwalk.proofs.Underway.Walks.{walked_as, walked_as_ok, walked_behind, walked_by, walked_err, walked_tree}
-use Rattle.dbwalk.proofs.Reporting.Sinks.{walks_as, walks_err, walks_ok}
+use Rattle.dbwalk.proofs.Reporting.Sinks.{err_is, walks_as, walks_err, walks_ok}
 use Rattle.dbtrace.specs.declared.Cause.TheVariants as cause
 use Rattle.dbwalk.proofs.tree_walk.TreeWalk.enter_child.Goals as goal
 
@@ -65,9 +65,9 @@ returns-in_err-enter-clause-log g c = log_none _ _ _ _ c.in_err-enter.ensures.af
     let n = c.in_err-enter.ensures.entered file walk.now.visits r (rows_below t.greatest c.or-up_to.result)
     (c.tree_step-step.ensures.step t.kind t.start _ _ (as_deep c.args.frames.now.items c.stepped.ensures refl c.push.ensures.items c.len-level.ensures.value)
     asked.0) asked.1 walk.under.at.0 (λ made p. ap (λ above. rows_of above c.or-up_to.result) (sym c.key_value-above.ensures) ∙ sym p) in
-    let q = err_from_is_err_and c.from_residual.result c.from_residual.ensures.1 in
-    child_stopped c.args.frames.now.items c.args.frame walk candidate c.stepped.ensures here (fails g.T.Taker.refuses) _ (q.1 ∙ ap Err (q.2 ∙
-    c.in_err-enter.ensures.after_error.0))
+    let q = err_is c.from_residual.ensures.1 in
+    child_stopped c.args.frames.now.items c.args.frame walk candidate c.stepped.ensures here (fails g.T.Taker.refuses) _
+    (q ∙ ap Err c.in_err-enter.ensures.after_error.0)
     (unasked (watches g.K.Sink.takes g.T.Taker.takes) (fails g.T.Taker.refuses) file (done_below file walk.now (Go r ∷ [])) (c.enter.new.marks, t)
     (ap (λ s. (s, c.args.self.now.taker.now)) n.1)))
 
@@ -101,8 +101,8 @@ returns-in_err-load-clause-log g c =
     let n = rw c.if-not-branch.false at (c.in_ok-enter.ensures.entered file walk.now.visits r (rows_below t.greatest c.or-up_to.result)
     (c.tree_step-step.ensures.step t.kind t.start _ _ (as_deep c.args.frames.now.items c.stepped.ensures refl c.push.ensures.items c.len-level.ensures.value)
     asked.0) asked.1 walk.under.at.0 (λ made p. ap (λ above. rows_of above c.or-up_to.result) (sym c.key_value-above.ensures) ∙ sym p)) in
-    let q = err_from_is_err_and c.from_residual-in_err-load.result c.from_residual-in_err-load.ensures.1 in
-    child_stopped c.args.frames.now.items c.args.frame walk candidate c.stepped.ensures here (fails g.T.Taker.refuses) _ (q.1 ∙ ap Err q.2)
+    let q = err_is c.from_residual-in_err-load.ensures.1 in
+    child_stopped c.args.frames.now.items c.args.frame walk candidate c.stepped.ensures here (fails g.T.Taker.refuses) _ q
     (unread (watches g.K.Sink.takes g.T.Taker.takes) (fails g.T.Taker.refuses) file (done_below file walk.now (Go r ∷ [])) (c.enter.new.marks, t)
     (ap (λ s. (s, c.args.self.now.taker.now)) n.2)))
 
@@ -129,8 +129,8 @@ returns-in_err-visit_page-clause-log g c =
     let visit = done (same ∙ e) coded walk.now r c.args.frame.page (c.args.frame.next / 3) asked.0 there asked.1 n.0 n.1 walk.under.at.1 walk.under.at.2
     asked.2 in
     let entry = done_from (ap (λ s. (s, c.args.self.now.taker.now)) n.2) visit.0 in
-    let q = err_from_is_err_and c.from_residual-in_err-visit_page.result c.from_residual-in_err-visit_page.ensures.1 in
-    child_stopped c.args.frames.now.items c.args.frame walk candidate c.stepped.ensures here (fails g.T.Taker.refuses) _ (q.1 ∙ ap Err q.2) entry)
+    let q = err_is c.from_residual-in_err-visit_page.ensures.1 in
+    child_stopped c.args.frames.now.items c.args.frame walk candidate c.stepped.ensures here (fails g.T.Taker.refuses) _ q entry)
 
 pub returns-then-not-branch-2-clause-log : goal.returns-then-not-branch-2-clause-log
 returns-then-not-branch-2-clause-log g c =
@@ -251,48 +251,43 @@ returns-clause-left g c =
 
 pub returns-in_err-enter-clause-walked : goal.returns-in_err-enter-clause-walked
 returns-in_err-enter-clause-walked g c =
-    let q = err_from_is_err_and c.from_residual.result c.from_residual.ensures.1 in
+    let q = err_is c.from_residual.ensures.1 in
     let f = c.in_err-enter.ensures.after_error.0 in
-    walked_err g.S.Source.held g.K.Sink.held g.T.Taker.refusals (q.1 ∙ ap Err (q.2 ∙ f)) (inr refl) (refl, refl, refl, refl, refl, refl, refl) refl refl
+    walked_err (q ∙ ap Err f) (inr refl) (refl, refl, refl, refl, refl, refl, refl) refl refl
     (walks_as (ap Err (sym f)) c.in_err-enter.ensures.writes) refl (λ l. refl)
 
 pub returns-then-not-branch-clause-walked : goal.returns-then-not-branch-clause-walked
-returns-then-not-branch-clause-walked g c = walked_by g.S.Source.held g.K.Sink.held g.T.Taker.refusals (refl, refl, refl, refl, refl, refl, refl) refl refl
+returns-then-not-branch-clause-walked g c = walked_by (refl, refl, refl, refl, refl, refl, refl) refl refl
     (walks_ok c.in_ok-enter.ensures.writes.moves) refl tt (λ l. refl)
 
 pub returns-in_err-load-clause-walked : goal.returns-in_err-load-clause-walked
 returns-in_err-load-clause-walked g c =
-    let q = err_from_is_err_and c.from_residual-in_err-load.result c.from_residual-in_err-load.ensures.1 in
+    let q = err_is c.from_residual-in_err-load.ensures.1 in
     let low = c.tree_step-step.ensures.shallow (c.in_ok-enter.ensures.shallow (search rules)) in
     let read = c.load.ensures.level in
-    walked_err g.S.Source.held g.K.Sink.held g.T.Taker.refusals {e = ReadFailed} (q.1 ∙ ap Err q.2) (inl refl) (refl, refl, refl, refl, refl, refl, refl)
-    (geometry_kept read low)
+    walked_err {e = ReadFailed} q (inl refl) (refl, refl, refl, refl, refl, refl, refl) (geometry_kept read low)
     c.in_err-load.ensures.count (walks_err refl c.in_ok-enter.ensures.writes.moves (c.in_ok-enter.ensures.«open» (search rules))) refl (λ l. refl)
 
 pub returns-in_err-visit_page-clause-walked : goal.returns-in_err-visit_page-clause-walked
 returns-in_err-visit_page-clause-walked g c =
     let low = c.tree_step-step.ensures.shallow (c.in_ok-enter.ensures.shallow (search rules)) in
     let read = c.in_ok-load.ensures.level in
-    let q = err_from_is_err_and c.from_residual-in_err-visit_page.result c.from_residual-in_err-visit_page.ensures.1 in
-    walked_as g.S.Source.held g.K.Sink.held g.T.Taker.refusals {R = Bool} (q.1 ∙ ap Err q.2)
-    (walked_behind g.S.Source.held g.K.Sink.held g.T.Taker.refusals {R = Unit {0}} {a = tt} c.in_err-visit_page.ensures.walked
-    (walked_by g.S.Source.held g.K.Sink.held g.T.Taker.refusals (refl, refl, refl, refl, refl, refl, refl) (geometry_kept read low)
+    walked_as {R = Bool} (err_is c.from_residual-in_err-visit_page.ensures.1) (walked_behind {R = Unit {0}} {a = tt} c.in_err-visit_page.ensures.walked
+    (walked_by (refl, refl, refl, refl, refl, refl, refl) (geometry_kept read low)
     c.in_ok-load.ensures.count (walks_ok c.in_ok-enter.ensures.writes.moves) refl tt (λ l. refl)))
 
 pub returns-then-not-branch-2-clause-walked : goal.returns-then-not-branch-2-clause-walked
 returns-then-not-branch-2-clause-walked g c =
     let low = c.tree_step-step.ensures.shallow (c.in_ok-enter.ensures.shallow (search rules)) in
     let read = c.in_ok-load.ensures.level in
-    walked_tree g.S.Source.held g.K.Sink.held g.T.Taker.refusals refl refl (walked_as_ok g.S.Source.held g.K.Sink.held g.T.Taker.refusals
-    (walked_behind g.S.Source.held g.K.Sink.held g.T.Taker.refusals {R = Unit {0}} {a = tt} c.in_ok-visit_page.ensures.walked
-    (walked_by g.S.Source.held g.K.Sink.held g.T.Taker.refusals (refl, refl, refl, refl, refl, refl, refl) (geometry_kept read low)
+    walked_tree refl refl (walked_as_ok (walked_behind {R = Unit {0}} {a = tt} c.in_ok-visit_page.ensures.walked
+    (walked_by (refl, refl, refl, refl, refl, refl, refl) (geometry_kept read low)
     c.in_ok-load.ensures.count (walks_ok c.in_ok-enter.ensures.writes.moves) refl tt (λ l. refl))))
 
 pub returns-clause-walked : goal.returns-clause-walked
 returns-clause-walked g c =
     let low = c.tree_step-step.ensures.shallow (c.in_ok-enter.ensures.shallow (search rules)) in
     let read = c.in_ok-load.ensures.level in
-    walked_as_ok g.S.Source.held g.K.Sink.held g.T.Taker.refusals
-    (walked_behind g.S.Source.held g.K.Sink.held g.T.Taker.refusals {R = Unit {0}} {a = tt} c.in_ok-visit_page.ensures.walked
-    (walked_by g.S.Source.held g.K.Sink.held g.T.Taker.refusals (refl, refl, refl, refl, refl, refl, refl) (geometry_kept read low)
+    walked_as_ok (walked_behind {R = Unit {0}} {a = tt} c.in_ok-visit_page.ensures.walked
+    (walked_by (refl, refl, refl, refl, refl, refl, refl) (geometry_kept read low)
     c.in_ok-load.ensures.count (walks_ok c.in_ok-enter.ensures.writes.moves) refl tt (λ l. refl)))

@@ -119,8 +119,7 @@ returns-in-Chain-clause-log g c = has_weaker _ _ c.walk_unfed.ensures.walks.log 
 pub returns-in-Chain-clause-walked : goal.returns-in-Chain-clause-walked
 returns-in-Chain-clause-walked g c =
     let done = c.walk_unfed.ensures.walks.beside in
-    walked_by g.S.Source.held g.K.Sink.held g.T.Taker.refusals (refl, refl, refl, refl, refl, refl, refl)
-    (ap (λ (p : Pages). p.geometry) c.walk_unfed.ensures.bench) done.reads done.writes
+    walked_by (refl, refl, refl, refl, refl, refl, refl) (ap (λ (p : Pages). p.geometry) c.walk_unfed.ensures.bench) done.reads done.writes
     (none_refused c.walk_unfed.result (g.T.Taker.refusals c.args.self.now.taker.now) done.only)
     (read_or_write c.args.self.now.tree.start c.walk_unfed.result done.only) (λ l. refl)
 
@@ -130,15 +129,12 @@ enter_child-requires g c =
     (search rules, record { few = r.few; opened = r.opened; path = r.path; step = next_at refl c.in-Child.is r.step })
 
 pub returns-in-End-clause-walked : goal.returns-in-End-clause-walked
-returns-in-End-clause-walked g c = walked_by g.S.Source.held g.K.Sink.held g.T.Taker.refusals (refl, refl, refl, refl, refl, refl, refl) refl refl
-    (walks_ok (inl refl)) refl tt (λ l. refl)
+returns-in-End-clause-walked g c = walked_by (refl, refl, refl, refl, refl, refl, refl) refl refl (walks_ok (inl refl)) refl tt (λ l. refl)
 
 pub returns-in-Nothing-clause-walked : goal.returns-in-Nothing-clause-walked
-returns-in-Nothing-clause-walked g c = walked_by g.S.Source.held g.K.Sink.held g.T.Taker.refusals (refl, refl, refl, refl, refl, refl, refl) refl refl
-    (walks_ok (inl refl)) refl tt (λ l. refl)
+returns-in-Nothing-clause-walked g c = walked_by (refl, refl, refl, refl, refl, refl, refl) refl refl (walks_ok (inl refl)) refl tt (λ l. refl)
 
 pub returns-in-Key-clause-walked : goal.returns-in-Key-clause-walked
 returns-in-Key-clause-walked g c =
     let same = c.report_key.ensures.others in
-    walked_by g.S.Source.held g.K.Sink.held g.T.Taker.refusals (refl, refl, refl, refl, refl, same.0, same.1) refl refl
-    (walks_ok c.report_key.ensures.reported.count) refl tt (λ l. refl)
+    walked_by (refl, refl, refl, refl, refl, same.0, same.1) refl refl (walks_ok c.report_key.ensures.reported.count) refl tt (λ l. refl)

@@ -1,5 +1,5 @@
 use Rattle.std.proofs.Common.{rules, length, false, Ok, Err, refl, sym, ap, subst, ◌∙◌, slice_get}
-use Rattle.dbwalk.proofs.Common.{count, HasSpan, AreRisingFrom, err_from_is_err_and, has_weaker, log_none, Reads}
+use Rattle.dbwalk.proofs.Common.{count, HasSpan, AreRisingFrom, has_weaker, log_none, Reads}
 use Rattle.std.proofs.lemmas.Bool.{false≢true}
 use Rattle.dbformat.proofs.Looping.{none_at_damage}
 use Rattle.dbwalk.specs.Found.{IsFound}
@@ -10,7 +10,7 @@ use Rattle.dbwalk.proofs.Pages.PageVisits.{bytes_are, found_interior, found_dama
 use Rattle.dbwalk.proofs.Underway.CellSteps.{other_start, leaf_passed}
 use Rattle.dbwalk.proofs.Underway.Visits.{visited, visit_then, visit_alone, entered_past, entered_err, visited_before, page_moves, visited_at}
 use Rattle.dbwalk.proofs.Underway.Walks.{walked_as, walked_as_ok, walked_behind, walked_by}
-use Rattle.dbwalk.proofs.Reporting.Sinks.{walks_ok}
+use Rattle.dbwalk.proofs.Reporting.Sinks.{err_is, walks_ok}
 use Rattle.dbwalk.proofs.tree_walk.TreeWalk.visit_page.Goals as goal
 
 pub returns-in-Interior-clause-log : goal.returns-in-Interior-clause-log
@@ -22,11 +22,8 @@ returns-in-Interior-clause-log g c = log_none c.args.bench.now.geometry.page_siz
     (length c.args.self.now.tree.path.items) c.args.page f) c.in-Interior.is c.report_page.ensures.«open» in (
       record {
         at = visited_at file from d first top bound c.report_page.new.tree m (c.report_page.ensures.tree.2 ∙ top) reported.1;
-        handed =
-            page_moves file from d first top bound (kind_is file c.args.self.now.tree.kind c.args.self.now.tree.start c.args.self.now.tree.path.items
-            c.args.page above
-            item d
-            candidate) g.K.Sink.takes g.T.Taker.takes g.T.Taker.refuses _ _ c.args.self.now.taker.now reported.0.items;
+        handed = page_moves file from d first top bound (kind_is file _ _ _ _ _ _ _ candidate)
+            g.K.Sink.takes g.T.Taker.takes g.T.Taker.refuses _ _ c.args.self.now.taker.now reported.0.items;
       },
       λ yes. found_interior file candidate there c.report_page.ensures.bench.1 c.report_page.ensures.tree.1
           (ap (λ s. s.usable) (c.report_page.ensures.bench.0 ∙ e))
@@ -40,16 +37,14 @@ returns-in-Damaged-clause-log g c = log_none c.args.bench.now.geometry.page_size
     let reported = c.report_page.ensures.reported file d above item e candidate there in
     let found = subst (λ f. IsFound c.report_page.new.bench.geometry.usable c.report_page.new.tree.kind c.report_page.new.bench.levels
     (length c.args.self.now.tree.path.items) c.args.page f) c.in-Damaged.is c.report_page.ensures.«open» in
-    let none = none_at_damage file d c.args.self.now.tree.kind
-    (kind_is file c.args.self.now.tree.kind c.args.self.now.tree.start c.args.self.now.tree.path.items c.args.page above item d candidate)
+    let none = none_at_damage file d c.args.self.now.tree.kind (kind_is file _ _ _ _ _ _ _ candidate)
     (found_damage file candidate there c.report_page.ensures.bench.1 c.report_page.ensures.tree.1
     (ap (λ s. s.usable) (c.report_page.ensures.bench.0 ∙ e)) found)
     in
     let at = visited_at file from d first top bound c.report_page.new.tree m (c.report_page.ensures.tree.2 ∙ top) reported.1 in
     entered_past _ _ file from d _ false _ _ _ (visit_alone _ _ file from d followed false _ _ _ none at
-    (page_moves file from d first top bound (kind_is file c.args.self.now.tree.kind c.args.self.now.tree.start c.args.self.now.tree.path.items c.args.page
-    above item
-    d candidate) g.K.Sink.takes g.T.Taker.takes g.T.Taker.refuses _ _ c.args.self.now.taker.now reported.0.items)))
+    (page_moves file from d first top bound (kind_is file _ _ _ _ _ _ _ candidate)
+    g.K.Sink.takes g.T.Taker.takes g.T.Taker.refuses _ _ c.args.self.now.taker.now reported.0.items)))
 
 pub returns-in_err-walk_leaf-in-Leaf-clause-log : goal.returns-in_err-walk_leaf-in-Leaf-clause-log
 returns-in_err-walk_leaf-in-Leaf-clause-log g c = has_weaker _ _ c.in_err-walk_leaf-in-Leaf.ensures.log
@@ -71,12 +66,11 @@ returns-in_err-walk_leaf-in-Leaf-clause-log g c = has_weaker _ _ c.in_err-walk_l
     let done = h (c.geometry-shape.ensures.value ∙ c.report_page.ensures.bench.0 ∙ e) coded (visited file from d) d found.leaf.view at are
     (found_view file candidate there c.report_page.ensures.bench.1 c.report_page.ensures.tree.1 (ap (λ s. s.usable) (c.report_page.ensures.bench.0 ∙ e))
     found.leaf) found.leaf.leaf (visited_before file from d next) here in
-    let q = err_from_is_err_and c.from_residual.result c.from_residual.ensures.1 in
-    entered_err _ _ file from d _ _ c.in_err-walk_leaf-in-Leaf.field-0.0 _ _ _ (q.1 ∙ ap Err q.2)
+    let q = err_is c.from_residual.ensures.1 in
+    entered_err _ _ file from d _ _ c.in_err-walk_leaf-in-Leaf.field-0.0 _ _ _ q
     (visit_then _ _ file from d followed (Err c.in_err-walk_leaf-in-Leaf.field-0.0) _ _ (c.report_page.new.sink, c.args.self.now.taker.now) _
-    (page_moves file from d first top bound (kind_is file c.args.self.now.tree.kind c.args.self.now.tree.start c.args.self.now.tree.path.items c.args.page
-    above item
-    d candidate) g.K.Sink.takes g.T.Taker.takes g.T.Taker.refuses _ _ c.args.self.now.taker.now reported.0.items) done))
+    (page_moves file from d first top bound (kind_is file _ _ _ _ _ _ _ candidate)
+    g.K.Sink.takes g.T.Taker.takes g.T.Taker.refuses _ _ c.args.self.now.taker.now reported.0.items) done))
 
 pub returns-in_ok-walk_leaf-in-Leaf-clause-log : goal.returns-in_ok-walk_leaf-in-Leaf-clause-log
 returns-in_ok-walk_leaf-in-Leaf-clause-log g c = has_weaker _ _ c.in_ok-walk_leaf-in-Leaf.ensures.log
@@ -100,9 +94,8 @@ returns-in_ok-walk_leaf-in-Leaf-clause-log g c = has_weaker _ _ c.in_ok-walk_lea
     found.leaf) found.leaf.leaf (visited_before file from d next) here in
     entered_past _ _ file from d _ c.in_ok-walk_leaf-in-Leaf.field-0 _ _ _
     (visit_then _ _ file from d followed (Ok c.in_ok-walk_leaf-in-Leaf.field-0) _ _ (c.report_page.new.sink, c.args.self.now.taker.now) _
-    (page_moves file from d first top bound (kind_is file c.args.self.now.tree.kind c.args.self.now.tree.start c.args.self.now.tree.path.items c.args.page
-    above item
-    d candidate) g.K.Sink.takes g.T.Taker.takes g.T.Taker.refuses _ _ c.args.self.now.taker.now reported.0.items) done))
+    (page_moves file from d first top bound (kind_is file _ _ _ _ _ _ _ candidate)
+    g.K.Sink.takes g.T.Taker.takes g.T.Taker.refuses _ _ c.args.self.now.taker.now reported.0.items) done))
 
 pub returns-then-pass_over-clause-log : goal.returns-then-pass_over-clause-log
 returns-then-pass_over-clause-log g c = log_none c.args.bench.now.geometry.page_size c.args.self.now.marks.now c.args.self.now.marks.now
@@ -120,26 +113,22 @@ returns-then-pass_over-clause-log g c = log_none c.args.bench.now.geometry.page_
     let here = visited_at file from d first top bound c.report_page.new.tree m (c.report_page.ensures.tree.2 ∙ top) reported.1 in
     let other = other_start d.address n.start (candidate.start ∙ sym c.report_page.ensures.tree.0) keys.1.other in
     let done = leaf_passed _ _ file (visited file from d) d c.args.self.now.tree.kind found.leaf.view other
-    (kind_is file c.args.self.now.tree.kind c.args.self.now.tree.start c.args.self.now.tree.path.items c.args.page above item d candidate)
+    (kind_is file _ _ _ _ _ _ _ candidate)
     (found_view file candidate there c.report_page.ensures.bench.1 c.report_page.ensures.tree.1 (ap (λ s. s.usable) (c.report_page.ensures.bench.0 ∙ e))
     found.leaf) found.leaf.leaf after.greatest
     (subst (λ q. AreRisingFrom q found.leaf.view 0 (count found.leaf.view) (visited file from d).state.greatest after.greatest) (sym candidate.page)
     (subst (λ a. AreRisingFrom c.args.page found.leaf.view 0 (count found.leaf.view) a after.greatest) here.1 rising)) c.args.self.now.marks.now after
     (c.report_page.new.sink, c.args.self.now.taker.now) (m, refl, c.pass_over.ensures.others.2 ∙ here.2) in
     entered_past _ _ file from d _ tt _ _ _ (visit_then _ _ file from d followed (Ok tt) _ _ (c.report_page.new.sink, c.args.self.now.taker.now) _
-    (page_moves file from d first top bound (kind_is file c.args.self.now.tree.kind c.args.self.now.tree.start c.args.self.now.tree.path.items c.args.page
-    above item
-    d candidate) g.K.Sink.takes g.T.Taker.takes g.T.Taker.refuses _ _ c.args.self.now.taker.now reported.0.items) done))
+    (page_moves file from d first top bound (kind_is file _ _ _ _ _ _ _ candidate)
+    g.K.Sink.takes g.T.Taker.takes g.T.Taker.refuses _ _ c.args.self.now.taker.now reported.0.items) done))
 
 pub returns-in_err-walk_leaf-in-Leaf-clause-walked : goal.returns-in_err-walk_leaf-in-Leaf-clause-walked
 returns-in_err-walk_leaf-in-Leaf-clause-walked g c =
-    let q = err_from_is_err_and c.from_residual.result c.from_residual.ensures.1 in
     let same = c.pass_over.ensures.others in
-    walked_as g.S.Source.held g.K.Sink.held g.T.Taker.refusals {R = Unit {0}} (q.1 ∙ ap Err q.2)
-    (walked_behind g.S.Source.held g.K.Sink.held g.T.Taker.refusals {R = Unit {0}} {a = tt}
+    walked_as {R = Unit {0}} (err_is c.from_residual.ensures.1) (walked_behind {R = Unit {0}} {a = tt}
     (rw c.geometry-shape.ensures.value at c.in_err-walk_leaf-in-Leaf.ensures.walked)
-    (walked_by g.S.Source.held g.K.Sink.held g.T.Taker.refusals
-    (refl, refl, refl, refl, refl, same.0 ∙ c.report_page.ensures.tree.0, same.1 ∙ c.report_page.ensures.tree.1) c.report_page.ensures.bench.0 refl
+    (walked_by (refl, refl, refl, refl, refl, same.0 ∙ c.report_page.ensures.tree.0, same.1 ∙ c.report_page.ensures.tree.1) c.report_page.ensures.bench.0 refl
     (walks_ok c.report_page.ensures.writes) refl tt (λ l. refl)))
 
 pub walk_leaf-requires : goal.walk_leaf-requires
@@ -155,17 +144,13 @@ chain-buffer-requires g c =
 pub returns-then-pass_over-clause-walked : goal.returns-then-pass_over-clause-walked
 returns-then-pass_over-clause-walked g c =
     let same = c.pass_over.ensures.others in
-    walked_by g.S.Source.held g.K.Sink.held g.T.Taker.refusals
-    (refl, refl, refl, refl, refl, same.0 ∙ c.report_page.ensures.tree.0, same.1 ∙ c.report_page.ensures.tree.1) c.report_page.ensures.bench.0 refl
+    walked_by (refl, refl, refl, refl, refl, same.0 ∙ c.report_page.ensures.tree.0, same.1 ∙ c.report_page.ensures.tree.1) c.report_page.ensures.bench.0 refl
     (walks_ok c.report_page.ensures.writes) refl tt (λ l. refl)
 
 pub returns-in_ok-walk_leaf-in-Leaf-clause-walked : goal.returns-in_ok-walk_leaf-in-Leaf-clause-walked
 returns-in_ok-walk_leaf-in-Leaf-clause-walked g c =
     let same = c.pass_over.ensures.others in
-    walked_as_ok g.S.Source.held g.K.Sink.held g.T.Taker.refusals
-    (walked_behind g.S.Source.held g.K.Sink.held g.T.Taker.refusals {R = Unit {0}} {a = tt}
-    (rw c.geometry-shape.ensures.value at c.in_ok-walk_leaf-in-Leaf.ensures.walked)
-    (walked_by g.S.Source.held g.K.Sink.held g.T.Taker.refusals
+    walked_as_ok (walked_behind {R = Unit {0}} {a = tt} (rw c.geometry-shape.ensures.value at c.in_ok-walk_leaf-in-Leaf.ensures.walked) (walked_by
     (refl, refl, refl, refl, refl, same.0 ∙ c.report_page.ensures.tree.0, same.1 ∙ c.report_page.ensures.tree.1) c.report_page.ensures.bench.0 refl
     (walks_ok c.report_page.ensures.writes) refl tt (λ l. refl)))
 
@@ -180,10 +165,10 @@ returns-in_ok-walk_leaf-in-Leaf-clause-open g c = λ is. absurd (false≢true is
 
 pub returns-in-Interior-clause-walked : goal.returns-in-Interior-clause-walked
 returns-in-Interior-clause-walked g c =
-    walked_by g.S.Source.held g.K.Sink.held g.T.Taker.refusals (refl, refl, refl, refl, refl, c.report_page.ensures.tree.0, c.report_page.ensures.tree.1)
+    walked_by (refl, refl, refl, refl, refl, c.report_page.ensures.tree.0, c.report_page.ensures.tree.1)
     c.report_page.ensures.bench.0 refl (walks_ok c.report_page.ensures.writes) refl tt (λ l. refl)
 
 pub returns-in-Damaged-clause-walked : goal.returns-in-Damaged-clause-walked
 returns-in-Damaged-clause-walked g c =
-    walked_by g.S.Source.held g.K.Sink.held g.T.Taker.refusals (refl, refl, refl, refl, refl, c.report_page.ensures.tree.0, c.report_page.ensures.tree.1)
+    walked_by (refl, refl, refl, refl, refl, c.report_page.ensures.tree.0, c.report_page.ensures.tree.1)
     c.report_page.ensures.bench.0 refl (walks_ok c.report_page.ensures.writes) refl tt (λ l. refl)

@@ -15,8 +15,7 @@ undamaged-requires g c = usable_page refl c.requires.shape.0 c.requires.shape.1
 
 -- no undamaged page
 pub returns-in_default-clause-walked : goal.returns-in_default-clause-walked
-returns-in_default-clause-walked g c = walked_by g.S.Source.held g.K.Sink.held g.T.Taker.refusals (refl, refl, refl, refl, refl, refl, refl) refl refl
-    (walks_ok (inl refl)) refl tt (λ l. refl)
+returns-in_default-clause-walked g c = walked_by (refl, refl, refl, refl, refl, refl, refl) refl refl (walks_ok (inl refl)) refl tt (λ l. refl)
 
 pub returns-in_default-clause-log : goal.returns-in_default-clause-log
 returns-in_default-clause-log g c = log_none _ _ _ _ refl (λ file e coded from d v at are viewed.
@@ -26,8 +25,7 @@ pub loop-i-init : goal.loop-i-init
 loop-i-init g c =
     let p = c.pass_cells-i.ensures in
     record {
-      walked = walked_by g.S.Source.held g.K.Sink.held g.T.Taker.refusals (refl, refl, refl, refl, refl, p.others.0, p.others.1) refl refl
-          (walks_ok (inl refl)) refl tt (λ l. refl);
+      walked = walked_by (refl, refl, refl, refl, refl, p.others.0, p.others.1) refl refl (walks_ok (inl refl)) refl tt (λ l. refl);
       buffer = c.requires.shape.2;
       tree = p.others;
       empty = λ later. refl;
@@ -52,8 +50,7 @@ loop-i-preserved g c =
     let v = c.in-Ok.view in
     let low : c.loop-i.i < count v = omega arith in
     record {
-      walked = walked_tree g.S.Source.held g.K.Sink.held g.T.Taker.refusals p.others.0 p.others.1
-          (walked_behind g.S.Source.held g.K.Sink.held g.T.Taker.refusals n.walked w.walked);
+      walked = walked_tree p.others.0 p.others.1 (walked_behind n.walked w.walked);
       buffer = c.walk_leaf_cell.auto.buffer ∙ w.buffer;
       tree = (p.others.0 ∙ n.tree.0 ∙ w.tree.0, p.others.1 ∙ n.tree.1 ∙ w.tree.1, p.others.2 ∙ n.tree.2 ∙ w.tree.2, p.others.3 ∙ n.tree.3 ∙ w.tree.3);
       empty = λ later. n.empty (subst (λ k. 1 ≤ k) (sym w.tree.0) later);
@@ -123,8 +120,7 @@ walk_leaf_cell-requires g c =
 
 pub returns-in_err-walk_leaf_cell-clause-walked : goal.returns-in_err-walk_leaf_cell-clause-walked
 returns-in_err-walk_leaf_cell-clause-walked g c =
-    walked_as g.S.Source.held g.K.Sink.held g.T.Taker.refusals {R = Unit {0}} (err_is c.from_residual.ensures.1)
-    (walked_behind g.S.Source.held g.K.Sink.held g.T.Taker.refusals c.in_err-walk_leaf_cell.ensures.walked c.loop-i.invariant.walked)
+    walked_as {R = Unit {0}} (err_is c.from_residual.ensures.1) (walked_behind c.in_err-walk_leaf_cell.ensures.walked c.loop-i.invariant.walked)
 
 pub returns-in_err-walk_leaf_cell-clause-tree : goal.returns-in_err-walk_leaf_cell-clause-tree
 returns-in_err-walk_leaf_cell-clause-tree g c =

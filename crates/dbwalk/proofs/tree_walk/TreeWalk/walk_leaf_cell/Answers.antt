@@ -68,8 +68,7 @@ returns-clause-log g c = has_weaker _ _ c.in_ok-walk_overflow.ensures.walks.log 
 pub returns-in_err-walk_overflow-clause-walked : goal.returns-in_err-walk_overflow-clause-walked
 returns-in_err-walk_overflow-clause-walked g c =
     let e = c.in_err-walk_overflow.ensures.walks.beside in
-    walked_err g.S.Source.held g.K.Sink.held g.T.Taker.refusals (err_is c.from_residual.ensures.1) e.only (refl, refl, refl, refl, refl, refl, refl)
-    refl e.reads e.writes refl (λ l. refl)
+    walked_err (err_is c.from_residual.ensures.1) e.only (refl, refl, refl, refl, refl, refl, refl) refl e.reads e.writes refl (λ l. refl)
 
 -- without a sieve nothing can fail there, and only the tree of the schema has one
 row_error : (start : ℕ) {e : RunError} → IsWriteOrMemory e → (1 ≤ start → ◌≡◌ {A = Result (Unit {0}) RunError} (Err e) (Ok tt))
@@ -81,8 +80,7 @@ returns-in_err-report_row-clause-walked g c =
     let e = c.in_err-report_row.ensures in
     let no = row_error c.args.self.now.tree.start e.only (λ later. (e.none (gone c.walk_overflow.new.sieve
     (c.walk_overflow.ensures.kept ∙ ap is_some (c.begin_row.ensures.other later ∙ c.requires.none later)))).0) in
-    walked_as g.S.Source.held g.K.Sink.held g.T.Taker.refusals {R = Unit {0}} (err_is c.from_residual-in_err-report_row.ensures.1)
-    (walked_by g.S.Source.held g.K.Sink.held g.T.Taker.refusals (refl, refl, refl, refl, refl, refl, refl) refl
+    walked_as {R = Unit {0}} (err_is c.from_residual-in_err-report_row.ensures.1) (walked_by (refl, refl, refl, refl, refl, refl, refl) refl
     (unread e.only c.in_ok-walk_overflow.ensures.walks.beside.reads)
     (walks_after e.writes c.in_ok-walk_overflow.ensures.walks.beside.writes.moves) e.refusals no.0 (λ l. absurd (no.1 l)))
 
@@ -93,7 +91,7 @@ returns-clause-empty g c = λ later. gone c.walk_overflow.new.sieve
 pub returns-clause-walked : goal.returns-clause-walked
 returns-clause-walked g c =
     let e = c.in_ok-report_row.ensures in
-    walked_by g.S.Source.held g.K.Sink.held g.T.Taker.refusals (refl, refl, refl, refl, refl, c.report_rowid.ensures.others.0, c.report_rowid.ensures.others.1)
+    walked_by (refl, refl, refl, refl, refl, c.report_rowid.ensures.others.0, c.report_rowid.ensures.others.1)
     refl c.in_ok-walk_overflow.ensures.walks.beside.reads
     (walks_ok (moves_then (moves_then c.in_ok-walk_overflow.ensures.walks.beside.writes.moves e.writes.moves) c.report_rowid.ensures.reported.count))
     e.refusals tt (λ later. (e.none (gone c.walk_overflow.new.sieve

@@ -1,5 +1,5 @@
-use Rattle.std.proofs.Common.{rules, ◌<◌, ◌++◌, [], ◌∷◌, length, Some, None, Err, refl, sym, ap, subst, arith, ◌∙◌, option_to_list}
-use Rattle.dbwalk.proofs.Common.{page_bytes, HasPageAt, IsCandidate, IsOpen, AreOpen, cost, IsAtTurn, HasNext, begin, err_from_is_err_and, has_weaker, log_then}
+use Rattle.std.proofs.Common.{rules, ◌<◌, ◌++◌, [], ◌∷◌, length, Some, None, refl, sym, ap, subst, arith, ◌∙◌, option_to_list}
+use Rattle.dbwalk.proofs.Common.{IsOpen, AreOpen, cost, IsAtTurn, HasNext, begin, has_weaker, log_then}
 use Rattle.dbwalk.proofs.Trees.Bounds.{no_key_up_to}
 use Rattle.dbwalk.proofs.Trees.Frames.{ends_past, next_at, path_last}
 use Rattle.dbwalk.proofs.Pages.PageVisits.{kind_is}
@@ -9,7 +9,7 @@ use Rattle.dbwalk.proofs.Underway.TreeSteps.{by_other}
 use Rattle.dbwalk.proofs.Underway.Visits.{entered_done}
 use Rattle.dbwalk.proofs.Underway.Passing.{open_past, walking_past}
 use Rattle.dbwalk.proofs.Underway.Walks.{walked_as, walked_as_ok, walked_asked, walked_behind}
-use Rattle.dbwalk.proofs.Reporting.Sinks.{asked_open}
+use Rattle.dbwalk.proofs.Reporting.Sinks.{err_is, asked_open}
 use Rattle.dbwalk.proofs.tree_walk.TreeWalk.walk_pages.Goals as goal
 
 pub visit_page-requires : goal.visit_page-requires
@@ -19,20 +19,13 @@ visit_page-requires g c =
 
 pub returns-in_err-visit_page-clause-log : goal.returns-in_err-visit_page-clause-log
 returns-in_err-visit_page-clause-log g c = has_weaker _ _ c.in_err-visit_page.ensures.log (λ log r. r) (λ file h e coded W d candidate there followed next m.
-    let entry = h e coded (begin W) d 0 c.args.self.now.tree.start
-    (subst (λ l. IsCandidate c.args.self.now.tree.kind c.args.self.now.tree.start l c.args.page 0 c.args.self.now.tree.start d) (sym c.requires.3)
-    candidate)
-    (subst (λ l. HasPageAt c.args.bench.now.levels (length l) (page_bytes file c.args.page)) (sym c.requires.3) there) next followed m c.requires.1
+    let entry = h e coded (begin W) d 0 c.args.self.now.tree.start (rw c.requires.3 candidate) (rw c.requires.3 there) next followed m c.requires.1
     c.requires.2 (no_key_up_to file (W ++ (d ∷ [])) d candidate.depth) in
-    let q = err_from_is_err_and c.from_residual.result c.from_residual.ensures.1 in
-    stopped_as (q.1 ∙ ap Err q.2) entry.0.handed)
+    stopped_as (err_is c.from_residual.ensures.1) entry.0.handed)
 
 pub returns-then-not-branch-clause-log : goal.returns-then-not-branch-clause-log
 returns-then-not-branch-clause-log g c = has_weaker _ _ c.in_ok-visit_page.ensures.log (λ log r. r) (λ file h e coded W d candidate there followed next m.
-    let entry = h e coded (begin W) d 0 c.args.self.now.tree.start
-    (subst (λ l. IsCandidate c.args.self.now.tree.kind c.args.self.now.tree.start l c.args.page 0 c.args.self.now.tree.start d) (sym c.requires.3)
-    candidate)
-    (subst (λ l. HasPageAt c.args.bench.now.levels (length l) (page_bytes file c.args.page)) (sym c.requires.3) there) next followed m c.requires.1
+    let entry = h e coded (begin W) d 0 c.args.self.now.tree.start (rw c.requires.3 candidate) (rw c.requires.3 there) next followed m c.requires.1
     c.requires.2 (no_key_up_to file (W ++ (d ∷ [])) d candidate.depth) in
     asked_done _ c.ask.ensures (entered_done (begin W) d tt c.if-not-branch.true entry.0))
 
@@ -41,7 +34,7 @@ loop-frame-init g c =
     let n = c.visit_page.new in
     let items = c.push.ensures.items ∙ ap (λ l. l ++ (record { page = c.args.page; next = 0; up_to = None } ∷ [])) c.new-frames.ensures in
     record {
-      walked = walked_as_ok g.S.Source.held g.K.Sink.held g.T.Taker.refusals c.in_ok-visit_page.ensures.walked;
+      walked = walked_as_ok c.in_ok-visit_page.ensures.walked;
       few = (let l = ap length items in omega arith);
       opened = subst (λ l. AreOpen n.bench.geometry.usable n.self.tree.kind n.bench.levels 0 l) (sym items) (
         subst (λ l. IsOpen n.bench.geometry.usable n.self.tree.kind n.bench.levels (length l) c.args.page 0) c.requires.3
@@ -51,13 +44,9 @@ loop-frame-init g c =
       path = path_last c.push.new.self.items [] (record { page = c.args.page; next = 0; up_to = None }) n.self.tree.path.items items
           (ap (λ p. p.items) c.visit_page.ensures.path ∙ c.requires.3);
       log = has_weaker _ _ c.in_ok-visit_page.ensures.log (λ log r. r) (λ file h e coded W d candidate there followed next m.
-          let entry = h e coded (begin W) d 0 c.args.self.now.tree.start
-          (subst (λ l. IsCandidate c.args.self.now.tree.kind c.args.self.now.tree.start l c.args.page 0 c.args.self.now.tree.start d)
-          (sym c.requires.3) candidate)
-          (subst (λ l. HasPageAt c.args.bench.now.levels (length l) (page_bytes file c.args.page)) (sym c.requires.3) there) next followed m
+          let entry = h e coded (begin W) d 0 c.args.self.now.tree.start (rw c.requires.3 candidate) (rw c.requires.3 there) next followed m
           c.requires.1 c.requires.2 (no_key_up_to file (W ++ (d ∷ [])) d candidate.depth) in
-          let role = kind_is file c.args.self.now.tree.kind c.args.self.now.tree.start [] c.args.page 0 c.args.self.now.tree.start d candidate
-          ∙ ap Some (sym c.visit_page.ensures.walked.kind) in
+          let role = kind_is file _ _ _ _ _ _ _ candidate ∙ ap Some (sym c.visit_page.ensures.walked.kind) in
           tree_started W d (record { page = c.args.page; next = 0; up_to = None }) items (sym candidate.page) refl refl next role candidate.depth
           c.if-not-branch.false entry);
     }
@@ -93,18 +82,17 @@ loop-frame-preserved g c =
     let s = c.loop-frame in
     let popped = c.pop.ensures.items ∙ ap (λ o. c.pop.new.self.items ++ option_to_list o) c.in-Some.is in
     record {
-      walked = walked_behind g.S.Source.held g.K.Sink.held g.T.Taker.refusals c.in_ok-take_step.ensures.walked inv.walked;
+      walked = walked_behind c.in_ok-take_step.ensures.walked inv.walked;
       few = c.in_ok-take_step.ensures.left.few;
       opened = c.in_ok-take_step.ensures.left.opened;
       path = c.in_ok-take_step.ensures.left.path;
       log = log_then _ _ (ap (λ x. x.page_size) inv.walked.shape) inv.log c.in_ok-take_step.ensures.log
           (λ file walking turned e coded W d candidate there followed next m.
           (turned (inv.walked.shape ∙ e) (inv.walked.coded ∙ coded) W d _
-          (candidate_as t.kind s.self.tree.kind t.start s.self.tree.start [] [] c.args.page d.page 0 t.start s.self.tree.start d inv.walked.kind
-          inv.walked.start refl candidate.page inv.walked.start candidate)
+          (candidate_as inv.walked.kind inv.walked.start refl candidate.page inv.walked.start candidate)
           (walking_past c.pop.new.self.items (ap (λ x. x.usable) (inv.walked.shape ∙ e))
-          (candidate_as t.kind s.self.tree.kind t.start s.self.tree.start [] [] c.args.page d.page 0 t.start s.self.tree.start d inv.walked.kind
-          inv.walked.start refl candidate.page inv.walked.start candidate) c.in-Some.frame c.step_of-next.result.0 c.len.ensures.value
+          (candidate_as inv.walked.kind inv.walked.start refl candidate.page inv.walked.start candidate)
+          c.in-Some.frame c.step_of-next.result.0 c.len.ensures.value
           c.step_of-next.ensures.page c.step_of-next.ensures.up_to c.step_of-next.ensures.empty
           (by_other (walking e coded W d candidate there followed next m) (sym popped) refl refl refl (λ n l. refl)))).0);
     }
@@ -117,16 +105,15 @@ returns-in_err-take_step-clause-log g c =
     let popped = c.pop.ensures.items ∙ ap (λ o. c.pop.new.self.items ++ option_to_list o) c.in-Some.is in
     log_then _ _ (ap (λ x. x.page_size) inv.walked.shape) inv.log c.in_err-take_step.ensures.log
     (λ file walking turned e coded W d candidate there followed next m.
-    let q = err_from_is_err_and c.from_residual-in_err-take_step.result c.from_residual-in_err-take_step.ensures.1 in
+    let q = err_is c.from_residual-in_err-take_step.ensures.1 in
     let stopped = turned (inv.walked.shape ∙ e) (inv.walked.coded ∙ coded) W d _
-    (candidate_as t.kind s.self.tree.kind t.start s.self.tree.start [] [] c.args.page d.page 0 t.start s.self.tree.start d inv.walked.kind inv.walked.start
-    refl candidate.page inv.walked.start candidate)
+    (candidate_as inv.walked.kind inv.walked.start refl candidate.page inv.walked.start candidate)
     (walking_past c.pop.new.self.items (ap (λ x. x.usable) (inv.walked.shape ∙ e))
-    (candidate_as t.kind s.self.tree.kind t.start s.self.tree.start [] [] c.args.page d.page 0 t.start s.self.tree.start d inv.walked.kind inv.walked.start
-    refl candidate.page inv.walked.start candidate) c.in-Some.frame c.step_of-next.result.0 c.len.ensures.value c.step_of-next.ensures.page
+    (candidate_as inv.walked.kind inv.walked.start refl candidate.page inv.walked.start candidate)
+    c.in-Some.frame c.step_of-next.result.0 c.len.ensures.value c.step_of-next.ensures.page
     c.step_of-next.ensures.up_to c.step_of-next.ensures.empty
     (by_other (walking e coded W d candidate there followed next m) (sym popped) refl refl refl (λ n l. refl))) in
-    stopped_as (q.1 ∙ ap Err q.2) stopped.1)
+    stopped_as q stopped.1)
 
 pub returns-clause-log : goal.returns-clause-log
 returns-clause-log g c =
@@ -137,17 +124,14 @@ returns-clause-log g c =
 
 pub returns-in_err-visit_page-clause-walked : goal.returns-in_err-visit_page-clause-walked
 returns-in_err-visit_page-clause-walked g c =
-    let q = err_from_is_err_and c.from_residual.result c.from_residual.ensures.1 in
-    walked_as g.S.Source.held g.K.Sink.held g.T.Taker.refusals (q.1 ∙ ap Err q.2) c.in_err-visit_page.ensures.walked
+    walked_as (err_is c.from_residual.ensures.1) c.in_err-visit_page.ensures.walked
 
 pub returns-in_err-take_step-clause-walked : goal.returns-in_err-take_step-clause-walked
 returns-in_err-take_step-clause-walked g c =
-    let q = err_from_is_err_and c.from_residual-in_err-take_step.result c.from_residual-in_err-take_step.ensures.1 in
-    walked_as g.S.Source.held g.K.Sink.held g.T.Taker.refusals {R = Unit {0}} (q.1 ∙ ap Err q.2)
-    (walked_behind g.S.Source.held g.K.Sink.held g.T.Taker.refusals c.in_err-take_step.ensures.walked c.loop-frame.invariant.walked)
+    walked_as {R = Unit {0}} (err_is c.from_residual-in_err-take_step.ensures.1) (walked_behind c.in_err-take_step.ensures.walked c.loop-frame.invariant.walked)
 
 pub returns-clause-walked : goal.returns-clause-walked
-returns-clause-walked g c = walked_asked g.S.Source.held g.K.Sink.held g.T.Taker.refusals c.ask-2.ensures c.loop-frame.invariant.walked
+returns-clause-walked g c = walked_asked c.ask-2.ensures c.loop-frame.invariant.walked
 
 pub returns-clause-open : goal.returns-clause-open
 returns-clause-open g c = asked_open _ c.ask-2.ensures
@@ -160,4 +144,4 @@ push-requires g c = (search rules, omega (arith, ap length c.new-frames.ensures)
 
 pub returns-then-not-branch-clause-walked : goal.returns-then-not-branch-clause-walked
 returns-then-not-branch-clause-walked g c =
-    walked_asked g.S.Source.held g.K.Sink.held g.T.Taker.refusals c.ask.ensures c.in_ok-visit_page.ensures.walked
+    walked_asked c.ask.ensures c.in_ok-visit_page.ensures.walked
