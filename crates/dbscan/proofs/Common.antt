@@ -1,4 +1,7 @@
--- The names of the definitions that the proofs of this crate cite most, passed on from one place. Declares nothing.
+-- The names of the definitions and lemmas that the proofs of this crate cite most, passed on from one place. Declares nothing.
+pub use Rattle.dbformat.proofs.BelowStarts.{start_here}
+pub use Rattle.dbformat.proofs.Theory.{are_rules}
+pub use Rattle.dbformat.proofs.Visited.{allowed, has_address}
 pub use Rattle.dbformat.specs.Address.{freelist_start, last_root_start, schema_start, start_of}
 pub use Rattle.dbformat.specs.EndFaults.{end_faults, has_rows, visit_of}
 pub use Rattle.dbformat.specs.File.{MapEntry, entry_in, geometry, page_bytes, refusal}
@@ -26,40 +29,63 @@ pub use Rattle.dbformat.specs.Survey.{Survey}
 unfoldable pub use Rattle.dbformat.specs.Survey.{rules_of}
 pub use Rattle.dbformat.specs.declared.Encoding.{Encoding}
 pub use Rattle.dbformat.specs.declared.Fault.{Fault}
+pub use Rattle.dbformat.specs.declared.FaultCode.{FaultCode}
 pub use Rattle.dbformat.specs.declared.Geometry.{Geometry}
+pub use Rattle.dbformat.specs.declared.RowFault.{RowFault}
+pub use Rattle.dbmarks.proofs.FirstMarks.{fresh_marks}
 pub use Rattle.dbmarks.specs.EndMarks.{is_free_mark, is_marked, is_other_mark, is_root_mark, late_fault, least_other_marked, mark_fault}
 pub use Rattle.dbmarks.specs.Marking.{AreMarksFor, AreMarksOf, is_unmarked, marks_of, page_mark, role_mark, visit_mark}
 unfoldable pub use Rattle.dbmarks.specs.Marking.{mark_of}
 pub use Rattle.dbmarks.specs.Reads.{Reads}
-pub use Rattle.dbmarks.specs.declared.marks.Mark.{Mark}
 pub use Rattle.dbmarks.specs.declared.marks.Mark.TheVariants.{Fixed, Unmarked}
+pub use Rattle.dbmarks.specs.declared.marks.Mark.{Mark}
 pub use Rattle.dbscan.specs.Desks.{AsksOver, DeskView, IsFresh, desk_view, shape_of}
 pub use Rattle.dbscan.specs.EndPass.{is_fixed_mark, page_notices, pages_items}
 pub use Rattle.dbscan.specs.Findings.{found_rows, is_schema_row}
+pub use Rattle.dbscan.specs.Kept.{KeepsHeader}
 pub use Rattle.dbscan.specs.Looks.{IsUnmarked, ReadsMarked, ReadsRising}
 pub use Rattle.dbscan.specs.MapReads.{HasMapFor, IsMapInUse, MapReads, MapReadsBefore}
 pub use Rattle.dbscan.specs.Notices.{Notice, at_start, end_notices, ended, errands_left, faults_received, found, received_fault, received_row, later_notices}
 pub use Rattle.dbscan.specs.Notices.{marked}
 pub use Rattle.dbscan.specs.Notices.{of_file, pages_from, root_reference, run_notices, start_notices, tree_notices, whole}
 pub use Rattle.dbscan.specs.Placed.{faults_of, reported_in, reported_of, reported_faults, walk_reported}
+pub use Rattle.dbscan.specs.Reporting.{items_of}
 pub use Rattle.dbscan.specs.Roots.{AreListed, IsWithin, Listed, TakesRow, kept_row, listed_rows}
 pub use Rattle.dbscan.specs.Starts.{AreBelowStarts, At, IsSchemaOf, at_freelist, at_row, at_schema, later_errands, root_of, schema_reference}
-pub use Rattle.dbscan.specs.Reporting.{items_of}
 pub use Rattle.dbscan.specs.Trees.{AreTrees, place_by, start_by}
 pub use Rattle.dbscan.specs.Walks.{AreReported, AreWalked, IsAtStarts, IsBetweenStarts, IsSchemaWalked, IsTreeWalked, IsWalkedOver, StopsReporting}
+pub use Rattle.dbscan.specs.declared.notifier.Notifier.{Notifier}
+pub use Rattle.dbsource.proofs.Logs.{asks_then, asks_weaker}
 pub use Rattle.dbsource.specs.Answers.{Step}
+pub use Rattle.dbsource.specs.Bench.{Pages}
 pub use Rattle.dbsource.specs.Errors.{is_read_failed, is_write_failed}
 pub use Rattle.dbsource.specs.Failures.{failures_after}
+pub use Rattle.dbsource.specs.Headed.{HeadedStep}
 pub use Rattle.dbsource.specs.HeaderBytes.{HeaderBytes}
 pub use Rattle.dbsource.specs.Headers.{IsHeaderOf}
 pub use Rattle.dbsource.specs.Sources.{Asks, SourceState}
-pub use Rattle.dbsource.specs.declared.error.RunError.{RunError}
 pub use Rattle.dbsource.specs.declared.error.RunError.TheVariants.{WriteFailed}
+pub use Rattle.dbsource.specs.declared.error.RunError.{RunError}
+pub use Rattle.dbsurvey.proofs.Moving.{Moves-append, some_after, some_first, some_none}
+pub use Rattle.dbsurvey.proofs.Order.{IsIn-cases}
+pub use Rattle.dbsurvey.proofs.Ordering.{IsIn-from_flat_map}
 pub use Rattle.dbsurvey.specs.Address.{Address, IsIn}
+pub use Rattle.dbsurvey.specs.From.{under}
 pub use Rattle.dbsurvey.specs.InOrder.{AreQuiet, read_back, visits_in}
 pub use Rattle.dbsurvey.specs.Moves.{Moves, MovesBySome}
 pub use Rattle.dbsurvey.specs.Story.{Errand, Follow, Go, Reported, errands_at, goes, reporting_of}
 pub use Rattle.dbtrace.specs.Causes.{cause_of, lost_cause_at}
 pub use Rattle.dbtrace.specs.Finding.{Finding, reported_at, reported_below, reported_by, reported_fault, reported_row, visited_below}
+pub use Rattle.dbtrace.specs.declared.Cause.{Cause}
 pub use Rattle.dbtrace.specs.declared.Part.{Part}
+pub use Rattle.dbwalk.proofs.Reporting.Sinks.{err_is}
 pub use Rattle.dbwalk.specs.Reporting.{IsReadOrWrite, SinkAfter, SinkMoves, SinkState, Reports}
+pub use Rattle.dbwalk.specs.Roots.{IsRootAfter}
+pub use Rattle.dbwalk.specs.Taking.{StartsEmpty}
+pub use Rattle.std.proofs.lemmas.Bool.Decides.{nat_tests}
+pub use Rattle.std.proofs.lemmas.Bool.{both_ways, cases_Bool}
+pub use Rattle.std.proofs.lemmas.List.Elements.{filter_map-append}
+pub use Rattle.std.proofs.lemmas.List.{map-append}
+pub use Rattle.std.proofs.lemmas.Result.{err_from_is_err_and}
+pub use Rattle.std.specs.List.{cons_option, enumerate_from, list_any, range_with_len}
+pub use Rattle.std.specs.Option.{option_map_or}

@@ -1,8 +1,7 @@
 -- What a walk over the parts of a desk asked for, as what is asked over the desk.
 use Rattle.std.proofs.Common.{◌≡◌, ℕ, List, Result, subst, ◌∙◌}
 use Rattle.dbscan.proofs.Common.{geometry, Geometry, Step, is_read_failed, failures_after, IsHeaderOf, Asks, SourceState, RunError, Reads, Mark, DeskView}
-use Rattle.dbscan.proofs.Common.{shape_of, desk_view}
-use Rattle.dbsource.proofs.Logs.{asks_weaker}
+use Rattle.dbscan.proofs.Common.{shape_of, desk_view, asks_weaker}
 use Rattle.dbscan.specs.Desks.{AreForHeader}
 use Rattle.dbscan.specs.declared.desk.Desk.TheInside.{Inside}
 

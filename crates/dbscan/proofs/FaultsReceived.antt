@@ -1,8 +1,7 @@
 -- What a run makes of a reporter on which only faults have an effect: it takes the faults of the file.
 use Rattle.std.proofs.Common.{inl, inr, ℕ, List, [], ◌∷◌, Result, Ok, Err, subst}
-use Rattle.dbscan.proofs.Common.{Moves, MovesBySome, Reference, faults, Survey, Fault, RunError, Reports, Notice, received_fault, received_row, ended, marked}
-use Rattle.dbscan.proofs.Common.{faults_received, run_notices}
-use Rattle.dbsurvey.proofs.Moving.{some_none}
+use Rattle.dbscan.proofs.Common.{Moves, MovesBySome, Reference, faults, Survey, Fault, RunError, Reports, Notice, received_fault, faults_received, run_notices}
+use Rattle.dbscan.proofs.Common.{some_none}
 use Rattle.dbscan.specs.Notices.{ReceivesFaults}
 use Rattle.dbscan.proofs.ReceivedFaults.{faults_are_received}
 
@@ -10,17 +9,13 @@ module _ {S : Type 0} (takes : S → Fault → S → Type 0) where
   all_received : (ns : List Notice) (s t : S) → Moves (ReceivesFaults takes) s ns t → Moves takes s (faults_received ns) t
   all_received [] s t h = h
   all_received (received_fault x ∷ ns) s t h = (h.0, h.1, all_received ns h.0 t h.2)
-  all_received (received_row at r ∷ ns) s t h = subst (λ m. Moves takes m (faults_received ns) t) h.1 (all_received ns h.0 t h.2)
-  all_received (ended at ∷ ns) s t h = subst (λ m. Moves takes m (faults_received ns) t) h.1 (all_received ns h.0 t h.2)
-  all_received (marked g p mark ∷ ns) s t h = subst (λ m. Moves takes m (faults_received ns) t) h.1 (all_received ns h.0 t h.2)
+  all_received (_ ∷ ns) s t h = subst (λ m. Moves takes m (faults_received ns) t) h.1 (all_received ns h.0 t h.2)
 
   some_received : (ns : List Notice) (s t : S) → MovesBySome (ReceivesFaults takes) s ns t → MovesBySome takes s (faults_received ns) t
   some_received [] s t h = h
   some_received (n ∷ ns) s t (inl e) = subst (λ m. MovesBySome takes s (faults_received (n ∷ ns)) m) e (some_none takes s (faults_received (n ∷ ns)))
   some_received (received_fault x ∷ ns) s t (inr h) = inr (h.0, h.1, some_received ns h.0 t h.2)
-  some_received (received_row at r ∷ ns) s t (inr h) = subst (λ m. MovesBySome takes m (faults_received ns) t) h.1 (some_received ns h.0 t h.2)
-  some_received (ended at ∷ ns) s t (inr h) = subst (λ m. MovesBySome takes m (faults_received ns) t) h.1 (some_received ns h.0 t h.2)
-  some_received (marked g p mark ∷ ns) s t (inr h) = subst (λ m. MovesBySome takes m (faults_received ns) t) h.1 (some_received ns h.0 t h.2)
+  some_received (_ ∷ ns) s t (inr h) = subst (λ m. MovesBySome takes m (faults_received ns) t) h.1 (some_received ns h.0 t h.2)
 
   received_by : {A : Type 0} (r : Result A RunError) (ns : List Notice) (s t : S) → Reports (ReceivesFaults takes) r s ns t
       → Reports takes r s (faults_received ns) t

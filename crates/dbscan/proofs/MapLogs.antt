@@ -1,16 +1,14 @@
 -- What is read of the pointer map: page after page, and after what walks read.
-use Rattle.std.proofs.Common.{◌≡◌, ◌≢◌, ℕ, ◌+◌, ◌<◌, ◌≤◌, Bool, true, false, cond, ◌&&◌, inl, inr, List, [], ◌∷◌, ◌++◌, Some, None, Result, Ok, Err, refl, sym}
-use Rattle.std.proofs.Common.{ap, ap₂, ◌∙◌, subst, arith, IfErr, is_some, ◌==◌}
-use Rattle.dbscan.proofs.Common.{fixed_use, is_fixed, is_map_position, is_page, lock_page, page_range, IsPageLog, Geometry, Step, is_read_failed}
+use Rattle.std.proofs.Common.{◌≡◌, ◌≢◌, ℕ, ◌+◌, ◌<◌, ◌≤◌, true, false, inl, inr, List, [], ◌∷◌, ◌++◌, Some, Result, Ok, Err, refl, sym}
+use Rattle.std.proofs.Common.{ap, ap₂, ◌∙◌, subst, arith, IfErr, is_some, append-nil}
+use Rattle.dbscan.proofs.Common.{nat_tests, fixed_use, is_fixed, lock_page, page_range, IsPageLog, Geometry, Step, is_read_failed}
 use Rattle.dbscan.proofs.Common.{failures_after, Asks, SourceState, RunError, WriteFailed, is_unmarked, AreMarksFor, Reads, Mark, IsUnmarked, ReadsMarked}
-use Rattle.dbscan.proofs.Common.{ReadsRising, IsMapInUse, MapReads}
-use Rattle.std.proofs.lemmas.Bool.{both_ways, cases_Bool, eq-eqb}
-use Rattle.std.proofs.lemmas.List.{append-nil, map-append}
+use Rattle.dbscan.proofs.Common.{ReadsRising, IsMapInUse, MapReads, both_ways, map-append, IsIn-cases}
 use Rattle.dbsurvey.proofs.Elements.{each_weaker}
-use Rattle.dbsurvey.proofs.Order.{IsIn-cases, EachPair-append}
+use Rattle.dbsurvey.proofs.Order.{EachPair-append}
 use Rattle.dbformat.specs.Log.{IsReadable}
 use Rattle.dbformat.specs.declared.ByteRange.{ByteRange}
-use Rattle.dbformat.specs.declared.Fixed.TheVariants.{Lock, Map}
+use Rattle.dbformat.specs.declared.Fixed.TheVariants.{Map}
 use Rattle.dbsource.proofs.Logs.{has_none}
 use Rattle.dbmarks.proofs.Readings.{keeps_same}
 use Rattle.dbmarks.proofs.Unfixed.{marks_for-kept, readable, unmarked_unfixed}
@@ -67,12 +65,7 @@ map_is_fixed g p h = ap is_some h.0
 
 unlocked : (g : Geometry) (p : ℕ) → fixed_use g p ≡ Some Map → p ≢ lock_page g.page_size
 unfolding fixed_use
-unlocked g p h e = by_case (is_page g p) (p == lock_page g.page_size) (g.has_map && is_map_position g p) (eq-eqb p (lock_page g.page_size) e) h
-  where
-    by_case : (a l b : Bool) → l ≡ true → cond a (cond l (Some Lock) (cond b (Some Map) None)) None ≡ Some Map → ⊥
-    by_case false l b t f = cc
-    by_case true true b t f = absurd (let k : Lock ≡ Map = cc in cc)
-    by_case true false b t f = cc
+unlocked g p h e = grind (arith, nat_tests)
 
 pub map_is_readable : (g : Geometry) (p : ℕ) → IsMapInUse g p → IsReadable g p
 map_is_readable g p h = record { from_one = let k = (at_position g p h.0).0 in omega arith; within = let k = h.1 in omega arith; unlocked = unlocked g p h.0 }
@@ -107,10 +100,7 @@ walk_then_map_log g old new walked mapped m h k = record {
     after = marks_for-kept g old new m h.kept
 
     fixed_marked : (p : ℕ) → is_fixed g p ≡ true → is_unmarked new p ≡ false
-    fixed_marked p f = elim (cases_Bool (is_unmarked new p)) [
-      | inl e ↦ absurd (both_ways (is_fixed g p) (unmarked_unfixed g new p after e).1 f)
-      | inr e ↦ e
-    ]
+    fixed_marked p f = let free = unmarked_unfixed g new p after in grind arith
 
 -- of the walks alone
 pub walk_log : (g : Geometry) (old new : List Mark) (walked : List ByteRange) → AreMarksFor g old → Reads g.page_size old new walked → ReadsMarked g new walked

@@ -1,13 +1,10 @@
 -- What a notifier hands on with its start, and what it notes.
 use Rattle.std.proofs.Common.{◌≡◌, ℕ, Bool, false, inl, inr, List, [], ◌∷◌, map, Result, Ok, Err, refl, sym, ap, subst, ◌∙◌, ◌||◌, IfErr}
 use Rattle.dbscan.proofs.Common.{Moves, MovesBySome, is_read_failed, is_write_failed, failures_after, RunError, WriteFailed, Finding, SinkAfter, SinkMoves}
-use Rattle.dbscan.proofs.Common.{SinkState, is_schema_row, Notice, found}
-use Rattle.std.specs.List.{list_any}
+use Rattle.dbscan.proofs.Common.{SinkState, is_schema_row, Notice, found, list_any, Notifier}
 use Rattle.std.proofs.Math.Bool.{or_assoc, or-false}
-use Rattle.dbsource.specs.declared.error.RunError.TheVariants.{ReadFailed, OutOfMemory, Refused}
 use Rattle.dbwalk.proofs.Reporting.Sinks.{asked, asked_both, asked_open, asked_walks, walks_end}
 use Rattle.dbscan.specs.Notifiers.{HandsOn, lent_by}
-use Rattle.dbscan.specs.declared.notifier.Notifier.{Notifier}
 
 -- ---- what a notifier hands on
 
@@ -62,11 +59,8 @@ of_reporter s = record s { lent = rest s.lent }
 pub reporter_after : {A K : Type 0} (held : K → SinkState) (r : Result A RunError) (s t : Notifier K)
     → SinkAfter is_write_failed r (lent_by held s) (lent_by held t)
     → (t.reporter.ghost_name ≡ s.reporter.ghost_name) × SinkAfter is_write_failed r (held s.reporter.now) (held t.reporter.now)
-reporter_after held (Ok a) s t h = (ap (λ (x : SinkState). first x.lent) h, ap of_reporter h)
-reporter_after held (Err (Refused r)) s t h = (ap (λ (x : SinkState). first x.lent) h, ap of_reporter h)
-reporter_after held (Err ReadFailed) s t h = (ap (λ (x : SinkState). first x.lent) h, ap of_reporter h)
-reporter_after held (Err OutOfMemory) s t h = (ap (λ (x : SinkState). first x.lent) h, ap of_reporter h)
 reporter_after held (Err WriteFailed) s t h = (ap first h.lent, record { lent = ap rest h.lent; failures = h.failures })
+reporter_after held _ s t h = (ap (λ (x : SinkState). first x.lent) h, ap of_reporter h)
 
 -- all was done, and then the reporter was asked
 pub asked_after : {r : Result (Unit {0}) RunError} {a b : SinkState} → r ≡ asked b.is_shut → SinkMoves a b → a.is_shut ≡ false

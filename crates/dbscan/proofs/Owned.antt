@@ -1,9 +1,7 @@
 -- A visited page is owned, by what its start is.
-use Rattle.std.proofs.Common.{◌≡◌, ℕ, inl, inr, cond, List, [], ◌∷◌, Some, sym, ap, subst, ◌∙◌, find, option_map, ◌==◌}
-use Rattle.dbscan.proofs.Common.{IsIn, start_of, freelist_start, visit_of, Reference, starts, Survey}
-use Rattle.std.specs.Option.{option_map_or}
-use Rattle.std.proofs.lemmas.Bool.{cases_Bool, eqb-true, eq-eqb, ne_eqb}
-use Rattle.dbformat.proofs.Visited.{allowed, visit_is}
+use Rattle.std.proofs.Common.{arith, ◌≡◌, ℕ, cond, List, [], ◌∷◌, Some, sym, ap, subst, ◌∙◌, find, option_map, eq-eqb, ne_eqb}
+use Rattle.dbscan.proofs.Common.{nat_tests, IsIn, start_of, freelist_start, visit_of, Reference, starts, Survey, option_map_or, allowed}
+use Rattle.dbformat.proofs.Visited.{visit_is}
 use Rattle.dbformat.specs.Starts.{is_start, first_start}
 use Rattle.dbscan.specs.Owners.{Owner, Nobody, Layout, Freelist, Tree, owner_at, owner_of, AreOwned}
 use Rattle.dbformat.proofs.BelowStarts.{start_is, start_visited, first_is}
@@ -36,17 +34,10 @@ are_owned file V s r i = record {
     tree_is = ap (λ o. option_map_or (λ u. Tree u.page) o Nobody) (start_is file V s u.0 k u.1 u.2)
 
     by_start : owner_at V k ≡ Freelist → k ≡ freelist_start
-    by_start f = elim (cases_Bool (k == freelist_start)) [
-      | inl e ↦ eqb-true k freelist_start e
-      | inr e ↦ absurd (let g : Tree u.0.page ≡ Freelist = sym (ap (λ b. cond b Freelist (tree_at V k)) e ∙ tree_is) ∙ f in cc)
-    ]
-
-    same : (x y : ℕ) → Tree x ≡ Tree y → x ≡ y
-    same x y e = cc
+    by_start f = let t : tree_at V k ≡ Tree u.0.page = tree_is in grind (arith, nat_tests)
 
     by_tree : (q : ℕ) → owner_at V k ≡ Tree q → first_start (starts file V) q ≡ Some k
-    by_tree q f = elim (cases_Bool (k == freelist_start)) [
-      | inl e ↦ absurd (let g : Freelist ≡ Tree q = sym (ap (λ b. cond b Freelist (tree_at V k)) e) ∙ f in cc)
-      | inr e ↦ subst (λ q. first_start (starts file V) q ≡ Some k) (same u.0.page q (sym (ap (λ b. cond b Freelist (tree_at V k)) e ∙ tree_is) ∙ f))
-          (first_is file V s u.0 k u.1 u.2)
-    ]
+    by_tree q f =
+        let t : tree_at V k ≡ Tree u.0.page = tree_is in
+        let same : u.0.page ≡ q = grind (arith, nat_tests) in
+        subst (λ q. first_start (starts file V) q ≡ Some k) same (first_is file V s u.0 k u.1 u.2)

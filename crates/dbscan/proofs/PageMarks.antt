@@ -1,38 +1,24 @@
 -- What the marks of a survey say of a page: what it is, and with the starts that were noted, which start it belongs to.
-use Rattle.std.proofs.Common.{◌≡◌, ℕ, ◌≤◌, inl, inr, Bool, true, false, cond, List, Option, Some, None, refl, sym, ap, subst, ◌∙◌, arith, option_map, slice_get}
-use Rattle.dbscan.proofs.Common.{IsIn, start_of, freelist_start, visit_of, geometry, is_page, is_fixed, fixed_use, Role, root, child, first_overflow}
-use Rattle.dbscan.proofs.Common.{later_overflow, trunk, free_leaf, Reference, role_of, from_of, Survey, Mark, Unmarked, Fixed, role_mark, visit_mark, mark_of}
-use Rattle.dbscan.proofs.Common.{marks_of, page_mark, start_at, AreTrees, place_by, start_by}
-use Rattle.std.specs.Option.{option_map_or}
-use Rattle.std.proofs.lemmas.Bool.{cases_Bool}
-use Rattle.std.proofs.lemmas.Bool.Decides.{nat_tests}
+use Rattle.std.proofs.Common.{◌≡◌, ℕ, Bool, true, false, cond, List, Option, Some, None, refl, sym, ap, subst, ◌∙◌, arith, option_map, slice_get}
+use Rattle.dbscan.proofs.Common.{IsIn, start_of, freelist_start, visit_of, geometry, is_page, is_fixed, fixed_use, Role}
+use Rattle.dbscan.proofs.Common.{Reference, role_of, from_of, Survey, Mark, Unmarked, Fixed, role_mark, visit_mark, mark_of}
+use Rattle.dbscan.proofs.Common.{marks_of, page_mark, start_at, AreTrees, place_by, start_by, option_map_or, nat_tests, allowed, start_here}
 use Rattle.dbformat.specs.Reference.{is_on_freelist}
-use Rattle.dbformat.proofs.Visited.{allowed}
 use Rattle.dbmarks.proofs.Markings.{page_mark-in, page_mark-out}
 use Rattle.dbmarks.proofs.EndMarking.{found_in, survey_visits, visited-mark}
 use Rattle.dbscan.specs.declared.place.Place.{Place}
 use Rattle.dbscan.specs.Owners.{place_in, place_of}
-use Rattle.dbformat.proofs.BelowStarts.{start_here, on_freelist}
+use Rattle.dbformat.proofs.BelowStarts.{on_freelist}
 use Rattle.dbscan.specs.declared.place.Place.TheVariants as place
 
 -- role by role
 
 place_by_role : (role : Role) (from : ℕ) → place_by (Some (role_mark role from)) ≡ place_in role from
-place_by_role (root kind) from = refl
-place_by_role (child kind) from = refl
-place_by_role (first_overflow left) from = refl
-place_by_role (later_overflow left) from = refl
-place_by_role trunk from = refl
-place_by_role free_leaf from = refl
+place_by_role role from = grind arith
 
 start_by_role : (role : Role) (from k : ℕ) (known : Option ℕ) → (is_on_freelist role ≡ true → k ≡ freelist_start)
     → (is_on_freelist role ≡ false → known ≡ Some k) → start_by (Some (role_mark role from)) known ≡ Some k
-start_by_role (root kind) from k known f h = h refl
-start_by_role (child kind) from k known f h = h refl
-start_by_role (first_overflow left) from k known f h = h refl
-start_by_role (later_overflow left) from k known f h = h refl
-start_by_role trunk from k known f h = ap Some (sym (f refl))
-start_by_role free_leaf from k known f h = ap Some (sym (f refl))
+start_by_role role from k known f h = grind arith
 
 -- the mark of a page that no visit names
 abbrev pub unused : Bool → Bool → Option Mark
@@ -56,27 +42,11 @@ module _ (file : List ℕ) (V : List Reference) (s : Survey file V) where
   pub mark_here : (r : Reference) → IsIn r V → page_mark (marks_of (geometry file) V) r.page ≡ Some (visit_mark r)
   mark_here r i =
       let a = (allowed file V s r i).0 in
-      let l : 1 ≤ r.page = grind (arith, nat_tests) in
-      let m : r.page ≤ (geometry file).pages = grind (arith, nat_tests) in
-      page_mark-in (geometry file) V r.page l m ∙ ap Some (visited-mark (geometry file) V r (survey_visits file V s) i)
-
-  no_number : (p : ℕ) → is_page (geometry file) p ≡ false → is_fixed (geometry file) p ≡ false
-  unfolding fixed_use
-  no_number p h = rw h refl
+      let v = visited-mark (geometry file) V r (survey_visits file V s) i in grind (arith, nat_tests, page_mark-in)
 
   pub no_visit : (p : ℕ) → visit_of V p ≡ None → page_mark (marks_of (geometry file) V) p ≡ unused (is_fixed (geometry file) p) (is_page (geometry file) p)
-  unfolding mark_of
-  no_visit p n = elim (cases_Bool (is_page (geometry file) p)) [
-    | inl e ↦ (let l : 1 ≤ p = grind (arith, nat_tests) in
-        let m : p ≤ (geometry file).pages = grind (arith, nat_tests) in
-        page_mark-in (geometry file) V p l m ∙ ap (λ o. Some (cond (is_fixed (geometry file) p) Fixed (option_map_or visit_mark o Unmarked))) n
-        ∙ either (is_fixed (geometry file) p) ∙ sym (ap (unused (is_fixed (geometry file) p)) e))
-    | inr e ↦ page_mark-out (geometry file) V p e ∙ sym (ap (λ b. unused b (is_page (geometry file) p)) (no_number p e) ∙ ap (unused false) e)
-  ]
-    where
-      either : (b : Bool) → Some (cond b Fixed Unmarked) ≡ unused b true
-      either true = refl
-      either false = refl
+  unfolding mark_of fixed_use
+  no_visit p n = grind (arith, nat_tests, page_mark-in, page_mark-out)
 
   -- what it is
   pub place_is : (p : ℕ) → place_by (page_mark (marks_of (geometry file) V) p) ≡ place_of file V p

@@ -1,25 +1,16 @@
 -- A reporter receives each fault of the walk at the start of its address, and with its cause.
-use Rattle.std.proofs.Common.{◌≡◌, ℕ, Bool, true, false, cond, inl, inr, List, [], ◌∷◌, ◌++◌, map, refl, sym, ap, ap₂, subst, ◌∙◌, append-nil, ◌==◌}
-use Rattle.dbscan.proofs.Common.{IsIn, Errand, Go, Follow, errands_at, freelist_start, first_trunk, Way, Reference, trunk, start, SchemaRow, Event, Survey}
+use Rattle.std.proofs.Common.{◌≡◌, ℕ, List, [], ◌∷◌, ◌++◌, map, refl, sym, ap, ap₂, subst, ◌∙◌, append-nil}
+use Rattle.dbscan.proofs.Common.{IsIn, Errand, Go, freelist_start, Way, Reference, SchemaRow, Event, Survey}
 use Rattle.dbscan.proofs.Common.{Finding, reported_row, reported_fault, reported_below, visited_below, Notice, at_start, found, ended, errands_left}
-use Rattle.dbscan.proofs.Common.{root_reference}
-use Rattle.dbscan.proofs.Common.{tree_notices, later_notices, start_notices, reported_in, reported_of, walk_reported, listed_rows, At, at_freelist, at_row}
-use Rattle.dbscan.proofs.Common.{at_schema, schema_reference}
-use Rattle.std.specs.List.{enumerate_from}
-use Rattle.std.proofs.lemmas.List.Elements.{filter_map-append}
+use Rattle.dbscan.proofs.Common.{root_reference, tree_notices, later_notices, start_notices, reported_in, reported_of, walk_reported, listed_rows, At}
+use Rattle.dbscan.proofs.Common.{at_freelist, at_row, at_schema, schema_reference, enumerate_from, filter_map-append}
 use Rattle.dbsurvey.specs.Story.{errand_key}
 use Rattle.dbtrace.proofs.ByStarts.{BeginsWith, made_at, made_below, below_start, root_then, all_made}
-use Rattle.dbscan.proofs.StartByStart.{of_later}
+use Rattle.dbscan.proofs.StartByStart.{first_alone, of_later}
 use Rattle.dbscan.proofs.ReportedStarts.{start_errands_listed}
 
 freelist_begins : (file : List ℕ) (e : Errand Way Event) → IsIn e (errands_left file []) → BeginsWith freelist_start (errand_key e)
-freelist_begins file e i = by_case (first_trunk file == 0) i
-  where
-    by_case : (b : Bool) → IsIn e (errands_at [] (map Follow (cond b [] (start freelist_start trunk (first_trunk file) ∷ []))))
-        → BeginsWith freelist_start (errand_key e)
-    by_case true i = absurd i
-    by_case false (inl f) = subst (λ e. BeginsWith freelist_start (errand_key e)) (sym f) ([], refl)
-    by_case false (inr i) = absurd i
+freelist_begins file e i = subst (λ e. BeginsWith freelist_start (errand_key e)) (sym (first_alone file e i)) ([], refl)
 
 -- ---- the faults among notices
 

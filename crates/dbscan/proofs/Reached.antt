@@ -1,37 +1,28 @@
 -- A fault that is reported at a start is of a page that was reached from it, and each such start is one of the file's.
-use Rattle.std.proofs.Common.{◌≡◌, ℕ, ◌+◌, inl, inr, Bool, true, false, cond, List, [], ◌∷◌, ◌++◌, map, take, length, Some, refl, sym, ap, subst, ◌∙◌, ◌==◌}
+use Rattle.std.proofs.Common.{arith, ◌≡◌, ℕ, ◌+◌, inl, inr, Bool, true, false, cond, List, [], ◌∷◌, ◌++◌, map, take, length, Some, refl, sym, ap, subst, ◌∙◌}
+use Rattle.std.proofs.Common.{◌==◌}
 use Rattle.dbscan.proofs.Common.{Address, IsIn, Reported, Follow, goes, start_of, schema_start, last_root_start, freelist_start, end_faults, page_bytes}
 use Rattle.dbscan.proofs.Common.{first_trunk, usable_size, header_faults, Way, Reference, role_of, from_of, trunk, event_faults, schema, root_start}
-use Rattle.dbscan.proofs.Common.{rooted_rows, start, freelist_starts, later_starts, starts, SchemaRow, Event, at_page, at_key, at_refused, start_errands}
-use Rattle.dbscan.proofs.Common.{story_of, reporting, Survey, rules_of, Fault, cause_of, Part, start_at, at_start, of_file, reported_faults, walk_reported}
-use Rattle.std.specs.List.{enumerate_from}
-use Rattle.dbsurvey.specs.From.{under}
-use Rattle.dbsurvey.specs.Story.{IsReported, of_errand, of_page, of_place, of_refused}
+use Rattle.dbscan.proofs.Common.{rooted_rows, start, freelist_starts, later_starts, starts, Event, at_page, at_key, at_refused, start_errands}
+use Rattle.dbscan.proofs.Common.{reporting, Survey, rules_of, Fault, cause_of, Part, start_at, at_start, of_file, reported_faults, walk_reported}
+use Rattle.dbscan.proofs.Common.{enumerate_from, under, IsIn-cases, IsIn-from_flat_map, has_address, start_here}
 use Rattle.dbsurvey.specs.Survey.{Link, children, named_at}
 use Rattle.dbsurvey.proofs.Composing.{named_at-from}
-use Rattle.dbsurvey.proofs.Order.{IsIn-cases}
-use Rattle.dbsurvey.proofs.Ordering.{IsIn-from_map, IsIn-from_flat_map}
+use Rattle.dbsurvey.proofs.Ordering.{IsIn-map, IsIn-from_map}
 use Rattle.dbsurvey.proofs.Reportings.{goes-errands}
+use Rattle.std.proofs.lemmas.Grind.{common_steps}
 use Rattle.dbformat.specs.Reference.{role_links}
 use Rattle.dbformat.specs.Schema.{root_starts}
-use Rattle.std.proofs.lemmas.Bool.{both_ways}
-use Rattle.dbformat.proofs.LookBack.{key_at}
 use Rattle.dbformat.proofs.Theory.{links-follows, no_due, reported_in_order}
-use Rattle.dbformat.proofs.Visited.{has_address}
 use Rattle.dbtrace.specs.declared.TracedFault.{TracedFault}
-use Rattle.dbtrace.proofs.Reported.{IsOf, reported_of}
-use Rattle.dbformat.proofs.BelowStarts.{one_below, start_here, start_of-step, start_visited}
+use Rattle.dbtrace.proofs.Reported.{IsOf, refused_of, reported_of}
+use Rattle.dbformat.proofs.BelowStarts.{one_below, start_of-step, start_visited}
 use Rattle.dbformat.proofs.Ways.{of_role}
 use Rattle.dbscan.specs.Placed.{IsOfStart}
-use Rattle.dbscan.proofs.FaultPages.{accepted, is_refusal, page_of_event, event_of_page}
+use Rattle.dbscan.proofs.FaultPages.{page_of_event, event_of_page}
 use Rattle.dbtrace.specs.declared.Part.TheVariants as part
 
 -- starts are from no page
-rows_from : (file : List ℕ) (k : ℕ) (rows : List SchemaRow) (l : Link Way) → IsIn l (map (root_start file) (enumerate_from k rows)) → l.role.from ≡ 0
-rows_from file k [] l i = absurd i
-rows_from file k (row ∷ rows) l (inl e) = ap (λ (l : Link Way). l.role.from) e
-rows_from file k (row ∷ rows) l (inr i) = rows_from file (k + 1) rows l i
-
 free_from : (file : List ℕ) (l : Link Way) → IsIn l (freelist_starts file) → l.role.from ≡ 0
 free_from file l i = by_case (first_trunk file == 0) i
   where
@@ -46,15 +37,9 @@ start_from file V l (inl e) = ap (λ (l : Link Way). l.role.from) e
 start_from file V l (inr i) =
     let rows = rooted_rows (schema file (under schema_start V)) in
     elim (IsIn-cases l (root_starts file rows) (freelist_starts file) i) [
-      | inl j ↦ rows_from file 1 (take last_root_start rows) l j
+      | inl j ↦ ap (λ (l : Link Way). l.role.from) (IsIn-from_map (root_start file) (enumerate_from 1 (take last_root_start rows)) l j).2
       | inr j ↦ free_from file l j
     ]
-
--- steps of links
-step_in : (ls : List (Link Way)) (l : Link Way) → IsIn l ls → IsIn l.step (map (λ l. l.step) ls)
-step_in [] l i = absurd i
-step_in (m ∷ ls) l (inl e) = inl (ap (λ (l : Link Way). l.step) e)
-step_in (m ∷ ls) l (inr i) = inr (step_in ls l i)
 
 module _ (file : List ℕ) (V : List Reference) (s : Survey file V) where
   abbrev steps : List ℕ
@@ -67,15 +52,13 @@ module _ (file : List ℕ) (V : List Reference) (s : Survey file V) where
       elim ((s.exact u.0).0 u.1).0 [
         | inl j ↦ (let m = named_at-from [] (starts file V) u.0 j in
             let same : m.0.step ≡ start_of r.address = ap start_of (sym (ap (λ (r : Reference). r.address) m.2) ∙ u.2) in
-            subst (λ k. IsIn k steps) same (step_in (starts file V) m.0 m.1))
+            subst (λ k. IsIn k steps) same (IsIn-map (λ l. l.step) (starts file V) m.0 m.1))
         | inr w ↦ (let m = named_at-from w.0.address ((rules_of file).links w.0.page w.0.role) u.0 w.2 in
             absurd (has_address file V s w.0 w.1 (no_more w.0.address m.0.step (start_of r.address) (sym (ap (λ (r : Reference). r.address) m.2) ∙ u.2))))
       ]
     where
       no_more : (a : Address) (x k : ℕ) → a ++ x ∷ [] ≡ k ∷ [] → a ≡ []
-      no_more [] x k e = refl
-      no_more (y ∷ []) x k e = cc
-      no_more (y ∷ z ∷ a) x k e = cc
+      no_more a x k e = grind (arith, common_steps)
 
   -- an event's place begins with a start of the file, from which its page was reached, if it has one
   record IsPlaced (place : Address) (p : ℕ) : Type 0 where
@@ -85,11 +68,11 @@ module _ (file : List ℕ) (V : List Reference) (s : Survey file V) where
   of_visit : (r : Reference) (place : Address) → IsIn r V → start_of place ≡ start_of r.address → IsPlaced place r.page
   of_visit r place i e = record { step = subst (λ k. IsIn k steps) (sym e) (visit_step r i); reached = λ d. start_here file V s r i ∙ ap Some (sym e) }
 
-  of_event : (place : Address) (e : Event) → IsOf file V place e → ((r : Reference) → e ≡ at_refused r → IsPlaced place (from_of r))
+  of_event : (place : Address) (e : Event) → IsOf file V place e → ((r : Reference) → e ≡ at_refused r → IsPlaced r.address (from_of r))
       → IsPlaced place (page_of_event e)
   of_event place (at_page r) h refusal = of_visit r place h.0 (ap start_of h.1)
   of_event place (at_key r v x) h refusal = of_visit r place h.0 (ap start_of h.3 ∙ start_of-step r.address _ (has_address file V s r h.0))
-  of_event place (at_refused r) h refusal = refusal r refl
+  of_event place (at_refused r) h refusal = subst (λ a. IsPlaced a (from_of r)) (sym h) (refusal r refl)
 
   -- a reference that is refused is found at a start, or on a visited page
   of_start : (r : Reference) → IsIn r (goes (start_errands file V)) → IsPlaced r.address (from_of r)
@@ -98,7 +81,7 @@ module _ (file : List ℕ) (V : List Reference) (s : Survey file V) where
       let m = named_at-from [] (starts file V) r named in
       let none : from_of r ≡ 0 = ap from_of m.2 ∙ start_from file V m.0 m.1 in
       let k : start_of r.address ≡ m.0.step = ap (λ (r : Reference). start_of r.address) m.2 in
-      record { step = subst (λ k. IsIn k steps) (sym k) (step_in (starts file V) m.0 m.1); reached = λ d. absurd (d none) }
+      record { step = subst (λ k. IsIn k steps) (sym k) (IsIn-map (λ l. l.step) (starts file V) m.0 m.1); reached = λ d. absurd (d none) }
 
   of_child : (u r : Reference) → IsIn u V → IsIn r (children (rules_of file) u) → IsPlaced r.address (from_of r)
   unfolding rules_of
@@ -107,24 +90,13 @@ module _ (file : List ℕ) (V : List Reference) (s : Survey file V) where
       let from : from_of r ≡ u.page = ap from_of m.2 ∙ of_role (role_of u) u.page (usable_size file) (page_bytes file u.page) m.0 m.1 in
       subst (IsPlaced r.address) (sym from) (of_visit u r.address i (one_below file V s u r i c).0)
 
-  refused_at : (t : Reported Event) → IsReported (rules_of file) (story_of file) (start_errands file V) V t → (r : Reference) → t.event ≡ at_refused r
-      → IsPlaced t.key (from_of r)
-  unfolding story_of
-  refused_at t (of_errand i) r e = absurd (no_due [] (starts file V) t i)
-  refused_at t (of_page u i f) r e = absurd (let x : at_page u ≡ at_refused r = sym (ap (λ (t : Reported Event). t.event) f) ∙ e in cc)
-  refused_at t (of_place u i j) r e =
-      let m = key_at u.address ((story_of file).items u) t j in
-      absurd (both_ways (is_refusal t.event) (accepted file u m.0 t.event m.1) (ap is_refusal e))
-  refused_at t (of_refused c n out f) r e =
-      let same : c ≡ r = (let x : at_refused c ≡ at_refused r = sym (ap (λ (t : Reported Event). t.event) f) ∙ e in cc) in
-      let at : IsPlaced c.address (from_of c) = elim n [ inl i ↦ of_start c i | inr w ↦ of_child w.0 c w.1 w.2 ] in
-      subst (λ a. IsPlaced a (from_of r)) (sym (ap (λ (t : Reported Event). t.key) f)) (subst (λ q. IsPlaced c.address (from_of q)) same at)
-
   -- all that is reported is placed so
   placed : (t : Reported Event) → IsIn t (reporting file V) → IsPlaced t.key (page_of_event t.event)
   placed t i =
       let reported = ((reported_in_order file V s).0.exact t).0 i in
-      of_event t.key t.event (reported_of file (start_errands file V) V (no_due [] (starts file V)) t reported) (refused_at t reported)
+      let due = no_due [] (starts file V) in
+      of_event t.key t.event (reported_of file (start_errands file V) V due t reported)
+      (λ r e. elim (refused_of file (start_errands file V) V due t reported r e) [ inl i ↦ of_start r i | inr w ↦ of_child w.0 r w.1 w.2 ])
 
   -- so are the faults of the walk
   of_walk : (x : TracedFault) → IsIn x (walk_reported file V) → IsOfStart file V x

@@ -1,10 +1,8 @@
 -- The faults of all that a reporter receives are those of the file, with their parts and causes.
 use Rattle.std.proofs.Common.{◌≡◌, ℕ, List, [], ◌∷◌, ◌++◌, length, map, refl, sym, ap, ap₂, ◌∙◌, append_assoc}
-use Rattle.dbscan.proofs.Common.{end_faults, geometry, header_faults, Reference, faults, Survey, Fault, marks_of, Part, Notice, received_fault, received_row}
-use Rattle.dbscan.proofs.Common.{ended}
-use Rattle.dbscan.proofs.Common.{marked, of_file, whole, end_notices, faults_received, run_notices, start_notices, faults_of, reported_in, reported_of}
-use Rattle.dbscan.proofs.Common.{reported_faults, walk_reported}
-use Rattle.std.proofs.lemmas.List.Elements.{filter_map-append}
+use Rattle.dbscan.proofs.Common.{end_faults, geometry, header_faults, Reference, faults, Survey, Fault, marks_of, Part, Notice, received_fault, of_file, whole}
+use Rattle.dbscan.proofs.Common.{end_notices, faults_received, run_notices, start_notices, faults_of, reported_in, reported_of, reported_faults, walk_reported}
+use Rattle.dbscan.proofs.Common.{filter_map-append}
 use Rattle.dbscan.proofs.AllReported.{all_reported}
 use Rattle.dbscan.proofs.PagesReceived.{past_pages}
 use Rattle.dbscan.proofs.PlacedFaults.{starts_reported}
@@ -28,9 +26,7 @@ run_received file V s =
 alone : (ns : List Notice) → faults_received ns ≡ faults_of (reported_in ns)
 alone [] = refl
 alone (received_fault x ∷ ns) = ap (λ l. x.fault ∷ l) (alone ns)
-alone (received_row at r ∷ ns) = alone ns
-alone (ended at ∷ ns) = alone ns
-alone (marked g p mark ∷ ns) = alone ns
+alone (_ ∷ ns) = alone ns
 
 pub faults_are_received : (file : List ℕ) (V : List Reference) → Survey file V → faults_received (run_notices file V) ≡ faults file V
 faults_are_received file V s = alone (run_notices file V) ∙ ap faults_of (run_received file V s) ∙ all_reported file V

@@ -1,19 +1,16 @@
 -- The rows of all that a reporter receives are those of the file.
-use Rattle.std.proofs.Common.{◌≡◌, ℕ, Bool, true, false, cond, inl, inr, List, [], ◌∷◌, ◌++◌, length, map, refl, sym, ap, ap₂, ◌∙◌, append-nil, ◌==◌}
-use Rattle.dbscan.proofs.Common.{AreQuiet, Errand, Go, Follow, errands_at, goes, freelist_start, end_faults, geometry, first_trunk, header_faults, Way}
-use Rattle.dbscan.proofs.Common.{Reference, trunk, stat_rows, start, SchemaRow, Event, own_visit, Survey, rules_of, Fault, marks_of, Finding, reported_row}
-use Rattle.dbscan.proofs.Common.{reported_fault, reported_below, visited_below, Part, found_rows, Notice, found, ended, whole, errands_left, root_reference}
-use Rattle.dbscan.proofs.Common.{tree_notices, later_notices, start_notices, end_notices, run_notices, listed_rows, At, at_freelist, at_row, at_schema}
-use Rattle.dbscan.proofs.Common.{schema_reference}
-use Rattle.std.specs.List.{enumerate_from}
-use Rattle.std.proofs.lemmas.List.Elements.{filter_map-append}
+use Rattle.std.proofs.Common.{◌≡◌, ℕ, List, [], ◌∷◌, ◌++◌, length, map, refl, sym, ap, ap₂, ◌∙◌, append-nil}
+use Rattle.dbscan.proofs.Common.{AreQuiet, Errand, Go, goes, end_faults, geometry, header_faults, Way, Reference, stat_rows, SchemaRow, Event, own_visit}
+use Rattle.dbscan.proofs.Common.{Survey, rules_of, Fault, marks_of, Finding, reported_row, reported_fault, reported_below, visited_below, Part, found_rows}
+use Rattle.dbscan.proofs.Common.{Notice, found, ended, whole, errands_left, root_reference, tree_notices, later_notices, start_notices, end_notices}
+use Rattle.dbscan.proofs.Common.{run_notices, listed_rows, At, at_freelist, at_row, at_schema, schema_reference, enumerate_from, filter_map-append, are_rules}
 use Rattle.dbsurvey.proofs.Remaining.{rest_join}
-use Rattle.dbformat.proofs.Theory.{are_rules}
 use Rattle.dbscan.specs.ReceivedRows.{row_received, rows_received}
 use Rattle.dbscan.proofs.PagesReceived.{past_pages}
 use Rattle.dbscan.proofs.RowsBelow.{rows_below, rows_join}
 use Rattle.dbscan.proofs.RunItems.{all_visited}
-use Rattle.dbscan.proofs.StartByStart.{of_later}
+use Rattle.dbsurvey.specs.Story.{Due}
+use Rattle.dbscan.proofs.StartByStart.{first_alone, of_later}
 use Rattle.dbscan.proofs.Starts.{quiet_go}
 use Rattle.dbscan.proofs.ReportedStarts.{start_errands_listed}
 use Rattle.dbtrace.specs.declared.Part.TheVariants as part
@@ -29,12 +26,7 @@ of_whole p (f ∷ fs) = of_whole p fs
 
 module _ (file : List ℕ) where
   quiet_freelist : AreQuiet own_visit (errands_left file [])
-  quiet_freelist = by_case (first_trunk file == 0)
-    where
-      by_case : (b : Bool) → AreQuiet own_visit (errands_at {E = Event} [] (map Follow (cond b [] (start freelist_start trunk (first_trunk file) ∷ []))))
-      by_case true e i = absurd i
-      by_case false e (inl h) = cc
-      by_case false e (inr i) = absurd i
+  quiet_freelist e i = let h = first_alone file (Due e) i in cc
 
   abbrev HasRows : ℕ → List SchemaRow → List Reference → List Notice → List (Errand Way Event) → Type 0
   HasRows k rows W ns es = rows_received ns ≡ stat_rows file (visited_below file W es)

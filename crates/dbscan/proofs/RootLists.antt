@@ -1,21 +1,17 @@
 -- The rows of a list of roots, as its fields hold them, where a row is added.
-use Rattle.std.proofs.Common.{◌≡◌, ℕ, ◌-◌, ◌≤◌, List, [], ◌∷◌, ◌++◌, length, take, drop, map, Option, Some, None, refl, ap, ap₂, ◌∙◌, arith, length-drop}
+use Rattle.std.proofs.Common.{◌≡◌, ℕ, ◌-◌, List, [], ◌∷◌, ◌++◌, length, map, Option, refl, ap, ap₂, ◌∙◌, arith}
+use Rattle.dbscan.proofs.Common.{map-append, SchemaRow, Listed, kept_row, IsWithin}
 use Rattle.std.specs.List.{All}
+use Rattle.std.proofs.lemmas.Grind.{common_steps}
 use Rattle.std.proofs.lemmas.List.Elements.{All-head, All-tail}
-use Rattle.std.proofs.lemmas.List.{take-append-le, drop-append-le, map-append}
-use Rattle.dbformat.specs.SchemaRow.{SchemaRow}
+use Rattle.std.proofs.lemmas.List.{take-append-le, drop-append-le}
 use Rattle.dbscan.specs.declared.roots.Span.{Span}
 use Rattle.dbscan.specs.declared.roots.RootRow.{RootRow}
-use Rattle.dbscan.specs.Roots.{Listed, name_in, entry_row, kept_row, IsWithin, Grows}
+use Rattle.dbscan.specs.Roots.{name_in, entry_row, Grows}
 
 -- a name stays the same if more bytes come after it
 name_kept : (names more : List ℕ) (span : Option Span) → IsWithin (length names) span → name_in (names ++ more) span ≡ name_in names span
-name_kept names more None h = refl
-name_kept names more (Some s) h =
-    let d : drop s.start (names ++ more) ≡ drop s.start names ++ more = drop-append-le s.start names more (omega arith) in
-    let n : length (drop s.start names) ≡ length names - s.start = length-drop s.start names in
-    let k : s.len ≤ length (drop s.start names) = omega arith in
-    ap Some (ap (take s.len) d ∙ take-append-le s.len (drop s.start names) more k)
+name_kept names more span h = grind (arith, common_steps, drop-append-le, take-append-le)
 
 pub rows_kept : (names more : List ℕ) (es : List RootRow) → All (λ e. IsWithin (length names) e.name) es → map (entry_row (names ++ more)) es
     ≡ map (entry_row names) es

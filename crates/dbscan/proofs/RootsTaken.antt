@@ -1,14 +1,12 @@
 -- What a list of roots holds by the rows that it was given, and the starts that this makes.
-use Rattle.std.proofs.Common.{◌≡◌, ℕ, Bool, true, false, cond, not, List, [], ◌∷◌, ◌++◌, length, take, map, filter_map, None, Some, Result, Ok, Err, refl, sym}
-use Rattle.std.proofs.Common.{ap, ◌∙◌, append_assoc, ◌==◌}
+use Rattle.std.proofs.Common.{arith, ◌≡◌, ℕ, Bool, true, false, cond, not, List, [], ◌∷◌, ◌++◌, length, take, map, filter_map, Result}
+use Rattle.std.proofs.Common.{refl, sym, ap, ◌∙◌, append_assoc, ◌==◌, append-nil}
 use Rattle.dbscan.proofs.Common.{Moves, last_root_start, Reference, SchemaCell, schema, rooted, rooted_rows, root_start, freelist_starts, later_starts}
-use Rattle.dbscan.proofs.Common.{SchemaRow, Listed, kept_row, TakesRow, AreListed, listed_rows}
+use Rattle.dbscan.proofs.Common.{SchemaRow, Listed, kept_row, TakesRow, AreListed, listed_rows, enumerate_from, cons_option, RowFault, StartsEmpty}
 use Rattle.std.specs.Result.{result_ok}
-use Rattle.std.specs.List.{enumerate_from, cons_option, take-map}
-use Rattle.std.proofs.lemmas.List.{append-nil}
+use Rattle.std.specs.List.{take-map}
 use Rattle.dbformat.specs.Sound.{with_root}
-use Rattle.dbformat.specs.declared.RowFault.{RowFault}
-use Rattle.dbwalk.specs.Taking.{HasRootRoom, StartsEmpty, roots_after, first_roots, gives, readable_rows}
+use Rattle.dbwalk.specs.Taking.{HasRootRoom, roots_after, first_roots, gives, readable_rows}
 use Rattle.dbwalk.proofs.RootTakings.{list_has_room, first_more}
 use Rattle.dbscan.proofs.ShortNames.{roots_are_kept}
 
@@ -36,29 +34,20 @@ rows_after (row ∷ rows) came s t h m =
     by_root true = refl
     by_root false = refl
 
--- it holds the first 65536 that have a root page
-pub roots_taken : (rows : List SchemaRow) (s t : Listed) → s.rows ≡ [] → Moves (gives TakesRow) s rows t → t.rows ≡ first_roots kept_row (with_root rows)
-roots_taken rows s t e m = rows_after rows [] s t e m
-
 -- those of the schema
+rooted_more : (o : Result SchemaRow RowFault) (rows roots : List SchemaRow) → with_root rows ≡ roots
+    → with_root (cons_option (result_ok o) rows) ≡ cons_option (rooted o) roots
+rooted_more o rows roots h = grind arith
+
 rooted_are : (cells : List SchemaCell) → with_root (filter_map (λ c. result_ok c.row) cells) ≡ rooted_rows cells
 rooted_are [] = refl
-rooted_are (c ∷ cells) = by_row c.row (rooted_are cells)
-  where
-    by_root : (r : SchemaRow) (xs ys : List SchemaRow) (b : Bool) → xs ≡ ys → cond (not b) (r ∷ xs) xs ≡ cons_option (cond b None (Some r)) ys
-    by_root r xs ys true e = e
-    by_root r xs ys false e = ap (λ l. r ∷ l) e
-
-    by_row : (o : Result SchemaRow RowFault) → with_root (filter_map (λ c. result_ok c.row) cells) ≡ rooted_rows cells
-        → with_root (cons_option (result_ok o) (filter_map (λ c. result_ok c.row) cells)) ≡ cons_option (rooted o) (rooted_rows cells)
-    by_row (Err e) h = h
-    by_row (Ok r) h = by_root r (with_root (filter_map (λ c. result_ok c.row) cells)) (rooted_rows cells) (r.root == 0) h
+rooted_are (c ∷ cells) = rooted_more c.row _ _ (rooted_are cells)
 
 -- of the schema it holds each row as it is read
 pub schema_roots : (file : List ℕ) (V : List Reference) (s t : Listed) → s.rows ≡ [] → Moves (gives TakesRow) s (readable_rows file V) t
     → t.rows ≡ listed_rows file V
 schema_roots file V s t e m =
-    roots_taken (readable_rows file V) s t e m
+    rows_after (readable_rows file V) [] s t e m
     ∙ ap (first_roots kept_row) (rooted_are (schema file V))
     ∙ sym (take-map kept_row last_root_start (rooted_rows (schema file V)))
     ∙ ap (take last_root_start) (roots_are_kept file V)

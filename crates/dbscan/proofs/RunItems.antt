@@ -2,7 +2,7 @@
 use Rattle.std.proofs.Common.{◌≡◌, ℕ, List, [], ◌∷◌, ◌++◌, map, refl, sym, ap, subst, ◌∙◌}
 use Rattle.dbscan.proofs.Common.{IsIn, Go, Follow, errands_at, goes, schema_start, geometry, schema_part, Way, Reference, schema, later_starts, starts, Event}
 use Rattle.dbscan.proofs.Common.{start_errands, Survey, rules_of, visited_below, AreMarksOf, Mark, AreBelowStarts, schema_reference, later_errands, IsAtStarts}
-use Rattle.dbsurvey.specs.From.{under}
+use Rattle.dbscan.proofs.Common.{under, has_address}
 use Rattle.dbsurvey.specs.Story.{AreErrandsApart}
 use Rattle.dbsurvey.specs.Survey.{Link, named_at}
 use Rattle.dbsurvey.specs.Traverse.{part_of}
@@ -10,7 +10,6 @@ use Rattle.dbsurvey.proofs.Reportings.{errands_at-apart}
 use Rattle.dbformat.proofs.LookBack.{by_starts}
 use Rattle.dbformat.proofs.Rising.{starts_rise, follows_pairs}
 use Rattle.dbformat.proofs.SchemaStart.{schema_below}
-use Rattle.dbformat.proofs.Visited.{has_address}
 use Rattle.dbwalk.proofs.Reporting.Belows.{visited_join}
 use Rattle.dbwalk.proofs.Reporting.Lefts.{left_start}
 use Rattle.dbscan.specs.Walks.{Any}

@@ -3,11 +3,8 @@
 use Rattle.std.proofs.Common.{◌≡◌, ℕ, Bool, List, ◌++◌, length, map, Result, Ok, Err, refl, sym, ap, ap₂, subst, ◌∙◌}
 use Rattle.dbscan.proofs.Common.{Moves, MovesBySome, header_faults, Reference, Survey, Step, is_read_failed, HeaderBytes, IsHeaderOf, Asks, SourceState}
 use Rattle.dbscan.proofs.Common.{RunError, AreMarksOf, AreListed, Reports, AsksOver, DeskView, IsFresh, shape_of, ReadsMarked, Notice, whole, start_notices}
-use Rattle.dbscan.proofs.Common.{end_notices, run_notices, AreWalked}
+use Rattle.dbscan.proofs.Common.{end_notices, run_notices, AreWalked, asks_weaker, fresh_marks, some_first, some_after}
 use Rattle.dbformat.proofs.HeaderPrefix.{header_faults_within}
-use Rattle.dbsource.proofs.Logs.{asks_weaker}
-use Rattle.dbmarks.proofs.FirstMarks.{fresh_marks}
-use Rattle.dbsurvey.proofs.Moving.{some_first, some_after}
 use Rattle.dbscan.specs.Scans.{IsScanned}
 use Rattle.dbscan.proofs.EndItems.{reports_then}
 use Rattle.dbscan.proofs.MapLogs.{walk_log}

@@ -1,8 +1,9 @@
 -- What holds of the notices of the starts after the schema's, one start after another.
-use Rattle.std.proofs.Common.{ℕ, ◌+◌, List, [], ◌∷◌, ◌++◌, map}
-use Rattle.dbscan.proofs.Common.{Errand, Go, Way, Reference, SchemaRow, Event, reported_below, visited_below, Notice, found, errands_left, root_reference}
-use Rattle.dbscan.proofs.Common.{tree_notices, later_notices, at_freelist, at_row}
-use Rattle.std.specs.List.{enumerate_from}
+use Rattle.std.proofs.Common.{◌≡◌, ℕ, ◌+◌, Bool, true, false, cond, ◌==◌, inl, inr, List, [], ◌∷◌, ◌++◌, map}
+use Rattle.dbscan.proofs.Common.{Errand, Go, Way, Reference, SchemaRow, Event, reported_below, visited_below, Notice, found, errands_left, root_reference, IsIn}
+use Rattle.dbscan.proofs.Common.{Follow, errands_at, freelist_start, first_trunk, trunk, start, tree_notices, later_notices, at_freelist, at_row}
+use Rattle.dbscan.proofs.Common.{enumerate_from}
+use Rattle.dbwalk.specs.Trunks.{freelist_reference}
 
 -- After the visits of W, of the rows from start k on: it holds of what is reported along the freelist. It holds of the tree of
 -- a row and what is reported after it, if it holds of the latter.
@@ -19,3 +20,13 @@ module _ (file : List ℕ) (Holds : ℕ → List SchemaRow → List Reference �
       let U = W ++ visited_below file W (Go (root_reference file k row) ∷ []) in
       let left = enumerate_from (k + 1) rows in
       of_tree k row rows W (later_notices file U left) (errands_left file left) (of_later (k + 1) rows U)
+
+-- along the freelist there is nothing to do but to follow its first trunk
+pub first_alone : (file : List ℕ) (e : Errand Way Event) → IsIn e (errands_left file []) → e ≡ Go (freelist_reference (first_trunk file))
+first_alone file e i = by_case (first_trunk file == 0) i
+  where
+    by_case : (b : Bool) → IsIn e (errands_at [] (map Follow (cond b [] (start freelist_start trunk (first_trunk file) ∷ []))))
+        → e ≡ Go (freelist_reference (first_trunk file))
+    by_case true i = absurd i
+    by_case false (inl f) = f
+    by_case false (inr i) = absurd i

@@ -1,10 +1,8 @@
 -- The walks from all starts: over the schema's tree, over the trees of its rows, and along the freelist.
-use Rattle.std.proofs.Common.{◌≡◌, ℕ, Bool, List, [], Result, Ok, Err, refl, sym, ap, subst, ◌∙◌}
+use Rattle.std.proofs.Common.{arith, ◌≡◌, ℕ, Bool, List, [], Result, Ok, Err, refl, sym, ap, subst, ◌∙◌}
 use Rattle.dbscan.proofs.Common.{geometry_of, Reference, Survey, Step, is_read_failed, failures_after, HeaderBytes, IsHeaderOf, SourceState, RunError, marks_of}
 use Rattle.dbscan.proofs.Common.{AsksOver, DeskView, IsFresh, Notice, Listed, IsSchemaOf, AreReported, AreWalked, IsBetweenStarts, IsSchemaWalked}
-use Rattle.dbscan.proofs.Common.{StopsReporting}
-use Rattle.std.specs.List.{enumerate_from}
-use Rattle.dbsource.proofs.Logs.{asks_weaker}
+use Rattle.dbscan.proofs.Common.{StopsReporting, enumerate_from, asks_weaker}
 use Rattle.dbmarks.proofs.Readings.{asks_then}
 use Rattle.dbscan.proofs.TreeWalks.{schema_reported, all_walked, later_stopped}
 
@@ -14,8 +12,7 @@ with_rows any (Ok u) = Ok any
 with_rows any (Err e) = Err e
 
 same_failures : (any : Bool) (r : Result (Unit {0}) RunError) → (n : ℕ) → failures_after is_read_failed r n ≡ failures_after is_read_failed (with_rows any r) n
-same_failures any (Ok u) n = refl
-same_failures any (Err e) n = refl
+same_failures any r n = grind arith
 
 abbrev page_size_of : HeaderBytes → ℕ
 page_size_of h = (geometry_of h.bytes h.file_len).page_size

@@ -1,13 +1,14 @@
 -- The starts of a run, one after another: what a walk at the next one leaves.
-use Rattle.std.proofs.Common.{◌≡◌, ◌≢◌, ℕ, zero, suc, ◌<◌, ◌≤◌, inl, inr, List, [], ◌∷◌, ◌++◌, drop, length, Some, refl, sym, ap, subst, arith, slice_get}
+use Rattle.std.proofs.Common.{◌≡◌, ◌≢◌, ℕ, ◌<◌, inl, inr, List, [], ◌∷◌, ◌++◌, length, Some, refl, sym, ap, subst, arith, slice_get}
 use Rattle.dbscan.proofs.Common.{Address, IsIn, AreQuiet, Errand, Go, encoding, root, Way, Reference, SchemaRow, Event, own_visit, start_errands, Encoding}
-use Rattle.dbscan.proofs.Common.{visited_below, Mark, root_reference, root_of, AreBelowStarts, IsAtStarts}
+use Rattle.dbscan.proofs.Common.{visited_below, Mark, root_reference, root_of, AreBelowStarts, IsAtStarts, IsRootAfter}
+use Rattle.std.proofs.lemmas.Option.{slice_get_cases}
 use Rattle.dbsurvey.specs.Address.{IsBefore}
 use Rattle.dbsurvey.proofs.Order.{IsIn-left}
 use Rattle.dbformat.specs.Schema.{root_kind}
 use Rattle.dbformat.specs.declared.RowKind.{RowKind}
 use Rattle.dbtrace.specs.Starts.{IsOfEarlierStart}
-use Rattle.dbwalk.specs.Roots.{kind_in, IsRootAfter}
+use Rattle.dbwalk.specs.Roots.{kind_in}
 use Rattle.dbwalk.specs.declared.root.RootKind.TheVariants.{Schema}
 use Rattle.dbscan.specs.Starts.{kind_by}
 use Rattle.dbformat.specs.declared.RowKind.TheVariants as row
@@ -18,13 +19,7 @@ quiet_go c e (inr h) = absurd h
 
 -- the kind of a row's root is what a walk takes it for
 kind_same : (file : List ℕ) (encoding : Encoding) (k : ℕ) (r : SchemaRow) → kind_in file (root_of encoding k r) ≡ root_kind file r
-kind_same file encoding k r = by_kind r.kind refl
-  where
-    by_kind : (kind : RowKind) → r.kind ≡ kind → kind_in file (root_of encoding k r) ≡ root_kind file r
-    by_kind row.Table e = rw e refl
-    by_kind row.Index e = rw e refl
-    by_kind row.View e = rw e refl
-    by_kind row.Trigger e = rw e refl
+kind_same file encoding k r = grind arith
 
 -- the visits before a start are below earlier ones
 early_of : (k : ℕ) (a : Address) → a ≢ [] → IsBefore a (k ∷ []) → IsOfEarlierStart k a
@@ -33,18 +28,8 @@ early_of k (s ∷ a) n (inl l) = l
 early_of k (s ∷ []) n (inr h) = absurd h.1
 early_of k (s ∷ t ∷ a) n (inr h) = absurd h.1
 
-pub drop_more : {X : Type 0} (xs : List X) (i : ℕ) (x : X) → slice_get xs i ≡ Some x → drop i xs ≡ x ∷ drop (suc i) xs
-drop_more [] i x e = cc
-drop_more (y ∷ xs) zero x e = cc
-drop_more (y ∷ xs) (suc i) x e = drop_more xs i x e
-
-pub some_is : {X : Type 0} {x y : X} → Some x ≡ Some y → x ≡ y
-some_is e = cc
-
 pub row_there : {X : Type 0} (xs : List X) (i : ℕ) → i < length xs → (x : X) × (slice_get xs i ≡ Some x)
-row_there [] i l = absurd (omega (arith, l))
-row_there (x ∷ xs) zero l = (x, refl)
-row_there (x ∷ xs) (suc i) l = row_there xs i (omega (arith, l))
+row_there xs i l = elim (slice_get_cases xs i).1 [ inl k ↦ (k.0, k.2) | inr k ↦ absurd (omega (arith, l, k.0)) ]
 
 -- the next start is a root
 pub root_next : (file : List ℕ) (V U : List Reference) (marks : List Mark) (encoding : Encoding) (k : ℕ) (r : SchemaRow) (es : List (Errand Way Event))
@@ -64,15 +49,6 @@ root_next file V U marks encoding k r es below h = record {
   marked = h.marked;
 }
 
-pub drop_none : {X : Type 0} (xs : List X) (i : ℕ) → length xs ≤ i → drop i xs ≡ []
-drop_none [] zero h = refl
-drop_none [] (suc i) h = refl
-drop_none (x ∷ xs) zero h = absurd (omega (arith, h))
-drop_none (x ∷ xs) (suc i) h = drop_none xs i (omega (arith, h))
-
 -- a row of the list does not name the schema
 pub no_schema_kind : (kind : RowKind) → kind_by kind ≡ Schema → ⊥
-no_schema_kind row.Table e = cc
-no_schema_kind row.Index e = cc
-no_schema_kind row.View e = cc
-no_schema_kind row.Trigger e = cc
+no_schema_kind kind e = grind arith

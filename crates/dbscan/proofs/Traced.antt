@@ -1,17 +1,15 @@
 -- A run over a desk: all is received, and then the report is ended; or an error stops it before.
 use Rattle.std.proofs.Common.{◌≡◌, ℕ, List, length, None, inl, inr, Result, Ok, Err, refl, sym, ap, subst, ◌∙◌}
 use Rattle.dbscan.proofs.Common.{refusal_of, geometry_of, IsPageLog, Reference, Survey, Geometry, Step, is_read_failed, failures_after, HeaderBytes, IsHeaderOf}
-use Rattle.dbscan.proofs.Common.{Asks, SourceState, RunError, SinkState, DeskView, shape_of, IsUnmarked, ReadsMarked, ReadsRising, Notice}
+use Rattle.dbscan.proofs.Common.{Asks, SourceState, RunError, SinkState, DeskView, shape_of, IsUnmarked, ReadsMarked, ReadsRising, Notice, HeadedStep}
+use Rattle.dbscan.proofs.Common.{asks_then, asks_weaker, KeepsHeader}
 use Rattle.dbformat.specs.declared.Verdict.{Verdict}
 use Rattle.dbsource.specs.Errors.{is_out_of_memory}
-use Rattle.dbsource.specs.Headed.{HeadedStep, headed}
-use Rattle.dbsource.specs.Snapshots.{HasReadAfterHeader}
+use Rattle.dbsource.specs.Headed.{headed}
 use Rattle.dbsource.specs.declared.source.Source.{Ghosts as SourceWords}
-use Rattle.dbsource.proofs.Logs.{asks_then, asks_weaker}
+use Rattle.dbsource.proofs.Runs.{read_after}
 use Rattle.dbscan.specs.Finishes.{HasReceived, HasReported, Leaves}
-use Rattle.dbscan.specs.Kept.{KeepsHeader}
 use Rattle.dbscan.specs.Scans.{IsScanned}
-use Rattle.dbscan.proofs.AfterHeader.{after_headed}
 use Rattle.dbscan.proofs.MapLogs.{looks_log}
 
 module _ {K : Type 0} (receives : K → Notice → K → Type 0) (leaves : List ℕ → List Reference → Result Verdict RunError → K → K → Type 0) (step : Step)
@@ -55,9 +53,8 @@ pub run_reported : {S K : Type 0} {name name' : ℕ} {head' : List ℕ} (source 
     → leaves file V r old.1 new.1) is_read_failed r (headed name own.bytes (source.held first)) (headed name' head' (source.held new.0))
     → KeepsHeader r fresh after (held old.1) (held new.1) → HasReported source held leaves r before after old new
 run_reported source held leaves r before fresh after own old new header refusals same begun accepted asks keeps = record {
-  read = subst (λ (x : HeaderBytes). HasReadAfterHeader source.step (IsPageLog (geometry_of x.bytes x.file_len)) x
-      (λ file. (V : List Reference) → Survey file V → leaves file V r old.1 new.1) (source.held old.0) (source.held new.0)) header
-      (after_headed source.held fresh.header own same begun refl accepted asks.log);
+  read = rw (← header) (read_after source.step _ _ fresh.header _ _ (source.held old.0) (source.held new.0) accepted.0 accepted.1
+      (rw (same, begun) at asks.log));
   reads = asks.count ∙ ap (λ s. failures_after is_read_failed r (source.held s).failures) begun;
   keeps = record {
     desk = record {

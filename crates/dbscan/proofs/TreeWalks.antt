@@ -1,19 +1,16 @@
 -- The walks from the starts, one after another: what a walk over the next tree leaves to be reported.
-use Rattle.std.proofs.Common.{◌≡◌, ◌↔◌, ℕ, suc, ◌+◌, ◌-◌, ◌<◌, Bool, false, cond, List, [], ◌∷◌, ◌++◌, drop, length, map, Some, Result, Ok, Err, refl, sym, ap}
-use Rattle.std.proofs.Common.{ap₂, subst, ◌∙◌, arith, append_assoc, append-nil, OnOk, slice_get, ◌==◌}
-use Rattle.dbscan.proofs.Common.{Moves, MovesBySome, Errand, Go, Follow, errands_at, freelist_start, schema_start, start_of, encoding, first_trunk, trunk, Way}
-use Rattle.dbscan.proofs.Common.{Reference, SchemaRow, Event, start_errands, Survey, Encoding, RunError, Finding, reported_below, visited_below, AreMarksOf}
-use Rattle.dbscan.proofs.Common.{Mark}
-use Rattle.dbscan.proofs.Common.{Notice, found, ended, errands_left, root_reference, tree_notices, later_notices, start_notices, IsSchemaOf, at_freelist}
-use Rattle.dbscan.proofs.Common.{at_row, at_schema, later_errands, root_of, schema_reference, IsAtStarts, IsTreeWalked, IsWalkedOver, IsSchemaWalked}
-use Rattle.dbscan.proofs.Common.{IsBetweenStarts, StopsReporting, AreReported, AreWalked}
-use Rattle.std.specs.List.{enumerate_from}
-use Rattle.dbsurvey.proofs.Moving.{Moves-append, some_first, some_after}
-use Rattle.dbformat.specs.Schema.{start as start_at}
+use Rattle.std.proofs.Common.{◌≡◌, ◌↔◌, ℕ, ◌+◌, ◌-◌, ◌<◌, Bool, false, List, [], ◌∷◌, ◌++◌, drop, length, map, Some, Result, Ok, Err, refl, sym, ap, subst, ◌∙◌}
+use Rattle.std.proofs.Common.{arith, append_assoc, append-nil, OnOk, slice_get, ◌==◌}
+use Rattle.dbscan.proofs.Common.{Moves, MovesBySome, Errand, Go, schema_start, start_of, encoding, first_trunk, Way, Reference, SchemaRow, Event, start_errands}
+use Rattle.dbscan.proofs.Common.{Survey, Encoding, RunError, Finding, reported_below, visited_below, AreMarksOf, Mark, Notice, found, ended, errands_left}
+use Rattle.dbscan.proofs.Common.{root_reference, tree_notices, later_notices, start_notices, IsSchemaOf, at_freelist, at_row, at_schema, later_errands, root_of}
+use Rattle.dbscan.proofs.Common.{schema_reference, IsAtStarts, IsTreeWalked, IsWalkedOver, IsSchemaWalked, IsBetweenStarts, StopsReporting, AreReported}
+use Rattle.dbscan.proofs.Common.{AreWalked, enumerate_from, Moves-append, some_first, some_after, StartsEmpty, IsRootAfter, Notifier}
+use Rattle.std.proofs.lemmas.List.{drop_more}
+use Rattle.std.proofs.lemmas.Option.{get_or_from_slice_get}
 use Rattle.dbwalk.specs.Done.{IsDone, IsTreeDone}
 use Rattle.dbwalk.specs.Entered.{IsNext}
-use Rattle.dbwalk.specs.Taking.{StartsEmpty, gives, readable_rows}
-use Rattle.dbwalk.specs.Roots.{IsRootAfter}
+use Rattle.dbwalk.specs.Taking.{gives, readable_rows}
 use Rattle.dbwalk.specs.Trunks.{IsFirstTrunk, freelist_reference}
 use Rattle.dbwalk.specs.declared.root.Root.{Root}
 use Rattle.dbwalk.specs.declared.root.RootKind.TheVariants.{Schema}
@@ -25,9 +22,8 @@ use Rattle.dbwalk.proofs.Reporting.Lefts.{left_call, left_none}
 use Rattle.dbwalk.proofs.Trees.Bounds.{root_address}
 use Rattle.dbscan.specs.Notifiers.{HandsOn}
 use Rattle.dbscan.specs.Walks.{Any}
-use Rattle.dbscan.specs.declared.notifier.Notifier.{Notifier}
 use Rattle.dbscan.proofs.RunItems.{all_visited, starts_left, survey_below_starts}
-use Rattle.dbscan.proofs.Starts.{drop_more, no_schema_kind, quiet_go, root_next, row_there, some_is}
+use Rattle.dbscan.proofs.Starts.{no_schema_kind, quiet_go, root_next}
 use Rattle.dbscan.proofs.Notifiers.{notifier_moves, notifier_some}
 
 any_moves : (items : List Finding) → Moves Any tt items tt
@@ -51,62 +47,7 @@ at_end file V survey U marks h =
 module _ {S : Type 0} (receives : S → Notice → S → Type 0) where
   -- ---- one tree
 
-  module _ {T : Type 0} (keeps : T → SchemaRow → Taken → T → Type 0) (refuses : T → SchemaRow → T → Type 0) (file : List ℕ) (W : List Reference) (c : Reference)
-      (marks : List Mark) (w m : Notifier S) (first u : T) where
-    abbrev items : List Finding
-    items = reported_below file W (Go c ∷ [])
-
-    -- what is below its root is marked and was reported, and the taker was given the rows of the schema
-    abbrev IsDoneBy : Result (Unit {0}) RunError → Type 0
-    IsDoneBy r = IsDone (HandsOn receives) file W (Go c ∷ []) r marks w m
-        × (start_of c.address ≡ schema_start → OnOk r (Moves (gives keeps) first (readable_rows file (W ++ visited_below file W (Go c ∷ []))) u))
-
-    -- with a taker that starts empty, if the tree is the schema's
-    pub root_done : (r : Result (Unit {0}) RunError) (root : Root) (old : List Mark) → IsRootAfter file root W c old
-        → ((root.kind ≡ Schema) ↔ (root.start ≡ schema_start)) → (held : T → ℕ) → (root.kind ≡ Schema → StartsEmpty keeps held first)
-        → IsTreeDone (HandsOn receives) keeps refuses file W c r marks (w, first) (m, u) → IsDoneBy r
-    root_done r root old after schema held empty done =
-        let at = root_address c.address root.start after.candidate.depth after.candidate.start in
-        let first_empty : start_of c.address ≡ schema_start → StartsEmpty keeps held first = λ z. empty (schema.1 (sym after.candidate.start ∙ z)) in (
-          tree_reported (HandsOn receives) keeps refuses file root.start W c at after.early r marks (w, first) (m, u) done held first_empty,
-          tree_given (HandsOn receives) keeps refuses file root.start W c at after.early r marks (w, first) (m, u) done held first_empty,
-        )
-
-    -- an error stopped the walk
-    pub tree_stopped : (e : RunError) → IsDoneBy (Err e)
-        → IsWalkedOver {A = Unit {0}} receives keeps file W c (Err e) marks w m first u
-    tree_stopped e d = record {
-      tree = record {
-        marked = tt;
-        reported = some_first receives w.reporter.now m.reporter.now (map (found w.start.now) items) (ended w.start.now ∷ [])
-            (notifier_some receives items w m d.0.reported);
-      };
-      has_rows = tt;
-      given = λ k. tt;
-    }
-
-    -- all was reported, and then that the tree ended
-    module _ (t : Notifier S) (d : IsDoneBy (Ok tt)) (e : receives m.reporter.now (ended m.start.now) t.reporter.now) where
-      all_reported : Moves receives w.reporter.now (tree_notices w.start.now file W c) t.reporter.now
-      all_reported =
-          let k = notifier_moves receives items w m d.0.reported in
-          Moves-append receives w.reporter.now m.reporter.now t.reporter.now (map (found w.start.now) items) (ended w.start.now ∷ []) k.0
-          (t.reporter.now, subst (λ at. receives m.reporter.now (ended at) t.reporter.now) k.1 e, refl)
-
-      -- of which all was taken, or not
-      pub tree_ended : t.has_rows ≡ m.has_rows → (r : Result (Unit {0}) RunError) → IsWalkedOver receives keeps file W c r marks w t first u
-      tree_ended rows (Ok x) = record {
-        tree = record { marked = d.0.marked; reported = all_reported };
-        has_rows = rows ∙ (notifier_moves receives items w m d.0.reported).2;
-        given = d.1;
-      }
-      tree_ended rows (Err x) = record {
-        tree = record { marked = tt; reported = moves_some receives w.reporter.now t.reporter.now (tree_notices w.start.now file W c) all_reported };
-        has_rows = tt;
-        given = λ k. tt;
-      }
-
-  -- the tree of a root, with a taker that starts empty, if the tree is the schema's: it was walked over, or an error stopped the walk
+  -- the tree of a root, with a taker that starts empty, if the tree is the schema's
   module _ {T : Type 0} (keeps : T → SchemaRow → Taken → T → Type 0) (refuses : T → SchemaRow → T → Type 0) (file : List ℕ) (named : Root)
       (old marks : List Mark) (w m : Notifier S) (first u : T) (schema : (named.kind ≡ Schema) ↔ (named.start ≡ schema_start)) where
     abbrev IsDoneFrom : Result (Unit {0}) RunError → Type 0
@@ -117,28 +58,57 @@ module _ {S : Type 0} (receives : S → Notice → S → Type 0) where
     IsWalkedFrom r t = named.encoding ≡ encoding file → (W : List Reference) (c : Reference) → IsRootAfter file named W c old → (held : T → ℕ)
         → (named.kind ≡ Schema → StartsEmpty keeps held first) → IsWalkedOver receives keeps file W c r marks w t first u
 
-    pub from_stopped : (e : RunError) → IsDoneFrom (Err e) → IsWalkedFrom (Err e) m
-    from_stopped e done code W c after held empty = tree_stopped keeps refuses file W c marks w m first u e
-        (root_done keeps refuses file W c marks w m first u (Err e) named old after schema held empty (done code W c after))
+    -- what is below its root is marked and was reported, and the taker was given the rows of the schema
+    root_done : (r : Result (Unit {0}) RunError) → IsDoneFrom r → named.encoding ≡ encoding file → (W : List Reference) (c : Reference)
+        → IsRootAfter file named W c old → (held : T → ℕ) → (named.kind ≡ Schema → StartsEmpty keeps held first)
+        → IsDone (HandsOn receives) file W (Go c ∷ []) r marks w m
+        × (start_of c.address ≡ schema_start → OnOk r (Moves (gives keeps) first (readable_rows file (W ++ visited_below file W (Go c ∷ []))) u))
+    root_done r done code W c after held empty =
+        let at = root_address c.address named.start after.candidate.depth after.candidate.start in
+        let first_empty : start_of c.address ≡ schema_start → StartsEmpty keeps held first = λ z. empty (schema.1 (sym after.candidate.start ∙ z)) in
+        let all = done code W c after in (
+          tree_reported (HandsOn receives) keeps refuses file named.start W c at after.early r marks (w, first) (m, u) all held first_empty,
+          tree_given (HandsOn receives) keeps refuses file named.start W c at after.early r marks (w, first) (m, u) all held first_empty,
+        )
 
+    -- an error stopped the walk
+    pub from_stopped : (e : RunError) → IsDoneFrom (Err e) → IsWalkedFrom (Err e) m
+    from_stopped e done code W c after held empty =
+        let items = reported_below file W (Go c ∷ []) in
+        let d = root_done (Err e) done code W c after held empty in record {
+          tree = record {
+            marked = tt;
+            reported = some_first receives w.reporter.now m.reporter.now (map (found w.start.now) items) (ended w.start.now ∷ [])
+                (notifier_some receives items w m d.0.reported);
+          };
+          has_rows = tt;
+          given = λ k. tt;
+        }
+
+    -- all was reported, and then that the tree ended
+    all_reported : (W : List Reference) (c : Reference) (t : Notifier S) → Moves (HandsOn receives) w (reported_below file W (Go c ∷ [])) m
+        → receives m.reporter.now (ended m.start.now) t.reporter.now → Moves receives w.reporter.now (tree_notices w.start.now file W c) t.reporter.now
+    all_reported W c t moved ends =
+        let items = reported_below file W (Go c ∷ []) in
+        let k = notifier_moves receives items w m moved in
+        Moves-append receives w.reporter.now m.reporter.now t.reporter.now (map (found w.start.now) items) (ended w.start.now ∷ []) k.0
+        (t.reporter.now, subst (λ at. receives m.reporter.now (ended at) t.reporter.now) k.1 ends, refl)
+
+    -- of which all was taken, or not
     pub from_ended : (t : Notifier S) → receives m.reporter.now (ended m.start.now) t.reporter.now → t.has_rows ≡ m.has_rows → (r : Result (Unit {0}) RunError)
         → IsDoneFrom (Ok tt) → IsWalkedFrom r t
-    from_ended t ends rows r done code W c after held empty = tree_ended keeps refuses file W c marks w m first u t
-        (root_done keeps refuses file W c marks w m first u (Ok tt) named old after schema held empty (done code W c after)) ends rows r
-
-  -- the tree of a row of a list, by the root that it names; the taker is not asked
-  row_walked : {T : Type 0} (keeps : T → SchemaRow → Taken → T → Type 0) (file : List ℕ) (code : Encoding) (k : ℕ) (own row : SchemaRow) (named : Root)
-      (old marks : List Mark) (w t : Notifier S) (first u : T) (r : Result (Unit {0}) RunError)
-      → code ≡ encoding file → own ≡ row → named ≡ root_of code k own → w.start.now ≡ at_row k own
-      → (named.encoding ≡ encoding file → (W : List Reference) (c : Reference) → IsRootAfter file named W c old → (held : T → ℕ)
-      → (named.kind ≡ Schema → StartsEmpty keeps held first) → IsWalkedOver receives keeps file W c r marks w t first u)
-      → (W : List Reference) (c : Reference) → IsRootAfter file (root_of (encoding file) k row) W c old
-      → IsTreeWalked receives (at_row k row) file W c r marks w.reporter.now t.reporter.now
-  row_walked keeps file code k own row named old marks w t first u r coded same is at walked W c after =
-      let root : named ≡ root_of (encoding file) k row = is ∙ ap₂ (λ x y. root_of x k y) coded same in
-      subst (λ at. IsTreeWalked receives at file W c r marks w.reporter.now t.reporter.now) (at ∙ ap (at_row k) same)
-      (walked (ap (λ (x : Root). x.encoding) root) W c (subst (λ x. IsRootAfter file x W c old) (sym root) after) (λ x. 0)
-      (λ s. absurd (no_schema_kind row.kind (ap (λ (x : Root). x.kind) (sym root) ∙ s)))).tree
+    from_ended t ends rows (Ok x) done code W c after held empty =
+        let d = root_done (Ok tt) done code W c after held empty in record {
+          tree = record { marked = d.0.marked; reported = all_reported W c t d.0.reported ends };
+          has_rows = rows ∙ (notifier_moves receives (reported_below file W (Go c ∷ [])) w m d.0.reported).2;
+          given = d.1;
+        }
+    from_ended t ends rows (Err x) done code W c after held empty =
+        let all = all_reported W c t (root_done (Ok tt) done code W c after held empty).0.reported ends in record {
+          tree = record { marked = tt; reported = moves_some receives w.reporter.now t.reporter.now (tree_notices w.start.now file W c) all };
+          has_rows = tt;
+          given = λ k. tt;
+        }
 
   module _ (file : List ℕ) (V : List Reference) (survey : Survey file V) (before : S) where
     -- ---- the schema's tree
@@ -182,23 +152,6 @@ module _ {S : Type 0} (receives : S → Notice → S → Type 0) where
           subst (λ L. MovesBySome receives before L t) (append_assoc h.notices its others ∙ h.rest)
           (some_first receives before t (h.notices ++ its) others (some_after receives before s t h.notices its h.reported d.reported))
 
-      root_reported : (rows : List SchemaRow) (i : ℕ) (r : Result (Unit {0}) RunError) → i < length rows
-          → IsBetweenStarts receives file V before (enumerate_from (i + 1) (drop i rows)) marks s
-          → ((row : SchemaRow) → slice_get rows (i + 1 - 1) ≡ Some row → (U : List Reference) (d : Reference)
-          → IsRootAfter file (root_of (encoding file) (i + 1) row) U d marks
-          → IsTreeWalked receives (at_row (i + 1) row) file U d r marks' s t)
-          → StopsReporting receives file V before (enumerate_from (i + 1 + 1) (drop (i + 1) rows)) r marks' t
-      root_reported rows i r l h walked =
-          let n : i + 1 - 1 ≡ i = omega arith in
-          let k : suc i ≡ i + 1 = omega arith in
-          let there = row_there rows i l in
-          let here : drop i rows ≡ there.0 ∷ drop (i + 1) rows = drop_more rows i there.0 there.1 ∙ ap (λ j. there.0 ∷ drop j rows) k in
-          let rest = enumerate_from (i + 1 + 1) (drop (i + 1) rows) in
-          let left : IsBetweenStarts receives file V before ((i + 1, there.0) ∷ rest) marks s =
-          subst (λ l. IsBetweenStarts receives file V before (enumerate_from (i + 1) l) marks s) here h in
-          let next = root_next file V left.visits marks (encoding file) (i + 1) there.0 (errands_left file rest) (survey_below_starts file V survey) left.at in
-          next_reported (i + 1) there.0 rest left r (walked there.0 (ap (slice_get rows) n ∙ there.1) left.visits (root_reference file (i + 1) there.0) next)
-
     -- by the walk over its tree
     pub next_row : (marks marks' : List Mark) (s : S) {T : Type 0} (keeps : T → SchemaRow → Taken → T → Type 0) (rows : List SchemaRow) (i : ℕ)
         (r : Result (Unit {0}) RunError)
@@ -210,9 +163,20 @@ module _ {S : Type 0} (receives : S → Notice → S → Type 0) where
         → (named.kind ≡ Schema → StartsEmpty keeps held first) → IsWalkedOver receives keeps file W c r marks' w t first u)
         → StopsReporting receives file V before (enumerate_from (i + 1 + 1) (drop (i + 1) rows)) r marks' t.reporter.now
     next_row marks marks' s keeps rows i r code own named w t first u l h coded there is at from walked =
-        root_reported marks marks' s t.reporter.now rows i r l h (λ row e W c after.
-        subst (λ x. IsTreeWalked {A = Unit {0}} receives (at_row (i + 1) row) file W c r marks' x t.reporter.now) from
-        (row_walked keeps file code (i + 1) own row named marks marks' w t first u r coded (some_is (sym there ∙ e)) is at walked W c after))
+        let c = root_reference file (i + 1) own in
+        let n : i + 1 - 1 ≡ i = omega arith in
+        let found = get_or_from_slice_get rows i own own (ap (slice_get rows) (sym n) ∙ there) in
+        let here : drop i rows ≡ own ∷ drop (i + 1) rows = drop_more rows i own l ∙ ap (λ x. x ∷ drop (i + 1) rows) found in
+        let rest = enumerate_from (i + 1 + 1) (drop (i + 1) rows) in
+        let left : IsBetweenStarts receives file V before ((i + 1, own) ∷ rest) marks s =
+        subst (λ l. IsBetweenStarts receives file V before (enumerate_from (i + 1) l) marks s) here h in
+        let root : named ≡ root_of (encoding file) (i + 1) own = is ∙ ap (λ x. root_of x (i + 1) own) coded in
+        let next = root_next file V left.visits marks (encoding file) (i + 1) own (errands_left file rest) (survey_below_starts file V survey) left.at in
+        let tree = (walked (ap (λ (x : Root). x.encoding) root) left.visits c (subst (λ x. IsRootAfter file x left.visits c marks) (sym root) next) (λ x. 0)
+        (λ z. absurd (no_schema_kind own.kind (ap (λ (x : Root). x.kind) (sym root) ∙ z)))).tree in
+        next_reported marks marks' s t.reporter.now (i + 1) own rest left r
+        (subst (λ x. IsTreeWalked {A = Unit {0}} receives (at_row (i + 1) own) file left.visits c r marks' x t.reporter.now) from
+        (subst (λ at. IsTreeWalked {A = Unit {0}} receives at file left.visits c r marks' w.reporter.now t.reporter.now) at tree))
 
     -- ---- the freelist, which is the last
 
@@ -229,8 +193,7 @@ module _ {S : Type 0} (receives : S → Notice → S → Type 0) where
         d = freelist_reference first
 
         one : errands_left file [] ≡ Go d ∷ []
-        one = ap (λ n. errands_at [] (map Follow (cond (n == 0) [] (start_at freelist_start trunk n ∷ [])))) (sym e)
-            ∙ ap (λ b. errands_at [] (map Follow (cond b [] (start_at freelist_start trunk first ∷ [])))) some
+        one = rw (← e, some) refl
 
         at : IsAtStarts file V h.visits (Go d ∷ []) marks
         at = subst (λ es. IsAtStarts file V h.visits es marks) one h.at
@@ -266,7 +229,7 @@ module _ {S : Type 0} (receives : S → Notice → S → Type 0) where
     }
       where
         none : errands_left file [] ≡ []
-        none = ap (λ n. errands_at [] (map Follow (cond (n == 0) [] (start_at freelist_start trunk n ∷ [])))) e
+        none = rw e refl
 
         all : h.notices ≡ start_notices file V
         all = sym (append-nil h.notices) ∙ ap (λ L. h.notices ++ map (found at_freelist) L) (sym (reported_none file h.visits))

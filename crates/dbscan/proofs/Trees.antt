@@ -1,13 +1,9 @@
 -- The starts of pages, as the rows of a file are received.
 use Rattle.std.proofs.Common.{◌≡◌, ℕ, ◌<◌, ◌⊎◌, inl, inr, List, [], ◌∷◌, length, Option, Some, refl, sym, ap, subst, ◌∙◌, arith, fold, filter_map, slice_get}
-use Rattle.std.proofs.Common.{◌==◌}
-use Rattle.dbscan.proofs.Common.{IsIn, start_of, geometry, Reference, role_of, StatRow, row_in, stat_rows, start_at, Survey, AreTrees}
-use Rattle.std.proofs.lemmas.Bool.{both_ways, cases_Bool, eqb-true, eq-eqb}
-use Rattle.std.proofs.lemmas.Bool.Decides.{nat_tests}
-use Rattle.std.proofs.Math.ListN.{length-set}
+use Rattle.std.proofs.Common.{◌==◌, eqb-true, eq-eqb, length-set}
+use Rattle.dbscan.proofs.Common.{IsIn, start_of, geometry, Reference, role_of, StatRow, row_in, stat_rows, start_at, Survey, AreTrees, both_ways, cases_Bool}
+use Rattle.dbscan.proofs.Common.{nat_tests, start_here, allowed}
 use Rattle.dbsurvey.proofs.Lists.{filter_map-from, filter_map-has}
-use Rattle.dbformat.proofs.BelowStarts.{start_here}
-use Rattle.dbformat.proofs.Visited.{allowed}
 use Rattle.dbsound.proofs.RowCounts.RowPages.{of_row, row_of}
 use Rattle.dbscan.specs.Trees.{row_noted}
 use Rattle.dbscan.proofs.Slots.{get_set, get_set_other}
@@ -47,12 +43,10 @@ all_noted file V known s room r i off =
     row_by : Reference → Option StatRow
     row_by r = row_in (role_of r) file r
 
-    some : (x y : ℕ) → Some x ≡ Some y → x ≡ y
-    some x y e = cc
-
     same : (q : StatRow) → IsIn q (filter_map row_by V) → q.page ≡ r.page → q.start ≡ start_of r.address
     same q j e =
         let t = filter_map-from row_by V q j in
         let of = of_row file t.0 (role_of t.0) q t.2 in
-        of.1 ∙ some (start_of t.0.address) (start_of r.address)
-        (sym (start_here file V s t.0 t.1) ∙ ap (start_at V) (sym of.0 ∙ e) ∙ start_here file V s r i)
+        let there : start_at V q.page ≡ Some (start_of t.0.address) = ap (start_at V) of.0 ∙ start_here file V s t.0 t.1 in
+        let here : start_at V q.page ≡ Some (start_of r.address) = ap (start_at V) e ∙ start_here file V s r i in
+        cc

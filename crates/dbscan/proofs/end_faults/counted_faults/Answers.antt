@@ -1,5 +1,5 @@
 use Rattle.std.proofs.Common.{arith, append_assoc}
-use Rattle.std.proofs.lemmas.Bool.Decides.{nat_tests}
+use Rattle.dbscan.proofs.Common.{nat_tests}
 use Rattle.dbscan.proofs.end_faults.counted_faults.Goals as goal
 
 pub returns : goal.returns

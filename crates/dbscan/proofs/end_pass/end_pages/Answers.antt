@@ -1,13 +1,11 @@
 use Rattle.std.proofs.Common.{◌≡◌, ◌+◌, length, Ok, Err, refl, sym, ap, ◌∙◌, subst, arith}
 use Rattle.dbscan.proofs.Common.{Moves, MovesBySome, geometry, Geometry, mark_of, page_mark, page_notices, pages_items, IsMapInUse, MapReadsBefore}
-use Rattle.dbsurvey.proofs.Moving.{Moves-append, some_first, some_after}
-use Rattle.dbsource.specs.Bench.{Pages}
-use Rattle.dbsource.proofs.Logs.{asks_then, asks_weaker, has_none}
+use Rattle.dbscan.proofs.Common.{Moves-append, some_first, some_after, Pages, asks_then, asks_weaker, err_is}
+use Rattle.dbsource.proofs.Logs.{has_none}
 use Rattle.dbmarks.proofs.Markings.{page_mark-in, marks_of-length}
 use Rattle.dbscan.specs.MapReads.{IsMapTurn}
 use Rattle.dbscan.proofs.EndItems.{items_one_more, items_begin, fixed_by_mark}
 use Rattle.dbscan.proofs.MapLogs.{reads_none, reads_more}
-use Rattle.dbwalk.proofs.Reporting.Sinks.{err_is}
 use Rattle.dbscan.proofs.end_pass.end_pages.Goals as goal
 
 pub loop-index-init : goal.loop-index-init

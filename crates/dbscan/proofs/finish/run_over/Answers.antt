@@ -1,10 +1,9 @@
 use Rattle.std.proofs.Common.{rules, Err, subst, sym, ◌∙◌}
-use Rattle.dbsource.specs.Headed.{HeadedStep}
+use Rattle.dbscan.proofs.Common.{HeadedStep, err_is}
 use Rattle.dbsource.proofs.Runs.{same_front}
 use Rattle.dbscan.specs.Finishes.{HasReported, Leaves}
 use Rattle.dbscan.proofs.Keeping.{keeps_error, keeps_then}
 use Rattle.dbscan.proofs.Traced.{run_reported, scan_finished, scan_stopped}
-use Rattle.dbwalk.proofs.Reporting.Sinks.{err_is}
 use Rattle.dbscan.proofs.finish.run_over.Goals as goal
 
 pub returns-in_err-scan : goal.returns-in_err-scan
@@ -14,8 +13,7 @@ returns-in_err-scan g c =
     let leaves = Leaves g.K.Reporter.receives g.K.Finish.leaves in
     let end = c.scan.new in
     let old : g.row.S.Denot × g.row.K.Denot = (c.args.source.now, c.args.reporter.now) in
-    let asks = scan_stopped g.K.Reporter.receives g.K.Finish.leaves (HeadedStep g.S.Source.step) c.renew.new.self end.desk c.args.reporter.now end.reporter e
-    c.in_err-scan.ensures.asks in
+    let asks = scan_stopped g.K.Reporter.receives g.K.Finish.leaves (HeadedStep g.S.Source.step) c.renew.new.self end.desk _ _ e c.in_err-scan.ensures.asks in
     let same = (same_front g.S.Source.step _ _ _ _ _ _ _ _ asks.log).0 in
     rw (err_is c.from_residual.ensures.1)
     (subst (λ x. HasReported g.S.Source held leaves (Err e) c.args.desk.now end.desk old (x, end.reporter)) (search (rules, same))

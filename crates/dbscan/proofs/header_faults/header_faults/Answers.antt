@@ -1,5 +1,5 @@
 use Rattle.std.proofs.Common.{arith, append_assoc}
-use Rattle.dbformat.specs.HeaderFaults.{header_faults}
+use Rattle.dbscan.proofs.Common.{header_faults}
 use Rattle.dbscan.proofs.header_faults.header_faults.Goals as goal
 
 pub returns : goal.returns

@@ -1,9 +1,6 @@
 use Rattle.std.proofs.Common.{◌≡◌, ℕ, Bool, List, Ok, Err, refl, sym, ap, ◌∙◌}
-use Rattle.dbscan.proofs.Common.{geometry, page_bytes, Geometry, lost_cause_at, is_unmarked}
-use Rattle.std.proofs.lemmas.Result.{err_from_is_err_and}
+use Rattle.dbscan.proofs.Common.{geometry, page_bytes, Geometry, lost_cause_at, is_unmarked, err_from_is_err_and, Cause, Pages}
 use Rattle.dbtrace.specs.Causes.{lost_cause}
-use Rattle.dbtrace.specs.declared.Cause.{Cause}
-use Rattle.dbsource.specs.Bench.{Pages}
 use Rattle.dbsource.proofs.Logs.{has_weaker}
 use Rattle.dbmarks.proofs.Readings.{log_load}
 use Rattle.dbwalk.proofs.Chaining.Overflows.{page_read}

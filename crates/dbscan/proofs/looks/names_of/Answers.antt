@@ -1,7 +1,5 @@
-use Rattle.std.proofs.Common.{rules, ◌≡◌, ℕ, ◌+◌, ◌≤◌, Bool, true, false, cond, Option, Some, None, refl, sym, ap, ◌∙◌, arith, count_by, is_some}
-use Rattle.dbscan.proofs.Common.{View, is_unmarked}
-use Rattle.std.specs.List.{range_with_len}
-use Rattle.std.specs.Option.{option_map_or}
+use Rattle.std.proofs.Common.{rules, ◌≡◌, ℕ, ◌+◌, ◌≤◌, Bool, true, false, cond, Option, Some, None, refl, sym, ◌∙◌, arith, count_by, is_some}
+use Rattle.dbscan.proofs.Common.{View, is_unmarked, range_with_len, option_map_or}
 use Rattle.dbsurvey.proofs.Ranges.{count_push}
 use Rattle.dbformat.specs.NamedPages.{named_page}
 use Rattle.dbscan.proofs.looks.names_of.Goals.{in-Some+then-is_lost, in-Some+else-is_lost, in_default}
@@ -14,23 +12,14 @@ IsOf v lost i pages gone =
     × (gone ≡ count_by (λ k. option_map_or lost (named_page v k) false) (range_with_len 0 i))
     × (pages ≤ i) × (gone ≤ i)
 
-one_at_most : (n i : ℕ) (b : Bool) → n ≤ i → n + cond b 1 0 ≤ i + 1
-one_at_most n i true l = omega (arith, l)
-one_at_most n i false l = omega (arith, l)
-
 -- with the next one
 next : (v : View) (lost : ℕ → Bool) (i pages gone : ℕ) (o : Option ℕ) (b : Bool) → named_page v i ≡ o → option_map_or lost o false ≡ b
     → IsOf v lost i pages gone
     → IsOf v lost (i + 1) (pages + cond (is_some o) 1 0) (gone + cond b 1 0)
-next v lost i pages gone o b e f is = (
-  ap (λ n. n + cond (is_some o) 1 0) is.0 ∙ ap (λ o. count_by (λ k. is_some (named_page v k)) (range_with_len 0 i) + cond (is_some o) 1 0) (sym e)
-      ∙ sym (count_push (λ k. is_some (named_page v k)) 0 i i (omega arith)),
-  ap (λ n. n + cond b 1 0) is.1 ∙ ap (λ b. count_by (λ k. option_map_or lost (named_page v k) false) (range_with_len 0 i) + cond b 1 0)
-      (sym f ∙ ap (λ o. option_map_or lost o false) (sym e))
-      ∙ sym (count_push (λ k. option_map_or lost (named_page v k) false) 0 i i (omega arith)),
-  one_at_most pages i (is_some o) is.2,
-  one_at_most gone i b is.3,
-)
+next v lost i pages gone o b e f is =
+    let named = count_push (λ k. is_some (named_page v k)) 0 i i (omega arith) in
+    let unmarked = count_push (λ k. option_map_or lost (named_page v k) false) 0 i i (omega arith) in
+    (grind arith, grind arith, grind arith, grind arith)
 
 none_more : (n : ℕ) → n ≡ n + 0
 none_more n = omega arith

@@ -1,7 +1,5 @@
 use Rattle.std.proofs.Common.{◌≡◌, ◌≤◌, false, count_by, is_some}
-use Rattle.dbscan.proofs.Common.{is_unmarked}
-use Rattle.std.specs.List.{range_with_len}
-use Rattle.std.specs.Option.{option_map_or}
+use Rattle.dbscan.proofs.Common.{is_unmarked, range_with_len, option_map_or}
 use Rattle.dbformat.specs.NamedPages.{named_page}
 use Rattle.dbscan.proofs.looks.names_of.Given as goal
 

@@ -1,7 +1,6 @@
-use Rattle.std.proofs.Common.{arith, ◌≡◌, [], ◌∷◌, ◌++◌, take, Some, None, refl, sym, subst, ◌∙◌, IfErr}
-use Rattle.dbscan.proofs.Common.{WriteFailed, Moves, SinkMoves, Reports, whole, items_of}
-use Rattle.std.proofs.lemmas.List.{append-nil, take_all}
-use Rattle.dbsurvey.proofs.Moving.{Moves-append, Moves-one}
+use Rattle.std.proofs.Common.{arith, ◌≡◌, [], ◌∷◌, ◌++◌, take, Some, None, refl, sym, subst, ◌∙◌, IfErr, append-nil, take_all}
+use Rattle.dbscan.proofs.Common.{WriteFailed, Moves, SinkMoves, Reports, whole, items_of, Moves-append}
+use Rattle.dbsurvey.proofs.Moving.{Moves-one}
 use Rattle.dbwalk.proofs.Reporting.Sinks.{asked_both, moves_some, moves_then}
 use Rattle.dbscan.proofs.Notifiers.{asked_after}
 use Rattle.dbscan.proofs.ReportedFaults.{items_more}

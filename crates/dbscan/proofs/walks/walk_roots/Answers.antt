@@ -1,16 +1,15 @@
 use Rattle.std.proofs.Common.{rules, ◌≡◌, ◌+◌, ◌-◌, ℕ, List, [], drop, length, Err, Ok, refl, sym, ap, subst, ◌∙◌, arith, option_map, slice_get}
-use Rattle.dbscan.proofs.Common.{geometry, encoding, Reference, Survey, Geometry, DeskView, desk_view, Listed, IsBetweenStarts, StopsReporting}
-use Rattle.std.specs.List.{enumerate_from}
+use Rattle.dbscan.proofs.Common.{geometry, encoding, Reference, Survey, Geometry, DeskView, desk_view, Listed, IsBetweenStarts, StopsReporting, enumerate_from}
+use Rattle.dbscan.proofs.Common.{asks_weaker, err_is}
 use Rattle.std.proofs.lemmas.Option.{none-some}
 use Rattle.dbformat.proofs.HeaderPrefix.{encoding_within}
-use Rattle.dbsource.proofs.Logs.{asks_weaker}
 use Rattle.dbmarks.proofs.Readings.{asks_then, log_none}
 use Rattle.dbwalk.specs.Rows.{schema_row_of}
 use Rattle.dbscan.proofs.DeskWalks.{desk_asks}
-use Rattle.dbscan.proofs.Starts.{drop_none, row_there}
+use Rattle.dbscan.proofs.Starts.{row_there}
+use Rattle.std.proofs.lemmas.List.{drop_all}
 use Rattle.dbscan.proofs.Notifiers.{unread}
 use Rattle.dbscan.proofs.TreeWalks.{from_ended, from_stopped, next_row}
-use Rattle.dbwalk.proofs.Reporting.Sinks.{err_is}
 use Rattle.dbscan.proofs.walks.walk_roots.Goals as goal
 
 pub loop-index-init : goal.loop-index-init
@@ -131,6 +130,6 @@ returns-clause-asks g c =
     (λ file is left V s before h.
     let rows = c.desk.inside.roots.rows in
     let count : at.index ≡ length rows = omega arith in
-    let none : drop at.index rows ≡ [] = drop_none rows at.index (omega (arith, count)) in
+    let none : drop at.index rows ≡ [] = drop_all at.index rows (omega (arith, count)) in
     subst (λ l. IsBetweenStarts g.K.Reporter.receives file V before (enumerate_from (at.index + 1) l) at.desk-inside.marks at.reporter) none
     (left (c.encoding-encoding.ensures ∙ ap encoding is.begins ∙ encoding_within file) V s before h))

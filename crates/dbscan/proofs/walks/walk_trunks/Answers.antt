@@ -1,6 +1,5 @@
 use Rattle.std.proofs.Common.{◌==◌, ◌≡◌, false, List, [], refl, sym, ap, ◌∙◌, arith}
-use Rattle.dbscan.proofs.Common.{geometry_of, first_trunk, Reference, Survey, HeaderBytes, DeskView, AreReported, IsBetweenStarts}
-use Rattle.std.proofs.lemmas.Bool.Decides.{nat_tests}
+use Rattle.dbscan.proofs.Common.{geometry_of, first_trunk, Reference, Survey, HeaderBytes, DeskView, AreReported, IsBetweenStarts, nat_tests}
 use Rattle.dbformat.proofs.HeaderPrefix.{first_trunk_within}
 use Rattle.dbmarks.proofs.Readings.{log_none}
 use Rattle.dbscan.proofs.DeskWalks.{desk_asks}

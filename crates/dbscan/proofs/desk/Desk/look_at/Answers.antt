@@ -1,7 +1,6 @@
 use Rattle.std.proofs.Common.{◌≡◌, [], ◌∷◌, refl, ap, subst, ◌∙◌, IfOk}
-use Rattle.dbscan.proofs.Common.{page_range, Geometry, lost_cause_at, IsHeaderOf, Asks, is_unmarked, DeskView, shape_of}
+use Rattle.dbscan.proofs.Common.{page_range, Geometry, lost_cause_at, IsHeaderOf, Asks, is_unmarked, DeskView, shape_of, asks_weaker}
 use Rattle.dbsource.specs.Failures.{is_any}
-use Rattle.dbsource.proofs.Logs.{asks_weaker}
 use Rattle.dbscan.proofs.desk.Desk.look_at.Goals as goal
 
 pub returns-clause-asks : goal.returns-clause-asks

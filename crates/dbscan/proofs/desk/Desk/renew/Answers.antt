@@ -1,6 +1,5 @@
 use Rattle.std.proofs.Common.{ap, ◌∙◌}
-use Rattle.dbmarks.proofs.FirstMarks.{fresh_marks}
-use Rattle.dbscan.specs.Desks.{DeskView}
+use Rattle.dbscan.proofs.Common.{fresh_marks, DeskView}
 use Rattle.dbscan.proofs.desk.Desk.renew.Goals as goal
 
 pub invariant_of-self : goal.invariant_of-self

@@ -1,4 +1,4 @@
-use Rattle.dbformat.specs.Address.{freelist_start}
+use Rattle.dbscan.proofs.Common.{freelist_start}
 use Rattle.dbscan.specs.StartTable.{most_starts}
 use Rattle.dbscan.proofs.StartTables.{all_rest}
 use Rattle.dbscan.proofs.start_table.StartTable.new_in.Goals as goal
