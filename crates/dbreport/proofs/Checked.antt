@@ -1,13 +1,13 @@
 -- What a check has written at each of its ends, and what it found, by the faults of the file.
-use Rattle.std.proofs.Common.{◌≡◌, ◌∙◌, ℕ, false, List, None, Result, Ok, Err, inl, inr, subst, sym, IfOk}
-use Rattle.dbreport.proofs.Common.{Moves, MovesBySome, Reference, check_text, faults, report, Survey, refusal, Check, Verdict, OutState, Puts, Writes, RunError}
-use Rattle.dbreport.proofs.Common.{WriteFailed, ReceivesFaults, run_notices}
+use Rattle.std.proofs.Common.{◌≡◌, ◌∙◌, ℕ, false, List, None, Result, Ok, Err, ap, inl, inr, subst, sym, IfOk}
+use Rattle.dbreport.proofs.Common.{Moves, MovesBySome, Reference, faults, report, Survey, refusal, Check, Verdict, OutState, Puts, Writes, RunError}
+use Rattle.dbreport.proofs.Common.{WriteFailed, ReceivesFaults, run_notices, ShowsFault}
 use Rattle.dbscan.specs.Finishes.{Leaves}
 use Rattle.dbscan.proofs.FaultsReceived.{faults_received_by}
-use Rattle.dbreport.specs.CheckReporter.{LeavesCheck, ShowsFault, end_text, found_verdict}
+use Rattle.dbreport.specs.CheckReporter.{LeavesCheck, end_text, found_verdict}
 use Rattle.dbreport.specs.declared.checking.CheckReporter.{CheckReporter}
 use Rattle.dbreport.proofs.RunAnswers.{if_ok}
-use Rattle.dbreport.proofs.RunReports.{check_answer, check_out}
+use Rattle.dbreport.proofs.RunReports.{check_is}
 use Rattle.dbreport.proofs.Checks.{check_writes, check_finds, check_begins}
 
 module _ {O : Type 0} (held : O → OutState) (file : List ℕ) (V : List Reference) (survey : Survey file V) where
@@ -46,10 +46,5 @@ module _ {O : Type 0} (held : O → OutState) (file : List ℕ) (V : List Refere
       → Leaves (ReceivesFaults (ShowsFault held)) (LeavesCheck held) file V r s t
       → Writes r (held out).bytes (held after).bytes (report (Check limit) file V).out × IfOk r (λ v. (report (Check limit) file V).answer ≡ Ok v)
   check_reported r s t out after limit same fresh most none no_more end read h =
-      let k = check_left r s t h fresh none no_more in (
-        check_out limit file V read r (held out).bytes (held after).bytes
-            (subst (λ o. Writes r (held o).bytes (held after).bytes (check_text limit (faults file V))) same
-            (subst (λ n. Writes r (held s.out.now).bytes (held after).bytes (check_text n (faults file V))) most
-            (subst (λ o. Writes r (held s.out.now).bytes (held o).bytes (check_text s.limit (faults file V))) (sym end) k.0))),
-        if_ok r (λ v e. check_answer limit file V read v e) k.1,
-      )
+      let k = check_left r s t h fresh none no_more in
+      rw (← same, ← most, end, check_is s.limit file V read) (k.0, if_ok r (λ v e. ap Ok (sym e)) k.1)

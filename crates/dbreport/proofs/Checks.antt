@@ -1,27 +1,17 @@
 -- What a check has written and found, by the findings that its reporter received.
-use Rattle.std.proofs.Common.{◌≡◌, ℕ, zero, suc, ◌+◌, ◌-◌, ◌^◌, ◌<◌, ◌≤◌, true, false, cond, inl, inr, List, [], ◌∷◌, ◌++◌, length, take, drop, Result, Ok, Err}
+use Rattle.std.proofs.Common.{◌≡◌, ℕ, zero, suc, ◌+◌, ◌-◌, ◌^◌, ◌<◌, ◌≤◌, false, cond, inl, inr, List, [], ◌∷◌, ◌++◌, length, take, drop, Result, Ok, Err}
 use Rattle.std.proofs.Common.{refl, sym, ap, ap₂, ◌∙◌, subst, arith, append_assoc, length-drop, flat_map, ◌==◌, nat_lt}
-use Rattle.dbreport.proofs.Common.{Moves, MovesBySome, counted, fault_line, ok_line, check_text, verdict, verdict_of, Fault, Verdict, Begins, OutState, Puts}
+use Rattle.dbreport.proofs.Common.{Moves, MovesBySome, counted, fault_line, ok_line, check_text, verdict, Fault, Verdict, Begins, OutState, Puts}
+use Rattle.dbreport.proofs.Common.{cases_Bool, nat_tests, begins_more, puts_then, ShowsFault}
 use Rattle.std.proofs.Math.Seq.{take-nil}
 use Rattle.std.proofs.lemmas.Grind.{common_steps}
-use Rattle.std.proofs.lemmas.Bool.{cases_Bool}
-use Rattle.std.proofs.lemmas.Bool.Decides.{nat_tests}
-use Rattle.dbformat.specs.Lines.{more_line}
 use Rattle.dbformat.specs.Report.{more_text}
 use Rattle.dbformat.proofs.Verdicts.{verdict_counted}
-use Rattle.dbsource.proofs.Beginnings.{begins_more}
-use Rattle.dbsource.proofs.Puts.{puts_then}
-use Rattle.dblines.specs.Writing.{Wrote, failure_answer}
+use Rattle.dblines.specs.Writing.{Wrote}
 use Rattle.dblines.specs.declared.writer.Writer.{Writer}
 use Rattle.dblines.proofs.Writing.{put_written, wrote_as, wrote_nothing, wrote_then}
-use Rattle.dbreport.specs.CheckReporter.{PutsAll, ShowsFault, end_text, found_verdict, writer_of}
+use Rattle.dbreport.specs.CheckReporter.{PutsAll, end_text, found_verdict, writer_of}
 use Rattle.dbreport.specs.declared.checking.CheckReporter.{CheckReporter}
-
-pub counted_is : (n : ℕ) → n ≤ 2 ^ 64 - 1 → n ≡ counted (n + 0)
-counted_is n h = omega arith
-
-pub counted_twice : (m k : ℕ) → counted (counted (m + 1) + k) ≡ counted (m + suc k)
-counted_twice m k = omega arith
 
 -- the lines of the first faults
 abbrev lines : ℕ → List Fault → List ℕ
@@ -30,20 +20,10 @@ lines limit fs = flat_map fault_line (take limit fs)
 -- ---- the last line
 
 pub more_counted : (n : ℕ) → more_text (counted n) ≡ more_text n
-more_counted zero = refl
-more_counted (suc k) =
-    let e : counted (suc k) ≡ suc (counted (suc k) - 1) = omega arith in
-    let c : counted (suc (counted (suc k) - 1)) ≡ counted (suc k) = omega arith in
-    ap more_text e ∙ ap more_line c
-
-parts : (limit : ℕ) (fs : List Fault) → length (take limit fs) + length (drop limit fs) ≡ length fs
-parts limit fs = grind (arith, common_steps)
+more_counted n = grind arith
 
 some_left : (limit : ℕ) (f : Fault) (fs : List Fault) → (length (take limit (f ∷ fs)) + counted (length (drop limit (f ∷ fs))) == 0) ≡ false
-some_left limit f fs =
-    let k = parts limit (f ∷ fs) in
-    let n : 0 < length (take limit (f ∷ fs)) + counted (length (drop limit (f ∷ fs))) = omega arith in
-    grind (arith, nat_tests)
+some_left limit f fs = grind (arith, common_steps, nat_tests)
 
 text_is : (limit : ℕ) (fs : List Fault) → lines limit fs ++ end_text (length (take limit fs)) (counted (length (drop limit fs))) ≡ check_text limit fs
 text_is limit [] =
@@ -54,10 +34,7 @@ text_is limit (f ∷ fs) =
     ∙ ap (λ l. lines limit (f ∷ fs) ++ l) (more_counted (length (drop limit (f ∷ fs))))
 
 verdict_is : (limit : ℕ) (fs : List Fault) → found_verdict (length (take limit fs)) (counted (length (drop limit fs))) ≡ verdict fs
-verdict_is limit fs =
-    let k = parts limit fs in
-    let e : counted (length (take limit fs) + counted (length (drop limit fs))) ≡ counted (length fs) = omega arith in
-    ap verdict_of e ∙ verdict_counted fs
+verdict_is limit fs = grind (arith, common_steps, verdict_counted)
 
 -- ---- a beginning
 
@@ -99,55 +76,11 @@ module _ {O : Type 0} (held : O → OutState) where
       let d : length (drop {A = Fault} (s.limit - s.shown) []) ≡ 0 = length-drop (s.limit - s.shown) [] ∙ omega arith in record {
         limit = refl;
         shown = omega arith;
-        more = counted_is s.more m ∙ ap (λ k. counted (s.more + k)) (sym d);
+        more = omega arith;
         wrote = wrote_as (ap (flat_map fault_line) (sym t)) (wrote_nothing (writer_of s));
       }
 
   module _ (s m : CheckReporter O) (f : Fault) (shows : ShowsFault held s f m) where
-    -- there is room for its line
-    room_less : nat_lt s.shown s.limit ≡ true → s.limit - s.shown ≡ suc (m.limit - m.shown)
-    room_less e =
-        let less : s.shown < s.limit = grind (arith, nat_tests) in
-        let shown : m.shown ≡ s.shown + 1 = rw e at shows.shown in
-        let l = shows.limit in omega arith
-
-    saw_shown : (fs : List Fault) (t : CheckReporter O) → nat_lt s.shown s.limit ≡ true → Saw m fs t → Saw s (f ∷ fs) t
-    saw_shown fs t e k =
-        let shown : m.shown ≡ s.shown + 1 = rw e at shows.shown in
-        let more : m.more ≡ s.more = rw e at shows.more in
-        let wrote : Wrote held (writer_of s) (fault_line f) (writer_of m) = rw e at shows.wrote in
-        let first : take (s.limit - s.shown) (f ∷ fs) ≡ f ∷ take (m.limit - m.shown) fs = ap (λ n. take n (f ∷ fs)) (room_less e) in
-        let rest : drop (s.limit - s.shown) (f ∷ fs) ≡ drop (m.limit - m.shown) fs = ap (λ n. drop n (f ∷ fs)) (room_less e) in record {
-          limit = k.limit ∙ shows.limit;
-          shown = let n : length (take (s.limit - s.shown) (f ∷ fs)) ≡ suc (length (take (m.limit - m.shown) fs)) = ap length first in let e =
-              k.shown in omega arith;
-          more = k.more ∙ ap₂ (λ x l. counted (x + length l)) more (sym rest);
-          wrote = wrote_as (ap (flat_map fault_line) (sym first)) (wrote_then wrote k.wrote);
-        }
-
-    -- there is none: it is counted
-    room_none : nat_lt s.shown s.limit ≡ false → s.shown ≤ s.limit → (s.limit - s.shown ≡ 0) × (m.limit - m.shown ≡ 0)
-    room_none e le =
-        let least : s.limit ≤ s.shown = grind (arith, nat_tests) in
-        let shown : m.shown ≡ s.shown = rw e at shows.shown in
-        let l = shows.limit in (omega arith, omega arith)
-
-    saw_counted : (fs : List Fault) (t : CheckReporter O) → nat_lt s.shown s.limit ≡ false → s.shown ≤ s.limit → Saw m fs t → Saw s (f ∷ fs) t
-    saw_counted fs t e le k =
-        let shown : m.shown ≡ s.shown = rw e at shows.shown in
-        let more : m.more ≡ counted (s.more + 1) = rw e at shows.more in
-        let wrote : Wrote held (writer_of s) [] (writer_of m) = rw e at shows.wrote in
-        let none = room_none e le in
-        let a : length (take (m.limit - m.shown) fs) ≡ 0 = ap (λ n. length (take n fs)) none.1 in
-        let b : length (take (s.limit - s.shown) (f ∷ fs)) ≡ 0 = ap (λ n. length (take n (f ∷ fs))) none.0 in
-        let c : length (drop (m.limit - m.shown) fs) ≡ length fs = ap (λ n. length (drop n fs)) none.1 in
-        let d : length (drop (s.limit - s.shown) (f ∷ fs)) ≡ suc (length fs) = ap (λ n. length (drop n (f ∷ fs))) none.0 in record {
-          limit = k.limit ∙ shows.limit;
-          shown = let e = k.shown in omega arith;
-          more = k.more ∙ ap₂ (λ x l. counted (x + l)) more c ∙ counted_twice s.more (length fs) ∙ ap (λ l. counted (s.more + l)) (sym d);
-          wrote = wrote_as (ap (λ n. lines n fs) none.1 ∙ ap (λ n. lines n (f ∷ fs)) (sym none.0)) (wrote_then wrote k.wrote);
-        }
-
     -- the bounds of the next one
     bounds_kept : s.shown ≤ s.limit → s.more ≤ 2 ^ 64 - 1 → (m.shown ≤ m.limit) × (m.more ≤ 2 ^ 64 - 1)
     bounds_kept l n = elim (cases_Bool (nat_lt s.shown s.limit)) [
@@ -162,8 +95,38 @@ module _ {O : Type 0} (held : O → OutState) where
           let limit = shows.limit in (omega arith, omega arith)
     ]
 
+    -- there is room for its line, or it is counted
     saw_fault : (fs : List Fault) (t : CheckReporter O) → s.shown ≤ s.limit → Saw m fs t → Saw s (f ∷ fs) t
-    saw_fault fs t l k = elim (cases_Bool (nat_lt s.shown s.limit)) [ inl e ↦ saw_shown fs t e k | inr e ↦ saw_counted fs t e l k ]
+    saw_fault fs t le k = elim (cases_Bool (nat_lt s.shown s.limit)) [
+      | inl e ↦
+          let less : s.shown < s.limit = grind (arith, nat_tests) in
+          let shown : m.shown ≡ s.shown + 1 = rw e at shows.shown in
+          let limit = shows.limit in
+          let room : s.limit - s.shown ≡ suc (m.limit - m.shown) = omega arith in
+          let first : take (s.limit - s.shown) (f ∷ fs) ≡ f ∷ take (m.limit - m.shown) fs = ap (λ n. take n (f ∷ fs)) room in
+          let n : length (take (s.limit - s.shown) (f ∷ fs)) ≡ suc (length (take (m.limit - m.shown) fs)) = ap length first in record {
+            limit = k.limit ∙ limit;
+            shown = let e = k.shown in omega arith;
+            more = k.more ∙ ap₂ (λ x l. counted (x + length l)) (rw e at shows.more) (ap (λ n. drop n (f ∷ fs)) (sym room));
+            wrote = wrote_as (ap (flat_map fault_line) (sym first)) (wrote_then (rw e at shows.wrote) k.wrote);
+          }
+      | inr e ↦
+          let least : s.limit ≤ s.shown = grind (arith, nat_tests) in
+          let shown : m.shown ≡ s.shown = rw e at shows.shown in
+          let more : m.more ≡ counted (s.more + 1) = rw e at shows.more in
+          let limit = shows.limit in
+          let none : s.limit - s.shown ≡ 0 = omega arith in
+          let none' : m.limit - m.shown ≡ 0 = omega arith in
+          let a : length (take (m.limit - m.shown) fs) ≡ 0 = ap (λ n. length (take n fs)) none' in
+          let b : length (take (s.limit - s.shown) (f ∷ fs)) ≡ 0 = ap (λ n. length (take n (f ∷ fs))) none in
+          let c : length (drop (m.limit - m.shown) fs) ≡ length fs = ap (λ n. length (drop n fs)) none' in
+          let d : length (drop (s.limit - s.shown) (f ∷ fs)) ≡ suc (length fs) = ap (λ n. length (drop n (f ∷ fs))) none in record {
+            limit = k.limit ∙ limit;
+            shown = let e = k.shown in omega arith;
+            more = let e = k.more in omega arith;
+            wrote = wrote_as (ap (λ n. lines n fs) none' ∙ ap (λ n. lines n (f ∷ fs)) (sym none)) (wrote_then (rw e at shows.wrote) k.wrote);
+          }
+    ]
 
   saw_all : (fs : List Fault) (s t : CheckReporter O) → s.shown ≤ s.limit → s.more ≤ 2 ^ 64 - 1 → Moves (ShowsFault held) s fs t → Saw s fs t
   saw_all [] s t l m h = subst (λ u. Saw s [] u) h (saw_none s m)
@@ -196,12 +159,10 @@ module _ {O : Type 0} (held : O → OutState) where
     -- all was reported, and then the last line was put
     module _ (open_last : t.has_failed ≡ false) (moved : Moves (ShowsFault held) s found t) where
       shown_is : t.shown ≡ length (take s.limit found)
-      shown_is = let z : 0 + length (take s.limit found) ≡ length (take s.limit found) = omega arith in (saw found moved).shown
-          ∙ ap₂ (λ a b. a + length (take b found)) none room ∙ z
+      shown_is = let k = rw room at (saw found moved).shown in omega arith
 
       more_is : t.more ≡ counted (length (drop s.limit found))
-      more_is = let z : 0 + length (drop s.limit found) ≡ length (drop s.limit found) = omega arith in (saw found moved).more
-          ∙ ap₂ (λ a b. counted (a + length (drop b found))) no_more room ∙ ap counted z
+      more_is = let k = rw room at (saw found moved).more in omega arith
 
       pub check_writes : {E : Type 0} (r : Result Verdict E) (u : OutState) → Puts r (held t.out.now) u (end_text t.shown t.more)
           → Puts r (held s.out.now) u (check_text s.limit found)

@@ -1,8 +1,8 @@
 -- The names of trees, by the rows of a list.
-use Rattle.std.proofs.Common.{◌≡◌, ℕ, zero, suc, false, cond, arith, List, [], ◌∷◌, take, Some, sym, ap, ◌∙◌, slice_get, codes, ◌==◌}
-use Rattle.dbreport.proofs.Common.{schema_start, tree_name, Reference, name_at}
+use Rattle.std.proofs.Common.{◌≡◌, ℕ, suc, false, cond, arith, List, [], take, Some, sym, ap, ◌∙◌, slice_get, codes, ◌==◌}
+use Rattle.dbreport.proofs.Common.{schema_start, tree_name, Reference, name_at, nat_tests}
 use Rattle.std.specs.Option.{option_map_or}
-use Rattle.std.proofs.lemmas.Bool.Decides.{nat_tests}
+use Rattle.std.proofs.lemmas.Grind.{common_steps, elements}
 use Rattle.dbformat.specs.Address.{last_root_start}
 use Rattle.dbformat.specs.Header.{encoding}
 use Rattle.dbformat.specs.Lines.{row_name_text}
@@ -12,11 +12,7 @@ use Rattle.dbscan.specs.Roots.{AreListed}
 use Rattle.dbscan.specs.Starts.{at_row}
 
 of_first : {X : Type 0} (n : ℕ) (xs : List X) (k : ℕ) (x : X) → slice_get (take n xs) k ≡ Some x → slice_get xs k ≡ Some x
-of_first zero [] k x e = cc
-of_first zero (y ∷ xs) k x e = cc
-of_first (suc n) [] k x e = cc
-of_first (suc n) (y ∷ xs) zero x e = e
-of_first (suc n) (y ∷ xs) (suc k) x e = of_first n xs k x e
+of_first n xs k x e = grind (arith, common_steps, elements)
 
 -- the k-th row of the list has the name of the tree of start k, as it is shown
 pub listed_name : (file : List ℕ) (V : List Reference) (rows : List SchemaRow) (k : ℕ) (r : SchemaRow) → AreListed file V rows → slice_get rows k ≡ Some r

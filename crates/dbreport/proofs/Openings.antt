@@ -1,24 +1,20 @@
 -- What is said of a run from the header on, by how its file was opened.
-use Rattle.std.proofs.Common.{◌≡◌, ℕ, false, List, Err, Result, refl, ap, ◌∙◌, IfErr}
+use Rattle.std.proofs.Common.{arith, ◌≡◌, ℕ, false, List, Err, Result, refl, ap, ◌∙◌, IfErr}
 use Rattle.dbreport.proofs.Common.{geometry, Verdict, is_write_failed, run_error, failures_after, HeaderBytes, Opens, RunError, OutOfMemory}
-use Rattle.dbreport.proofs.Common.{IsReadWriteOrMemory, AsksHeaderAlone, IsAnswerOf}
+use Rattle.dbreport.proofs.Common.{IsReadWriteOrMemory, AsksHeaderAlone, IsAnswerOf, IsSomeRunLog, OpenError, read_weaker}
 use Rattle.dbformat.specs.FixedPages.{geometry_of}
-use Rattle.dbformat.specs.Log.{IsPageLog, IsRunLog, IsSomeRunLog}
+use Rattle.dbformat.specs.Log.{IsPageLog, IsRunLog}
 use Rattle.dbsource.specs.Errors.{is_read_failed}
 use Rattle.dbsource.specs.Snapshots.{HasRead, HasReadAfterHeader}
-use Rattle.dbsource.specs.declared.error.OpenError.{OpenError}
 use Rattle.dbsource.specs.declared.source.Source.{Ghosts as SourceWords}
 use Rattle.dbsource.proofs.Logs.{has_ranges, open_failures}
-use Rattle.dbsource.proofs.Runs.{read_weaker}
-use Rattle.dbscan.proofs.AfterHeader.{after_weaker}
 use Rattle.dbreport.specs.Opening.{IsNotOpened, IsOpened}
 use Rattle.dbreport.proofs.RunAnswers.{read_refused, refused_answer, refused_log}
 use Rattle.dbreport.proofs.RunLogs.{header_run, opened_run, whole_run}
 use Rattle.dbsource.specs.declared.error.OpenError.TheVariants as opening
 
 never_written : (e : OpenError) → is_write_failed (run_error e) ≡ false
-never_written (opening.Refused r) = refl
-never_written opening.ReadFailed = refl
+never_written e = grind arith
 
 module _ {S : Type 0} (source : SourceWords S) (old : S) where
   -- the header was not read, or is refused

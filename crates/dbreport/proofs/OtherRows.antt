@@ -1,8 +1,7 @@
 -- The rows of the other pages are those that the marks give.
-use Rattle.std.proofs.Common.{◌≡◌, ℕ, zero, suc, ◌+◌, Bool, true, false, cond, List, [], ◌∷◌, ◌++◌, map, Option, Some, None, refl, ap, subst, ◌∙◌, flat_map}
-use Rattle.std.proofs.Common.{filter_map, option_map, if◌then◌else◌}
-use Rattle.dbreport.proofs.Common.{geometry, form_line, other_line, Role, root, child, first_overflow, later_overflow, trunk, free_leaf, Reference, role_of}
-use Rattle.dbreport.proofs.Common.{OtherPage, FormRow, other_rows, Survey, Geometry}
+use Rattle.std.proofs.Common.{arith, ◌≡◌, ℕ, zero, suc, ◌+◌, Bool, true, false, cond, List, [], ◌∷◌, ◌++◌, map, Option, Some, None, refl, ap, subst, ◌∙◌}
+use Rattle.std.proofs.Common.{flat_map, filter_map, option_map, if◌then◌else◌}
+use Rattle.dbreport.proofs.Common.{geometry, form_line, other_line, Role, Reference, role_of, OtherPage, FormRow, other_rows, Survey, Geometry, other_text}
 use Rattle.std.specs.List.{cons_option, range_with_len}
 use Rattle.std.specs.Option.{option_map_or}
 use Rattle.dbsurvey.proofs.Lists.{flat_map-same}
@@ -16,18 +15,12 @@ use Rattle.dbmarks.specs.declared.marks.Mark.{Mark}
 use Rattle.dbmarks.specs.declared.marks.Mark.TheVariants.{Unmarked, Fixed}
 use Rattle.dbmarks.proofs.EndMarking.{found_in, survey_visits}
 use Rattle.dbreport.specs.OtherMarks.{marked_other, marked_line}
-use Rattle.dbreport.specs.StatReporter.{other_text}
 
 -- ---- one page
 
 -- a visited page is what its role says
 by_role : (g : Geometry) (p : ℕ) (role : Role) (from : ℕ) → marked_other g p (role_mark role from) ≡ other_visited role
-by_role g p (root kind) from = refl
-by_role g p (child kind) from = refl
-by_role g p (first_overflow left) from = refl
-by_role g p (later_overflow left) from = refl
-by_role g p trunk from = refl
-by_role g p free_leaf from = refl
+by_role g p role from = grind arith
 
 -- what a page is by its visit, if it has one
 abbrev visited : Geometry → ℕ → Option Reference → Option OtherPage
@@ -51,18 +44,14 @@ other_by_mark file V p h = by_visit (geometry file) p (is_fixed (geometry file) 
 -- ---- all pages
 
 -- lines of rows, page by page
+row_more : (line : FormRow → List ℕ) (p : ℕ) (o : Option OtherPage) (text : List ℕ) (rows : List FormRow) → text ≡ flat_map line rows
+    → option_map_or (λ what. line (other_row p what)) o [] ++ text ≡ flat_map line (cons_option (option_map (other_row p) o) rows)
+row_more line p o text rows h = grind arith
+
 rows_text : (line : FormRow → List ℕ) (other : ℕ → Option OtherPage) (ps : List ℕ)
     → flat_map (λ p. option_map_or (λ what. line (other_row p what)) (other p) []) ps ≡ flat_map line (filter_map (λ p. option_map (other_row p) (other p)) ps)
 rows_text line other [] = refl
-rows_text line other (p ∷ ps) = by_case (other p) (rows_text line other ps)
-  where
-    by_case : (o : Option OtherPage)
-        → flat_map (λ p. option_map_or (λ what. line (other_row p what)) (other p) []) ps
-        ≡ flat_map line (filter_map (λ p. option_map (other_row p) (other p)) ps)
-        → option_map_or (λ what. line (other_row p what)) o [] ++ flat_map (λ p. option_map_or (λ what. line (other_row p what)) (other p) []) ps
-        ≡ flat_map line (cons_option (option_map (other_row p) o) (filter_map (λ p. option_map (other_row p) (other p)) ps))
-    by_case None h = h
-    by_case (Some what) h = ap (λ l. line (other_row p what) ++ l) h
+rows_text line other (p ∷ ps) = row_more line p (other p) _ _ (rows_text line other ps)
 
 -- what is written of the pages from page a on, by their marks
 abbrev pub others_from : Bool → Geometry → ℕ → List Mark → List ℕ

@@ -1,7 +1,6 @@
 -- What a reporter borrows after an answer, and what its Outs count.
-use Rattle.std.proofs.Common.{◌≡◌, ℕ, Bool, inl, inr, List, [], ◌∷◌, Ok, Err, Result, ap, ◌∙◌}
-use Rattle.dbreport.proofs.Common.{is_write_failed, CountsAfter, failures_after, RunError, WriteFailed, OutOfMemory, one_out}
-use Rattle.dbsource.specs.declared.error.RunError.TheVariants.{ReadFailed, Refused}
+use Rattle.std.proofs.Common.{◌≡◌, ℕ, Bool, inl, inr, List, [], ◌∷◌, Err, Result, ap, ◌∙◌}
+use Rattle.dbreport.proofs.Common.{is_write_failed, failures_after, RunError, WriteFailed, one_out}
 use Rattle.dbwalk.specs.Reporting.{SinkAfter, SinkState}
 use Rattle.dbscan.proofs.Notifiers.{first}
 
@@ -12,25 +11,14 @@ second (x ∷ xs) = first xs
 
 -- it borrows the same
 pub lent_same : {A : Type 0} (r : Result A RunError) (s t : SinkState) → SinkAfter is_write_failed r s t → t.lent ≡ s.lent
-lent_same (Ok a) s t h = ap (λ (x : SinkState). x.lent) h
-lent_same (Err (Refused r)) s t h = ap (λ (x : SinkState). x.lent) h
-lent_same (Err ReadFailed) s t h = ap (λ (x : SinkState). x.lent) h
-lent_same (Err OutOfMemory) s t h = ap (λ (x : SinkState). x.lent) h
 lent_same (Err WriteFailed) s t h = h.lent
+lent_same _ s t h = ap (λ (x : SinkState). x.lent) h
 
 -- if it borrows one Out, this failed once more exactly at a failed write
 pub one_failed : {A : Type 0} (r : Result A RunError) (a b m n : ℕ) (e f : Bool) → SinkAfter is_write_failed r (one_out a m e) (one_out b n f) → n
     ≡ failures_after is_write_failed r m
-one_failed (Ok x) a b m n e f h = ap (λ (s : SinkState). first s.failures) h
-one_failed (Err (Refused r)) a b m n e f h = ap (λ (s : SinkState). first s.failures) h
-one_failed (Err ReadFailed) a b m n e f h = ap (λ (s : SinkState). first s.failures) h
-one_failed (Err OutOfMemory) a b m n e f h = ap (λ (s : SinkState). first s.failures) h
-one_failed (Err WriteFailed) a b m n e f h = by_once h.failures
-  where
-    by_once : CountsAfter {A = Unit {0}} is_write_failed (Err WriteFailed) (m ∷ []) (n ∷ []) → n
-        ≡ failures_after {A = Unit {0}} is_write_failed (Err WriteFailed) m
-    by_once (inl k) = k.0
-    by_once (inr k) = absurd k.1
+one_failed (Err WriteFailed) a b m n e f h = elim h.failures [ inl k ↦ k.0 | inr k ↦ absurd k.1 ]
+one_failed _ a b m n e f h = ap (λ (s : SinkState). first s.failures) h
 
 -- one Out as it was
 pub one_same : {a b m n : ℕ} {e f : Bool} → b ≡ a → n ≡ m → f ≡ e → one_out b n f ≡ one_out a m e

@@ -1,9 +1,9 @@
 -- What the answer of a run says.
-use Rattle.std.proofs.Common.{◌≡◌, ◌∙◌, ℕ, List, [], ◌∷◌, ◌++◌, None, Some, Option, Ok, Err, Result, inl, inr, refl, sym, ap, subst, ◌↔◌, IfErr, IfOk, OnOk}
+use Rattle.std.proofs.Common.{arith, ◌≡◌, ◌∙◌, ℕ, List, [], ◌∷◌, ◌++◌, None, Some, Option, Ok, Err, Result, inl, inr, refl, sym, ap, subst, ◌↔◌, IfErr, IfOk}
+use Rattle.std.proofs.Common.{OnOk}
 use Rattle.dbreport.proofs.Common.{refusal, ok_line, Reference, Report, report, Survey, Check, Stat, Verdict, run_error, is_write_failed, CountsAfter}
 use Rattle.dbreport.proofs.Common.{failures_after, IsOpenLog, IsRefusalOf, RunError, OutOfMemory, WriteFailed, IsReadWriteOrMemory, AsksHeaderAlone, IsAnswerOf}
-use Rattle.dbreport.proofs.Common.{IsReported}
-use Rattle.std.specs.Io.KnownBytes.{Appends}
+use Rattle.dbreport.proofs.Common.{IsReported, Appends, OpenError, begins_nothing}
 use Rattle.std.proofs.lemmas.List.{append_cancel_left}
 use Rattle.dbformat.specs.Sound.{Sound}
 use Rattle.dbformat.specs.Survey.{survey}
@@ -13,9 +13,7 @@ use Rattle.dbformat.proofs.Theory.{one_survey}
 use Rattle.dbsound.proofs.Soundness.{sound_by_ok, sound_by_verdict}
 use Rattle.dbsource.specs.Answers.{Step, Trail}
 use Rattle.dbsource.specs.Sources.{HasRanges}
-use Rattle.dbsource.specs.declared.error.OpenError.{OpenError}
 use Rattle.dbsource.specs.declared.error.RunError.TheVariants.{Refused, ReadFailed}
-use Rattle.dbsource.proofs.Beginnings.{begins_nothing}
 use Rattle.dbreport.specs.Runs.{IsReportedBy, IsRunBy, IsRunOf, IsUnwritten, SaysOk, SaysOkWhereSound}
 use Rattle.dbreport.proofs.RunReports.{counts_pages}
 use Rattle.dbsource.specs.declared.error.OpenError.TheVariants as opening
@@ -26,15 +24,11 @@ refused_answer file (opening.Refused r) h = h
 refused_answer file opening.ReadFailed h = tt
 
 pub refused_unwritten : {X : Type 0} (r : Result Verdict RunError) (x : X) → IsUnwritten r x x
-refused_unwritten (Ok v) x = tt
 refused_unwritten (Err (Refused r)) x = refl
-refused_unwritten (Err ReadFailed) x = tt
-refused_unwritten (Err OutOfMemory) x = tt
-refused_unwritten (Err WriteFailed) x = tt
+refused_unwritten _ x = tt
 
 pub refused_failures : (e : OpenError) (n : ℕ) → n ≡ failures_after {A = Verdict} is_write_failed (Err (run_error e)) n
-refused_failures (opening.Refused r) n = refl
-refused_failures opening.ReadFailed n = refl
+refused_failures e n = grind arith
 
 pub refused_counts : (e : OpenError) (counts : List ℕ) → CountsAfter {A = Verdict} is_write_failed (Err (run_error e)) counts counts
 refused_counts (opening.Refused r) counts = refl
@@ -70,11 +64,8 @@ if_ok (Err e) f h = tt
 -- the failures of each of two Outs, where only the first one's can have changed
 pub first_failures : (r : Result Verdict RunError) (a n b : ℕ) → n ≡ failures_after is_write_failed r a
     → CountsAfter is_write_failed r (a ∷ b ∷ []) (n ∷ b ∷ [])
-first_failures (Ok v) a n b e = ap (λ k. k ∷ b ∷ []) e
-first_failures (Err (Refused r)) a n b e = ap (λ k. k ∷ b ∷ []) e
-first_failures (Err ReadFailed) a n b e = ap (λ k. k ∷ b ∷ []) e
-first_failures (Err OutOfMemory) a n b e = ap (λ k. k ∷ b ∷ []) e
 first_failures (Err WriteFailed) a n b e = inl (e, refl)
+first_failures _ a n b e = ap (λ k. k ∷ b ∷ []) e
 
 -- ---- what a run left of a file
 

@@ -1,40 +1,27 @@
 -- What a run asks for: the header, and then pages.
-use Rattle.std.proofs.Common.{◌≡◌, ℕ, arith, false, List, [], ◌∷◌, length, None, refl, subst, inl, inr, Ok, Err, Result}
-use Rattle.dbreport.proofs.Common.{geometry, Geometry, HeaderBytes, IsHeaderOf, IsOpenLog, IsRefusalOf, Opens}
+use Rattle.std.proofs.Common.{◌≡◌, ℕ, arith, false, List, [], length, None, refl, subst, inl, inr, Ok, Err, Result}
+use Rattle.dbreport.proofs.Common.{geometry, Geometry, HeaderBytes, IsHeaderOf, IsOpenLog, IsRefusalOf, Opens, IsSomeRunLog, OpenError, read_weaker}
 use Rattle.dbformat.specs.File.{refusal_of}
 use Rattle.dbformat.specs.FixedPages.{geometry_of, IsInRange}
-use Rattle.dbformat.specs.Log.{header_range, IsPageLog, IsRunLog, IsSomeRunLog}
+use Rattle.dbformat.specs.Log.{IsPageLog, IsRunLog}
 use Rattle.dbformat.specs.declared.ByteRange.{ByteRange}
-use Rattle.dbformat.specs.declared.Refusal.TheVariants.{Short, Magic, PageSize, Usable, NoPage, TooManyPages, MapAtLock}
+use Rattle.dbformat.specs.declared.Refusal.TheVariants.{Short}
 use Rattle.dbsource.specs.Answers.{Lengths, Step, given}
 use Rattle.dbsource.specs.Snapshots.{HasRead, HasReadAfterHeader}
 use Rattle.dbsource.specs.Sources.{SourceState}
-use Rattle.dbsource.specs.declared.error.OpenError.{OpenError}
 use Rattle.dbsource.specs.declared.error.OpenError.TheVariants.{Refused, ReadFailed}
-use Rattle.dbsource.proofs.Runs.{opened, ran, read_weaker}
+use Rattle.dbsource.proofs.Runs.{opened, ran}
 use Rattle.dbsource.proofs.Told.{told_all}
 
 no_pages : (g : Geometry) → IsPageLog g []
 no_pages g = record { pages = []; ranges = refl; readable = λ p i. absurd i; distinct = tt }
 
-nothing_asked : (g : Geometry) {log : List ByteRange} → log ≡ [] → IsRunLog g log
-nothing_asked g e = inl e
-
-header_asked : (g : Geometry) {log : List ByteRange} → log ≡ header_range ∷ [] → IsRunLog g log
-header_asked g e = inr ([], e, no_pages g)
-
 -- only the header was asked for
 pub opened_log : (g : Geometry) (r : Result HeaderBytes OpenError) (log : List ByteRange) → IsOpenLog r log → IsRunLog g log
-opened_log g (Ok h) log e = header_asked g e
-opened_log g (Err (Refused Short)) log e = nothing_asked g e
-opened_log g (Err (Refused Magic)) log e = header_asked g e
-opened_log g (Err (Refused PageSize)) log e = header_asked g e
-opened_log g (Err (Refused Usable)) log e = header_asked g e
-opened_log g (Err (Refused NoPage)) log e = header_asked g e
-opened_log g (Err (Refused TooManyPages)) log e = header_asked g e
-opened_log g (Err (Refused MapAtLock)) log e = header_asked g e
-opened_log g (Err ReadFailed) log (inl e) = nothing_asked g e
-opened_log g (Err ReadFailed) log (inr e) = header_asked g e
+opened_log g (Err (Refused Short)) log e = inl e
+opened_log g (Err ReadFailed) log (inl e) = inl e
+opened_log g (Err ReadFailed) log (inr e) = inr ([], e, no_pages g)
+opened_log g _ log e = inr ([], e, no_pages g)
 
 -- there is a file that can be read
 abbrev some_geometry : Geometry

@@ -1,27 +1,17 @@
 -- What the reporter of the statistics writes of what it receives, notice after notice.
-use Rattle.std.proofs.Common.{◌≡◌, ℕ, ◌+◌, ◌⊎◌, inl, inr, Bool, false, not, List, [], ◌∷◌, ◌++◌, Result, Ok, Err, refl, sym, ap, ◌∙◌, subst, arith, append-nil}
+use Rattle.std.proofs.Common.{◌≡◌, ℕ, ◌+◌, ◌⊎◌, inl, inr, Bool, false, not, List, [], ◌∷◌, ◌++◌, Result, Ok, Err, refl, sym, ◌∙◌, subst, arith, append-nil}
 use Rattle.std.proofs.Common.{OnOk}
-use Rattle.dbreport.proofs.Common.{Moves, Stops, MovesBySome, counted, fault_line, StatRow, Fault, Begins, OutState, RunError, Reports, Notice, received_fault}
+use Rattle.dbreport.proofs.Common.{Moves, Stops, MovesBySome, fault_line, StatRow, Fault, Begins, OutState, RunError, Reports, Notice, received_fault}
 use Rattle.dbreport.proofs.Common.{received_row, ended, marked, tree_end_text, pages_text, CutsStat, HasBegun, HasWritten, ReceivesOpen, ReceivesStat}
-use Rattle.dbreport.proofs.Common.{IsFlushedIf}
-use Rattle.dbreport.proofs.Common.{WritesBoth, name_at, Form, StatReporter}
-use Rattle.std.specs.Io.KnownBytes.{Appends}
+use Rattle.dbreport.proofs.Common.{IsFlushedIf, WritesBoth, name_at, Form, StatReporter, Appends, begins_more, appends_nothing, other_text, sums_of}
 use Rattle.dbformat.specs.declared.Encoding.{Encoding}
-use Rattle.dbsource.proofs.Beginnings.{begins_more}
-use Rattle.dbsource.proofs.Puts.{appends_nothing, kept_appends}
+use Rattle.dbsource.proofs.Puts.{kept_appends}
 use Rattle.dbscan.specs.Notices.{faults_received}
 use Rattle.dbscan.specs.Starts.{At}
-use Rattle.dbreport.specs.StatReporter.{other_text, CutsStatFault, IsSameReporter, TakesFault}
-use Rattle.dbreport.specs.Sums.{sums_of}
+use Rattle.dbreport.specs.StatReporter.{CutsStatFault, IsSameReporter, TakesFault}
 use Rattle.dbreport.proofs.Flushed.{keeps_begins, kept_if}
 use Rattle.dbreport.proofs.StatShut.{all_open, some_open}
 use Rattle.dbreport.proofs.StatWrites.{begun_first, begun_none, begun_then, written_none, written_then}
-
-counted_more : (n : ℕ) → counted (counted n + 1) ≡ counted (n + 1)
-counted_more n = omega arith
-
-nothing_more : (n : ℕ) → n ≡ n + 0
-nothing_more n = omega arith
 
 -- it stopped, by an error or at one
 abbrev Cut : {S I : Type 0} → (S → I → S → Type 0) → (S → I → S → Type 0) → S → List I → S → Type 0
@@ -69,10 +59,7 @@ abbrev faults_of : List Notice → List Fault
 faults_of ns = faults_received ns
 
 one_more : (n : Notice) (ns : List Notice) → faults_of (n ∷ []) ++ faults_of ns ≡ faults_of (n ∷ ns)
-one_more (received_fault x) ns = refl
-one_more (received_row at r) ns = refl
-one_more (ended at) ns = refl
-one_more (marked g q mark) ns = refl
+one_more n ns = grind arith
 
 module _ {O E : Type 0} (held : O → OutState) (held' : E → OutState) where
   abbrev all : StatReporter O E → Notice → StatReporter O E → Type 0
@@ -95,7 +82,7 @@ module _ {O E : Type 0} (held : O → OutState) (held' : E → OutState) where
     form = a.same.form;
     encoding = a.same.encoding;
     page_size = a.same.page_size;
-    found = λ n e. a.found ∙ ap (λ k. counted (k + 1)) e ∙ counted_more n;
+    found = λ n e. omega (arith, a.found);
     out = kept_appends (held s.out.now).bytes (held m.out.now).bytes (held m.out.now).bytes [] a.out.kept (appends_nothing (held m.out.now).bytes);
     err = subst (λ l. Appends (held' s.err.now).bytes (held' m.err.now).bytes l) (sym (append-nil (fault_line f))) a.puts.held;
   }
@@ -115,7 +102,7 @@ module _ {O E : Type 0} (held : O → OutState) (held' : E → OutState) where
     form = same.form;
     encoding = same.encoding;
     page_size = same.page_size;
-    found = λ n e. as_many ∙ e ∙ ap counted (nothing_more n);
+    found = λ n e. omega arith;
     out = out;
     err = kept_appends (held' s.err.now).bytes (held' m.err.now).bytes (held' m.err.now).bytes [] (kept_if flushed (held' s.err.now) (held' m.err.now) err)
         (appends_nothing (held' m.err.now).bytes);

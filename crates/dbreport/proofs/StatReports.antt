@@ -1,18 +1,16 @@
 -- What the statistics have written of a file in the end, and what they found: its report.
 use Rattle.std.proofs.Common.{◌≡◌, ℕ, false, None, ◌+◌, List, [], ◌++◌, length, Result, Ok, Err, inl, inr, sym, ap, ◌∙◌, subst, arith, flat_map, if◌then◌else◌}
-use Rattle.dbreport.proofs.Common.{Moves, MovesBySome, geometry, refusal, Stat, counted, fault_line, form_line, Reference, faults, verdict_of, form_rows}
-use Rattle.dbreport.proofs.Common.{other_rows, page_rows, tree_rows, Survey, Geometry, Verdict, HeaderBytes, IsHeaderOf, OutState, Writes, RunError}
-use Rattle.dbreport.proofs.Common.{run_notices, IsReported, HasBegun, HasWritten, ReceivesOpen, StatReporter, Form}
-use Rattle.std.proofs.lemmas.Grind.{flat_map-append}
+use Rattle.dbreport.proofs.Common.{Moves, MovesBySome, geometry, refusal, Stat, counted, form_line, Reference, faults, verdict_of, form_rows}
+use Rattle.dbreport.proofs.Common.{other_rows, page_rows, tree_rows, Survey, Geometry, Verdict, HeaderBytes, IsHeaderOf, OutState, RunError}
+use Rattle.dbreport.proofs.Common.{run_notices, IsReported, HasBegun, HasWritten, ReceivesOpen, StatReporter, Form, flat_map-append, sums_of}
 use Rattle.dbformat.specs.Header.{encoding as encoding_of}
 use Rattle.dbformat.proofs.HeaderPrefix.{encoding_within}
 use Rattle.dbformat.proofs.Verdicts.{verdict_counted}
 use Rattle.dbscan.specs.Finishes.{Leaves}
 use Rattle.dbreport.specs.StatStarts.{IsForFile, LeavesStat, rows_text}
 use Rattle.dbreport.specs.Statistics.{form_of}
-use Rattle.dbreport.specs.Sums.{sums_of}
 use Rattle.dbreport.proofs.RunAnswers.{if_ok}
-use Rattle.dbreport.proofs.RunReports.{stat_answer, stat_err, stat_out}
+use Rattle.dbreport.proofs.RunReports.{stat_is}
 use Rattle.dbreport.proofs.StatStarts.{run_written}
 use Rattle.dbreport.proofs.StatTexts.{trees_written}
 
@@ -24,9 +22,6 @@ form_text form file V s =
     ap (λ l. l ++ flat_map (form_line file V) (if form.all then other_rows file V else [])) (trees_written form.aggregate file V s)
     ∙ sym (flat_map-append (form_line file V) (if form.aggregate then tree_rows file V else page_rows file V) (if form.all then other_rows file V else []))
 
-from_none : (n : ℕ) → 0 + n ≡ n
-from_none n = omega arith
-
 module _ {O E : Type 0} (held : O → OutState) (held' : E → OutState) (file : List ℕ) (V : List Reference) (survey : Survey file V) where
   -- it was cut off
   begun : (e : RunError) (s t : StatReporter O E) → HasBegun held held' s t (rows_text s.form.aggregate s.form.all file V) (faults file V)
@@ -37,10 +32,10 @@ module _ {O E : Type 0} (held : O → OutState) (held' : E → OutState) (file :
   whole : (v : Verdict) (s t : StatReporter O E) → HasWritten held held' s t (rows_text s.form.aggregate s.form.all file V) (faults file V) → v
       ≡ verdict_of t.found
       → LeavesStat held held' file V (Ok v) s t
-  whole v s t h found for none first = (
+  whole v s t h found for none first = let n : t.found ≡ counted (length (faults file V)) = let k = h.found 0 none in omega arith in (
     (subst (λ l. HasWritten held held' s t l (faults file V)) (form_text s.form file V survey) h).out,
     h.err,
-    found ∙ ap verdict_of (h.found 0 none ∙ ap counted (from_none (length (faults file V)))) ∙ verdict_counted (faults file V),
+    found ∙ ap verdict_of n ∙ verdict_counted (faults file V),
   )
 
   -- a beginning of what is reported was received
@@ -60,16 +55,12 @@ module _ {O E : Type 0} (held : O → OutState) (held' : E → OutState) (file :
       → Leaves (ReceivesOpen held held') (LeavesStat held held') file V r s t
       → IsReported (Stat form.aggregate form.all) file V r (held out).bytes (held after).bytes (held' err).bytes (held' behind).bytes
   stat_reported r s t out after err behind form same same' form_is none first for end end' read h =
-      let k = stat_left r s t h for none first in record {
-        out = stat_out form file V read r (held out).bytes (held after).bytes
-            (subst (λ o. Writes r (held o).bytes (held after).bytes (flat_map (form_line file V) (form_rows (form_of form) file V))) same
-            (subst (λ f. Writes r (held s.out.now).bytes (held after).bytes (flat_map (form_line file V) (form_rows (form_of f) file V))) form_is
-            (subst (λ o. Writes r (held s.out.now).bytes (held o).bytes (flat_map (form_line file V) (form_rows (form_of s.form) file V))) (sym end) k.0)));
-        err = stat_err form file V read r (held' err).bytes (held' behind).bytes
-            (subst (λ o. Writes r (held' o).bytes (held' behind).bytes (flat_map fault_line (faults file V))) same'
-            (subst (λ o. Writes r (held' s.err.now).bytes (held' o).bytes (flat_map fault_line (faults file V))) (sym end') k.1));
-        verdict = if_ok r (λ v e. stat_answer form file V read v e) k.2;
-      }
+      let k = stat_left r s t h for none first in
+      rw (← same, ← same', ← form_is, end, end') (record {
+        out = rw (stat_is s.form file V read) k.0;
+        err = rw (stat_is s.form file V read) k.1;
+        verdict = rw (stat_is s.form file V read) (if_ok r (λ v e. ap Ok (sym e)) k.2);
+      })
 
   -- all was received
   pub stat_ended : (s t : StatReporter O E) → t.is_shut ≡ false → Moves (ReceivesOpen held held') s (run_notices file V) t → (v : Verdict)

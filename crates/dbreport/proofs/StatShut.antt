@@ -1,7 +1,7 @@
 -- The reporter of the statistics takes nothing once it is shut.
 use Rattle.std.proofs.Common.{◌≡◌, ◌⊎◌, Bool, true, false, inl, inr, List, [], ◌∷◌, sym, ap, subst, ◌∙◌}
-use Rattle.dbreport.proofs.Common.{Moves, Stops, MovesBySome, OutState, Notice, CutsStat, ReceivesOpen, ReceivesStat, StatReporter}
-use Rattle.std.proofs.lemmas.Bool.{cases_Bool, false≢true}
+use Rattle.dbreport.proofs.Common.{Moves, Stops, MovesBySome, OutState, Notice, CutsStat, ReceivesOpen, ReceivesStat, StatReporter, cases_Bool}
+use Rattle.std.proofs.lemmas.Bool.{false≢true}
 use Rattle.dbwalk.proofs.Reporting.Sinks.{moves_some}
 use Rattle.dbreport.specs.StatReporter.{ReceivesBy}
 

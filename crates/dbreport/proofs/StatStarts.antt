@@ -1,10 +1,8 @@
 -- What the statistics write of the starts of a file, by what is reported of them.
 use Rattle.std.proofs.Common.{◌≡◌, ℕ, suc, ◌+◌, Bool, true, false, cond, List, [], ◌∷◌, ◌++◌, length, map, Some, Result, refl, sym, ap, ap₂, ◌∙◌, subst, arith}
-use Rattle.std.proofs.Common.{append_assoc, append-nil, OnOk, flat_map, slice_get, codes, ◌==◌}
-use Rattle.dbreport.proofs.Common.{geometry, faults, Fault, Geometry, page_size, page_line, tree_name, trunk, Way, Reference, StatRow, Survey, OutState}
-use Rattle.dbreport.proofs.Common.{RunError, Reports, Notice, received_fault, received_row, ended, marked, run_notices, name_at, ReceivesOpen, tree_end_text}
-use Rattle.dbreport.proofs.Common.{pages_text}
-use Rattle.dbreport.proofs.Common.{WritesBoth, StatReporter, Form}
+use Rattle.std.proofs.Common.{append_assoc, append-nil, OnOk, slice_get, codes, ◌==◌}
+use Rattle.dbreport.proofs.Common.{geometry, faults, Fault, Geometry, page_size, tree_name, trunk, Way, Reference, StatRow, Survey, OutState, RunError, Reports}
+use Rattle.dbreport.proofs.Common.{Notice, ended, run_notices, name_at, ReceivesOpen, tree_end_text, pages_text, WritesBoth, StatReporter, Form, other_text}
 use Rattle.std.specs.List.{enumerate_from}
 use Rattle.dbsurvey.specs.Story.{Errand, Go, Follow, errands_at}
 use Rattle.dbformat.specs.Address.{freelist_start}
@@ -25,12 +23,12 @@ use Rattle.dbscan.specs.Roots.{listed_rows}
 use Rattle.dbscan.specs.Starts.{At, at_freelist, at_row, at_schema, schema_reference}
 use Rattle.dbscan.specs.Findings.{found_rows}
 use Rattle.dbreport.specs.StatLines.{tree_rows_text, starts_text}
-use Rattle.dbreport.specs.StatReporter.{other_text}
 use Rattle.dbreport.specs.StatStarts.{IsForFile, rows_text}
 use Rattle.dbreport.proofs.ListedNames.{listed_name}
 use Rattle.dbreport.proofs.OtherRows.{others_from, others_text}
 use Rattle.dbreport.proofs.StatNotices.{Sheet, all_lines, lines, next, notices_written}
 use Rattle.dbscan.proofs.RowsBelow.{rows_below}
+use Rattle.std.proofs.lemmas.Grind.{common_steps}
 use Rattle.dbreport.proofs.StatTrees.{freelist_rows}
 use Rattle.dbscan.proofs.StartByStart.{of_later}
 use Rattle.dbscan.proofs.Starts.{quiet_go}
@@ -43,24 +41,19 @@ unfolding tree_name
 schema_name file V = refl
 
 no_pages : (form : Bool) (name : List ℕ) (size : ℕ) → pages_text form name size [] ≡ []
-no_pages true name size = refl
-no_pages false name size = refl
+no_pages form name size = grind arith
 
 no_tree : (form : Bool) (name : List ℕ) (size : ℕ) → tree_rows_text form name size [] ≡ []
-no_tree true name size = refl
-no_tree false name size = refl
+no_tree form name size = grind arith
 
 -- the rows of a tree as they come, and then its own
 pages_more : (form : Bool) (name : List ℕ) (size : ℕ) (r : StatRow) (rows : List StatRow)
     → pages_text form name size (r ∷ []) ++ pages_text form name size rows ≡ pages_text form name size (r ∷ rows)
-pages_more true name size r rows = refl
-pages_more false name size r rows = ap (λ l. l ++ flat_map (page_line name size) rows) (append-nil (page_line name size r))
+pages_more form name size r rows = grind (arith, common_steps)
 
 pages_ended : (form : Bool) (name : List ℕ) (size : ℕ) (rows : List StatRow) → pages_text form name size rows ++ tree_end_text form name size rows
     ≡ tree_rows_text form name size rows
-pages_ended true name size [] = refl
-pages_ended true name size (r ∷ rows) = refl
-pages_ended false name size rows = append-nil (pages_text false name size rows)
+pages_ended form name size rows = grind (arith, common_steps)
 
 -- ---- the lines of what is reported
 
@@ -165,10 +158,7 @@ module _ (file : List ℕ) (V : List Reference) (form all : Bool) where
   no_lines q p (f ∷ fs) = no_lines q p fs
 
   same_form : (p : Sheet) (n : Notice) → (next p n).form ≡ p.form
-  same_form p (received_fault x) = refl
-  same_form p (received_row at r) = refl
-  same_form p (ended at) = refl
-  same_form p (marked g q mark) = refl
+  same_form p n = grind arith
 
   -- the rows of the other pages, and nothing after them
   others_lines : (p : Sheet) (g : Geometry) (q : ℕ) (marks : List Mark) (fs : List Fault)

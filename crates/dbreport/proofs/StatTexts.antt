@@ -1,10 +1,8 @@
 -- The text of the statistics, written start by start, is that of the rows of the form.
 use Rattle.std.proofs.Common.{◌≡◌, ℕ, inl, inr, Bool, true, false, cond, if◌then◌else◌, List, [], ◌∷◌, ◌++◌, map, refl, sym, ap, ap₂, subst, ◌∙◌, append-nil}
-use Rattle.std.proofs.Common.{filter, flat_map, ◌==◌}
+use Rattle.std.proofs.Common.{filter, flat_map, ◌==◌, eq-eqb}
 use Rattle.dbreport.proofs.Common.{schema_start, geometry, page_size, form_line, page_line, tree_line, tree_name, Way, Reference, StatRow, stat_rows, tree_rows}
-use Rattle.dbreport.proofs.Common.{page_rows, Survey, rules_of}
-use Rattle.std.proofs.lemmas.Bool.{eq-eqb}
-use Rattle.std.proofs.lemmas.Grind.{flat_map-append}
+use Rattle.dbreport.proofs.Common.{page_rows, Survey, rules_of, flat_map-append}
 use Rattle.std.proofs.lemmas.List.{map-append}
 use Rattle.dbsurvey.specs.Address.{IsIn}
 use Rattle.dbsurvey.specs.From.{under}

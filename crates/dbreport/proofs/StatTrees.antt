@@ -1,10 +1,8 @@
 -- What is visited below a start: it has this start, and the rows of at most one tree.
 use Rattle.std.proofs.Common.{◌≡◌, ℕ, zero, suc, ◌+◌, ◌<◌, ◌⊎◌, inl, inr, true, false, cond, List, [], ◌∷◌, ◌++◌, map, length, Some, None, refl, sym, ap, ap₂}
-use Rattle.std.proofs.Common.{subst, ◌∙◌, arith, length-append, append-nil, filter, filter_map, ◌==◌}
-use Rattle.dbreport.proofs.Common.{geometry, Role, root, child, first_overflow, later_overflow, trunk, free_leaf, Way, Reference, role_of, StatRow, FormRow}
-use Rattle.dbreport.proofs.Common.{stat_rows, tree_rows, rules_of}
+use Rattle.std.proofs.Common.{subst, ◌∙◌, arith, length-append, append-nil, filter, filter_map, ◌==◌, ne_eqb}
+use Rattle.dbreport.proofs.Common.{geometry, Role, Way, Reference, role_of, StatRow, FormRow, stat_rows, tree_rows, rules_of, cases_Bool}
 use Rattle.std.specs.List.{cons_option}
-use Rattle.std.proofs.lemmas.Bool.{cases_Bool, ne_eqb}
 use Rattle.std.proofs.lemmas.List.{map-append}
 use Rattle.std.proofs.lemmas.List.Elements.{filter-append}
 use Rattle.dbsurvey.specs.Address.{Address, IsIn}
@@ -39,12 +37,7 @@ row_from file V row i =
 
 -- where all visits are on the freelist, there is no row
 no_row : (file : List ℕ) (r : Reference) (role : Role) → is_on_freelist role ≡ true → row_in role file r ≡ None
-no_row file r (root kind) e = cc
-no_row file r (child kind) e = cc
-no_row file r (first_overflow left) e = cc
-no_row file r (later_overflow left) e = cc
-no_row file r trunk e = refl
-no_row file r free_leaf e = refl
+no_row file r role e = grind arith
 
 no_rows : (file : List ℕ) (V : List Reference) → ((t : Reference) → IsIn t V → is_on_freelist (role_of t) ≡ true) → stat_rows file V ≡ []
 unfolding stat_rows
@@ -53,9 +46,7 @@ no_rows file (t ∷ V) h = ap (λ o. cons_option o (filter_map (λ r. row_in (ro
     ∙ no_rows file V (λ u i. h u (inr i))
 
 trees_join : (A B : List Reference) → trees_reached (A ++ B) ≡ trees_reached A ++ trees_reached B
-trees_join A B =
-    ap (map (λ (r : Reference). start_of r.address)) (filter-append (λ (r : Reference). is_root (role_of r)) A B)
-    ∙ map-append (λ (r : Reference). start_of r.address) (filter (λ (r : Reference). is_root (role_of r)) A) (filter (λ (r : Reference). is_root (role_of r)) B)
+trees_join A B = simp (filter-append, map-append)
 
 -- a start that was reached is that of a visit
 tree_from : (V : List Reference) (k : ℕ) → IsIn k (trees_reached V) → (t : Reference) × IsIn t V × (k ≡ start_of t.address)
@@ -75,17 +66,14 @@ map_same f g (x ∷ xs) h = ap₂ (λ y ys. y ∷ ys) (h x (inl refl)) (map_same
 
 -- rows of other starts change nothing
 in_left : (rows more : List StatRow) (k : ℕ) → ((row : StatRow) → IsIn row more → row.start ≡ k → ⊥) → row_of_tree (rows ++ more) k ≡ row_of_tree rows k
-in_left rows more k h = ap (tree_row k) (
-    filter-append (λ (row : StatRow). row.start == k) rows more
-    ∙ ap (λ l. filter (λ (row : StatRow). row.start == k) rows ++ l)
-    (filter-none (λ (row : StatRow). row.start == k) more (λ row i. ne_eqb row.start k (h row i)))
-    ∙ append-nil (filter (λ (row : StatRow). row.start == k) rows))
+in_left rows more k h =
+    let none = filter-none (λ (row : StatRow). row.start == k) more (λ row i. ne_eqb row.start k (h row i)) in
+    ap (tree_row k) (filter-append (λ (row : StatRow). row.start == k) rows more ∙ rw none (append-nil _))
 
 in_right : (rows more : List StatRow) (k : ℕ) → ((row : StatRow) → IsIn row rows → row.start ≡ k → ⊥) → row_of_tree (rows ++ more) k ≡ row_of_tree more k
-in_right rows more k h = ap (tree_row k) (
-    filter-append (λ (row : StatRow). row.start == k) rows more
-    ∙ ap (λ l. l ++ filter (λ (row : StatRow). row.start == k) more)
-    (filter-none (λ (row : StatRow). row.start == k) rows (λ row i. ne_eqb row.start k (h row i))))
+in_right rows more k h =
+    let none = filter-none (λ (row : StatRow). row.start == k) rows (λ row i. ne_eqb row.start k (h row i)) in
+    ap (tree_row k) (filter-append (λ (row : StatRow). row.start == k) rows more ∙ rw none refl)
 
 -- the visits of Q have later starts than those of P
 abbrev pub HasLaterStarts : List Reference → List Reference → Type 0

@@ -1,19 +1,12 @@
 -- What the reporter of the statistics has written, one part after another.
-use Rattle.std.proofs.Common.{◌≡◌, ℕ, ◌+◌, List, [], ◌++◌, length, refl, sym, ap, ◌∙◌, subst, arith, length-append, flat_map}
-use Rattle.dbreport.proofs.Common.{counted, fault_line, Fault, OutState, HasWritten, HasBegun, StatReporter}
-use Rattle.std.specs.Io.KnownBytes.{Appends}
-use Rattle.std.proofs.lemmas.Grind.{flat_map-append}
-use Rattle.dbsource.proofs.Puts.{appends_append, appends_nothing}
-use Rattle.dbsource.proofs.Beginnings.{begins_nothing, begins_more, begins_after}
+use Rattle.std.proofs.Common.{◌≡◌, ℕ, ◌+◌, List, [], ◌++◌, length, refl, sym, ◌∙◌, subst, arith, length-append, flat_map}
+use Rattle.dbreport.proofs.Common.{fault_line, Fault, OutState, HasWritten, HasBegun, StatReporter, Appends, flat_map-append, appends_nothing}
+use Rattle.dbreport.proofs.Common.{begins_nothing, begins_more}
+use Rattle.dbsource.proofs.Puts.{appends_append}
+use Rattle.dbsource.proofs.Beginnings.{begins_after}
 
 lines_more : (xs ys : List Fault) → flat_map fault_line xs ++ flat_map fault_line ys ≡ flat_map fault_line (xs ++ ys)
 lines_more xs ys = sym (flat_map-append fault_line xs ys)
-
-count_more : (n : ℕ) (xs ys : List Fault) → (n + length xs) + length ys ≡ n + length (xs ++ ys)
-count_more n xs ys = let e = length-append xs ys in omega arith
-
-count_none : (n : ℕ) → n ≡ n + 0
-count_none n = omega arith
 
 module _ {O E : Type 0} (held : O → OutState) (held' : E → OutState) where
   pub written_none : (s : StatReporter O E) → HasWritten held held' s s [] []
@@ -21,7 +14,7 @@ module _ {O E : Type 0} (held : O → OutState) (held' : E → OutState) where
     form = refl;
     encoding = refl;
     page_size = refl;
-    found = λ n e. e ∙ ap counted (count_none n);
+    found = λ n e. omega arith;
     out = appends_nothing (held s.out.now).bytes;
     err = appends_nothing (held' s.err.now).bytes;
   }
@@ -32,7 +25,7 @@ module _ {O E : Type 0} (held : O → OutState) (held' : E → OutState) where
       form = h.form ∙ first.form;
       encoding = h.encoding ∙ first.encoding;
       page_size = h.page_size ∙ first.page_size;
-      found = λ n e. h.found (n + length xs) (first.found n e) ∙ ap counted (count_more n xs ys);
+      found = λ n e. omega (arith, h.found (n + length xs) (first.found n e), length-append xs ys);
       out = appends_append (held s.out.now).bytes (held m.out.now).bytes (held t.out.now).bytes a b first.out h.out;
       err = subst (λ l. Appends (held' s.err.now).bytes (held' t.err.now).bytes l) (lines_more xs ys)
           (appends_append (held' s.err.now).bytes (held' m.err.now).bytes (held' t.err.now).bytes (flat_map fault_line xs) (flat_map fault_line ys) first.err

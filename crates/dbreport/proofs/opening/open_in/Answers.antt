@@ -1,21 +1,20 @@
 use Rattle.std.proofs.Common.{sym, subst}
-use Rattle.std.proofs.lemmas.Result.{err_from_is_err_and}
-use Rattle.dbsource.specs.HeaderBytes.{HeaderBytes}
+use Rattle.dbreport.proofs.Common.{HeaderBytes}
+use Rattle.dbwalk.proofs.Reporting.Sinks.{err_is}
 use Rattle.dbreport.specs.Opening.{IsOpened}
 use Rattle.dbreport.proofs.Openings.{header_refused, memory_refused}
 use Rattle.dbreport.proofs.opening.open_in.Goals as goal
 
 pub returns-in_err-header : goal.returns-in_err-header
 returns-in_err-header g c =
-    let q = err_from_is_err_and c.from_residual.result c.from_residual.ensures.1 in
-    rw q.1 (rw q.2 (header_refused g.S.Source c.args.source.now c.in_err-header.field-0.0 c.read.new.source c.in_err-header.ensures.opens))
+    rw (err_is c.from_residual.ensures.1)
+    (header_refused g.S.Source c.args.source.now c.in_err-header.field-0.0 c.read.new.source c.in_err-header.ensures.opens)
 
 pub returns-in_err-new_in : goal.returns-in_err-new_in
 returns-in_err-new_in g c =
-    let q = err_from_is_err_and c.from_residual-in_err-new_in.result c.from_residual-in_err-new_in.ensures.1 in
     let k = c.in_ok-header.ensures in
-    rw q.1 (rw q.2 (memory_refused g.S.Source c.args.source.now c.in_ok-header.header c.read.new.source
-    (record { opens = k.opens; read = k.read; accepted = k.accepted; range = c.in_err-new_in.ensures.range })))
+    rw (err_is c.from_residual-in_err-new_in.ensures.1) (memory_refused g.S.Source c.args.source.now c.in_ok-header.header c.read.new.source
+    (record { opens = k.opens; read = k.read; accepted = k.accepted; range = c.in_err-new_in.ensures.range }))
 
 pub returns : goal.returns
 returns g c =

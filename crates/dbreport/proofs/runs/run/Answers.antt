@@ -1,6 +1,6 @@
 use Rattle.std.proofs.Common.{Err}
-use Rattle.dbformat.specs.Log.{IsSomeRunLog}
-use Rattle.dbsource.proofs.Runs.{of_told, read_weaker}
+use Rattle.dbreport.proofs.Common.{IsSomeRunLog, read_weaker}
+use Rattle.dbsource.proofs.Runs.{of_told}
 use Rattle.dbreport.proofs.NotBegun.{no_failure, no_failures}
 use Rattle.dbreport.proofs.Openings.{opened, unopened}
 use Rattle.dbreport.proofs.RunAnswers.{IsSoundAnswer, none_of, read_unwritten, refused_unwritten}
@@ -41,8 +41,8 @@ returns-in-Err-clause-refused g c = record {
 -- ---- it was opened, and this was the run over its desk
 
 pub returns-in-Ok-clause-read : goal.returns-in-Ok-clause-read
-returns-in-Ok-clause-read g c = (opened g.S.Source c.args.source.now c.in-Ok.desk.header c.open_in.new.source c.run_on.new.source c.in-Ok.ensures
-    c.run_on.result c.run_on.ensures.read c.run_on.ensures.failed.reads c.run_on.ensures.desk.only).read
+returns-in-Ok-clause-read g c =
+    (opened g.S.Source _ _ _ _ c.in-Ok.ensures _ c.run_on.ensures.read c.run_on.ensures.failed.reads c.run_on.ensures.desk.only).read
 
 pub returns-in-Ok-clause-sound : goal.returns-in-Ok-clause-sound
 returns-in-Ok-clause-sound g c = read_weaker IsSomeRunLog _ (returns-in-Ok-clause-read g c) (λ ranges p. p) (λ file ranges p t. t.1.run.sound)
@@ -55,16 +55,14 @@ returns-in-Ok-clause-ok g c = read_weaker IsSomeRunLog _ (returns-in-Ok-clause-r
 
 pub returns-in-Ok-clause-failed : goal.returns-in-Ok-clause-failed
 returns-in-Ok-clause-failed g c = record {
-  reads = (opened g.S.Source c.args.source.now c.in-Ok.desk.header c.open_in.new.source c.run_on.new.source c.in-Ok.ensures
-      c.run_on.result c.run_on.ensures.read c.run_on.ensures.failed.reads c.run_on.ensures.desk.only).reads;
+  reads = (opened g.S.Source _ _ _ _ c.in-Ok.ensures _ c.run_on.ensures.read c.run_on.ensures.failed.reads c.run_on.ensures.desk.only).reads;
   writes = c.run_on.ensures.failed.writes;
   first = c.run_on.ensures.failed.first;
 }
 
 pub returns-in-Ok-clause-refused : goal.returns-in-Ok-clause-refused
 returns-in-Ok-clause-refused g c = record {
-  asked = (opened g.S.Source c.args.source.now c.in-Ok.desk.header c.open_in.new.source c.run_on.new.source c.in-Ok.ensures
-      c.run_on.result c.run_on.ensures.read c.run_on.ensures.failed.reads c.run_on.ensures.desk.only).asked;
+  asked = (opened g.S.Source _ _ _ _ c.in-Ok.ensures _ c.run_on.ensures.read c.run_on.ensures.failed.reads c.run_on.ensures.desk.only).asked;
   first = read_unwritten c.run_on.result c.args.out.now c.run_on.new.out c.run_on.ensures.desk.only;
   second = read_unwritten c.run_on.result c.args.err.now c.run_on.new.err c.run_on.ensures.desk.only;
 }

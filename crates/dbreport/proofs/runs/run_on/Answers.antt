@@ -7,7 +7,7 @@ use Rattle.dbscan.proofs.Notifiers.{first}
 use Rattle.dbreport.proofs.Checked.{check_reported}
 use Rattle.dbreport.proofs.ReporterStates.{lent_same, one_failed, second}
 use Rattle.dbreport.proofs.RunAnswers.{IsSoundAnswer, first_failures, run_of}
-use Rattle.dbreport.proofs.RunReports.{check_err}
+use Rattle.dbreport.proofs.RunReports.{check_is, writes_nothing}
 use Rattle.dbreport.proofs.StatReports.{for_file, stat_reported}
 use Rattle.dbreport.proofs.runs.run_on.Goals as goal
 
@@ -27,7 +27,7 @@ returns-in-Check-clause-read g c =
     let by = check_reported g.O.Out.held file V s r c.new-reporter.result c.run_over.new.reporter c.args.out.now c.out-1.given.0 limit new.out
     new.«open» new.limit new.shown new.more k is.is_read (reported V s) in record {
       out = by.0;
-      err = check_err limit file V is.is_read r (g.E.Out.held c.args.err.now).bytes;
+      err = rw (check_is limit file V is.is_read) (writes_nothing r (g.E.Out.held c.args.err.now).bytes);
       verdict = by.1;
     })))
 

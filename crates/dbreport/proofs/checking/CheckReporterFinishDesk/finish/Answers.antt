@@ -1,23 +1,22 @@
-use Rattle.std.proofs.Common.{false, Ok, Err, [], ◌∷◌, ap, inl, refl, sym, ◌∙◌, subst}
-use Rattle.dbreport.proofs.Common.{WriteFailed, one_out, ReceivesFaults}
-use Rattle.std.proofs.lemmas.Result.{err_from_is_err_and}
+use Rattle.std.proofs.Common.{Ok, Err, [], ◌∷◌, ap, inl, refl}
+use Rattle.dbreport.proofs.Common.{WriteFailed, ReceivesFaults, ShowsFault}
+use Rattle.dbwalk.proofs.Reporting.Sinks.{err_is}
 use Rattle.dbscan.proofs.Finished.{finished}
-use Rattle.dbreport.specs.CheckReporter.{LeavesCheck, ShowsFault, check_held}
+use Rattle.dbreport.specs.CheckReporter.{LeavesCheck, check_held}
 use Rattle.dbreport.proofs.Checked.{check_cut, check_ended}
 use Rattle.dbreport.proofs.ReporterStates.{one_same}
 use Rattle.dbreport.proofs.checking.CheckReporterFinishDesk.finish.Goals as goal
 
 pub returns-in_err-end : goal.returns-in_err-end
 returns-in_err-end g c =
-    let q = err_from_is_err_and c.from_residual.result c.from_residual.ensures.1 in
     let put = c.in_err-end.ensures in
     let held = g.O.Out.held in
-    rw q.1 (rw q.2 (finished g.S.Source (ReceivesFaults (ShowsFault held)) (check_held held) (LeavesCheck held) (Err WriteFailed) c.args._desk.now
+    rw (err_is c.from_residual.ensures.1)
+    (finished g.S.Source (ReceivesFaults (ShowsFault held)) (check_held held) (LeavesCheck held) (Err WriteFailed) c.args._desk.now
     c.args._source.now c.args.self.now c.end.new.self refl
     (record { lent = ap (λ n. n ∷ []) put.same_out; failures = inl (put.text.count, refl) })
     (λ file V first received. check_cut held file V received.desk.survey first c.args.self.now c.end.new.self c.requires received.received
-    c.in_err-end.field-0.0
-    put.text)))
+    c.in_err-end.field-0.0 put.text))
 
 pub returns : goal.returns
 returns g c =
@@ -27,5 +26,4 @@ returns g c =
     c.args.self.now c.end.new.self tt
     (one_same put.same_out put.text.count put.failed)
     (λ file V first received. check_ended held file V received.desk.survey first c.args.self.now c.end.new.self c.requires received.received c.in_ok-end.field-0
-    put.text
-    put.verdict)
+    put.text put.verdict)

@@ -1,8 +1,6 @@
-use Rattle.std.proofs.Common.{◌+◌, drop, get_or}
-use Rattle.std.specs.List.{flat_map}
-use Rattle.std.proofs.lemmas.Result.{err_from_is_err_and}
+use Rattle.std.proofs.Common.{◌+◌, drop, get_or, flat_map}
+use Rattle.dbreport.proofs.Common.{err_from_is_err_and, child_text}
 use Rattle.dbbytes.proofs.NameLemmas.{put_more, put_stop}
-use Rattle.dbreport.specs.Columns.{child_text}
 use Rattle.dbreport.proofs.StatPieces.{next_child}
 use Rattle.dbreport.proofs.statistics.lines.put_children.Goals as goal
 

@@ -1,7 +1,6 @@
-use Rattle.std.proofs.Common.{drop}
-use Rattle.std.specs.List.{flat_map}
+use Rattle.std.proofs.Common.{drop, flat_map}
+use Rattle.dbreport.proofs.Common.{child_text}
 use Rattle.dbbytes.proofs.NameLemmas.{HasPut}
-use Rattle.dbreport.specs.Columns.{child_text}
 use Rattle.dbreport.proofs.statistics.lines.put_children.Given as goal
 
 abbrev pub invariant-loop-child : goal.invariant-loop-child
