@@ -1,11 +1,8 @@
 -- What a check has written at each of its ends, and what it found, by the faults of the file.
-use Rattle.std.proofs.Common.{◌≡◌, ◌∙◌, ℕ, false, List, None, Result, Ok, Err, ap, inl, inr, subst, sym, IfOk}
-use Rattle.dbreport.proofs.Common.{Moves, MovesBySome, Reference, faults, report, Survey, refusal, Check, Verdict, OutState, Puts, Writes, RunError}
-use Rattle.dbreport.proofs.Common.{WriteFailed, ReceivesFaults, run_notices, ShowsFault}
-use Rattle.dbscan.specs.Finishes.{Leaves}
+use Rattle.dbreport.proofs.Common.{◌≡◌, ◌∙◌, ℕ, false, List, None, Result, Ok, Err, ap, inl, inr, subst, sym, IfOk, Moves, MovesBySome, Reference, faults}
+use Rattle.dbreport.proofs.Common.{report, Survey, refusal, Check, Verdict, OutState, Puts, Writes, RunError, WriteFailed, ReceivesFaults, run_notices}
+use Rattle.dbreport.proofs.Common.{ShowsFault, Leaves, LeavesCheck, end_text, found_verdict, CheckReporter}
 use Rattle.dbscan.proofs.FaultsReceived.{faults_received_by}
-use Rattle.dbreport.specs.CheckReporter.{LeavesCheck, end_text, found_verdict}
-use Rattle.dbreport.specs.declared.checking.CheckReporter.{CheckReporter}
 use Rattle.dbreport.proofs.RunAnswers.{if_ok}
 use Rattle.dbreport.proofs.RunReports.{check_is}
 use Rattle.dbreport.proofs.Checks.{check_writes, check_finds, check_begins}

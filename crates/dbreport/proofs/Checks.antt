@@ -1,17 +1,12 @@
 -- What a check has written and found, by the findings that its reporter received.
-use Rattle.std.proofs.Common.{◌≡◌, ℕ, zero, suc, ◌+◌, ◌-◌, ◌^◌, ◌<◌, ◌≤◌, false, cond, inl, inr, List, [], ◌∷◌, ◌++◌, length, take, drop, Result, Ok, Err}
-use Rattle.std.proofs.Common.{refl, sym, ap, ap₂, ◌∙◌, subst, arith, append_assoc, length-drop, flat_map, ◌==◌, nat_lt}
-use Rattle.dbreport.proofs.Common.{Moves, MovesBySome, counted, fault_line, ok_line, check_text, verdict, Fault, Verdict, Begins, OutState, Puts}
-use Rattle.dbreport.proofs.Common.{cases_Bool, nat_tests, begins_more, puts_then, ShowsFault}
+use Rattle.dbreport.proofs.Common.{◌≡◌, ℕ, zero, suc, ◌+◌, ◌-◌, ◌^◌, ◌<◌, ◌≤◌, false, cond, inl, inr, List, [], ◌∷◌, ◌++◌, length, take, drop, Result, Ok, Err}
+use Rattle.dbreport.proofs.Common.{refl, sym, ap, ap₂, ◌∙◌, subst, arith, append_assoc, length-drop, flat_map, ◌==◌, nat_lt, Moves, MovesBySome, counted}
+use Rattle.dbreport.proofs.Common.{fault_line, ok_line, check_text, verdict, Fault, Verdict, Begins, OutState, Puts, cases_Bool, nat_tests, begins_more}
+use Rattle.dbreport.proofs.Common.{puts_then, ShowsFault, common_steps, more_text, verdict_counted, PutsAll, end_text, found_verdict, writer_of, CheckReporter}
 use Rattle.std.proofs.Math.Seq.{take-nil}
-use Rattle.std.proofs.lemmas.Grind.{common_steps}
-use Rattle.dbformat.specs.Report.{more_text}
-use Rattle.dbformat.proofs.Verdicts.{verdict_counted}
 use Rattle.dblines.specs.Writing.{Wrote}
 use Rattle.dblines.specs.declared.writer.Writer.{Writer}
 use Rattle.dblines.proofs.Writing.{put_written, wrote_as, wrote_nothing, wrote_then}
-use Rattle.dbreport.specs.CheckReporter.{PutsAll, end_text, found_verdict, writer_of}
-use Rattle.dbreport.specs.declared.checking.CheckReporter.{CheckReporter}
 
 -- the lines of the first faults
 abbrev lines : ℕ → List Fault → List ℕ

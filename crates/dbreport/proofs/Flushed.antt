@@ -1,8 +1,7 @@
 -- What is known of an Out that was flushed, beside the bytes that were put to others.
-use Rattle.std.proofs.Common.{List, [], ℕ, Bool, true, false, Option, refl, sym, subst}
-use Rattle.dbreport.proofs.Common.{Begins, OutState, IsFlushedIf, Appends, appends_nothing}
+use Rattle.dbreport.proofs.Common.{List, [], ℕ, Bool, true, false, Option, refl, sym, subst, Begins, OutState, IsFlushedIf, Appends, appends_nothing}
+use Rattle.dbreport.proofs.Common.{appends_kept, keeps_same}
 use Rattle.std.specs.Io.KnownBytes.{Keeps}
-use Rattle.dbsource.proofs.Puts.{appends_kept, keeps_same}
 
 nothing_put : (o n : Option (List ℕ)) → Keeps o n → Appends o n []
 nothing_put o n k = appends_kept o o n [] (appends_nothing o) k

@@ -1,11 +1,9 @@
 -- A number in hexadecimal, digit by digit from its end.
-use Rattle.std.proofs.Common.{◌≡◌, ℕ, zero, suc, ◌+◌, ◌-◌, ◌*◌, ◌/◌, ◌%◌, ◌^◌, ◌<◌, ◌≤◌, true, false, List, ◌∷◌, ◌++◌, length, length-drop, min, take, drop}
-use Rattle.std.proofs.Common.{eqb, refl, sym, ap, ◌∙◌, arith, replicate, slice_set}
-use Rattle.dbreport.proofs.Common.{nat_tests}
+use Rattle.dbreport.proofs.Common.{◌≡◌, ℕ, zero, suc, ◌+◌, ◌-◌, ◌*◌, ◌/◌, ◌%◌, ◌^◌, ◌<◌, ◌≤◌, true, false, List, ◌∷◌, ◌++◌, length, length-drop, min, take}
+use Rattle.dbreport.proofs.Common.{drop, eqb, refl, sym, ap, ◌∙◌, arith, replicate, slice_set, nat_tests, hex_text}
 use Rattle.std.specs.Fmt.{digits, digits_onto, digit_glyph}
 use Rattle.std.proofs.Math.Nat.{pow-suc}
 use Rattle.std.proofs.lemmas.List.{drop_all, length-set, length-replicate, take-append-drop, take-replicate, take-set, take-take, drop-replicate, drop-set}
-use Rattle.dbformat.specs.Text.{hex_text}
 use Rattle.dbbytes.proofs.ListLemmas.{drop-append}
 
 -- one digit more

@@ -1,15 +1,9 @@
 -- The names of trees, by the rows of a list.
-use Rattle.std.proofs.Common.{◌≡◌, ℕ, suc, false, cond, arith, List, [], take, Some, sym, ap, ◌∙◌, slice_get, codes, ◌==◌}
-use Rattle.dbreport.proofs.Common.{schema_start, tree_name, Reference, name_at, nat_tests}
-use Rattle.std.specs.Option.{option_map_or}
-use Rattle.std.proofs.lemmas.Grind.{common_steps, elements}
-use Rattle.dbformat.specs.Address.{last_root_start}
-use Rattle.dbformat.specs.Header.{encoding}
+use Rattle.dbreport.proofs.Common.{◌≡◌, ℕ, suc, false, cond, arith, List, [], take, Some, sym, ap, ◌∙◌, slice_get, codes, ◌==◌, schema_start, tree_name}
+use Rattle.dbreport.proofs.Common.{Reference, name_at, nat_tests, option_map_or, common_steps, elements, last_root_start, encoding, schema, rooted_rows, at_row}
 use Rattle.dbformat.specs.Lines.{row_name_text}
-use Rattle.dbformat.specs.Schema.{schema, rooted_rows}
 use Rattle.dbformat.specs.SchemaRow.{SchemaRow}
 use Rattle.dbscan.specs.Roots.{AreListed}
-use Rattle.dbscan.specs.Starts.{at_row}
 
 of_first : {X : Type 0} (n : ℕ) (xs : List X) (k : ℕ) (x : X) → slice_get (take n xs) k ≡ Some x → slice_get xs k ≡ Some x
 of_first n xs k x e = grind (arith, common_steps, elements)

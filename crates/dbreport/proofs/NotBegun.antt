@@ -1,6 +1,6 @@
 -- What holds of an Out where there was no run: the answer is an error other than a failed write.
-use Rattle.std.proofs.Common.{◌≡◌, ℕ, false, List, Err, refl, ap, sym, subst, if◌then◌else◌}
-use Rattle.dbreport.proofs.Common.{Verdict, is_write_failed, CountsAfter, failures_after, RunError}
+use Rattle.dbreport.proofs.Common.{◌≡◌, ℕ, false, List, Err, refl, ap, sym, subst, if◌then◌else◌, Verdict, is_write_failed, CountsAfter, failures_after}
+use Rattle.dbreport.proofs.Common.{RunError}
 use Rattle.dbsource.specs.Failures.{HasOneMore, MovesIf, one_more}
 
 -- it has as many failures

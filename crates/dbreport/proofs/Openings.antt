@@ -1,17 +1,12 @@
 -- What is said of a run from the header on, by how its file was opened.
-use Rattle.std.proofs.Common.{arith, ◌≡◌, ℕ, false, List, Err, Result, refl, ap, ◌∙◌, IfErr}
-use Rattle.dbreport.proofs.Common.{geometry, Verdict, is_write_failed, run_error, failures_after, HeaderBytes, Opens, RunError, OutOfMemory}
-use Rattle.dbreport.proofs.Common.{IsReadWriteOrMemory, AsksHeaderAlone, IsAnswerOf, IsSomeRunLog, OpenError, read_weaker}
-use Rattle.dbformat.specs.FixedPages.{geometry_of}
-use Rattle.dbformat.specs.Log.{IsPageLog, IsRunLog}
+use Rattle.dbreport.proofs.Common.{arith, ◌≡◌, ℕ, false, List, Err, Result, refl, ap, ◌∙◌, IfErr, geometry, Verdict, is_write_failed, run_error, failures_after}
+use Rattle.dbreport.proofs.Common.{HeaderBytes, Opens, RunError, OutOfMemory, IsReadWriteOrMemory, AsksHeaderAlone, IsAnswerOf, IsSomeRunLog, OpenError}
+use Rattle.dbreport.proofs.Common.{read_weaker, geometry_of, IsPageLog, IsRunLog, HasRead, HasReadAfterHeader, IsNotOpened, IsOpened}
 use Rattle.dbsource.specs.Errors.{is_read_failed}
-use Rattle.dbsource.specs.Snapshots.{HasRead, HasReadAfterHeader}
 use Rattle.dbsource.specs.declared.source.Source.{Ghosts as SourceWords}
 use Rattle.dbsource.proofs.Logs.{has_ranges, open_failures}
-use Rattle.dbreport.specs.Opening.{IsNotOpened, IsOpened}
 use Rattle.dbreport.proofs.RunAnswers.{read_refused, refused_answer, refused_log}
 use Rattle.dbreport.proofs.RunLogs.{header_run, opened_run, whole_run}
-use Rattle.dbsource.specs.declared.error.OpenError.TheVariants as opening
 
 never_written : (e : OpenError) → is_write_failed (run_error e) ≡ false
 never_written e = grind arith

@@ -1,14 +1,9 @@
 -- The rows of the other pages are those that the marks give.
-use Rattle.std.proofs.Common.{arith, ◌≡◌, ℕ, zero, suc, ◌+◌, Bool, true, false, cond, List, [], ◌∷◌, ◌++◌, map, Option, Some, None, refl, ap, subst, ◌∙◌}
-use Rattle.std.proofs.Common.{flat_map, filter_map, option_map, if◌then◌else◌}
-use Rattle.dbreport.proofs.Common.{geometry, form_line, other_line, Role, Reference, role_of, OtherPage, FormRow, other_rows, Survey, Geometry, other_text}
-use Rattle.std.specs.List.{cons_option, range_with_len}
-use Rattle.std.specs.Option.{option_map_or}
-use Rattle.dbsurvey.proofs.Lists.{flat_map-same}
+use Rattle.dbreport.proofs.Common.{arith, ◌≡◌, ℕ, zero, suc, ◌+◌, Bool, true, false, cond, List, [], ◌∷◌, ◌++◌, map, Option, Some, None, refl, ap, subst, ◌∙◌}
+use Rattle.dbreport.proofs.Common.{flat_map, filter_map, option_map, if◌then◌else◌, geometry, form_line, other_line, Role, Reference, role_of, OtherPage}
+use Rattle.dbreport.proofs.Common.{FormRow, other_rows, Survey, Geometry, other_text, cons_option, range_with_len, option_map_or, flat_map-same, fixed_use}
+use Rattle.dbreport.proofs.Common.{is_fixed, other_row, other_page, other_visited, other_unvisited}
 use Rattle.dbformat.specs.EndFaults.{visit_of, page_numbers}
-use Rattle.dbformat.specs.FixedPages.{fixed_use, is_fixed}
-use Rattle.dbformat.specs.Reference.{from_of}
-use Rattle.dbformat.specs.Rows.{other_row, other_page, other_visited, other_unvisited}
 use Rattle.dbmarks.specs.EndMarks.{AreVisits}
 use Rattle.dbmarks.specs.Marking.{role_mark, visit_mark, mark_of, marks_of}
 use Rattle.dbmarks.specs.declared.marks.Mark.{Mark}

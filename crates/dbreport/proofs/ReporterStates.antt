@@ -1,6 +1,5 @@
 -- What a reporter borrows after an answer, and what its Outs count.
-use Rattle.std.proofs.Common.{◌≡◌, ℕ, Bool, inl, inr, List, [], ◌∷◌, Err, Result, ap, ◌∙◌}
-use Rattle.dbreport.proofs.Common.{is_write_failed, failures_after, RunError, WriteFailed, one_out}
+use Rattle.dbreport.proofs.Common.{◌≡◌, ℕ, Bool, inl, inr, List, [], ◌∷◌, Err, Result, ap, ◌∙◌, is_write_failed, failures_after, RunError, WriteFailed, one_out}
 use Rattle.dbwalk.specs.Reporting.{SinkAfter, SinkState}
 use Rattle.dbscan.proofs.Notifiers.{first}
 

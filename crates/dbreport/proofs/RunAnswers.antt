@@ -1,20 +1,15 @@
 -- What the answer of a run says.
-use Rattle.std.proofs.Common.{arith, ◌≡◌, ◌∙◌, ℕ, List, [], ◌∷◌, ◌++◌, None, Some, Option, Ok, Err, Result, inl, inr, refl, sym, ap, subst, ◌↔◌, IfErr, IfOk}
-use Rattle.std.proofs.Common.{OnOk}
-use Rattle.dbreport.proofs.Common.{refusal, ok_line, Reference, Report, report, Survey, Check, Stat, Verdict, run_error, is_write_failed, CountsAfter}
-use Rattle.dbreport.proofs.Common.{failures_after, IsOpenLog, IsRefusalOf, RunError, OutOfMemory, WriteFailed, IsReadWriteOrMemory, AsksHeaderAlone, IsAnswerOf}
-use Rattle.dbreport.proofs.Common.{IsReported, Appends, OpenError, begins_nothing}
+use Rattle.dbreport.proofs.Common.{arith, ◌≡◌, ◌∙◌, ℕ, List, [], ◌∷◌, ◌++◌, None, Some, Option, Ok, Err, Result, inl, inr, refl, sym, ap, subst, ◌↔◌, IfErr}
+use Rattle.dbreport.proofs.Common.{IfOk, OnOk, refusal, ok_line, Reference, Report, report, Survey, Check, Stat, Verdict, run_error, is_write_failed}
+use Rattle.dbreport.proofs.Common.{CountsAfter, failures_after, IsOpenLog, IsRefusalOf, RunError, OutOfMemory, WriteFailed, IsReadWriteOrMemory}
+use Rattle.dbreport.proofs.Common.{AsksHeaderAlone, IsAnswerOf, IsReported, Appends, OpenError, begins_nothing, Command, one_survey, Step, Trail, HasRanges}
+use Rattle.dbreport.proofs.Common.{IsReportedBy, IsRunBy, IsRunOf, IsUnwritten, SaysOk, SaysOkWhereSound}
 use Rattle.std.proofs.lemmas.List.{append_cancel_left}
 use Rattle.dbformat.specs.Sound.{Sound}
 use Rattle.dbformat.specs.Survey.{survey}
-use Rattle.dbformat.specs.declared.Command.{Command}
 use Rattle.dbformat.specs.declared.Verdict.TheVariants.{Clean}
-use Rattle.dbformat.proofs.Theory.{one_survey}
 use Rattle.dbsound.proofs.Soundness.{sound_by_ok, sound_by_verdict}
-use Rattle.dbsource.specs.Answers.{Step, Trail}
-use Rattle.dbsource.specs.Sources.{HasRanges}
 use Rattle.dbsource.specs.declared.error.RunError.TheVariants.{Refused, ReadFailed}
-use Rattle.dbreport.specs.Runs.{IsReportedBy, IsRunBy, IsRunOf, IsUnwritten, SaysOk, SaysOkWhereSound}
 use Rattle.dbreport.proofs.RunReports.{counts_pages}
 use Rattle.dbsource.specs.declared.error.OpenError.TheVariants as opening
 

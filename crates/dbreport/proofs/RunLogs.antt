@@ -1,16 +1,11 @@
 -- What a run asks for: the header, and then pages.
-use Rattle.std.proofs.Common.{◌≡◌, ℕ, arith, false, List, [], length, None, refl, subst, inl, inr, Ok, Err, Result}
-use Rattle.dbreport.proofs.Common.{geometry, Geometry, HeaderBytes, IsHeaderOf, IsOpenLog, IsRefusalOf, Opens, IsSomeRunLog, OpenError, read_weaker}
+use Rattle.dbreport.proofs.Common.{◌≡◌, ℕ, arith, false, List, [], length, None, refl, subst, inl, inr, Ok, Err, Result, geometry, Geometry, HeaderBytes}
+use Rattle.dbreport.proofs.Common.{IsHeaderOf, IsOpenLog, IsRefusalOf, Opens, IsSomeRunLog, OpenError, read_weaker, geometry_of, IsInRange, IsPageLog, IsRunLog}
+use Rattle.dbreport.proofs.Common.{Lengths, Step, given, HasRead, HasReadAfterHeader, SourceState, opened, ran}
 use Rattle.dbformat.specs.File.{refusal_of}
-use Rattle.dbformat.specs.FixedPages.{geometry_of, IsInRange}
-use Rattle.dbformat.specs.Log.{IsPageLog, IsRunLog}
 use Rattle.dbformat.specs.declared.ByteRange.{ByteRange}
 use Rattle.dbformat.specs.declared.Refusal.TheVariants.{Short}
-use Rattle.dbsource.specs.Answers.{Lengths, Step, given}
-use Rattle.dbsource.specs.Snapshots.{HasRead, HasReadAfterHeader}
-use Rattle.dbsource.specs.Sources.{SourceState}
 use Rattle.dbsource.specs.declared.error.OpenError.TheVariants.{Refused, ReadFailed}
-use Rattle.dbsource.proofs.Runs.{opened, ran}
 use Rattle.dbsource.proofs.Told.{told_all}
 
 no_pages : (g : Geometry) → IsPageLog g []

@@ -1,13 +1,7 @@
 -- The report of a file that is read, by what was written of it and what was found.
-use Rattle.std.proofs.Common.{◌≡◌, List, [], Ok, Err, Result, None, Option, refl, sym, ap, ◌∙◌, ℕ, true, false}
-use Rattle.dbreport.proofs.Common.{refusal, Reference, Report, report, verdict, faults, Survey, Check, Stat}
-use Rattle.dbreport.proofs.Common.{Verdict, Writes, RunError, Form, begins_nothing, appends_nothing}
-use Rattle.dbformat.specs.Report.{check_report, stat_report}
-use Rattle.dbformat.specs.Rows.{StatForm}
-use Rattle.dbformat.specs.declared.Command.{Command}
-use Rattle.dbsound.proofs.RowCounts.FormRows.{adds_up, counts_each_page, counts_no_page_twice}
-use Rattle.dbreport.specs.Runs.{CountsPages}
-use Rattle.dbreport.specs.Statistics.{form_of}
+use Rattle.dbreport.proofs.Common.{◌≡◌, List, [], Ok, Err, Result, None, Option, refl, sym, ap, ◌∙◌, ℕ, true, false, refusal, Reference, Report, report}
+use Rattle.dbreport.proofs.Common.{verdict, faults, Survey, Check, Stat, Verdict, Writes, RunError, Form, begins_nothing, appends_nothing, check_report}
+use Rattle.dbreport.proofs.Common.{stat_report, StatForm, Command, adds_up, counts_each_page, counts_no_page_twice, CountsPages, form_of}
 
 -- at an error nothing is a beginning, and to no bytes nothing is added
 pub writes_nothing : (r : Result Verdict RunError) (held : Option (List ℕ)) → Writes r held held []

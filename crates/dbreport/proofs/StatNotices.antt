@@ -1,14 +1,11 @@
 -- What the reporter of the statistics writes of what it receives, notice after notice.
-use Rattle.std.proofs.Common.{◌≡◌, ℕ, ◌+◌, ◌⊎◌, inl, inr, Bool, false, not, List, [], ◌∷◌, ◌++◌, Result, Ok, Err, refl, sym, ◌∙◌, subst, arith, append-nil}
-use Rattle.std.proofs.Common.{OnOk}
-use Rattle.dbreport.proofs.Common.{Moves, Stops, MovesBySome, fault_line, StatRow, Fault, Begins, OutState, RunError, Reports, Notice, received_fault}
+use Rattle.dbreport.proofs.Common.{◌≡◌, ℕ, ◌⊎◌, inl, inr, Bool, false, not, List, [], ◌∷◌, ◌++◌, Result, Ok, Err, refl, sym, ◌∙◌, subst, arith, append-nil}
+use Rattle.dbreport.proofs.Common.{OnOk, Moves, Stops, MovesBySome, fault_line, StatRow, Fault, Begins, OutState, RunError, Reports, Notice, received_fault}
 use Rattle.dbreport.proofs.Common.{received_row, ended, marked, tree_end_text, pages_text, CutsStat, HasBegun, HasWritten, ReceivesOpen, ReceivesStat}
 use Rattle.dbreport.proofs.Common.{IsFlushedIf, WritesBoth, name_at, Form, StatReporter, Appends, begins_more, appends_nothing, other_text, sums_of}
+use Rattle.dbreport.proofs.Common.{kept_appends, At, CutsStatFault, IsSameReporter, TakesFault}
 use Rattle.dbformat.specs.declared.Encoding.{Encoding}
-use Rattle.dbsource.proofs.Puts.{kept_appends}
 use Rattle.dbscan.specs.Notices.{faults_received}
-use Rattle.dbscan.specs.Starts.{At}
-use Rattle.dbreport.specs.StatReporter.{CutsStatFault, IsSameReporter, TakesFault}
 use Rattle.dbreport.proofs.Flushed.{keeps_begins, kept_if}
 use Rattle.dbreport.proofs.StatShut.{all_open, some_open}
 use Rattle.dbreport.proofs.StatWrites.{begun_first, begun_none, begun_then, written_none, written_then}

@@ -1,11 +1,9 @@
 -- The lines of the statistics by the pieces that are put.
-use Rattle.std.proofs.Common.{◌≡◌, ℕ, ◌+◌, ◌-◌, ◌*◌, ◌<◌, List, [], ◌∷◌, ◌++◌, length, drop, get_or, add-one, drop-cons, refl, sym, ap, ◌∙◌, append_assoc}
-use Rattle.std.proofs.Common.{codes, decimal, flat_map}
-use Rattle.dbreport.proofs.Common.{counted, other_line, page_line, tree_line, StatRow, OtherPage, child_text, page_end, tree_end, sums_of}
-use Rattle.std.specs.List.{join_with_byte}
+use Rattle.dbreport.proofs.Common.{◌≡◌, ℕ, ◌+◌, ◌-◌, ◌*◌, ◌<◌, List, [], ◌∷◌, ◌++◌, length, drop, get_or, add-one, drop-cons, refl, sym, ap, ◌∙◌, append_assoc}
+use Rattle.dbreport.proofs.Common.{codes, decimal, flat_map, counted, other_line, page_line, tree_line, StatRow, OtherPage, child_text, page_end, tree_end}
+use Rattle.dbreport.proofs.Common.{sums_of, join_with_byte, column, counts_text, offset_text}
 use Rattle.dbformat.specs.Counts.{no_counts}
 use Rattle.dbformat.specs.Lines.{chain_text, columns, counts_columns, line_feed, no_text, other_text, pagetype_text, path_text, tab}
-use Rattle.dbreport.specs.Columns.{column, counts_text, offset_text}
 use Rattle.dbreport.specs.declared.statistics.sums.Sums.{Sums}
 use Rattle.dbreport.proofs.SumLemmas.{counted-mul}
 

@@ -1,14 +1,11 @@
 -- What the statistics have written of a file in the end, and what they found: its report.
-use Rattle.std.proofs.Common.{◌≡◌, ℕ, false, None, ◌+◌, List, [], ◌++◌, length, Result, Ok, Err, inl, inr, sym, ap, ◌∙◌, subst, arith, flat_map, if◌then◌else◌}
-use Rattle.dbreport.proofs.Common.{Moves, MovesBySome, geometry, refusal, Stat, counted, form_line, Reference, faults, verdict_of, form_rows}
-use Rattle.dbreport.proofs.Common.{other_rows, page_rows, tree_rows, Survey, Geometry, Verdict, HeaderBytes, IsHeaderOf, OutState, RunError}
-use Rattle.dbreport.proofs.Common.{run_notices, IsReported, HasBegun, HasWritten, ReceivesOpen, StatReporter, Form, flat_map-append, sums_of}
+use Rattle.dbreport.proofs.Common.{◌≡◌, ℕ, false, None, List, [], ◌++◌, length, Result, Ok, Err, inl, inr, sym, ap, ◌∙◌, subst, arith, flat_map}
+use Rattle.dbreport.proofs.Common.{if◌then◌else◌, Moves, MovesBySome, geometry, refusal, Stat, counted, form_line, Reference, faults, verdict_of, form_rows}
+use Rattle.dbreport.proofs.Common.{other_rows, page_rows, tree_rows, Survey, Geometry, Verdict, HeaderBytes, IsHeaderOf, OutState, RunError, run_notices}
+use Rattle.dbreport.proofs.Common.{IsReported, HasBegun, HasWritten, ReceivesOpen, StatReporter, Form, flat_map-append, sums_of, verdict_counted, Leaves}
+use Rattle.dbreport.proofs.Common.{IsForFile, LeavesStat, rows_text, form_of}
 use Rattle.dbformat.specs.Header.{encoding as encoding_of}
 use Rattle.dbformat.proofs.HeaderPrefix.{encoding_within}
-use Rattle.dbformat.proofs.Verdicts.{verdict_counted}
-use Rattle.dbscan.specs.Finishes.{Leaves}
-use Rattle.dbreport.specs.StatStarts.{IsForFile, LeavesStat, rows_text}
-use Rattle.dbreport.specs.Statistics.{form_of}
 use Rattle.dbreport.proofs.RunAnswers.{if_ok}
 use Rattle.dbreport.proofs.RunReports.{stat_is}
 use Rattle.dbreport.proofs.StatStarts.{run_written}

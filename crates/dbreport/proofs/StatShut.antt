@@ -1,9 +1,6 @@
 -- The reporter of the statistics takes nothing once it is shut.
-use Rattle.std.proofs.Common.{◌≡◌, ◌⊎◌, Bool, true, false, inl, inr, List, [], ◌∷◌, sym, ap, subst, ◌∙◌}
-use Rattle.dbreport.proofs.Common.{Moves, Stops, MovesBySome, OutState, Notice, CutsStat, ReceivesOpen, ReceivesStat, StatReporter, cases_Bool}
-use Rattle.std.proofs.lemmas.Bool.{false≢true}
-use Rattle.dbwalk.proofs.Reporting.Sinks.{moves_some}
-use Rattle.dbreport.specs.StatReporter.{ReceivesBy}
+use Rattle.dbreport.proofs.Common.{◌≡◌, ◌⊎◌, Bool, true, false, inl, inr, List, [], ◌∷◌, sym, ap, subst, ◌∙◌, Moves, Stops, MovesBySome, OutState, Notice}
+use Rattle.dbreport.proofs.Common.{CutsStat, ReceivesOpen, ReceivesStat, StatReporter, cases_Bool, false≢true, moves_some, ReceivesBy}
 
 module _ {O E : Type 0} (held : O → OutState) (held' : E → OutState) where
   abbrev all : StatReporter O E → Notice → StatReporter O E → Type 0

@@ -1,15 +1,12 @@
 -- What the statistics write of the starts of a file, by what is reported of them.
-use Rattle.std.proofs.Common.{◌≡◌, ℕ, suc, ◌+◌, Bool, true, false, cond, List, [], ◌∷◌, ◌++◌, length, map, Some, Result, refl, sym, ap, ap₂, ◌∙◌, subst, arith}
-use Rattle.std.proofs.Common.{append_assoc, append-nil, OnOk, slice_get, codes, ◌==◌}
-use Rattle.dbreport.proofs.Common.{geometry, faults, Fault, Geometry, page_size, tree_name, trunk, Way, Reference, StatRow, Survey, OutState, RunError, Reports}
-use Rattle.dbreport.proofs.Common.{Notice, ended, run_notices, name_at, ReceivesOpen, tree_end_text, pages_text, WritesBoth, StatReporter, Form, other_text}
-use Rattle.std.specs.List.{enumerate_from}
-use Rattle.dbsurvey.specs.Story.{Errand, Go, Follow, errands_at}
-use Rattle.dbformat.specs.Address.{freelist_start}
+use Rattle.dbreport.proofs.Common.{◌≡◌, ℕ, suc, ◌+◌, Bool, true, false, cond, List, [], ◌∷◌, ◌++◌, length, map, Some, Result, refl, sym, ap, ap₂, ◌∙◌, subst}
+use Rattle.dbreport.proofs.Common.{arith, append_assoc, append-nil, OnOk, slice_get, codes, ◌==◌, geometry, faults, Fault, Geometry, page_size, tree_name}
+use Rattle.dbreport.proofs.Common.{trunk, Way, Reference, StatRow, Survey, OutState, RunError, Reports, Notice, ended, run_notices, name_at, ReceivesOpen}
+use Rattle.dbreport.proofs.Common.{tree_end_text, pages_text, WritesBoth, StatReporter, Form, other_text, enumerate_from, Errand, Go, Follow, errands_at}
+use Rattle.dbreport.proofs.Common.{freelist_start, start, At, at_freelist, at_row, at_schema, schema_reference, IsForFile, rows_text, rows_below, common_steps}
 use Rattle.dbformat.specs.EndFaults.{end_faults}
 use Rattle.dbformat.specs.HeaderFaults.{header_faults}
 use Rattle.dbformat.specs.Header.{encoding as encoding_of, first_trunk}
-use Rattle.dbformat.specs.Schema.{start}
 use Rattle.dbformat.specs.SchemaRow.{SchemaRow}
 use Rattle.dbformat.specs.Story.{Event, start_errands}
 use Rattle.dbmarks.specs.Marking.{marks_of}
@@ -20,15 +17,11 @@ use Rattle.dbwalk.proofs.Reporting.Belows.{reported_none}
 use Rattle.dbtrace.specs.declared.Part.{Part}
 use Rattle.dbscan.specs.Notices.{whole, found, pages_from, errands_left, root_reference, tree_notices, later_notices, start_notices, end_notices}
 use Rattle.dbscan.specs.Roots.{listed_rows}
-use Rattle.dbscan.specs.Starts.{At, at_freelist, at_row, at_schema, schema_reference}
 use Rattle.dbscan.specs.Findings.{found_rows}
 use Rattle.dbreport.specs.StatLines.{tree_rows_text, starts_text}
-use Rattle.dbreport.specs.StatStarts.{IsForFile, rows_text}
 use Rattle.dbreport.proofs.ListedNames.{listed_name}
 use Rattle.dbreport.proofs.OtherRows.{others_from, others_text}
 use Rattle.dbreport.proofs.StatNotices.{Sheet, all_lines, lines, next, notices_written}
-use Rattle.dbscan.proofs.RowsBelow.{rows_below}
-use Rattle.std.proofs.lemmas.Grind.{common_steps}
 use Rattle.dbreport.proofs.StatTrees.{freelist_rows}
 use Rattle.dbscan.proofs.StartByStart.{of_later}
 use Rattle.dbscan.proofs.Starts.{quiet_go}

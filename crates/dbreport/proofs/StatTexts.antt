@@ -1,28 +1,18 @@
 -- The text of the statistics, written start by start, is that of the rows of the form.
-use Rattle.std.proofs.Common.{◌≡◌, ℕ, inl, inr, Bool, true, false, cond, if◌then◌else◌, List, [], ◌∷◌, ◌++◌, map, refl, sym, ap, ap₂, subst, ◌∙◌, append-nil}
-use Rattle.std.proofs.Common.{filter, flat_map, ◌==◌, eq-eqb}
-use Rattle.dbreport.proofs.Common.{schema_start, geometry, page_size, form_line, page_line, tree_line, tree_name, Way, Reference, StatRow, stat_rows, tree_rows}
-use Rattle.dbreport.proofs.Common.{page_rows, Survey, rules_of, flat_map-append}
-use Rattle.std.proofs.lemmas.List.{map-append}
-use Rattle.dbsurvey.specs.Address.{IsIn}
+use Rattle.dbreport.proofs.Common.{◌≡◌, ℕ, inl, inr, Bool, true, false, cond, if◌then◌else◌, List, [], ◌∷◌, ◌++◌, map, refl, sym, ap, ap₂, subst, ◌∙◌}
+use Rattle.dbreport.proofs.Common.{append-nil, filter, flat_map, ◌==◌, eq-eqb, schema_start, geometry, page_size, form_line, page_line, tree_line, tree_name}
+use Rattle.dbreport.proofs.Common.{Way, Reference, StatRow, stat_rows, tree_rows, page_rows, Survey, rules_of, flat_map-append, map-append, IsIn, Errand, Go}
+use Rattle.dbreport.proofs.Common.{Follow, errands_at, goes, part_of, filter-all, page_row, starts, are_rules, rows_below, rows_join, rows_none, start_role}
 use Rattle.dbsurvey.specs.From.{under}
-use Rattle.dbsurvey.specs.Story.{Errand, Go, Follow, errands_at, goes}
 use Rattle.dbsurvey.specs.Survey.{Link, IsRising}
-use Rattle.dbsurvey.specs.Traverse.{part_of}
-use Rattle.dbsurvey.proofs.Lists.{filter-all}
 use Rattle.dbsurvey.proofs.Remaining.{rest_join}
-use Rattle.dbformat.specs.Rows.{page_row}
-use Rattle.dbformat.specs.Schema.{starts}
 use Rattle.dbformat.specs.Story.{Event, start_errands}
 use Rattle.dbformat.proofs.Rising.{starts_rise}
-use Rattle.dbformat.proofs.Theory.{are_rules}
 use Rattle.dbtrace.specs.Finding.{visited_below}
 use Rattle.dbwalk.proofs.Reporting.Belows.{visited_none}
 use Rattle.dbreport.specs.StatLines.{tree_rows_text, starts_text}
-use Rattle.dbscan.proofs.RowsBelow.{rows_below, rows_join, rows_none}
 use Rattle.dbscan.proofs.RunItems.{all_visited, goes_named}
 use Rattle.dbscan.proofs.Starts.{quiet_go}
-use Rattle.dbsound.proofs.RowCounts.FormRows.{start_role}
 use Rattle.dbreport.proofs.StatTrees.{row_of_tree, HasLaterStarts, trees_apart, IsTree, no_tree, tree, IsStart, below_links, later_starts_below, row_start}
 use Rattle.dbreport.proofs.StatTrees.{one_tree}
 

@@ -1,24 +1,16 @@
 -- What is visited below a start: it has this start, and the rows of at most one tree.
-use Rattle.std.proofs.Common.{◌≡◌, ℕ, zero, suc, ◌+◌, ◌<◌, ◌⊎◌, inl, inr, true, false, cond, List, [], ◌∷◌, ◌++◌, map, length, Some, None, refl, sym, ap, ap₂}
-use Rattle.std.proofs.Common.{subst, ◌∙◌, arith, length-append, append-nil, filter, filter_map, ◌==◌, ne_eqb}
-use Rattle.dbreport.proofs.Common.{geometry, Role, Way, Reference, role_of, StatRow, FormRow, stat_rows, tree_rows, rules_of, cases_Bool}
-use Rattle.std.specs.List.{cons_option}
-use Rattle.std.proofs.lemmas.List.{map-append}
+use Rattle.dbreport.proofs.Common.{◌≡◌, ℕ, zero, suc, ◌+◌, ◌<◌, ◌⊎◌, inl, inr, true, false, cond, List, [], ◌∷◌, ◌++◌, map, length, Some, None, refl, sym, ap}
+use Rattle.dbreport.proofs.Common.{ap₂, subst, ◌∙◌, arith, length-append, append-nil, filter, filter_map, ◌==◌, ne_eqb, geometry, Role, Way, Reference, role_of}
+use Rattle.dbreport.proofs.Common.{StatRow, FormRow, stat_rows, tree_rows, rules_of, cases_Bool, cons_option, map-append, Address, IsIn, is_followed, part_of}
+use Rattle.dbreport.proofs.Common.{filter-none, filter-from, filter_map-from, start_of, tree_row, row_in, trees_reached, are_rules, rows_join, rows_none}
 use Rattle.std.proofs.lemmas.List.Elements.{filter-append}
-use Rattle.dbsurvey.specs.Address.{Address, IsIn}
 use Rattle.dbsurvey.specs.Survey.{Link, IsRising, IsPart, named_at, children}
-use Rattle.dbsurvey.specs.Traverse.{is_followed, part_of}
 use Rattle.dbsurvey.proofs.Composing.{named_at-from, named_at-step, named_at-apart, part_below}
-use Rattle.dbsurvey.proofs.Lists.{filter-none, filter-from, filter_map-from}
 use Rattle.dbsurvey.proofs.Ordering.{IsIn-from_map}
 use Rattle.dbsurvey.proofs.Remaining.{rest_none, rest_skip, rest_one}
 use Rattle.dbsurvey.proofs.Traversal.{free_at_most, traverse_part}
-use Rattle.dbformat.specs.Address.{start_of}
 use Rattle.dbformat.specs.Reference.{is_root, is_on_freelist}
-use Rattle.dbformat.specs.Rows.{tree_row, row_in, trees_reached}
 use Rattle.dbformat.proofs.Roles.{child_leads, no_root_on, root_off}
-use Rattle.dbformat.proofs.Theory.{are_rules}
-use Rattle.dbscan.proofs.RowsBelow.{rows_join, rows_none}
 use Rattle.dbsound.proofs.RowCounts.RowPages.{of_row, row_of}
 
 -- ---- rows and roots of lists of visits

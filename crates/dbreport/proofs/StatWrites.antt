@@ -1,8 +1,6 @@
 -- What the reporter of the statistics has written, one part after another.
-use Rattle.std.proofs.Common.{◌≡◌, ℕ, ◌+◌, List, [], ◌++◌, length, refl, sym, ◌∙◌, subst, arith, length-append, flat_map}
-use Rattle.dbreport.proofs.Common.{fault_line, Fault, OutState, HasWritten, HasBegun, StatReporter, Appends, flat_map-append, appends_nothing}
-use Rattle.dbreport.proofs.Common.{begins_nothing, begins_more}
-use Rattle.dbsource.proofs.Puts.{appends_append}
+use Rattle.dbreport.proofs.Common.{◌≡◌, ℕ, ◌+◌, List, [], ◌++◌, length, refl, sym, ◌∙◌, subst, arith, length-append, flat_map, fault_line, Fault, OutState}
+use Rattle.dbreport.proofs.Common.{HasWritten, HasBegun, StatReporter, Appends, flat_map-append, appends_nothing, begins_nothing, begins_more, appends_append}
 use Rattle.dbsource.proofs.Beginnings.{begins_after}
 
 lines_more : (xs ys : List Fault) → flat_map fault_line xs ++ flat_map fault_line ys ≡ flat_map fault_line (xs ++ ys)

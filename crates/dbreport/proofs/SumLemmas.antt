@@ -1,8 +1,6 @@
 -- Counts that stop at the greatest number of 64 bits.
-use Rattle.std.proofs.Common.{◌≡◌, ℕ, zero, suc, ◌*◌, ◌^◌, ◌-◌, ◌<◌, ◌≤◌, min, refl, inl, inr, arith}
-use Rattle.dbreport.proofs.Common.{counted}
+use Rattle.dbreport.proofs.Common.{◌≡◌, ℕ, zero, suc, ◌*◌, ◌^◌, ◌-◌, ◌<◌, ◌≤◌, min, refl, inl, inr, arith, counted, cases_lt}
 use Rattle.std.proofs.Math.Nat.{min-eq_left, min-eq_right, le-mul_of_pos_right, mul-le-mul_right}
-use Rattle.std.proofs.lemmas.Bool.{cases_lt}
 use native.Mathlib.Numerals.{unary_clauses}
 
 -- a factor may stop first

@@ -1,6 +1,5 @@
 -- What a run reads after a header.
-use Rattle.std.proofs.Common.{ℕ, List}
-use Rattle.dbscan.proofs.Common.{Step, HeaderBytes, IsHeaderOf, SourceState}
+use Rattle.dbscan.proofs.Common.{ℕ, List, Step, HeaderBytes, IsHeaderOf, SourceState}
 use Rattle.dbformat.specs.declared.ByteRange.{ByteRange}
 use Rattle.dbsource.specs.Snapshots.{HasReadAfterHeader}
 

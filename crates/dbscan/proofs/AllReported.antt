@@ -1,10 +1,8 @@
 -- What is reported with its causes is the faults of the file, in their order.
-use Rattle.std.proofs.Common.{◌≡◌, ℕ, List, [], ◌∷◌, ◌++◌, length, map, refl, ap₂, ◌∙◌}
-use Rattle.dbscan.proofs.Common.{start_of, end_faults, header_faults, Reference, event_faults, faults, Event, reporting, Fault, cause_of, at_start, of_file}
-use Rattle.dbscan.proofs.Common.{walk_reported, reported_faults, faults_of, map-append}
+use Rattle.dbscan.proofs.Common.{◌≡◌, ℕ, List, [], ◌∷◌, ◌++◌, length, map, refl, ap₂, ◌∙◌, start_of, end_faults, header_faults, Reference, event_faults, faults}
+use Rattle.dbscan.proofs.Common.{Event, reporting, Fault, cause_of, at_start, of_file, walk_reported, reported_faults, faults_of, map-append, TracedFault}
 use Rattle.dbsurvey.proofs.Lists.{flat_map-same, map-flat_map}
 use Rattle.dbformat.specs.Report.{walk_faults}
-use Rattle.dbtrace.specs.declared.TracedFault.{TracedFault}
 use Rattle.dbsurvey.specs.Story as story
 use Rattle.dbtrace.specs.declared.Part.TheVariants as part
 

@@ -1,11 +1,7 @@
 -- What marks count, one more at a time.
-use Rattle.std.proofs.Common.{◌≡◌, ℕ, ◌+◌, ◌-◌, ◌<◌, ◌≤◌, Bool, cond, max, List, [], ◌∷◌, ◌++◌, length, take, filter, get_or, Some}
-use Rattle.std.proofs.Common.{None, sym, ap, ◌∙◌, arith, count_by, fold, find, slice_get}
-use Rattle.dbscan.proofs.Common.{Mark, Unmarked, page_mark, is_marked, range_with_len, nat_tests}
-use Rattle.std.specs.Option.{option_or}
-use Rattle.std.proofs.lemmas.List.{map-id}
-use Rattle.std.proofs.lemmas.Option.{slice_get_within, get_or_from_slice_get}
-use Rattle.std.proofs.lemmas.List.Elements.{filter-append}
+use Rattle.dbscan.proofs.Common.{◌≡◌, ℕ, ◌+◌, ◌<◌, ◌≤◌, Bool, cond, max, List, [], ◌∷◌, ◌++◌, length, take, filter, get_or, Some, None, sym, ap, ◌∙◌}
+use Rattle.dbscan.proofs.Common.{arith, count_by, fold, find, slice_get, Mark, Unmarked, page_mark, is_marked, range_with_len, nat_tests, option_or, map-id}
+use Rattle.dbscan.proofs.Common.{slice_get_within, get_or_from_slice_get, filter-append}
 use Rattle.std.proofs.lemmas.List.Sums.{count_by_more_yes, count_by_more_no, fold-append}
 use Rattle.std.proofs.lemmas.List.Folds.{find-append}
 use Rattle.std.proofs.lemmas.List.FromFn.{map-range_with_len_more}

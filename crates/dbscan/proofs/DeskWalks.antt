@@ -1,9 +1,6 @@
 -- What a walk over the parts of a desk asked for, as what is asked over the desk.
-use Rattle.std.proofs.Common.{◌≡◌, ℕ, List, Result, subst, ◌∙◌}
-use Rattle.dbscan.proofs.Common.{geometry, Geometry, Step, is_read_failed, failures_after, IsHeaderOf, Asks, SourceState, RunError, Reads, Mark, DeskView}
-use Rattle.dbscan.proofs.Common.{shape_of, desk_view, asks_weaker}
-use Rattle.dbscan.specs.Desks.{AreForHeader}
-use Rattle.dbscan.specs.declared.desk.Desk.TheInside.{Inside}
+use Rattle.dbscan.proofs.Common.{◌≡◌, ℕ, List, Result, subst, ◌∙◌, geometry, Geometry, Step, is_read_failed, failures_after, IsHeaderOf, Asks, SourceState}
+use Rattle.dbscan.proofs.Common.{RunError, Reads, Mark, DeskView, shape_of, desk_view, asks_weaker, AreForHeader, Inside}
 
 pub desk_asks : {A B C : Type 0} (step : Step) (d : Inside A) (old : DeskView) (marks : List Mark) (U : List ℕ → Type 0) (T : DeskView → List ℕ → Type 0)
     {r : Result B RunError} (s : Result C RunError) {before after : SourceState}

@@ -1,18 +1,15 @@
 -- What is reported at the end: page after page by the marks, and all of it by the visits.
-use Rattle.std.proofs.Common.{◌≡◌, ℕ, ◌+◌, ◌-◌, ◌≤◌, Bool, true, false, List, [], ◌∷◌, ◌++◌, map, Option, Result, Ok, Err, refl, sym, ap, ap₂, subst, ◌∙◌}
-use Rattle.std.proofs.Common.{arith, count_by, flat_map, option_to_list, append-nil}
-use Rattle.dbscan.proofs.Common.{Moves, end_faults, has_rows, geometry, map_entry, MapEntry, is_fixed, map_page_of, Role, Reference, Survey, Fault, Geometry}
-use Rattle.dbscan.proofs.Common.{HeaderBytes, IsHeaderOf, RunError, is_free_mark, least_other_marked, mark_fault, late_fault, Notice, whole, end_notices}
-use Rattle.dbscan.proofs.Common.{pages_from, mark_of, marks_of, role_mark, AreMarksOf, Reports, Mark, is_fixed_mark, page_notices, pages_items, items_of}
-use Rattle.dbscan.proofs.Common.{range_with_len, map-append, Moves-append, some_after}
-use Rattle.std.proofs.lemmas.Grind.{common_steps, flat_map-append}
+use Rattle.dbscan.proofs.Common.{◌≡◌, ℕ, ◌+◌, ◌-◌, ◌≤◌, Bool, true, false, List, [], ◌∷◌, ◌++◌, map, Option, Result, Ok, Err, refl, sym, ap, ap₂, subst, ◌∙◌}
+use Rattle.dbscan.proofs.Common.{arith, count_by, flat_map, option_to_list, append-nil, Moves, end_faults, has_rows, geometry, map_entry, MapEntry, is_fixed}
+use Rattle.dbscan.proofs.Common.{map_page_of, Role, Reference, Survey, Fault, Geometry, HeaderBytes, IsHeaderOf, RunError, is_free_mark, least_other_marked}
+use Rattle.dbscan.proofs.Common.{mark_fault, late_fault, Notice, whole, end_notices, pages_from, mark_of, marks_of, role_mark, AreMarksOf, Reports, Mark}
+use Rattle.dbscan.proofs.Common.{is_fixed_mark, page_notices, pages_items, items_of, range_with_len, map-append, Moves-append, some_after, common_steps}
+use Rattle.dbscan.proofs.Common.{flat_map-append, schema_format_within, encoding_number_within, greatest_root_within, freelist_count_within, is_none}
 use Rattle.dbsurvey.proofs.Lists.{flat_map-same, map-flat_map}
 use Rattle.dbformat.proofs.Looping.{range-parts}
 use Rattle.dbformat.specs.EndFaults.{sum_faults, page_end_faults, page_numbers}
 use Rattle.dbformat.specs.Header.{has_pointer_map, schema_format, encoding_number, greatest_root, freelist_count}
-use Rattle.dbformat.proofs.HeaderPrefix.{schema_format_within, encoding_number_within, greatest_root_within, freelist_count_within}
 use Rattle.dbmarks.specs.EndMarks.{greatest_root_marked}
-use Rattle.dbmarks.specs.Marking.{is_none}
 use Rattle.dbmarks.proofs.LateRoots.{marks_give_the_end}
 use Rattle.dbscan.specs.EndPass.{counted_faults}
 use Rattle.dbscan.proofs.CountedMarks.{numbers_more}

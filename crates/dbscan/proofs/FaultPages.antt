@@ -1,10 +1,8 @@
 -- The faults of an event are of its page: of the one that is visited, or that a reference is found on.
-use Rattle.std.proofs.Common.{arith, ◌≡◌, ℕ, inl, inr, Bool, true, false, cond, not, ◌&&◌, List, [], ◌∷◌, ◌++◌, length, Option, Some, None, Result, Ok, Err}
-use Rattle.std.proofs.Common.{refl, ap, subst, ◌∙◌, flat_map, pos, ℤ, ◌==◌}
-use Rattle.dbscan.proofs.Common.{IsIn, start_of, schema_start, page_bytes, View, is_interior, usable_size, Role, root, child, free_leaf, Reference, role_of}
-use Rattle.dbscan.proofs.Common.{from_of, event_faults, SchemaCell, schema_cell, SchemaRow, Event, at_page, at_key, at_refused, Fault, range_with_len}
-use Rattle.dbscan.proofs.Common.{IsIn-cases, IsIn-from_flat_map, FaultCode, RowFault}
-use Rattle.dbformat.specs.Cell.{Cell, cell, count}
+use Rattle.dbscan.proofs.Common.{arith, ◌≡◌, ℕ, inl, inr, Bool, true, false, cond, not, ◌&&◌, List, [], ◌∷◌, ◌++◌, length, Option, Some, None, Result, Ok, Err}
+use Rattle.dbscan.proofs.Common.{refl, ap, subst, ◌∙◌, flat_map, pos, ℤ, ◌==◌, IsIn, start_of, schema_start, page_bytes, View, is_interior, usable_size, Role}
+use Rattle.dbscan.proofs.Common.{root, child, free_leaf, Reference, role_of, from_of, event_faults, SchemaCell, schema_cell, SchemaRow, Event, at_page, at_key}
+use Rattle.dbscan.proofs.Common.{at_refused, Fault, range_with_len, IsIn-cases, IsIn-from_flat_map, FaultCode, RowFault, Cell, cell, count}
 use Rattle.dbformat.specs.Coverage.{bad_freeblock, coverage}
 use Rattle.dbformat.specs.Faults.{fault}
 use Rattle.dbformat.specs.Head.{view, view_of_kind, type_byte, page_kind, is_same_tree, tree_of}

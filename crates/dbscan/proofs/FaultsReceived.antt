@@ -1,7 +1,6 @@
 -- What a run makes of a reporter on which only faults have an effect: it takes the faults of the file.
-use Rattle.std.proofs.Common.{inl, inr, ℕ, List, [], ◌∷◌, Result, Ok, Err, subst}
-use Rattle.dbscan.proofs.Common.{Moves, MovesBySome, Reference, faults, Survey, Fault, RunError, Reports, Notice, received_fault, faults_received, run_notices}
-use Rattle.dbscan.proofs.Common.{some_none}
+use Rattle.dbscan.proofs.Common.{inl, inr, ℕ, List, [], ◌∷◌, Result, Ok, Err, subst, Moves, MovesBySome, Reference, faults, Survey, Fault, RunError, Reports}
+use Rattle.dbscan.proofs.Common.{Notice, received_fault, faults_received, run_notices, some_none}
 use Rattle.dbscan.specs.Notices.{ReceivesFaults}
 use Rattle.dbscan.proofs.ReceivedFaults.{faults_are_received}
 

@@ -1,9 +1,7 @@
 -- The end of a report for which nothing is read.
-use Rattle.std.proofs.Common.{◌≡◌, ℕ, List, Result, Ok, Err, inr, refl, IfErr}
-use Rattle.dbscan.proofs.Common.{Reference, is_write_failed, RunError, WriteFailed, IsReadOrWrite, SinkAfter, SinkState, DeskView, shape_of, IsUnmarked, Notice}
-use Rattle.dbformat.specs.declared.Verdict.{Verdict}
+use Rattle.dbscan.proofs.Common.{◌≡◌, ℕ, List, Result, Ok, Err, inr, refl, IfErr, Reference, is_write_failed, RunError, WriteFailed, IsReadOrWrite, SinkAfter}
+use Rattle.dbscan.proofs.Common.{SinkState, DeskView, shape_of, IsUnmarked, Notice, Verdict, HasFinished, HasReceived}
 use Rattle.dbsource.specs.declared.source.Source.{Ghosts as SourceWords}
-use Rattle.dbscan.specs.Finishes.{HasFinished, HasReceived}
 use Rattle.dbscan.proofs.MapLogs.{asks_nothing, reads_none}
 
 of_write : {A : Type 0} (r : Result A RunError) → IfErr r (λ e. e ≡ WriteFailed) → IfErr r IsReadOrWrite

@@ -1,9 +1,8 @@
 -- A call of a run that adds no root to the list, after one that may have added some.
-use Rattle.std.proofs.Common.{inl, Ok, Err, Result, ap, subst, ◌∙◌, IfErr}
-use Rattle.dbscan.proofs.Common.{is_write_failed, RunError, IsReadOrWrite, SinkAfter, SinkState, DeskView, Listed, KeepsHeader}
+use Rattle.dbscan.proofs.Common.{inl, Ok, Err, Result, ap, subst, ◌∙◌, IfErr, is_write_failed, RunError, IsReadOrWrite, SinkAfter, SinkState, DeskView, Listed}
+use Rattle.dbscan.proofs.Common.{KeepsHeader, KeepsRoots}
 use Rattle.dbwalk.specs.Reporting.{IsReadWriteOrMemory}
 use Rattle.dbwalk.proofs.Underway.Walks.{none_refused}
-use Rattle.dbscan.specs.Kept.{KeepsRoots}
 
 -- an error of reading or writing is one of a run
 read_or_write : {A : Type 0} (r : Result A RunError) → IfErr r IsReadOrWrite → IfErr r IsReadWriteOrMemory

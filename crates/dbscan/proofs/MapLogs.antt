@@ -1,16 +1,11 @@
 -- What is read of the pointer map: page after page, and after what walks read.
-use Rattle.std.proofs.Common.{◌≡◌, ◌≢◌, ℕ, ◌+◌, ◌<◌, ◌≤◌, true, false, inl, inr, List, [], ◌∷◌, ◌++◌, Some, Result, Ok, Err, refl, sym}
-use Rattle.std.proofs.Common.{ap, ap₂, ◌∙◌, subst, arith, IfErr, is_some, append-nil}
-use Rattle.dbscan.proofs.Common.{nat_tests, fixed_use, is_fixed, lock_page, page_range, IsPageLog, Geometry, Step, is_read_failed}
-use Rattle.dbscan.proofs.Common.{failures_after, Asks, SourceState, RunError, WriteFailed, is_unmarked, AreMarksFor, Reads, Mark, IsUnmarked, ReadsMarked}
-use Rattle.dbscan.proofs.Common.{ReadsRising, IsMapInUse, MapReads, both_ways, map-append, IsIn-cases}
+use Rattle.dbscan.proofs.Common.{◌≡◌, ◌≢◌, ℕ, ◌+◌, ◌<◌, ◌≤◌, true, false, inl, inr, List, [], ◌∷◌, ◌++◌, Some, Result, Ok, Err, refl, sym, ap, ap₂, ◌∙◌, subst}
+use Rattle.dbscan.proofs.Common.{arith, IfErr, is_some, append-nil, nat_tests, fixed_use, is_fixed, lock_page, page_range, IsPageLog, Geometry, Step}
+use Rattle.dbscan.proofs.Common.{is_read_failed, failures_after, Asks, SourceState, RunError, WriteFailed, is_unmarked, AreMarksFor, Reads, Mark, IsUnmarked}
+use Rattle.dbscan.proofs.Common.{ReadsMarked, ReadsRising, IsMapInUse, MapReads, both_ways, map-append, IsIn-cases, EachPair-append, Map, has_none, keeps_same}
 use Rattle.dbsurvey.proofs.Elements.{each_weaker}
-use Rattle.dbsurvey.proofs.Order.{EachPair-append}
 use Rattle.dbformat.specs.Log.{IsReadable}
 use Rattle.dbformat.specs.declared.ByteRange.{ByteRange}
-use Rattle.dbformat.specs.declared.Fixed.TheVariants.{Map}
-use Rattle.dbsource.proofs.Logs.{has_none}
-use Rattle.dbmarks.proofs.Readings.{keeps_same}
 use Rattle.dbmarks.proofs.Unfixed.{marks_for-kept, readable, unmarked_unfixed}
 use Rattle.dbscan.specs.Looks.{ReadsOrNot, ReadsRisingBefore}
 use Rattle.dbscan.proofs.MapPlaces.{at_position}

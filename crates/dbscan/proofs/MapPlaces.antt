@@ -1,15 +1,13 @@
 -- The position of the entry of a page in the pointer map; and the map page that was read last is the one that has it.
-use Rattle.std.proofs.Common.{◌≡◌, ℕ, ◌+◌, ◌-◌, ◌*◌, ◌/◌, ◌%◌, ◌<◌, ◌≤◌, true, false, List, length, Some, None, Result}
-use Rattle.std.proofs.Common.{sym, ap, ap₂, ◌∙◌, arith, inl, inr, rules, nat_le, option_map, slice_index, OnOk}
-use Rattle.dbscan.proofs.Common.{MapEntry, geometry, refusal, refusal_of, page_bytes, map_entry, entry_in, is_page, lock_page, entries_per_map, is_map_position}
-use Rattle.dbscan.proofs.Common.{fixed_use, is_fixed, map_page_of, Geometry, HasMapFor, IsMapInUse, cases_Bool, nat_tests}
+use Rattle.dbscan.proofs.Common.{◌≡◌, ℕ, ◌+◌, ◌-◌, ◌*◌, ◌/◌, ◌%◌, ◌<◌, ◌≤◌, true, false, List, length, Some, None, Result, sym, ap, ap₂, ◌∙◌, arith, inl, inr}
+use Rattle.dbscan.proofs.Common.{rules, nat_le, option_map, slice_index, OnOk, MapEntry, geometry, refusal, refusal_of, page_bytes, map_entry, entry_in}
+use Rattle.dbscan.proofs.Common.{is_page, lock_page, entries_per_map, is_map_position, fixed_use, is_fixed, map_page_of, Geometry, HasMapFor, IsMapInUse}
+use Rattle.dbscan.proofs.Common.{cases_Bool, nat_tests, Map, last_map}
 use Rattle.std.proofs.lemmas.Nat.{div-add-mod'}
 use Rattle.std.proofs.Math.Nat.{mod-lt}
 use Rattle.dbformat.proofs.TestsLemmas.{AllFalse-from_none}
 use Rattle.dbformat.specs.File.{refusal_tests}
 use Rattle.dbformat.specs.Numbers.{u32_at}
-use Rattle.dbformat.specs.declared.Fixed.TheVariants.{Map}
-use Rattle.dbscan.specs.MapReads.{last_map}
 
 -- a number that is no multiple has the multiples before it that its predecessor has
 div_before : (q k : ℕ) → 0 < k → 1 ≤ q % k → (q - 1) / k ≡ q / k

@@ -1,9 +1,7 @@
 -- What a notifier hands on with its start, and what it notes.
-use Rattle.std.proofs.Common.{◌≡◌, ℕ, Bool, false, inl, inr, List, [], ◌∷◌, map, Result, Ok, Err, refl, sym, ap, subst, ◌∙◌, ◌||◌, IfErr}
-use Rattle.dbscan.proofs.Common.{Moves, MovesBySome, is_read_failed, is_write_failed, failures_after, RunError, WriteFailed, Finding, SinkAfter, SinkMoves}
-use Rattle.dbscan.proofs.Common.{SinkState, is_schema_row, Notice, found, list_any, Notifier}
-use Rattle.std.proofs.Math.Bool.{or_assoc, or-false}
-use Rattle.dbwalk.proofs.Reporting.Sinks.{asked, asked_both, asked_open, asked_walks, walks_end}
+use Rattle.dbscan.proofs.Common.{◌≡◌, ℕ, Bool, false, inl, inr, List, [], ◌∷◌, map, Result, Ok, Err, refl, sym, ap, subst, ◌∙◌, ◌||◌, IfErr, Moves, MovesBySome}
+use Rattle.dbscan.proofs.Common.{is_read_failed, is_write_failed, failures_after, RunError, WriteFailed, Finding, SinkAfter, SinkMoves, SinkState}
+use Rattle.dbscan.proofs.Common.{is_schema_row, Notice, found, list_any, Notifier, or_assoc, or-false, asked, asked_both, asked_open, asked_walks, walks_end}
 use Rattle.dbscan.specs.Notifiers.{HandsOn, lent_by}
 
 -- ---- what a notifier hands on

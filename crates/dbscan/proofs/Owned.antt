@@ -1,10 +1,9 @@
 -- A visited page is owned, by what its start is.
-use Rattle.std.proofs.Common.{arith, ◌≡◌, ℕ, cond, List, [], ◌∷◌, Some, sym, ap, subst, ◌∙◌, find, option_map, eq-eqb, ne_eqb}
-use Rattle.dbscan.proofs.Common.{nat_tests, IsIn, start_of, freelist_start, visit_of, Reference, starts, Survey, option_map_or, allowed}
+use Rattle.dbscan.proofs.Common.{arith, ◌≡◌, ℕ, cond, List, [], ◌∷◌, Some, sym, ap, subst, ◌∙◌, find, option_map, eq-eqb, ne_eqb, nat_tests, IsIn, start_of}
+use Rattle.dbscan.proofs.Common.{freelist_start, visit_of, Reference, starts, Survey, option_map_or, allowed, start_is, start_visited, first_is}
 use Rattle.dbformat.proofs.Visited.{visit_is}
 use Rattle.dbformat.specs.Starts.{is_start, first_start}
 use Rattle.dbscan.specs.Owners.{Owner, Nobody, Layout, Freelist, Tree, owner_at, owner_of, AreOwned}
-use Rattle.dbformat.proofs.BelowStarts.{start_is, start_visited, first_is}
 
 abbrev tree_at : List Reference → ℕ → Owner
 tree_at V k = option_map_or (λ u. Tree u.page) (find (is_start k) V) Nobody

@@ -1,14 +1,11 @@
 -- What the marks of a survey say of a page: what it is, and with the starts that were noted, which start it belongs to.
-use Rattle.std.proofs.Common.{◌≡◌, ℕ, Bool, true, false, cond, List, Option, Some, None, refl, sym, ap, subst, ◌∙◌, arith, option_map, slice_get}
-use Rattle.dbscan.proofs.Common.{IsIn, start_of, freelist_start, visit_of, geometry, is_page, is_fixed, fixed_use, Role}
-use Rattle.dbscan.proofs.Common.{Reference, role_of, from_of, Survey, Mark, Unmarked, Fixed, role_mark, visit_mark, mark_of}
-use Rattle.dbscan.proofs.Common.{marks_of, page_mark, start_at, AreTrees, place_by, start_by, option_map_or, nat_tests, allowed, start_here}
-use Rattle.dbformat.specs.Reference.{is_on_freelist}
-use Rattle.dbmarks.proofs.Markings.{page_mark-in, page_mark-out}
+use Rattle.dbscan.proofs.Common.{◌≡◌, ℕ, Bool, true, false, cond, List, Option, Some, None, refl, sym, ap, subst, ◌∙◌, arith, option_map, slice_get, IsIn}
+use Rattle.dbscan.proofs.Common.{start_of, freelist_start, visit_of, geometry, is_page, is_fixed, fixed_use, Role, Reference, role_of, from_of, Survey, Mark}
+use Rattle.dbscan.proofs.Common.{Unmarked, Fixed, role_mark, visit_mark, mark_of, marks_of, page_mark, start_at, AreTrees, place_by, start_by, option_map_or}
+use Rattle.dbscan.proofs.Common.{nat_tests, allowed, start_here, is_on_freelist, page_mark-in, page_mark-out, on_freelist}
 use Rattle.dbmarks.proofs.EndMarking.{found_in, survey_visits, visited-mark}
 use Rattle.dbscan.specs.declared.place.Place.{Place}
 use Rattle.dbscan.specs.Owners.{place_in, place_of}
-use Rattle.dbformat.proofs.BelowStarts.{on_freelist}
 use Rattle.dbscan.specs.declared.place.Place.TheVariants as place
 
 -- role by role

@@ -1,7 +1,6 @@
 -- The pages with their marks, as a reporter receives them one after another.
-use Rattle.std.proofs.Common.{◌≡◌, ℕ, ◌+◌, ◌≤◌, List, [], ◌∷◌, ◌++◌, length, drop, Option, Some, None, refl, sym, ap, subst, ◌∙◌, filter_map}
-use Rattle.dbscan.proofs.Common.{Moves, Geometry, page_mark, Mark, Unmarked, Notice, marked, pages_from, cons_option}
-use Rattle.std.proofs.lemmas.List.{drop_all, drop_more}
+use Rattle.dbscan.proofs.Common.{◌≡◌, ℕ, ◌+◌, ◌≤◌, List, [], ◌∷◌, ◌++◌, length, drop, Option, Some, None, refl, sym, ap, subst, ◌∙◌, filter_map, Moves}
+use Rattle.dbscan.proofs.Common.{Geometry, page_mark, Mark, Unmarked, Notice, marked, pages_from, cons_option, drop_all, drop_more}
 use Rattle.dbscan.proofs.CountedMarks.{got, marked_at}
 
 -- who receives the pages after the first i has received all

@@ -1,10 +1,8 @@
 -- A reporter receives each fault of the walk at the start of its address, and with its cause.
-use Rattle.std.proofs.Common.{◌≡◌, ℕ, List, [], ◌∷◌, ◌++◌, map, refl, sym, ap, ap₂, subst, ◌∙◌, append-nil}
-use Rattle.dbscan.proofs.Common.{IsIn, Errand, Go, freelist_start, Way, Reference, SchemaRow, Event, Survey}
-use Rattle.dbscan.proofs.Common.{Finding, reported_row, reported_fault, reported_below, visited_below, Notice, at_start, found, ended, errands_left}
-use Rattle.dbscan.proofs.Common.{root_reference, tree_notices, later_notices, start_notices, reported_in, reported_of, walk_reported, listed_rows, At}
-use Rattle.dbscan.proofs.Common.{at_freelist, at_row, at_schema, schema_reference, enumerate_from, filter_map-append}
-use Rattle.dbsurvey.specs.Story.{errand_key}
+use Rattle.dbscan.proofs.Common.{◌≡◌, ℕ, List, [], ◌∷◌, ◌++◌, map, refl, sym, ap, ap₂, subst, ◌∙◌, append-nil, IsIn, Errand, Go, freelist_start, Way, Reference}
+use Rattle.dbscan.proofs.Common.{SchemaRow, Event, Survey, Finding, reported_row, reported_fault, reported_below, visited_below, Notice, at_start, found, ended}
+use Rattle.dbscan.proofs.Common.{errands_left, root_reference, tree_notices, later_notices, start_notices, reported_in, reported_of, walk_reported, listed_rows}
+use Rattle.dbscan.proofs.Common.{At, at_freelist, at_row, at_schema, schema_reference, enumerate_from, filter_map-append, errand_key}
 use Rattle.dbtrace.proofs.ByStarts.{BeginsWith, made_at, made_below, below_start, root_then, all_made}
 use Rattle.dbscan.proofs.StartByStart.{first_alone, of_later}
 use Rattle.dbscan.proofs.ReportedStarts.{start_errands_listed}

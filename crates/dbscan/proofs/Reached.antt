@@ -1,24 +1,15 @@
 -- A fault that is reported at a start is of a page that was reached from it, and each such start is one of the file's.
-use Rattle.std.proofs.Common.{arith, ◌≡◌, ℕ, ◌+◌, inl, inr, Bool, true, false, cond, List, [], ◌∷◌, ◌++◌, map, take, length, Some, refl, sym, ap, subst, ◌∙◌}
-use Rattle.std.proofs.Common.{◌==◌}
-use Rattle.dbscan.proofs.Common.{Address, IsIn, Reported, Follow, goes, start_of, schema_start, last_root_start, freelist_start, end_faults, page_bytes}
+use Rattle.dbscan.proofs.Common.{arith, ◌≡◌, ℕ, inl, inr, Bool, true, false, cond, List, [], ◌∷◌, ◌++◌, map, take, length, Some, refl, sym, ap, subst, ◌∙◌}
+use Rattle.dbscan.proofs.Common.{◌==◌, Address, IsIn, Reported, Follow, goes, start_of, schema_start, last_root_start, freelist_start, end_faults, page_bytes}
 use Rattle.dbscan.proofs.Common.{first_trunk, usable_size, header_faults, Way, Reference, role_of, from_of, trunk, event_faults, schema, root_start}
-use Rattle.dbscan.proofs.Common.{rooted_rows, start, freelist_starts, later_starts, starts, Event, at_page, at_key, at_refused, start_errands}
-use Rattle.dbscan.proofs.Common.{reporting, Survey, rules_of, Fault, cause_of, Part, start_at, at_start, of_file, reported_faults, walk_reported}
-use Rattle.dbscan.proofs.Common.{enumerate_from, under, IsIn-cases, IsIn-from_flat_map, has_address, start_here}
-use Rattle.dbsurvey.specs.Survey.{Link, children, named_at}
+use Rattle.dbscan.proofs.Common.{rooted_rows, start, freelist_starts, later_starts, starts, Event, at_page, at_key, at_refused, start_errands, reporting}
+use Rattle.dbscan.proofs.Common.{Survey, rules_of, Fault, cause_of, Part, start_at, at_start, of_file, reported_faults, walk_reported, enumerate_from, under}
+use Rattle.dbscan.proofs.Common.{IsIn-cases, IsIn-from_flat_map, has_address, start_here, Link, children, named_at, IsIn-map, IsIn-from_map, goes-errands}
+use Rattle.dbscan.proofs.Common.{common_steps, role_links, root_starts, TracedFault, one_below, start_of-step, start_visited, IsOfStart}
 use Rattle.dbsurvey.proofs.Composing.{named_at-from}
-use Rattle.dbsurvey.proofs.Ordering.{IsIn-map, IsIn-from_map}
-use Rattle.dbsurvey.proofs.Reportings.{goes-errands}
-use Rattle.std.proofs.lemmas.Grind.{common_steps}
-use Rattle.dbformat.specs.Reference.{role_links}
-use Rattle.dbformat.specs.Schema.{root_starts}
 use Rattle.dbformat.proofs.Theory.{links-follows, no_due, reported_in_order}
-use Rattle.dbtrace.specs.declared.TracedFault.{TracedFault}
 use Rattle.dbtrace.proofs.Reported.{IsOf, refused_of, reported_of}
-use Rattle.dbformat.proofs.BelowStarts.{one_below, start_of-step, start_visited}
 use Rattle.dbformat.proofs.Ways.{of_role}
-use Rattle.dbscan.specs.Placed.{IsOfStart}
 use Rattle.dbscan.proofs.FaultPages.{page_of_event, event_of_page}
 use Rattle.dbtrace.specs.declared.Part.TheVariants as part
 

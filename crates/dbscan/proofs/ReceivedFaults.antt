@@ -1,8 +1,7 @@
 -- The faults of all that a reporter receives are those of the file, with their parts and causes.
-use Rattle.std.proofs.Common.{◌≡◌, ℕ, List, [], ◌∷◌, ◌++◌, length, map, refl, sym, ap, ap₂, ◌∙◌, append_assoc}
-use Rattle.dbscan.proofs.Common.{end_faults, geometry, header_faults, Reference, faults, Survey, Fault, marks_of, Part, Notice, received_fault, of_file, whole}
-use Rattle.dbscan.proofs.Common.{end_notices, faults_received, run_notices, start_notices, faults_of, reported_in, reported_of, reported_faults, walk_reported}
-use Rattle.dbscan.proofs.Common.{filter_map-append}
+use Rattle.dbscan.proofs.Common.{◌≡◌, ℕ, List, [], ◌∷◌, ◌++◌, length, map, refl, sym, ap, ap₂, ◌∙◌, append_assoc, end_faults, geometry, header_faults}
+use Rattle.dbscan.proofs.Common.{Reference, faults, Survey, Fault, marks_of, Part, Notice, received_fault, of_file, whole, end_notices, faults_received}
+use Rattle.dbscan.proofs.Common.{run_notices, start_notices, faults_of, reported_in, reported_of, reported_faults, walk_reported, filter_map-append}
 use Rattle.dbscan.proofs.AllReported.{all_reported}
 use Rattle.dbscan.proofs.PagesReceived.{past_pages}
 use Rattle.dbscan.proofs.PlacedFaults.{starts_reported}

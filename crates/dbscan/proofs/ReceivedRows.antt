@@ -1,15 +1,14 @@
 -- The rows of all that a reporter receives are those of the file.
-use Rattle.std.proofs.Common.{◌≡◌, ℕ, List, [], ◌∷◌, ◌++◌, length, map, refl, sym, ap, ap₂, ◌∙◌, append-nil}
-use Rattle.dbscan.proofs.Common.{AreQuiet, Errand, Go, goes, end_faults, geometry, header_faults, Way, Reference, stat_rows, SchemaRow, Event, own_visit}
-use Rattle.dbscan.proofs.Common.{Survey, rules_of, Fault, marks_of, Finding, reported_row, reported_fault, reported_below, visited_below, Part, found_rows}
-use Rattle.dbscan.proofs.Common.{Notice, found, ended, whole, errands_left, root_reference, tree_notices, later_notices, start_notices, end_notices}
-use Rattle.dbscan.proofs.Common.{run_notices, listed_rows, At, at_freelist, at_row, at_schema, schema_reference, enumerate_from, filter_map-append, are_rules}
+use Rattle.dbscan.proofs.Common.{◌≡◌, ℕ, List, [], ◌∷◌, ◌++◌, length, map, refl, sym, ap, ap₂, ◌∙◌, append-nil, AreQuiet, Errand, Go, goes, end_faults}
+use Rattle.dbscan.proofs.Common.{geometry, header_faults, Way, Reference, stat_rows, SchemaRow, Event, own_visit, Survey, rules_of, Fault, marks_of, Finding}
+use Rattle.dbscan.proofs.Common.{reported_row, reported_fault, reported_below, visited_below, Part, found_rows, Notice, found, ended, whole, errands_left}
+use Rattle.dbscan.proofs.Common.{root_reference, tree_notices, later_notices, start_notices, end_notices, run_notices, listed_rows, At, at_freelist, at_row}
+use Rattle.dbscan.proofs.Common.{at_schema, schema_reference, enumerate_from, filter_map-append, are_rules, Due}
 use Rattle.dbsurvey.proofs.Remaining.{rest_join}
 use Rattle.dbscan.specs.ReceivedRows.{row_received, rows_received}
 use Rattle.dbscan.proofs.PagesReceived.{past_pages}
 use Rattle.dbscan.proofs.RowsBelow.{rows_below, rows_join}
 use Rattle.dbscan.proofs.RunItems.{all_visited}
-use Rattle.dbsurvey.specs.Story.{Due}
 use Rattle.dbscan.proofs.StartByStart.{first_alone, of_later}
 use Rattle.dbscan.proofs.Starts.{quiet_go}
 use Rattle.dbscan.proofs.ReportedStarts.{start_errands_listed}

@@ -1,8 +1,6 @@
 -- Faults that are reported, one after another.
-use Rattle.std.proofs.Common.{◌≡◌, ℕ, ◌+◌, ◌<◌, List, [], ◌∷◌, ◌++◌, length, take, get_or, Option, None, ap, ◌∙◌}
-use Rattle.dbscan.proofs.Common.{Fault, Part, items_of, map-append}
-use Rattle.std.proofs.lemmas.Grind.{flat_map-append}
-use Rattle.std.proofs.lemmas.List.{take_more}
+use Rattle.dbscan.proofs.Common.{◌≡◌, ℕ, ◌+◌, ◌<◌, List, [], ◌∷◌, ◌++◌, length, take, get_or, Option, None, ap, ◌∙◌, Fault, Part, items_of, map-append}
+use Rattle.dbscan.proofs.Common.{flat_map-append, take_more}
 
 pub items_append : (p : Part) (xs ys : List (Option Fault)) → items_of p (xs ++ ys) ≡ items_of p xs ++ items_of p ys
 items_append p xs ys = simp (flat_map-append, map-append)

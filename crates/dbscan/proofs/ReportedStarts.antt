@@ -1,6 +1,6 @@
 -- What there is to do at the starts, by the rows that a list has of the schema.
-use Rattle.std.proofs.Common.{◌≡◌, ℕ, List, ◌∷◌, [], map, ap, ◌∙◌, refl}
-use Rattle.dbscan.proofs.Common.{Go, Follow, errands_at, Reference, start_errands, Survey, errands_left, listed_rows, schema_reference, enumerate_from}
+use Rattle.dbscan.proofs.Common.{◌≡◌, ℕ, List, ◌∷◌, [], map, ap, ◌∙◌, refl, Go, Follow, errands_at, Reference, start_errands, Survey, errands_left, listed_rows}
+use Rattle.dbscan.proofs.Common.{schema_reference, enumerate_from}
 use Rattle.dbscan.proofs.RootsTaken.{starts_listed}
 use Rattle.dbscan.proofs.RunItems.{starts_are}
 

@@ -1,13 +1,8 @@
 -- The rows of a list of roots, as its fields hold them, where a row is added.
-use Rattle.std.proofs.Common.{◌≡◌, ℕ, ◌-◌, List, [], ◌∷◌, ◌++◌, length, map, Option, refl, ap, ap₂, ◌∙◌, arith}
-use Rattle.dbscan.proofs.Common.{map-append, SchemaRow, Listed, kept_row, IsWithin}
-use Rattle.std.specs.List.{All}
-use Rattle.std.proofs.lemmas.Grind.{common_steps}
-use Rattle.std.proofs.lemmas.List.Elements.{All-head, All-tail}
-use Rattle.std.proofs.lemmas.List.{take-append-le, drop-append-le}
+use Rattle.dbscan.proofs.Common.{◌≡◌, ℕ, List, [], ◌∷◌, ◌++◌, length, map, Option, refl, ap, ap₂, ◌∙◌, arith, map-append, SchemaRow, Listed, kept_row}
+use Rattle.dbscan.proofs.Common.{IsWithin, All, common_steps, All-head, All-tail, take-append-le, drop-append-le, name_in, entry_row, Grows}
 use Rattle.dbscan.specs.declared.roots.Span.{Span}
 use Rattle.dbscan.specs.declared.roots.RootRow.{RootRow}
-use Rattle.dbscan.specs.Roots.{name_in, entry_row, Grows}
 
 -- a name stays the same if more bytes come after it
 name_kept : (names more : List ℕ) (span : Option Span) → IsWithin (length names) span → name_in (names ++ more) span ≡ name_in names span

@@ -1,13 +1,10 @@
 -- What a list of roots holds by the rows that it was given, and the starts that this makes.
-use Rattle.std.proofs.Common.{arith, ◌≡◌, ℕ, Bool, true, false, cond, not, List, [], ◌∷◌, ◌++◌, length, take, map, filter_map, Result}
-use Rattle.std.proofs.Common.{refl, sym, ap, ◌∙◌, append_assoc, ◌==◌, append-nil}
-use Rattle.dbscan.proofs.Common.{Moves, last_root_start, Reference, SchemaCell, schema, rooted, rooted_rows, root_start, freelist_starts, later_starts}
-use Rattle.dbscan.proofs.Common.{SchemaRow, Listed, kept_row, TakesRow, AreListed, listed_rows, enumerate_from, cons_option, RowFault, StartsEmpty}
+use Rattle.dbscan.proofs.Common.{arith, ◌≡◌, ℕ, Bool, true, false, cond, not, List, [], ◌∷◌, ◌++◌, length, take, map, filter_map, Result, refl, sym, ap, ◌∙◌}
+use Rattle.dbscan.proofs.Common.{append_assoc, ◌==◌, append-nil, Moves, last_root_start, Reference, SchemaCell, schema, rooted, rooted_rows, root_start}
+use Rattle.dbscan.proofs.Common.{freelist_starts, later_starts, SchemaRow, Listed, kept_row, TakesRow, AreListed, listed_rows, enumerate_from, cons_option}
+use Rattle.dbscan.proofs.Common.{RowFault, StartsEmpty, take-map, HasRootRoom, roots_after, first_roots, gives, readable_rows, list_has_room, first_more}
 use Rattle.std.specs.Result.{result_ok}
-use Rattle.std.specs.List.{take-map}
 use Rattle.dbformat.specs.Sound.{with_root}
-use Rattle.dbwalk.specs.Taking.{HasRootRoom, roots_after, first_roots, gives, readable_rows}
-use Rattle.dbwalk.proofs.RootTakings.{list_has_room, first_more}
 use Rattle.dbscan.proofs.ShortNames.{roots_are_kept}
 
 roots_have_room : HasRootRoom TakesRow (λ l. length l.rows)

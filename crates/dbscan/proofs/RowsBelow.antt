@@ -1,13 +1,11 @@
 -- The rows that are found below some errands are those of the visits there.
-use Rattle.std.proofs.Common.{◌≡◌, ℕ, List, [], ◌∷◌, ◌++◌, map, Option, Some, None, refl, ap, ap₂, ◌∙◌, append-nil, filter_map, option_to_list}
-use Rattle.dbscan.proofs.Common.{AreQuiet, read_back, visits_in, Reported, Errand, reporting_of, geometry, Way, Reference, role_of, event_faults, StatRow}
-use Rattle.dbscan.proofs.Common.{row_in, stat_rows, Event, at_page, at_key, at_refused, own_visit, story_of, rules_of, Fault, cause_of, reported_row}
-use Rattle.dbscan.proofs.Common.{reported_by, reported_at, reported_below, visited_below, found_rows, cons_option, filter_map-append, FaultCode, are_rules}
-use Rattle.dbscan.proofs.Common.{Cause}
+use Rattle.dbscan.proofs.Common.{◌≡◌, ℕ, List, [], ◌∷◌, ◌++◌, map, Option, Some, None, refl, ap, ap₂, ◌∙◌, append-nil, filter_map, option_to_list, AreQuiet}
+use Rattle.dbscan.proofs.Common.{read_back, visits_in, Reported, Errand, reporting_of, geometry, Way, Reference, role_of, event_faults, StatRow, row_in}
+use Rattle.dbscan.proofs.Common.{stat_rows, Event, at_page, at_key, at_refused, own_visit, story_of, rules_of, Fault, cause_of, reported_row, reported_by}
+use Rattle.dbscan.proofs.Common.{reported_at, reported_below, visited_below, found_rows, cons_option, filter_map-append, FaultCode, are_rules, Cause, found_row}
 use Rattle.dbsurvey.proofs.Parting.{visits_of}
 use Rattle.dbformat.specs.Laws.{event_row}
 use Rattle.dbformat.proofs.Theory.{is_story, shows_visits}
-use Rattle.dbscan.specs.Findings.{found_row}
 
 pub rows_none : (file : List ℕ) → stat_rows file [] ≡ []
 unfolding stat_rows

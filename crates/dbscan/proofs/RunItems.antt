@@ -1,18 +1,11 @@
 -- What a run finds in the walks from all starts: the survey, and its faults.
-use Rattle.std.proofs.Common.{◌≡◌, ℕ, List, [], ◌∷◌, ◌++◌, map, refl, sym, ap, subst, ◌∙◌}
-use Rattle.dbscan.proofs.Common.{IsIn, Go, Follow, errands_at, goes, schema_start, geometry, schema_part, Way, Reference, schema, later_starts, starts, Event}
-use Rattle.dbscan.proofs.Common.{start_errands, Survey, rules_of, visited_below, AreMarksOf, Mark, AreBelowStarts, schema_reference, later_errands, IsAtStarts}
-use Rattle.dbscan.proofs.Common.{under, has_address}
-use Rattle.dbsurvey.specs.Story.{AreErrandsApart}
-use Rattle.dbsurvey.specs.Survey.{Link, named_at}
+use Rattle.dbscan.proofs.Common.{◌≡◌, ℕ, List, [], ◌∷◌, ◌++◌, map, refl, sym, ap, subst, ◌∙◌, IsIn, Go, Follow, errands_at, goes, schema_start, geometry}
+use Rattle.dbscan.proofs.Common.{schema_part, Way, Reference, schema, later_starts, starts, Event, start_errands, Survey, rules_of, visited_below, AreMarksOf}
+use Rattle.dbscan.proofs.Common.{Mark, AreBelowStarts, schema_reference, later_errands, IsAtStarts, under, has_address, AreErrandsApart, Link, named_at}
+use Rattle.dbscan.proofs.Common.{errands_at-apart, by_starts, starts_rise, follows_pairs, visited_join, Any}
 use Rattle.dbsurvey.specs.Traverse.{part_of}
-use Rattle.dbsurvey.proofs.Reportings.{errands_at-apart}
-use Rattle.dbformat.proofs.LookBack.{by_starts}
-use Rattle.dbformat.proofs.Rising.{starts_rise, follows_pairs}
 use Rattle.dbformat.proofs.SchemaStart.{schema_below}
-use Rattle.dbwalk.proofs.Reporting.Belows.{visited_join}
 use Rattle.dbwalk.proofs.Reporting.Lefts.{left_start}
-use Rattle.dbscan.specs.Walks.{Any}
 
 -- starts depend only on the schema
 later_same : (file : List ℕ) (U V : List Reference) → schema file U ≡ schema file V → later_starts file U ≡ later_starts file V

@@ -1,11 +1,9 @@
 -- What a reporter receives in a scan, part by part: the faults of the header, what is found at the starts, and what is reported
 -- after the walks.
-use Rattle.std.proofs.Common.{◌≡◌, ℕ, Bool, List, ◌++◌, length, map, Result, Ok, Err, refl, sym, ap, ap₂, subst, ◌∙◌}
-use Rattle.dbscan.proofs.Common.{Moves, MovesBySome, header_faults, Reference, Survey, Step, is_read_failed, HeaderBytes, IsHeaderOf, Asks, SourceState}
-use Rattle.dbscan.proofs.Common.{RunError, AreMarksOf, AreListed, Reports, AsksOver, DeskView, IsFresh, shape_of, ReadsMarked, Notice, whole, start_notices}
-use Rattle.dbscan.proofs.Common.{end_notices, run_notices, AreWalked, asks_weaker, fresh_marks, some_first, some_after}
-use Rattle.dbformat.proofs.HeaderPrefix.{header_faults_within}
-use Rattle.dbscan.specs.Scans.{IsScanned}
+use Rattle.dbscan.proofs.Common.{◌≡◌, ℕ, Bool, List, ◌++◌, length, map, Result, Ok, Err, refl, sym, ap, ap₂, subst, ◌∙◌, Moves, MovesBySome, header_faults}
+use Rattle.dbscan.proofs.Common.{Reference, Survey, Step, is_read_failed, HeaderBytes, IsHeaderOf, Asks, SourceState, RunError, AreMarksOf, AreListed, Reports}
+use Rattle.dbscan.proofs.Common.{AsksOver, DeskView, IsFresh, shape_of, ReadsMarked, Notice, whole, start_notices, end_notices, run_notices, AreWalked}
+use Rattle.dbscan.proofs.Common.{asks_weaker, fresh_marks, some_first, some_after, header_faults_within, IsScanned}
 use Rattle.dbscan.proofs.EndItems.{reports_then}
 use Rattle.dbscan.proofs.MapLogs.{walk_log}
 use Rattle.dbtrace.specs.declared.Part.TheVariants as part

@@ -1,20 +1,13 @@
 -- What is reported below the schema's start shows whether the schema has a row.
-use Rattle.std.proofs.Common.{◌≡◌, ℕ, inl, inr, Bool, true, false, cond, not, ◌&&◌, List, [], ◌∷◌, Option, Some, None, refl, sym, ap, ap₂, ◌∙◌, ◌||◌, ◌==◌}
+use Rattle.dbscan.proofs.Common.{◌≡◌, ℕ, inl, inr, Bool, true, false, cond, not, ◌&&◌, List, [], ◌∷◌, Option, Some, None, refl, sym, ap, ap₂, ◌∙◌, ◌||◌, ◌==◌}
 use Rattle.dbscan.proofs.Common.{IsIn, Address, Follow, errands_at, start_of, schema_start, has_rows, geometry, View, is_interior, schema_part, Role, root}
 use Rattle.dbscan.proofs.Common.{child, first_overflow, later_overflow, trunk, free_leaf, Reference, role_of, tree_view, StatRow, row_in, later_starts, Survey}
 use Rattle.dbscan.proofs.Common.{rules_of, Finding, found_rows, reported_row, reported_fault, stat_rows, reported_below, is_schema_row, option_map_or, list_any}
-use Rattle.dbscan.proofs.Common.{cons_option, under, are_rules, has_address}
-use Rattle.std.proofs.Math.Bool.{and-false}
-use Rattle.std.proofs.lemmas.Bool.{and_parts}
+use Rattle.dbscan.proofs.Common.{cons_option, under, are_rules, has_address, and-false, and_parts, tree_kind, schema_link, starts_rise, no_due, is_schema_leaf}
 use Rattle.dbsurvey.proofs.Starting.{survey_from_first}
 use Rattle.dbformat.specs.EndFaults.{has_cell}
 use Rattle.dbformat.specs.PageFaults.{is_leaf_of}
-use Rattle.dbformat.specs.Reference.{tree_kind}
 use Rattle.dbformat.specs.Rows.{tree_page_row}
-use Rattle.dbformat.specs.Schema.{schema_link}
-use Rattle.dbformat.proofs.Rising.{starts_rise}
-use Rattle.dbformat.proofs.Theory.{no_due}
-use Rattle.dbscan.specs.Findings.{is_schema_leaf}
 use Rattle.dbscan.proofs.RowsBelow.{rows_below}
 use Rattle.dbsurvey.specs.From as start_words
 

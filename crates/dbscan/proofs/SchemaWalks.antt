@@ -1,16 +1,13 @@
 -- What the walk over the schema's tree has found: its rows in the list, and whether there are any.
-use Rattle.std.proofs.Common.{◌≡◌, ◌↔◌, ℕ, Bool, false, List, [], ◌∷◌, length, map, take, Result, Ok, Err, refl, sym, ap, subst, ◌∙◌, ◌||◌, OnOk}
+use Rattle.dbscan.proofs.Common.{◌≡◌, ◌↔◌, ℕ, Bool, false, List, [], ◌∷◌, length, map, take, Result, Ok, Err, refl, sym, ap, subst, ◌∙◌, ◌||◌, OnOk}
 use Rattle.dbscan.proofs.Common.{last_root_start, schema_start, Go, Follow, errands_at, schema_part, schema, rooted_rows, Reference, Survey, Encoding}
 use Rattle.dbscan.proofs.Common.{HeaderBytes, IsHeaderOf, RunError, reported_below, AreMarksOf, Mark, Listed, TakesRow, is_schema_row, Notice, IsSchemaOf}
 use Rattle.dbscan.proofs.Common.{at_schema, schema_reference, IsSchemaWalked, IsTreeWalked, IsWalkedOver, list_any, StartsEmpty, IsRootAfter, Notifier}
+use Rattle.dbscan.proofs.Common.{by_starts, Root, Schema, encoding_within}
 use Rattle.dbformat.specs.Header.{encoding as encoding_of}
-use Rattle.dbformat.proofs.LookBack.{by_starts}
-use Rattle.dbwalk.specs.declared.root.Root.{Root}
-use Rattle.dbwalk.specs.declared.root.RootKind.TheVariants.{Schema}
 use Rattle.dbscan.specs.Starts.{root_of_schema}
 use Rattle.dbscan.proofs.RootsTaken.{roots_start_empty, schema_roots, starts_listed}
 use Rattle.dbscan.proofs.SchemaReported.{schema_rows_reported}
-use Rattle.dbformat.proofs.HeaderPrefix.{encoding_within}
 
 -- its root is the schema's
 pub schema_own : (code : Encoding) (named : Root) → named ≡ root_of_schema code → (named.kind ≡ Schema) ↔ (named.start ≡ schema_start)

@@ -1,15 +1,11 @@
 -- The rows of the schema have only short names, so that a list of roots keeps them as they are.
-use Rattle.std.proofs.Common.{arith, ◌≡◌, ℕ, Bool, true, false, cond, inl, inr, subst, List, [], ◌∷◌, length, map, Option, Some, None, Result, Ok}
-use Rattle.std.proofs.Common.{Err, ℤ, pos, refl, sym, ◌==◌}
-use Rattle.dbscan.proofs.Common.{start_of, schema_start, View, is_interior, encoding, Reference, tree_view, SchemaCell, schema_cell, schema, rooted}
-use Rattle.dbscan.proofs.Common.{rooted_rows, SchemaRow, Encoding, kept_row, cons_option, IsIn-from_flat_map, RowFault, IsIn}
-use Rattle.dbsurvey.proofs.Ordering.{IsIn-from_map}
-use Rattle.dbformat.specs.Cell.{cells}
+use Rattle.dbscan.proofs.Common.{arith, ◌≡◌, ℕ, Bool, true, false, cond, inl, inr, subst, List, [], ◌∷◌, length, map, Option, Some, None, Result, Ok, Err, ℤ}
+use Rattle.dbscan.proofs.Common.{pos, refl, sym, ◌==◌, start_of, schema_start, View, is_interior, encoding, Reference, tree_view, SchemaCell, schema_cell}
+use Rattle.dbscan.proofs.Common.{schema, rooted, rooted_rows, SchemaRow, Encoding, kept_row, cons_option, IsIn-from_flat_map, RowFault, IsIn, IsIn-from_map}
+use Rattle.dbscan.proofs.Common.{cells, payload, leaf_rows, rows_at, short_name}
 use Rattle.dbformat.specs.Record.{Value, record_values}
-use Rattle.dbformat.specs.Schema.{payload, leaf_rows, rows_at}
 use Rattle.dbformat.specs.SchemaRow.{row_kind, root_number, root_fits, row_name, checked_row, row_of_values, schema_row}
 use Rattle.dbformat.specs.declared.RowKind.{RowKind}
-use Rattle.dbscan.specs.Roots.{short_name}
 
 -- what is read has a short name
 abbrev HasShortName : Result SchemaRow RowFault → Type 0

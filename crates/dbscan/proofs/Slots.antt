@@ -1,6 +1,5 @@
 -- A list with one element changed.
-use Rattle.std.proofs.Common.{◌≡◌, ℕ, ◌<◌, List, length, set, Some, arith, slice_get}
-use Rattle.std.proofs.lemmas.Grind.{elements}
+use Rattle.dbscan.proofs.Common.{◌≡◌, ℕ, ◌<◌, List, length, set, Some, arith, slice_get, elements}
 
 pub get_set : {X : Type 0} (xs : List X) (i : ℕ) (x : X) → i < length xs → slice_get (set xs i x) i ≡ Some x
 get_set xs i x l = grind (arith, elements)

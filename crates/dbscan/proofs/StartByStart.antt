@@ -1,9 +1,7 @@
 -- What holds of the notices of the starts after the schema's, one start after another.
-use Rattle.std.proofs.Common.{◌≡◌, ℕ, ◌+◌, Bool, true, false, cond, ◌==◌, inl, inr, List, [], ◌∷◌, ◌++◌, map}
-use Rattle.dbscan.proofs.Common.{Errand, Go, Way, Reference, SchemaRow, Event, reported_below, visited_below, Notice, found, errands_left, root_reference, IsIn}
-use Rattle.dbscan.proofs.Common.{Follow, errands_at, freelist_start, first_trunk, trunk, start, tree_notices, later_notices, at_freelist, at_row}
-use Rattle.dbscan.proofs.Common.{enumerate_from}
-use Rattle.dbwalk.specs.Trunks.{freelist_reference}
+use Rattle.dbscan.proofs.Common.{◌≡◌, ℕ, ◌+◌, Bool, true, false, cond, ◌==◌, inl, inr, List, [], ◌∷◌, ◌++◌, map, Errand, Go, Way, Reference, SchemaRow, Event}
+use Rattle.dbscan.proofs.Common.{reported_below, visited_below, Notice, found, errands_left, root_reference, IsIn, Follow, errands_at, freelist_start}
+use Rattle.dbscan.proofs.Common.{first_trunk, trunk, start, tree_notices, later_notices, at_freelist, at_row, enumerate_from, freelist_reference}
 
 -- After the visits of W, of the rows from start k on: it holds of what is reported along the freelist. It holds of the tree of
 -- a row and what is reported after it, if it holds of the latter.

@@ -1,8 +1,7 @@
 -- The values of a table, as its fields hold them.
-use Rattle.std.proofs.Common.{◌≡◌, ℕ, ◌+◌, ◌-◌, ◌<◌, ◌≤◌, List, [], ◌∷◌, ◌++◌, length, set, take, replicate, sym, ap, ◌∙◌, arith, length-append}
+use Rattle.dbscan.proofs.Common.{◌≡◌, ℕ, ◌+◌, ◌-◌, ◌<◌, ◌≤◌, List, [], ◌∷◌, ◌++◌, length, set, take, replicate, sym, ap, ◌∙◌, arith, length-append}
+use Rattle.dbscan.proofs.Common.{common_steps, length-replicate, replicate-append-replicate, set-append_left}
 use Rattle.std.proofs.Math.Seq.{set-append_seam}
-use Rattle.std.proofs.lemmas.Grind.{common_steps}
-use Rattle.std.proofs.lemmas.List.{length-replicate, replicate-append-replicate, set-append_left}
 
 module _ {X : Type 0} (n : ℕ) (rest : X) where
   -- the values where xs are those of the first of n trees

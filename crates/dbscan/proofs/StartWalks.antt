@@ -1,8 +1,7 @@
 -- The walks from all starts: over the schema's tree, over the trees of its rows, and along the freelist.
-use Rattle.std.proofs.Common.{arith, ◌≡◌, ℕ, Bool, List, [], Result, Ok, Err, refl, sym, ap, subst, ◌∙◌}
-use Rattle.dbscan.proofs.Common.{geometry_of, Reference, Survey, Step, is_read_failed, failures_after, HeaderBytes, IsHeaderOf, SourceState, RunError, marks_of}
-use Rattle.dbscan.proofs.Common.{AsksOver, DeskView, IsFresh, Notice, Listed, IsSchemaOf, AreReported, AreWalked, IsBetweenStarts, IsSchemaWalked}
-use Rattle.dbscan.proofs.Common.{StopsReporting, enumerate_from, asks_weaker}
+use Rattle.dbscan.proofs.Common.{arith, ◌≡◌, ℕ, Bool, List, [], Result, Ok, Err, refl, sym, ap, subst, ◌∙◌, geometry_of, Reference, Survey, Step}
+use Rattle.dbscan.proofs.Common.{is_read_failed, failures_after, HeaderBytes, IsHeaderOf, SourceState, RunError, marks_of, AsksOver, DeskView, IsFresh, Notice}
+use Rattle.dbscan.proofs.Common.{Listed, IsSchemaOf, AreReported, AreWalked, IsBetweenStarts, IsSchemaWalked, StopsReporting, enumerate_from, asks_weaker}
 use Rattle.dbmarks.proofs.Readings.{asks_then}
 use Rattle.dbscan.proofs.TreeWalks.{schema_reported, all_walked, later_stopped}
 

@@ -1,17 +1,11 @@
 -- The starts of a run, one after another: what a walk at the next one leaves.
-use Rattle.std.proofs.Common.{◌≡◌, ◌≢◌, ℕ, ◌<◌, inl, inr, List, [], ◌∷◌, ◌++◌, length, Some, refl, sym, ap, subst, arith, slice_get}
-use Rattle.dbscan.proofs.Common.{Address, IsIn, AreQuiet, Errand, Go, encoding, root, Way, Reference, SchemaRow, Event, own_visit, start_errands, Encoding}
-use Rattle.dbscan.proofs.Common.{visited_below, Mark, root_reference, root_of, AreBelowStarts, IsAtStarts, IsRootAfter}
-use Rattle.std.proofs.lemmas.Option.{slice_get_cases}
-use Rattle.dbsurvey.specs.Address.{IsBefore}
-use Rattle.dbsurvey.proofs.Order.{IsIn-left}
-use Rattle.dbformat.specs.Schema.{root_kind}
+use Rattle.dbscan.proofs.Common.{◌≡◌, ◌≢◌, ℕ, ◌<◌, inl, inr, List, [], ◌∷◌, ◌++◌, length, Some, refl, sym, ap, subst, arith, slice_get, Address, IsIn, AreQuiet}
+use Rattle.dbscan.proofs.Common.{Errand, Go, encoding, root, Way, Reference, SchemaRow, Event, own_visit, start_errands, Encoding, visited_below, Mark}
+use Rattle.dbscan.proofs.Common.{root_reference, root_of, AreBelowStarts, IsAtStarts, IsRootAfter, slice_get_cases, IsBefore, IsIn-left, root_kind, Schema}
 use Rattle.dbformat.specs.declared.RowKind.{RowKind}
 use Rattle.dbtrace.specs.Starts.{IsOfEarlierStart}
 use Rattle.dbwalk.specs.Roots.{kind_in}
-use Rattle.dbwalk.specs.declared.root.RootKind.TheVariants.{Schema}
 use Rattle.dbscan.specs.Starts.{kind_by}
-use Rattle.dbformat.specs.declared.RowKind.TheVariants as row
 
 pub quiet_go : (c : Reference) → AreQuiet own_visit (Go c ∷ [])
 quiet_go c e (inl h) = cc

@@ -1,12 +1,9 @@
 -- What a reporter receives at starts comes start by start, in their order.
-use Rattle.std.proofs.Common.{◌≡◌, ℕ, ◌+◌, ◌≤◌, ◌⊎◌, inl, inr, List, [], ◌∷◌, ◌++◌, length, map, sym, subst, arith, filter_map}
-use Rattle.dbscan.proofs.Common.{IsIn, Go, freelist_start, Reference, schema, rooted_rows, SchemaRow, Finding, reported_fault, reported_row, reported_below}
-use Rattle.dbscan.proofs.Common.{visited_below, Notice, found, ended, errands_left, root_reference, tree_notices, later_notices, start_notices, listed_rows, At}
-use Rattle.dbscan.proofs.Common.{at_freelist, at_row, at_schema, schema_reference, enumerate_from, filter_map-append, IsIn-cases}
-use Rattle.dbsurvey.specs.Address.{EachPair}
-use Rattle.dbsurvey.proofs.Order.{EachPair-append}
-use Rattle.dbformat.proofs.Rising.{rows_end}
-use Rattle.dbscan.specs.Placed.{number_of, AreStarts, StartsRise}
+use Rattle.dbscan.proofs.Common.{◌≡◌, ℕ, ◌+◌, ◌≤◌, ◌⊎◌, inl, inr, List, [], ◌∷◌, ◌++◌, length, map, sym, subst, arith, filter_map, IsIn, Go, freelist_start}
+use Rattle.dbscan.proofs.Common.{Reference, schema, rooted_rows, SchemaRow, Finding, reported_fault, reported_row, reported_below, visited_below, Notice, found}
+use Rattle.dbscan.proofs.Common.{ended, errands_left, root_reference, tree_notices, later_notices, start_notices, listed_rows, At, at_freelist, at_row}
+use Rattle.dbscan.proofs.Common.{at_schema, schema_reference, enumerate_from, filter_map-append, IsIn-cases, EachPair, EachPair-append, rows_end, number_of}
+use Rattle.dbscan.proofs.Common.{AreStarts, StartsRise}
 
 abbrev numbers : List Notice → List ℕ
 numbers notices = filter_map number_of notices

@@ -1,15 +1,11 @@
 -- A run over a desk: all is received, and then the report is ended; or an error stops it before.
-use Rattle.std.proofs.Common.{◌≡◌, ℕ, List, length, None, inl, inr, Result, Ok, Err, refl, sym, ap, subst, ◌∙◌}
-use Rattle.dbscan.proofs.Common.{refusal_of, geometry_of, IsPageLog, Reference, Survey, Geometry, Step, is_read_failed, failures_after, HeaderBytes, IsHeaderOf}
-use Rattle.dbscan.proofs.Common.{Asks, SourceState, RunError, SinkState, DeskView, shape_of, IsUnmarked, ReadsMarked, ReadsRising, Notice, HeadedStep}
-use Rattle.dbscan.proofs.Common.{asks_then, asks_weaker, KeepsHeader}
-use Rattle.dbformat.specs.declared.Verdict.{Verdict}
+use Rattle.dbscan.proofs.Common.{◌≡◌, ℕ, List, length, None, inl, inr, Result, Ok, Err, refl, sym, ap, subst, ◌∙◌, refusal_of, geometry_of, IsPageLog}
+use Rattle.dbscan.proofs.Common.{Reference, Survey, Geometry, Step, is_read_failed, failures_after, HeaderBytes, IsHeaderOf, Asks, SourceState, RunError}
+use Rattle.dbscan.proofs.Common.{SinkState, DeskView, shape_of, IsUnmarked, ReadsMarked, ReadsRising, Notice, HeadedStep, asks_then, asks_weaker, KeepsHeader}
+use Rattle.dbscan.proofs.Common.{Verdict, read_after, HasReceived, HasReported, Leaves, IsScanned}
 use Rattle.dbsource.specs.Errors.{is_out_of_memory}
 use Rattle.dbsource.specs.Headed.{headed}
 use Rattle.dbsource.specs.declared.source.Source.{Ghosts as SourceWords}
-use Rattle.dbsource.proofs.Runs.{read_after}
-use Rattle.dbscan.specs.Finishes.{HasReceived, HasReported, Leaves}
-use Rattle.dbscan.specs.Scans.{IsScanned}
 use Rattle.dbscan.proofs.MapLogs.{looks_log}
 
 module _ {K : Type 0} (receives : K → Notice → K → Type 0) (leaves : List ℕ → List Reference → Result Verdict RunError → K → K → Type 0) (step : Step)

@@ -1,27 +1,18 @@
 -- The walks from the starts, one after another: what a walk over the next tree leaves to be reported.
-use Rattle.std.proofs.Common.{◌≡◌, ◌↔◌, ℕ, ◌+◌, ◌-◌, ◌<◌, Bool, false, List, [], ◌∷◌, ◌++◌, drop, length, map, Some, Result, Ok, Err, refl, sym, ap, subst, ◌∙◌}
-use Rattle.std.proofs.Common.{arith, append_assoc, append-nil, OnOk, slice_get, ◌==◌}
-use Rattle.dbscan.proofs.Common.{Moves, MovesBySome, Errand, Go, schema_start, start_of, encoding, first_trunk, Way, Reference, SchemaRow, Event, start_errands}
-use Rattle.dbscan.proofs.Common.{Survey, Encoding, RunError, Finding, reported_below, visited_below, AreMarksOf, Mark, Notice, found, ended, errands_left}
-use Rattle.dbscan.proofs.Common.{root_reference, tree_notices, later_notices, start_notices, IsSchemaOf, at_freelist, at_row, at_schema, later_errands, root_of}
-use Rattle.dbscan.proofs.Common.{schema_reference, IsAtStarts, IsTreeWalked, IsWalkedOver, IsSchemaWalked, IsBetweenStarts, StopsReporting, AreReported}
-use Rattle.dbscan.proofs.Common.{AreWalked, enumerate_from, Moves-append, some_first, some_after, StartsEmpty, IsRootAfter, Notifier}
-use Rattle.std.proofs.lemmas.List.{drop_more}
-use Rattle.std.proofs.lemmas.Option.{get_or_from_slice_get}
+use Rattle.dbscan.proofs.Common.{◌≡◌, ◌↔◌, ℕ, ◌+◌, ◌-◌, ◌<◌, Bool, false, List, [], ◌∷◌, ◌++◌, drop, length, map, Some, Result, Ok, Err, refl, sym, ap, subst}
+use Rattle.dbscan.proofs.Common.{◌∙◌, arith, append_assoc, append-nil, OnOk, slice_get, ◌==◌, Moves, MovesBySome, Errand, Go, schema_start, start_of, encoding}
+use Rattle.dbscan.proofs.Common.{first_trunk, Way, Reference, SchemaRow, Event, start_errands, Survey, Encoding, RunError, Finding, reported_below}
+use Rattle.dbscan.proofs.Common.{visited_below, AreMarksOf, Mark, Notice, found, ended, errands_left, root_reference, tree_notices, later_notices}
+use Rattle.dbscan.proofs.Common.{start_notices, IsSchemaOf, at_freelist, at_row, at_schema, later_errands, root_of, schema_reference, IsAtStarts, IsTreeWalked}
+use Rattle.dbscan.proofs.Common.{IsWalkedOver, IsSchemaWalked, IsBetweenStarts, StopsReporting, AreReported, AreWalked, enumerate_from, Moves-append}
+use Rattle.dbscan.proofs.Common.{some_first, some_after, StartsEmpty, IsRootAfter, Notifier, drop_more, get_or_from_slice_get, gives, readable_rows}
+use Rattle.dbscan.proofs.Common.{IsFirstTrunk, freelist_reference, Root, Schema, tree_given, tree_reported, reported_none, moves_some, Any}
 use Rattle.dbwalk.specs.Done.{IsDone, IsTreeDone}
 use Rattle.dbwalk.specs.Entered.{IsNext}
-use Rattle.dbwalk.specs.Taking.{gives, readable_rows}
-use Rattle.dbwalk.specs.Trunks.{IsFirstTrunk, freelist_reference}
-use Rattle.dbwalk.specs.declared.root.Root.{Root}
-use Rattle.dbwalk.specs.declared.root.RootKind.TheVariants.{Schema}
 use Rattle.dbwalk.specs.declared.taker.Taken.{Taken}
-use Rattle.dbwalk.proofs.RootTakings.{tree_given, tree_reported}
-use Rattle.dbwalk.proofs.Reporting.Belows.{reported_none}
-use Rattle.dbwalk.proofs.Reporting.Sinks.{moves_some}
 use Rattle.dbwalk.proofs.Reporting.Lefts.{left_call, left_none}
 use Rattle.dbwalk.proofs.Trees.Bounds.{root_address}
 use Rattle.dbscan.specs.Notifiers.{HandsOn}
-use Rattle.dbscan.specs.Walks.{Any}
 use Rattle.dbscan.proofs.RunItems.{all_visited, starts_left, survey_below_starts}
 use Rattle.dbscan.proofs.Starts.{no_schema_kind, quiet_go, root_next}
 use Rattle.dbscan.proofs.Notifiers.{notifier_moves, notifier_some}

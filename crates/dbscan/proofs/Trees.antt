@@ -1,8 +1,7 @@
 -- The starts of pages, as the rows of a file are received.
-use Rattle.std.proofs.Common.{◌≡◌, ℕ, ◌<◌, ◌⊎◌, inl, inr, List, [], ◌∷◌, length, Option, Some, refl, sym, ap, subst, ◌∙◌, arith, fold, filter_map, slice_get}
-use Rattle.std.proofs.Common.{◌==◌, eqb-true, eq-eqb, length-set}
-use Rattle.dbscan.proofs.Common.{IsIn, start_of, geometry, Reference, role_of, StatRow, row_in, stat_rows, start_at, Survey, AreTrees, both_ways, cases_Bool}
-use Rattle.dbscan.proofs.Common.{nat_tests, start_here, allowed}
+use Rattle.dbscan.proofs.Common.{◌≡◌, ℕ, ◌<◌, ◌⊎◌, inl, inr, List, [], ◌∷◌, length, Option, Some, refl, sym, ap, subst, ◌∙◌, arith, fold, filter_map, slice_get}
+use Rattle.dbscan.proofs.Common.{◌==◌, eqb-true, eq-eqb, length-set, IsIn, start_of, geometry, Reference, role_of, StatRow, row_in, stat_rows, start_at, Survey}
+use Rattle.dbscan.proofs.Common.{AreTrees, both_ways, cases_Bool, nat_tests, start_here, allowed}
 use Rattle.dbsurvey.proofs.Lists.{filter_map-from, filter_map-has}
 use Rattle.dbsound.proofs.RowCounts.RowPages.{of_row, row_of}
 use Rattle.dbscan.specs.Trees.{row_noted}

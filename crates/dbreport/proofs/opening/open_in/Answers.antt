@@ -1,7 +1,4 @@
-use Rattle.std.proofs.Common.{sym, subst}
-use Rattle.dbreport.proofs.Common.{HeaderBytes}
-use Rattle.dbwalk.proofs.Reporting.Sinks.{err_is}
-use Rattle.dbreport.specs.Opening.{IsOpened}
+use Rattle.dbreport.proofs.Common.{sym, subst, HeaderBytes, err_is, IsOpened}
 use Rattle.dbreport.proofs.Openings.{header_refused, memory_refused}
 use Rattle.dbreport.proofs.opening.open_in.Goals as goal
 

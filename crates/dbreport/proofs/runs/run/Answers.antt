@@ -1,6 +1,4 @@
-use Rattle.std.proofs.Common.{Err}
-use Rattle.dbreport.proofs.Common.{IsSomeRunLog, read_weaker}
-use Rattle.dbsource.proofs.Runs.{of_told}
+use Rattle.dbreport.proofs.Common.{Err, IsSomeRunLog, read_weaker, of_told}
 use Rattle.dbreport.proofs.NotBegun.{no_failure, no_failures}
 use Rattle.dbreport.proofs.Openings.{opened, unopened}
 use Rattle.dbreport.proofs.RunAnswers.{IsSoundAnswer, none_of, read_unwritten, refused_unwritten}

@@ -1,7 +1,5 @@
-use Rattle.std.proofs.Common.{rules, ◌≡◌, ap, ◌∙◌}
-use Rattle.dbreport.proofs.Common.{Check, Stat, is_write_failed, failures_after, HeaderBytes}
+use Rattle.dbreport.proofs.Common.{rules, ◌≡◌, ap, ◌∙◌, Check, Stat, is_write_failed, failures_after, HeaderBytes, of_told_after}
 use Rattle.dbformat.specs.Header.{encoding as encoding_of}
-use Rattle.dbsource.proofs.Runs.{of_told_after}
 use Rattle.dbscan.proofs.AfterHeader.{after_weaker}
 use Rattle.dbscan.proofs.Notifiers.{first}
 use Rattle.dbreport.proofs.Checked.{check_reported}

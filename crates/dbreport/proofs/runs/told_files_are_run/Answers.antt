@@ -1,4 +1,4 @@
-use Rattle.dbsource.proofs.Runs.{told_file, told_file_after}
+use Rattle.dbreport.proofs.Common.{told_file, told_file_after}
 use Rattle.dbreport.proofs.runs.told_files_are_run.Goals as goal
 
 pub returns-clause-runs : goal.returns-clause-runs

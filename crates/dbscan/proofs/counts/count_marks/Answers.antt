@@ -1,8 +1,6 @@
-use Rattle.std.proofs.Common.{◌+◌, ◌≤◌, cond, max, ap, ap₂, ◌∙◌, sym, arith, Some, None, inl, refl}
-use Rattle.dbscan.proofs.Common.{is_free_mark, is_root_mark, is_other_mark}
-use Rattle.std.specs.Option.{option_or}
+use Rattle.dbscan.proofs.Common.{◌+◌, ◌≤◌, cond, max, ap, ap₂, ◌∙◌, sym, arith, Some, None, inl, refl, is_free_mark, is_root_mark, is_other_mark, option_or}
+use Rattle.dbscan.proofs.Common.{moves_then}
 use Rattle.dbscan.proofs.CountedMarks.{bit_most, count_more, greatest_more, least_more}
-use Rattle.dbwalk.proofs.Reporting.Sinks.{moves_then}
 use Rattle.dbscan.proofs.PagesReceived.{all_pages, one_page}
 use Rattle.dbscan.proofs.counts.count_marks.Goals as goal
 

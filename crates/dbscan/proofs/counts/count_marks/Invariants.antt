@@ -1,5 +1,5 @@
-use Rattle.std.proofs.Common.{◌≡◌, ◌≤◌, take, filter, count_by, fold, max, find}
-use Rattle.dbscan.proofs.Common.{is_free_mark, is_root_mark, is_other_mark, is_marked, SinkMoves, range_with_len}
+use Rattle.dbscan.proofs.Common.{◌≡◌, ◌≤◌, take, filter, count_by, fold, max, find, is_free_mark, is_root_mark, is_other_mark, is_marked, SinkMoves}
+use Rattle.dbscan.proofs.Common.{range_with_len}
 use Rattle.dbscan.proofs.PagesReceived.{HasReceivedPages}
 use Rattle.dbscan.proofs.counts.count_marks.Given as goal
 

@@ -1,4 +1,4 @@
-use Rattle.std.proofs.Common.{rules}
+use Rattle.dbscan.proofs.Common.{rules}
 use Rattle.dbscan.proofs.end_faults.late_fault.Goals as goal
 
 pub returns : goal.returns

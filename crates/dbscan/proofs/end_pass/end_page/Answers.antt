@@ -1,15 +1,9 @@
-use Rattle.std.proofs.Common.{◌≡◌, true, false, Some, Ok, Err, refl, sym, ap, ◌∙◌, subst, inl, inr, option_map}
-use Rattle.dbscan.proofs.Common.{Moves, geometry, fixed_use, is_fixed, Geometry, mark_fault, late_fault, Reports, is_fixed_mark, page_notices, HasMapFor}
-use Rattle.dbscan.proofs.Common.{IsMapInUse, both_ways, Pages, some_none, err_is}
-use Rattle.std.proofs.lemmas.Bool.{not-true}
-use Rattle.dbformat.specs.declared.Fixed.TheVariants.{Map}
-use Rattle.dbsource.proofs.Logs.{has_weaker}
-use Rattle.dbmarks.specs.Marking.{is_none}
+use Rattle.dbscan.proofs.Common.{◌≡◌, true, false, Some, Ok, Err, refl, sym, ap, ◌∙◌, subst, inl, inr, option_map, Moves, geometry, fixed_use, is_fixed}
+use Rattle.dbscan.proofs.Common.{Geometry, mark_fault, late_fault, Reports, is_fixed_mark, page_notices, HasMapFor, IsMapInUse, both_ways, Pages, some_none}
+use Rattle.dbscan.proofs.Common.{err_is, not-true, Map, has_weaker, is_none, page_read, log_load}
 use Rattle.dbmarks.specs.EndMarks.{entry_value}
 use Rattle.dbscan.proofs.EndItems.{fixed_items, other_items, used_items}
 use Rattle.dbscan.proofs.MapLogs.{asks_nothing}
-use Rattle.dbwalk.proofs.Chaining.Overflows.{page_read}
-use Rattle.dbmarks.proofs.Readings.{log_load}
 use Rattle.dbscan.proofs.MapPlaces.{next_read, next_kept, not_map, on_ok, not_in_use}
 use Rattle.dbscan.proofs.end_pass.end_page.Goals as goal
 

@@ -1,9 +1,6 @@
-use Rattle.std.proofs.Common.{◌≡◌, ◌+◌, length, Ok, Err, refl, sym, ap, ◌∙◌, subst, arith}
-use Rattle.dbscan.proofs.Common.{Moves, MovesBySome, geometry, Geometry, mark_of, page_mark, page_notices, pages_items, IsMapInUse, MapReadsBefore}
-use Rattle.dbscan.proofs.Common.{Moves-append, some_first, some_after, Pages, asks_then, asks_weaker, err_is}
-use Rattle.dbsource.proofs.Logs.{has_none}
-use Rattle.dbmarks.proofs.Markings.{page_mark-in, marks_of-length}
-use Rattle.dbscan.specs.MapReads.{IsMapTurn}
+use Rattle.dbscan.proofs.Common.{◌≡◌, ◌+◌, length, Ok, Err, refl, sym, ap, ◌∙◌, subst, arith, Moves, MovesBySome, geometry, Geometry, mark_of, page_mark}
+use Rattle.dbscan.proofs.Common.{page_notices, pages_items, IsMapInUse, MapReadsBefore, Moves-append, some_first, some_after, Pages, asks_then, asks_weaker}
+use Rattle.dbscan.proofs.Common.{err_is, has_none, page_mark-in, marks_of-length, IsMapTurn}
 use Rattle.dbscan.proofs.EndItems.{items_one_more, items_begin, fixed_by_mark}
 use Rattle.dbscan.proofs.MapLogs.{reads_none, reads_more}
 use Rattle.dbscan.proofs.end_pass.end_pages.Goals as goal

@@ -1,5 +1,5 @@
-use Rattle.std.proofs.Common.{◌≡◌, ◌+◌, List, None, Ok}
-use Rattle.dbscan.proofs.Common.{Moves, geometry, refusal, Reference, is_read_failed, Asks, AreMarksOf, pages_items, HasMapFor, MapReadsBefore}
+use Rattle.dbscan.proofs.Common.{◌≡◌, ◌+◌, List, None, Ok, Moves, geometry, refusal, Reference, is_read_failed, Asks, AreMarksOf, pages_items, HasMapFor}
+use Rattle.dbscan.proofs.Common.{MapReadsBefore}
 use Rattle.dbscan.proofs.end_pass.end_pages.Given as goal
 
 abbrev pub invariant-loop-index : goal.invariant-loop-index

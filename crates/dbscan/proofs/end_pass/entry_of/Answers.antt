@@ -1,5 +1,4 @@
-use Rattle.std.proofs.Common.{sym, ap, ◌∙◌, subst, arith}
-use Rattle.dbscan.proofs.Common.{map_page_of, Geometry, HasMapFor}
+use Rattle.dbscan.proofs.Common.{sym, ap, ◌∙◌, subst, arith, map_page_of, Geometry, HasMapFor}
 use Rattle.dbscan.proofs.MapPlaces.{place_of, no_entry, entry_read}
 use Rattle.dbscan.proofs.end_pass.entry_of.Goals as goal
 

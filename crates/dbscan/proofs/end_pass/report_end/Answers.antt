@@ -1,8 +1,7 @@
-use Rattle.std.proofs.Common.{rules, ◌≡◌, List, Err, map, refl, sym, ap, ◌∙◌, subst}
-use Rattle.dbscan.proofs.Common.{end_faults, has_rows, geometry, geometry_of, Reference, Survey, is_read_failed, is_write_failed, IsHeaderOf, Asks}
-use Rattle.dbscan.proofs.Common.{least_other_marked, AreMarksOf, marks_of, SinkAfter, SinkState, Reports, MovesBySome, DeskView, pages_items, IsMapInUse}
-use Rattle.dbscan.proofs.Common.{MapReads, end_notices, whole, items_of, asks_weaker, err_is, some_first, some_none}
-use Rattle.dbwalk.proofs.Reporting.Sinks.{moves_open}
+use Rattle.dbscan.proofs.Common.{rules, ◌≡◌, List, Err, map, refl, sym, ap, ◌∙◌, subst, end_faults, has_rows, geometry, geometry_of, Reference, Survey}
+use Rattle.dbscan.proofs.Common.{is_read_failed, is_write_failed, IsHeaderOf, Asks, least_other_marked, AreMarksOf, marks_of, SinkAfter, SinkState, Reports}
+use Rattle.dbscan.proofs.Common.{MovesBySome, DeskView, pages_items, IsMapInUse, MapReads, end_notices, whole, items_of, asks_weaker, err_is, some_first}
+use Rattle.dbscan.proofs.Common.{some_none, moves_open}
 use Rattle.dbscan.proofs.EndItems.{all_items, reports_then, pages_then}
 use Rattle.dbscan.proofs.MapLogs.{asks_nothing, reads_none}
 use Rattle.dbscan.proofs.Notifiers.{asked_after, asked_error, asked_ok}

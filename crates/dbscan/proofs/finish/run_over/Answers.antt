@@ -1,7 +1,4 @@
-use Rattle.std.proofs.Common.{rules, Err, subst, sym, ◌∙◌}
-use Rattle.dbscan.proofs.Common.{HeadedStep, err_is}
-use Rattle.dbsource.proofs.Runs.{same_front}
-use Rattle.dbscan.specs.Finishes.{HasReported, Leaves}
+use Rattle.dbscan.proofs.Common.{rules, Err, subst, sym, ◌∙◌, HeadedStep, err_is, same_front, HasReported, Leaves}
 use Rattle.dbscan.proofs.Keeping.{keeps_error, keeps_then}
 use Rattle.dbscan.proofs.Traced.{run_reported, scan_finished, scan_stopped}
 use Rattle.dbscan.proofs.finish.run_over.Goals as goal

@@ -1,5 +1,4 @@
-use Rattle.std.proofs.Common.{arith, append_assoc}
-use Rattle.dbscan.proofs.Common.{header_faults}
+use Rattle.dbscan.proofs.Common.{arith, append_assoc, header_faults}
 use Rattle.dbscan.proofs.header_faults.header_faults.Goals as goal
 
 pub returns : goal.returns

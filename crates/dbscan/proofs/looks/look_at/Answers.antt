@@ -1,9 +1,6 @@
-use Rattle.std.proofs.Common.{◌≡◌, ℕ, Bool, List, Ok, Err, refl, sym, ap, ◌∙◌}
-use Rattle.dbscan.proofs.Common.{geometry, page_bytes, Geometry, lost_cause_at, is_unmarked, err_from_is_err_and, Cause, Pages}
+use Rattle.dbscan.proofs.Common.{◌≡◌, ℕ, Bool, List, Ok, Err, refl, sym, ap, ◌∙◌, geometry, page_bytes, Geometry, lost_cause_at, is_unmarked}
+use Rattle.dbscan.proofs.Common.{err_from_is_err_and, Cause, Pages, has_weaker, log_load, page_read}
 use Rattle.dbtrace.specs.Causes.{lost_cause}
-use Rattle.dbsource.proofs.Logs.{has_weaker}
-use Rattle.dbmarks.proofs.Readings.{log_load}
-use Rattle.dbwalk.proofs.Chaining.Overflows.{page_read}
 use Rattle.dbwalk.proofs.Pages.Levels.{usable_page}
 use Rattle.dbscan.proofs.looks.look_at.Goals as goal
 

@@ -1,7 +1,6 @@
-use Rattle.std.proofs.Common.{rules, ◌≡◌, ℕ, ◌+◌, ◌≤◌, Bool, true, false, cond, Option, Some, None, refl, sym, ◌∙◌, arith, count_by, is_some}
-use Rattle.dbscan.proofs.Common.{View, is_unmarked, range_with_len, option_map_or}
+use Rattle.dbscan.proofs.Common.{rules, ◌≡◌, ℕ, ◌+◌, ◌≤◌, Bool, true, false, cond, Option, Some, None, refl, sym, ◌∙◌, arith, count_by, is_some, View}
+use Rattle.dbscan.proofs.Common.{is_unmarked, range_with_len, option_map_or, named_page}
 use Rattle.dbsurvey.proofs.Ranges.{count_push}
-use Rattle.dbformat.specs.NamedPages.{named_page}
 use Rattle.dbscan.proofs.looks.names_of.Goals.{in-Some+then-is_lost, in-Some+else-is_lost, in_default}
 use Rattle.dbscan.proofs.looks.names_of.Goals as goal
 

@@ -1,6 +1,4 @@
-use Rattle.std.proofs.Common.{◌≡◌, ◌≤◌, false, count_by, is_some}
-use Rattle.dbscan.proofs.Common.{is_unmarked, range_with_len, option_map_or}
-use Rattle.dbformat.specs.NamedPages.{named_page}
+use Rattle.dbscan.proofs.Common.{◌≡◌, ◌≤◌, false, count_by, is_some, is_unmarked, range_with_len, option_map_or, named_page}
 use Rattle.dbscan.proofs.looks.names_of.Given as goal
 
 -- of the first pages that it names

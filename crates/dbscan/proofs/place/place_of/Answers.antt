@@ -1,5 +1,4 @@
-use Rattle.std.proofs.Common.{ap, ◌∙◌}
-use Rattle.dbscan.proofs.Common.{page_mark, place_by}
+use Rattle.dbscan.proofs.Common.{ap, ◌∙◌, page_mark, place_by}
 use Rattle.dbscan.proofs.PageMarks.{place_is}
 use Rattle.dbscan.proofs.place.place_of.Goals as goal
 

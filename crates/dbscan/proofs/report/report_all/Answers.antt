@@ -1,7 +1,6 @@
-use Rattle.std.proofs.Common.{arith, ◌≡◌, [], ◌∷◌, ◌++◌, take, Some, None, refl, sym, subst, ◌∙◌, IfErr, append-nil, take_all}
-use Rattle.dbscan.proofs.Common.{WriteFailed, Moves, SinkMoves, Reports, whole, items_of, Moves-append}
+use Rattle.dbscan.proofs.Common.{arith, ◌≡◌, [], ◌∷◌, ◌++◌, take, Some, None, refl, sym, subst, ◌∙◌, IfErr, append-nil, take_all, WriteFailed, Moves, SinkMoves}
+use Rattle.dbscan.proofs.Common.{Reports, whole, items_of, Moves-append, asked_both, moves_some, moves_then}
 use Rattle.dbsurvey.proofs.Moving.{Moves-one}
-use Rattle.dbwalk.proofs.Reporting.Sinks.{asked_both, moves_some, moves_then}
 use Rattle.dbscan.proofs.Notifiers.{asked_after}
 use Rattle.dbscan.proofs.ReportedFaults.{items_more}
 use Rattle.dbscan.proofs.report.report_all.Goals.{in-Some, in_default}

@@ -1,5 +1,4 @@
-use Rattle.std.proofs.Common.{take}
-use Rattle.dbscan.proofs.Common.{Moves, SinkMoves, items_of}
+use Rattle.dbscan.proofs.Common.{take, Moves, SinkMoves, items_of}
 use Rattle.dbscan.proofs.report.report_all.Given as goal
 
 abbrev pub invariant-loop-fault : goal.invariant-loop-fault

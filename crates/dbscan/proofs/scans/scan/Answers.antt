@@ -1,13 +1,11 @@
-use Rattle.std.proofs.Common.{rules, ◌++◌, Ok, Err, refl, sym, ap, subst, ◌∙◌}
-use Rattle.dbscan.proofs.Common.{geometry_of, HeaderBytes, IsHeaderOf, Reads, is_write_failed, SinkAfter, Reports, DeskView, ReadsMarked}
-use Rattle.dbscan.proofs.Common.{MapReads, end_notices, AreWalked, asks_then, asks_weaker, fresh_marks, KeepsHeader, err_is}
+use Rattle.dbscan.proofs.Common.{rules, ◌++◌, Ok, Err, refl, sym, ap, subst, ◌∙◌, geometry_of, HeaderBytes, IsHeaderOf, Reads, is_write_failed, SinkAfter}
+use Rattle.dbscan.proofs.Common.{Reports, DeskView, ReadsMarked, MapReads, end_notices, AreWalked, asks_then, asks_weaker, fresh_marks, KeepsHeader, err_is}
+use Rattle.dbscan.proofs.Common.{KeepsRoots}
 use Rattle.dbscan.proofs.MapLogs.{asks_nothing, no_log, walk_then_map_log}
 use Rattle.dbscan.proofs.Scanned.{header_stopped, scan_ended, scan_stopped}
 use Rattle.dbscan.proofs.StartWalks.{later_asks, reporter_first, roots_stopped, starts_asks}
 use Rattle.dbscan.proofs.TreeWalks.{schema_stopped}
-use Rattle.dbscan.specs.Kept.{KeepsRoots}
 use Rattle.dbscan.proofs.Keeping.{keeps_then}
-use Rattle.dbtrace.specs.declared.Part.TheVariants as part
 use Rattle.dbscan.proofs.scans.scan.Goals as goal
 
 pub returns-in_err-report_header-clause-asks : goal.returns-in_err-report_header-clause-asks

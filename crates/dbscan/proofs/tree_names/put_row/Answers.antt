@@ -1,6 +1,5 @@
 use Rattle.dbscan.proofs.Common.{err_from_is_err_and}
 use Rattle.dbsource.proofs.Puts.{puts_then, puts_stop}
-use Rattle.dbscan.specs.Texts.{kind_text}
 use Rattle.dbscan.proofs.tree_names.put_row.Goals as goal
 
 pub returns-in_err-put : goal.returns-in_err-put

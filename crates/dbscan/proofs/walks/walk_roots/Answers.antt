@@ -1,13 +1,9 @@
-use Rattle.std.proofs.Common.{rules, ◌≡◌, ◌+◌, ◌-◌, ℕ, List, [], drop, length, Err, Ok, refl, sym, ap, subst, ◌∙◌, arith, option_map, slice_get}
-use Rattle.dbscan.proofs.Common.{geometry, encoding, Reference, Survey, Geometry, DeskView, desk_view, Listed, IsBetweenStarts, StopsReporting, enumerate_from}
-use Rattle.dbscan.proofs.Common.{asks_weaker, err_is}
-use Rattle.std.proofs.lemmas.Option.{none-some}
-use Rattle.dbformat.proofs.HeaderPrefix.{encoding_within}
+use Rattle.dbscan.proofs.Common.{rules, ◌≡◌, ◌+◌, ◌-◌, ℕ, List, [], drop, length, Err, Ok, refl, sym, ap, subst, ◌∙◌, arith, option_map, slice_get, geometry}
+use Rattle.dbscan.proofs.Common.{encoding, Reference, Survey, Geometry, DeskView, desk_view, Listed, IsBetweenStarts, StopsReporting, enumerate_from}
+use Rattle.dbscan.proofs.Common.{asks_weaker, err_is, none-some, encoding_within, schema_row_of, drop_all}
 use Rattle.dbmarks.proofs.Readings.{asks_then, log_none}
-use Rattle.dbwalk.specs.Rows.{schema_row_of}
 use Rattle.dbscan.proofs.DeskWalks.{desk_asks}
 use Rattle.dbscan.proofs.Starts.{row_there}
-use Rattle.std.proofs.lemmas.List.{drop_all}
 use Rattle.dbscan.proofs.Notifiers.{unread}
 use Rattle.dbscan.proofs.TreeWalks.{from_ended, from_stopped, next_row}
 use Rattle.dbscan.proofs.walks.walk_roots.Goals as goal

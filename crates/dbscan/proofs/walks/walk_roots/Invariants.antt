@@ -1,5 +1,5 @@
-use Rattle.std.proofs.Common.{◌≡◌, ◌+◌, List, drop, Ok}
-use Rattle.dbscan.proofs.Common.{geometry, encoding, Reference, Survey, is_read_failed, Asks, AreMarksFor, Reads, IsBetweenStarts, enumerate_from}
+use Rattle.dbscan.proofs.Common.{◌≡◌, ◌+◌, List, drop, Ok, geometry, encoding, Reference, Survey, is_read_failed, Asks, AreMarksFor, Reads, IsBetweenStarts}
+use Rattle.dbscan.proofs.Common.{enumerate_from}
 use Rattle.dbscan.proofs.walks.walk_roots.Given as goal
 
 abbrev pub invariant-loop-index : goal.invariant-loop-index

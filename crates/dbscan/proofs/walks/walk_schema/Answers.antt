@@ -1,8 +1,6 @@
-use Rattle.std.proofs.Common.{rules, ◌≡◌, ℕ, Bool, List, [], Result, Err, Ok, refl, ap, ◌∙◌, subst}
-use Rattle.dbscan.proofs.Common.{err_from_is_err_and, geometry, Step, is_read_failed, failures_after, IsHeaderOf, Asks, SourceState, RunError, AreMarksOf}
-use Rattle.dbscan.proofs.Common.{Reads, Mark, marks_of, DeskView, IsFresh, desk_view, shape_of, Notice, IsSchemaWalked, SchemaRow, err_is, asks_weaker}
-use Rattle.dbscan.specs.Desks.{AreForHeader}
-use Rattle.dbscan.specs.declared.desk.Desk.TheInside.{Inside}
+use Rattle.dbscan.proofs.Common.{rules, ◌≡◌, ℕ, Bool, List, [], Result, Err, Ok, refl, ap, ◌∙◌, subst, err_from_is_err_and, geometry, Step, is_read_failed}
+use Rattle.dbscan.proofs.Common.{failures_after, IsHeaderOf, Asks, SourceState, RunError, AreMarksOf, Reads, Mark, marks_of, DeskView, IsFresh, desk_view}
+use Rattle.dbscan.proofs.Common.{shape_of, Notice, IsSchemaWalked, SchemaRow, err_is, asks_weaker, AreForHeader, Inside}
 use Rattle.dbscan.proofs.DeskWalks.{desk_asks}
 use Rattle.dbscan.proofs.SchemaWalks.{schema_own, schema_stopped, schema_walked}
 use Rattle.dbscan.proofs.Notifiers.{unread}

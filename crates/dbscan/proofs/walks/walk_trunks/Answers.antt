@@ -1,7 +1,5 @@
-use Rattle.std.proofs.Common.{◌==◌, ◌≡◌, false, List, [], refl, sym, ap, ◌∙◌, arith}
-use Rattle.dbscan.proofs.Common.{geometry_of, first_trunk, Reference, Survey, HeaderBytes, DeskView, AreReported, IsBetweenStarts, nat_tests}
-use Rattle.dbformat.proofs.HeaderPrefix.{first_trunk_within}
-use Rattle.dbmarks.proofs.Readings.{log_none}
+use Rattle.dbscan.proofs.Common.{◌==◌, ◌≡◌, false, List, [], refl, sym, ap, ◌∙◌, arith, geometry_of, first_trunk, Reference, Survey, HeaderBytes, DeskView}
+use Rattle.dbscan.proofs.Common.{AreReported, IsBetweenStarts, nat_tests, first_trunk_within, log_none}
 use Rattle.dbscan.proofs.DeskWalks.{desk_asks}
 use Rattle.dbscan.proofs.Notifiers.{reporter_after}
 use Rattle.dbscan.proofs.TreeWalks.{freelist_reported, no_freelist_reported}

@@ -1,8 +1,4 @@
-use Rattle.std.proofs.Common.{Ok, Err, [], ◌∷◌, ap, inl, refl}
-use Rattle.dbreport.proofs.Common.{WriteFailed, ReceivesFaults, ShowsFault}
-use Rattle.dbwalk.proofs.Reporting.Sinks.{err_is}
-use Rattle.dbscan.proofs.Finished.{finished}
-use Rattle.dbreport.specs.CheckReporter.{LeavesCheck, check_held}
+use Rattle.dbreport.proofs.Common.{Ok, Err, [], ◌∷◌, ap, inl, refl, WriteFailed, ReceivesFaults, ShowsFault, err_is, finished, LeavesCheck, check_held}
 use Rattle.dbreport.proofs.Checked.{check_cut, check_ended}
 use Rattle.dbreport.proofs.ReporterStates.{one_same}
 use Rattle.dbreport.proofs.checking.CheckReporterFinishDesk.finish.Goals as goal

@@ -1,6 +1,4 @@
-use Rattle.std.proofs.Common.{◌≡◌, drop, arith}
-use Rattle.std.proofs.lemmas.Grind.{common_steps}
-use Rattle.dbformat.specs.Text.{hex_text}
+use Rattle.dbreport.proofs.Common.{◌≡◌, drop, arith, common_steps, hex_text}
 use Rattle.dbreport.proofs.Hexes.{hex_cut}
 use Rattle.dbreport.proofs.statistics.hex.append_hex_number.Goals as goal
 

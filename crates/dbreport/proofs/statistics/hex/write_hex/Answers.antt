@@ -1,4 +1,4 @@
-use Rattle.std.proofs.Common.{arith}
+use Rattle.dbreport.proofs.Common.{arith}
 use Rattle.dbreport.proofs.Hexes.{digits_start, digits_more, digits_written, digits_before}
 use Rattle.dbreport.proofs.statistics.hex.write_hex.Goals as goal
 

@@ -1,4 +1,4 @@
-use Rattle.dbreport.specs.Columns.{other_of}
+use Rattle.dbreport.proofs.Common.{other_of}
 use Rattle.dbreport.proofs.StatPieces.{other_pieces}
 use Rattle.dbreport.proofs.statistics.lines.other_line.Goals as goal
 

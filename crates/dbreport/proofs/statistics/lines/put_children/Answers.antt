@@ -1,6 +1,4 @@
-use Rattle.std.proofs.Common.{◌+◌, drop, get_or, flat_map}
-use Rattle.dbreport.proofs.Common.{err_from_is_err_and, child_text}
-use Rattle.dbbytes.proofs.NameLemmas.{put_more, put_stop}
+use Rattle.dbreport.proofs.Common.{◌+◌, drop, get_or, flat_map, err_from_is_err_and, child_text, put_more, put_stop}
 use Rattle.dbreport.proofs.StatPieces.{next_child}
 use Rattle.dbreport.proofs.statistics.lines.put_children.Goals as goal
 

@@ -1,6 +1,4 @@
-use Rattle.std.proofs.Common.{drop, flat_map}
-use Rattle.dbreport.proofs.Common.{child_text}
-use Rattle.dbbytes.proofs.NameLemmas.{HasPut}
+use Rattle.dbreport.proofs.Common.{drop, flat_map, child_text, HasPut}
 use Rattle.dbreport.proofs.statistics.lines.put_children.Given as goal
 
 abbrev pub invariant-loop-child : goal.invariant-loop-child

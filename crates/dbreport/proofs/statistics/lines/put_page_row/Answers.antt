@@ -1,5 +1,4 @@
-use Rattle.dbreport.proofs.Common.{err_from_is_err_and, puts_then}
-use Rattle.dbsource.proofs.Puts.{puts_stop}
+use Rattle.dbreport.proofs.Common.{err_from_is_err_and, puts_then, puts_stop}
 use Rattle.dbreport.proofs.StatPieces.{page_pieces}
 use Rattle.dbreport.proofs.statistics.lines.put_page_row.Goals as goal
 

@@ -1,4 +1,4 @@
-use Rattle.std.proofs.Common.{rules}
+use Rattle.dbreport.proofs.Common.{rules}
 use Rattle.dbreport.proofs.statistics.other_pages.other_page.Goals as goal
 
 pub returns-in_default : goal.returns-in_default

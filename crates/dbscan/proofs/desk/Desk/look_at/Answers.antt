@@ -1,5 +1,5 @@
-use Rattle.std.proofs.Common.{◌≡◌, [], ◌∷◌, refl, ap, subst, ◌∙◌, IfOk}
-use Rattle.dbscan.proofs.Common.{page_range, Geometry, lost_cause_at, IsHeaderOf, Asks, is_unmarked, DeskView, shape_of, asks_weaker}
+use Rattle.dbscan.proofs.Common.{◌≡◌, [], ◌∷◌, refl, ap, subst, ◌∙◌, IfOk, page_range, Geometry, lost_cause_at, IsHeaderOf, Asks, is_unmarked, DeskView}
+use Rattle.dbscan.proofs.Common.{shape_of, asks_weaker}
 use Rattle.dbsource.specs.Failures.{is_any}
 use Rattle.dbscan.proofs.desk.Desk.look_at.Goals as goal
 

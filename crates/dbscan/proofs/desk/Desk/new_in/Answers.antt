@@ -1,5 +1,4 @@
-use Rattle.std.proofs.Common.{[], sym, ◌∙◌, subst}
-use Rattle.dbscan.proofs.Common.{AreMarksFor, marks_of}
+use Rattle.dbscan.proofs.Common.{[], sym, ◌∙◌, subst, AreMarksFor, marks_of}
 use Rattle.dbmarks.proofs.FirstMarks.{first_marks}
 use Rattle.dbscan.proofs.desk.Desk.new_in.Goals as goal
 

@@ -1,5 +1,4 @@
-use Rattle.std.proofs.Common.{ap, ◌∙◌}
-use Rattle.dbscan.proofs.Common.{fresh_marks, DeskView}
+use Rattle.dbscan.proofs.Common.{ap, ◌∙◌, fresh_marks, DeskView}
 use Rattle.dbscan.proofs.desk.Desk.renew.Goals as goal
 
 pub invariant_of-self : goal.invariant_of-self

@@ -1,5 +1,4 @@
-use Rattle.std.proofs.Common.{arith}
-use Rattle.std.proofs.lemmas.Grind.{elements}
+use Rattle.dbscan.proofs.Common.{arith, elements}
 use Rattle.dbscan.proofs.page_trees.PageTrees.by_mark.Goals as goal
 
 pub returns-in_default : goal.returns-in_default

@@ -1,4 +1,4 @@
-use Rattle.std.proofs.Common.{rules}
+use Rattle.dbscan.proofs.Common.{rules}
 use Rattle.dbscan.proofs.page_trees.PageTrees.note.Goals as goal
 
 pub returns-then-page-len : goal.returns-then-page-len

@@ -1,5 +1,4 @@
-use Rattle.std.proofs.Common.{ap, ◌∙◌, slice_get}
-use Rattle.dbscan.proofs.Common.{page_mark, start_by}
+use Rattle.dbscan.proofs.Common.{ap, ◌∙◌, slice_get, page_mark, start_by}
 use Rattle.dbscan.proofs.PageMarks.{start_is}
 use Rattle.dbscan.proofs.page_trees.PageTrees.start_of.Goals as goal
 

@@ -1,7 +1,4 @@
-use Rattle.std.proofs.Common.{rules, ◌≡◌, [], ◌++◌, ◌∷◌, length, vec_len, ap, ◌∙◌, subst}
-use Rattle.dbscan.proofs.Common.{Listed, kept_row, IsWithin}
-use Rattle.std.specs.List.{All}
-use Rattle.dbwalk.specs.Rows.{schema_row_of}
+use Rattle.dbscan.proofs.Common.{rules, ◌≡◌, [], ◌++◌, ◌∷◌, length, vec_len, ap, ◌∙◌, subst, Listed, kept_row, IsWithin, All, schema_row_of}
 use Rattle.dbscan.proofs.RootLists.{row_added}
 use Rattle.dbscan.proofs.roots.RootList.add.Goals as goal
 

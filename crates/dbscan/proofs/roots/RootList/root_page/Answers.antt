@@ -1,4 +1,4 @@
-use Rattle.std.proofs.Common.{rules}
+use Rattle.dbscan.proofs.Common.{rules}
 use Rattle.dbscan.proofs.roots.RootList.root_page.Goals as goal
 
 pub returns-in-Some : goal.returns-in-Some

@@ -1,5 +1,4 @@
-use Rattle.std.proofs.Common.{arith}
-use Rattle.std.proofs.lemmas.Grind.{common_steps}
+use Rattle.dbscan.proofs.Common.{arith, common_steps}
 use Rattle.dbscan.proofs.roots.RootListTaker.take.Goals as goal
 
 pub returns-in-Ok-clause-row : goal.returns-in-Ok-clause-row

@@ -1,5 +1,4 @@
-use Rattle.dbscan.proofs.Common.{freelist_start}
-use Rattle.dbscan.specs.StartTable.{most_starts}
+use Rattle.dbscan.proofs.Common.{freelist_start, most_starts}
 use Rattle.dbscan.proofs.StartTables.{all_rest}
 use Rattle.dbscan.proofs.start_table.StartTable.fill.Goals as goal
 

@@ -1,5 +1,4 @@
-use Rattle.std.proofs.Common.{arith}
-use Rattle.std.proofs.lemmas.Grind.{elements}
+use Rattle.dbscan.proofs.Common.{arith, elements}
 use Rattle.dbscan.proofs.start_table.StartTable.get.Goals as goal
 
 pub returns-then-start-eq-FREELIST_START : goal.returns-then-start-eq-FREELIST_START

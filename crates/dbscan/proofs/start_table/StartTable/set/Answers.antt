@@ -1,5 +1,4 @@
-use Rattle.std.proofs.Common.{◌≡◌, ◌+◌, ◌≤◌, length, sym, ap, ap₂, ◌∙◌, arith, slice_set, vec_len, vec_capacity}
-use Rattle.dbscan.proofs.Common.{freelist_start}
+use Rattle.dbscan.proofs.Common.{◌≡◌, ◌+◌, ◌≤◌, length, sym, ap, ap₂, ◌∙◌, arith, slice_set, vec_len, vec_capacity, freelist_start}
 use Rattle.dbscan.proofs.StartTables.{freelist_set, grown, tree_set}
 use Rattle.dbscan.proofs.start_table.StartTable.set.Goals.{then-index-len, else-index-len}
 use Rattle.dbscan.proofs.start_table.StartTable.set.Goals as goal

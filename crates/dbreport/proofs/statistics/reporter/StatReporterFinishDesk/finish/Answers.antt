@@ -1,8 +1,4 @@
-use Rattle.std.proofs.Common.{Ok, refl}
-use Rattle.dbreport.proofs.Common.{ReceivesOpen}
-use Rattle.dbscan.proofs.Finished.{finished}
-use Rattle.dbreport.specs.StatReporter.{stat_held}
-use Rattle.dbreport.specs.StatStarts.{LeavesStat}
+use Rattle.dbreport.proofs.Common.{Ok, refl, ReceivesOpen, finished, stat_held, LeavesStat}
 use Rattle.dbreport.proofs.StatReports.{stat_ended}
 use Rattle.dbreport.proofs.statistics.reporter.StatReporterFinishDesk.finish.Goals as goal
 
