@@ -78,17 +78,10 @@ module _ {O : Type 0} (held : O → OutState) where
   module _ (s m : CheckReporter O) (f : Fault) (shows : ShowsFault held s f m) where
     -- the bounds of the next one
     bounds_kept : s.shown ≤ s.limit → s.more ≤ 2 ^ 64 - 1 → (m.shown ≤ m.limit) × (m.more ≤ 2 ^ 64 - 1)
-    bounds_kept l n = elim (cases_Bool (nat_lt s.shown s.limit)) [
-      | inl e ↦
-          let less : s.shown < s.limit = grind (arith, nat_tests) in
-          let shown : m.shown ≡ s.shown + 1 = rw e at shows.shown in
-          let more : m.more ≡ s.more = rw e at shows.more in
-          let limit = shows.limit in (omega arith, omega arith)
-      | inr e ↦
-          let shown : m.shown ≡ s.shown = rw e at shows.shown in
-          let more : m.more ≡ counted (s.more + 1) = rw e at shows.more in
-          let limit = shows.limit in (omega arith, omega arith)
-    ]
+    bounds_kept l n =
+        let limit = shows.limit in
+        let shown = shows.shown in
+        let more = shows.more in (grind (arith, nat_tests), grind (arith, nat_tests))
 
     -- there is room for its line, or it is counted
     saw_fault : (fs : List Fault) (t : CheckReporter O) → s.shown ≤ s.limit → Saw m fs t → Saw s (f ∷ fs) t

@@ -24,10 +24,7 @@ visited g p (Some r) = other_visited (role_of r)
 
 by_visit : (g : Geometry) (p : ℕ) (b : Bool) (o : Option Reference) → ((r : Reference) → o ≡ Some r → b ≡ false)
     → marked_other g p (cond b Fixed (option_map_or visit_mark o Unmarked)) ≡ visited g p o
-by_visit g p true None h = refl
-by_visit g p false None h = refl
-by_visit g p true (Some r) h = absurd (let k : true ≡ false = h r refl in cc)
-by_visit g p false (Some r) h = by_role g p (role_of r) (from_of r)
+by_visit g p b o h = grind (arith, by_role)
 
 -- a page's mark shows what other page it is
 pub other_by_mark : (file : List ℕ) (V : List Reference) (p : ℕ) → AreVisits (geometry file) V → marked_other (geometry file) p (mark_of (geometry file) V p)

@@ -79,20 +79,15 @@ trees_apart file P Q h =
     ∙ ap₂ (λ a b. a ++ b) (map_same (row_of_tree rows) (row_of_tree (stat_rows file P)) (trees_reached P) of_left)
     (map_same (row_of_tree rows) (row_of_tree (stat_rows file Q)) (trees_reached Q) of_right)
   where
-    no_later : (a b : ℕ) → a < b → a ≡ b → ⊥
-    no_later a b l e = omega arith
-
     of_left : (k : ℕ) → IsIn k (trees_reached P) → row_of_tree (stat_rows file P ++ stat_rows file Q) k ≡ row_of_tree (stat_rows file P) k
     of_left k i = in_left (stat_rows file P) (stat_rows file Q) k (λ row j e.
         let t = tree_from P k i in
-        let u = row_from file Q row j in
-        no_later (start_of t.0.address) (start_of u.0.address) (h t.0 u.0 t.1 u.1) (sym t.2 ∙ sym e ∙ u.2))
+        let u = row_from file Q row j in omega (arith, h t.0 u.0 t.1 u.1, t.2, e, u.2))
 
     of_right : (k : ℕ) → IsIn k (trees_reached Q) → row_of_tree (stat_rows file P ++ stat_rows file Q) k ≡ row_of_tree (stat_rows file Q) k
     of_right k i = in_right (stat_rows file P) (stat_rows file Q) k (λ row j e.
         let t = row_from file P row j in
-        let u = tree_from Q k i in
-        no_later (start_of t.0.address) (start_of u.0.address) (h t.0 u.0 t.1 u.1) (sym t.2 ∙ e ∙ u.2))
+        let u = tree_from Q k i in omega (arith, h t.0 u.0 t.1 u.1, t.2, e, u.2))
 
 -- ---- below starts
 
@@ -134,11 +129,7 @@ module _ (file : List ℕ) where
   pub later_starts_below : (W U : List Reference) (l : Link Way) (ls : List (Link Way)) → IsRising (l ∷ ls)
       → HasLaterStarts (below_links W [] (l ∷ [])) (below_links U [] ls)
   later_starts_below W U l ls rising t u i j =
-      let e : start_of t.address ≡ l.step = only_start W l t i in
-      let m = start_among U ls rising.1 u j in
-      let f : start_of u.address ≡ m.0.step = m.2 in
-      let k : l.step < m.0.step = rising.0 m.0 m.1 in
-      omega arith
+      let m = start_among U ls rising.1 u j in omega (arith, only_start W l t i, m.2, rising.0 m.0 m.1)
 
   pub row_start : (W : List Reference) (l : Link Way) (row : StatRow) → IsIn row (stat_rows file (below_links W [] (l ∷ []))) → row.start ≡ l.step
   row_start W l row i = let m = row_from file (below_links W [] (l ∷ [])) row i in m.2 ∙ only_start W l m.0 m.1

@@ -17,15 +17,8 @@ reads_none size Q next = record { reads = record { pages = []; ranges = refl; ri
 
 pub reads_more : (size : ℕ) (Q : ℕ → Type 0) (next p : ℕ) (log turn : List ByteRange) → next ≤ p → ReadsRisingBefore size Q next log → ReadsOrNot size Q p turn
     → ReadsRisingBefore size Q (p + 1) (log ++ turn)
-reads_more size Q next p log turn n h (inl e) = record {
-  reads = record {
-    pages = h.reads.pages;
-    ranges = ap (λ l. log ++ l) e ∙ append-nil log ∙ h.reads.ranges;
-    rising = h.reads.rising;
-    each = h.reads.each;
-  };
-  before = λ q i. let k = h.before q i in omega arith;
-}
+reads_more size Q next p log turn n h (inl e) = subst (ReadsRisingBefore size Q (p + 1)) (sym (ap (λ l. log ++ l) e ∙ append-nil log))
+    (record { reads = h.reads; before = λ q i. let k = h.before q i in omega arith })
 reads_more size Q next p log turn n h (inr e) = record {
   reads = record {
     pages = h.reads.pages ++ (p ∷ []);

@@ -22,14 +22,10 @@ abbrev pub unused : Bool → Bool → Option Mark
 unused fixed here = cond fixed (Some Fixed) (cond here (Some Unmarked) None)
 
 unused_start : (b c : Bool) (known : Option ℕ) → start_by (unused b c) known ≡ None
-unused_start true c known = refl
-unused_start false true known = refl
-unused_start false false known = refl
+unused_start b c known = grind arith
 
 unused_place : (b c : Bool) → place_by (unused b c) ≡ cond b place.Fixed place.Nowhere
-unused_place true c = refl
-unused_place false true = refl
-unused_place false false = refl
+unused_place b c = grind arith
 
 -- what a page is by its visit, or by its fixed use
 abbrev by_visit : Option Reference → Bool → Place

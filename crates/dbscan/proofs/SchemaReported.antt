@@ -1,9 +1,9 @@
 -- What is reported below the schema's start shows whether the schema has a row.
-use Rattle.dbscan.proofs.Common.{◌≡◌, ℕ, inl, inr, Bool, true, false, cond, not, ◌&&◌, List, [], ◌∷◌, Option, Some, None, refl, sym, ap, ap₂, ◌∙◌, ◌||◌, ◌==◌}
-use Rattle.dbscan.proofs.Common.{IsIn, Address, Follow, errands_at, start_of, schema_start, has_rows, geometry, View, is_interior, schema_part, Role, root}
-use Rattle.dbscan.proofs.Common.{child, first_overflow, later_overflow, trunk, free_leaf, Reference, role_of, tree_view, StatRow, row_in, later_starts, Survey}
-use Rattle.dbscan.proofs.Common.{rules_of, Finding, found_rows, reported_row, reported_fault, stat_rows, reported_below, is_schema_row, option_map_or, list_any}
-use Rattle.dbscan.proofs.Common.{cons_option, under, are_rules, has_address, and-false, and_parts, tree_kind, schema_link, starts_rise, no_due, is_schema_leaf}
+use Rattle.dbscan.proofs.Common.{◌≡◌, ℕ, inl, inr, Bool, true, false, cond, not, ◌&&◌, List, [], ◌∷◌, Option, None, refl, sym, ap, ◌∙◌, ◌||◌, ◌==◌, IsIn}
+use Rattle.dbscan.proofs.Common.{Address, Follow, errands_at, start_of, schema_start, has_rows, geometry, View, is_interior, schema_part, Role, root, child}
+use Rattle.dbscan.proofs.Common.{first_overflow, later_overflow, Reference, role_of, tree_view, StatRow, row_in, later_starts, Survey, rules_of, Finding}
+use Rattle.dbscan.proofs.Common.{found_rows, reported_row, reported_fault, stat_rows, reported_below, is_schema_row, option_map_or, list_any, arith}
+use Rattle.dbscan.proofs.Common.{cons_option, is_schema_leaf, under, are_rules, has_address, and-false, and_parts, tree_kind, schema_link, starts_rise, no_due}
 use Rattle.dbsurvey.proofs.Starting.{survey_from_first}
 use Rattle.dbformat.specs.EndFaults.{has_cell}
 use Rattle.dbformat.specs.PageFaults.{is_leaf_of}
@@ -34,8 +34,7 @@ abbrev by_view : Bool → Option View → Bool
 by_view at_schema o = (at_schema && option_map_or (λ v. not (is_interior v.kind)) o false) && has_cell o
 
 view_row : (r : Reference) (o : Option View) → is_schema_leaf (tree_page_row r o) ≡ by_view (start_of r.address == schema_start) o
-view_row r None = refl
-view_row r (Some v) = refl
+view_row r o = grind arith
 
 same_test : (file : List ℕ) (r : Reference) → by_reported file r ≡ by_page file r
 same_test file r = by_role (role_of r) refl
@@ -51,32 +50,27 @@ same_test file r = by_role (role_of r) refl
     by_role (child kind) e = view_row r (tree_view file r)
     by_role (first_overflow left) e = not_leaf ∙ nothing (ap tree_kind e)
     by_role (later_overflow left) e = not_leaf ∙ nothing (ap tree_kind e)
-    by_role trunk e = nothing (ap tree_kind e)
-    by_role free_leaf e = nothing (ap tree_kind e)
+    by_role _ e = nothing (ap tree_kind e)
+
+row_any : (o : Option StatRow) (rows : List StatRow) (b c : Bool) → option_map_or is_schema_leaf o false ≡ b → list_any is_schema_leaf rows ≡ c
+    → list_any is_schema_leaf (cons_option o rows) ≡ (b || c)
+row_any o rows b c e h = grind arith
 
 any_row : (file : List ℕ) (V : List Reference) → list_any is_schema_leaf (stat_rows file V) ≡ list_any (by_page file) V
 unfolding stat_rows
 any_row file [] = refl
-any_row file (r ∷ V) = by_case (row_in (role_of r) file r) (same_test file r) (any_row file V)
-  where
-    by_case : (o : Option StatRow) → option_map_or is_schema_leaf o false ≡ by_page file r
-        → list_any is_schema_leaf (stat_rows file V) ≡ list_any (by_page file) V
-        → list_any is_schema_leaf (cons_option o (stat_rows file V)) ≡ list_any (by_page file) (r ∷ V)
-    by_case None e h = ap₂ (λ a b. a || b) e h
-    by_case (Some x) e h = ap₂ (λ a b. a || b) e h
+any_row file (r ∷ V) = row_any (row_in (role_of r) file r) _ _ _ (same_test file r) (any_row file V)
 
 -- only the pages below the schema's start count
+
+one_under : (p : Reference → Bool) (r : Reference) (b : Bool) (xs ys : List Reference) → (p r ≡ true → b ≡ true) → list_any p xs ≡ list_any p ys
+    → list_any p (r ∷ xs) ≡ list_any p (cond b (r ∷ ys) ys)
+one_under p r b xs ys f k = grind arith
 
 any_under : (p : Reference → Bool) (V : List Reference) → ((r : Reference) → IsIn r V → p r ≡ true → start_words.starts_with schema_start r.address ≡ true)
     → list_any p V ≡ list_any p (under schema_start V)
 any_under p [] h = refl
-any_under p (r ∷ V) h = by_case (p r) (start_words.starts_with schema_start r.address) refl (h r (inl refl)) (any_under p V (λ q i. h q (inr i)))
-  where
-    by_case : (a b : Bool) → p r ≡ a → (p r ≡ true → b ≡ true) → list_any p V ≡ list_any p (under schema_start V) → (a || list_any p V)
-        ≡ list_any p (cond b (r ∷ under schema_start V) (under schema_start V))
-    by_case a true e f k = ap₂ (λ x y. x || y) (sym e) k
-    by_case false false e f k = k
-    by_case true false e f k = let g = f e in cc
+any_under p (r ∷ V) h = one_under p r _ V (under schema_start V) (h r (inl refl)) (any_under p V (λ q i. h q (inr i)))
 
 at_schema : (a : Address) → (a ≡ [] → ⊥) → (start_of a == schema_start) ≡ true → start_words.starts_with schema_start a ≡ true
 at_schema [] some e = absurd (some refl)

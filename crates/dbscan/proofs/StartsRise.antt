@@ -11,8 +11,8 @@ numbers notices = filter_map number_of notices
 of_found : (at : At) (items : List Finding) → (k : ℕ) → IsIn k (numbers (map (found at) items)) → k ≡ at.number
 of_found at [] k i = absurd i
 of_found at (reported_row r ∷ items) k (inl e) = e
-of_found at (reported_row r ∷ items) k (inr i) = of_found at items k i
 of_found at (reported_fault f why ∷ items) k (inl e) = e
+of_found at (reported_row r ∷ items) k (inr i) = of_found at items k i
 of_found at (reported_fault f why ∷ items) k (inr i) = of_found at items k i
 
 found_rise : (at : At) (items : List Finding) → StartsRise (map (found at) items)

@@ -3,22 +3,21 @@ use Rattle.dbscan.proofs.MapPlaces.{place_of, no_entry, entry_read}
 use Rattle.dbscan.proofs.end_pass.entry_of.Goals as goal
 
 pub overflow_sub-page : goal.overflow_sub-page
-overflow_sub-page g c =
-    let k = place_of c.geometry.result c.args.page c.in-Some.map_page (sym c.map_page_of.ensures ∙ c.in-Some.is) in
-    let b = k.before in omega arith
+overflow_sub-page g c = omega (arith, (place_of c.geometry.result c.args.page c.in-Some.map_page (sym c.map_page_of.ensures ∙ c.in-Some.is)).before)
 
 pub stored_entry-requires-clause-first : goal.stored_entry-requires-clause-first
 stored_entry-requires-clause-first g c =
-    let k = place_of c.geometry.result c.args.page c.in-Some.map_page (sym c.map_page_of.ensures ∙ c.in-Some.is) in
-    let b = k.before in omega arith
+    omega (arith, (place_of c.geometry.result c.args.page c.in-Some.map_page (sym c.map_page_of.ensures ∙ c.in-Some.is)).before)
 
 pub stored_entry-requires-clause-room : goal.stored_entry-requires-clause-room
 stored_entry-requires-clause-room g c =
-    let k = place_of c.geometry.result c.args.page c.in-Some.map_page (sym c.map_page_of.ensures ∙ c.in-Some.is) in
-    let r = k.room in
-    let u = c.geometry.ensures.range.usable.1 in
-    let s = ap (λ (g : Geometry). g.page_size) c.geometry.ensures.value in
-    let l = c.page.ensures.len in omega arith
+    omega (
+      arith,
+      (place_of c.geometry.result c.args.page c.in-Some.map_page (sym c.map_page_of.ensures ∙ c.in-Some.is)).room,
+      c.geometry.ensures.range.usable.1,
+      ap (λ (g : Geometry). g.page_size) c.geometry.ensures.value,
+      c.page.ensures.len,
+    )
 
 pub returns-in-None : goal.returns-in-None
 returns-in-None g c = λ file e h. no_entry file c.args.page
