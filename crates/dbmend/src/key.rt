@@ -86,7 +86,8 @@ impl Number {
 
     fn of(column: &Column<'_>) -> Option<Number> {
         if column.kind == 7 {
-            double(column.body).map(Number::of_double)
+            let stored = stored(column)?;
+            Some(Number::of_double(u64::from_be_bytes(stored.to_be_bytes())))
         } else {
             integer(column).map(Number::of_integer)
         }
@@ -220,28 +221,22 @@ pub(crate) fn integer(column: &Column<'_>) -> Option<i64> {
     match column.kind {
         8 => Some(0),
         9 => Some(1),
-        1..=6 if column.body.len() as u64 == column.len => {
-            let first = *column.body.first()?;
-            let mut value: i64 = if first >= 128 { -1 } else { 0 };
-            for byte in column.body {
-                value = value.wrapping_mul(256).wrapping_add(i64::from(*byte));
-            }
-            Some(value)
-        }
+        1..=6 => stored(column),
         _ => None,
     }
 }
 
-// The bits of a double, if all its bytes are there.
-fn double(body: &[u8]) -> Option<u64> {
-    if body.len() < 8 {
+// The bytes of a column as an integer, if all of them are there.
+fn stored(column: &Column<'_>) -> Option<i64> {
+    if column.body.len() as u64 != column.len {
         return None;
     }
-    let mut word = 0u64;
-    for byte in body {
-        word = word.wrapping_mul(256).wrapping_add(u64::from(*byte));
+    let first = *column.body.first()?;
+    let mut value: i64 = if first >= 128 { -1 } else { 0 };
+    for byte in column.body {
+        value = value.wrapping_mul(256).wrapping_add(i64::from(*byte));
     }
-    Some(word)
+    Some(value)
 }
 
 fn of_numbers(a: i64, b: i64) -> Order {
