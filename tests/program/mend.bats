@@ -146,6 +146,51 @@ END
     [ "$rows" -gt 50 ]
 }
 
+# pointer INDEX CELL: where the pointer of a cell of an index of one page is in x.db.
+pointer() {
+    sqlite3 "$work/x.db" "SELECT (rootpage - 1) * 512 + 8 + 2 * $2 FROM sqlite_schema WHERE name = '$1'"
+}
+
+# are_put_back OFFSET BYTES..: is_put_back, and to SQLite the changed copy is sound.
+are_put_back() {
+    is_put_back "$@" && [ "$(sqlite3 "$work/put.db" 'PRAGMA integrity_check')" = ok ]
+}
+
+# Cells of rows that were added one after another are adjacent: so two lost ones are in one run of bytes, or each in its own. No fault says which
+# of them is which, but their keys and those around.
+@test 'mend finds which cell of an index is where of two, of keys that rise, fall, are in no order of the rows, or differ in case' {
+    local what key of pair one other
+    needs sqlite3
+    while IFS=';' read -r what key of; do
+        made "CREATE TABLE t(a); CREATE INDEX i ON t($of);
+            WITH RECURSIVE k(n) AS (SELECT 1 UNION ALL SELECT n + 1 FROM k WHERE n < 20) INSERT INTO t SELECT $key FROM k;"
+        for pair in '0 1' '7 8' '18 19' '3 11'; do
+            read -r one other <<< "$pair"
+            row "$what: $pair" are_put_back "$(pointer i "$one")" '\0\0' "$(pointer i "$other")" '\0\0'
+        done
+    done << 'END'
+rising;n;a
+falling;n;a DESC
+rows from the last to the first;100 - n;a
+no order;n * 7919 % 211;a
+texts;'text ' || n * 7919 % 211;a
+texts in capital and small letters;char(n % 2 * 32 + 64 + n) || n * 7919 % 211;a COLLATE NOCASE
+doubles;n * 7919 % 211 * 1.3 - 90;a
+END
+    [ "$rows" = 28 ]
+}
+
+# Cell 0 has the pointer of cell 1, and cell 1 that of cell 4: with the lost cell in the place of cell 1 each byte would be held once.
+@test 'mend puts no cell of an index where its key is out of order' {
+    local first
+    needs sqlite3
+    made 'CREATE TABLE t(a); CREATE INDEX i ON t(a); WITH RECURSIVE k(n) AS (SELECT 1 UNION ALL SELECT n + 1 FROM k WHERE n < 20) INSERT INTO t SELECT n FROM k;'
+    first=$(pointer i 0)
+    dd if="$work/x.db" of="$work/x.db" bs=1 skip=$((first + 2)) seek="$first" count=2 conv=notrunc status=none
+    dd if="$work/x.db" of="$work/x.db" bs=1 skip=$((first + 8)) seek=$((first + 2)) count=2 conv=notrunc status=none
+    exactly 1 $'1 fault\n1 fault is left\n' '' mend "$work/x.db"
+}
+
 # chains_of: of each two rows in x.db with a first overflow page 42 bytes after the begin of their cells, where its number is.
 chains_of() {
     python3 - "$work/x.db" << 'END'

@@ -144,11 +144,23 @@ impl Key {
         }
     }
 
+    pub(crate) fn is_known(&self) -> bool {
+        !matches!(self, Key::Unknown)
+    }
+
     // Whether it is a record with as many columns as another, and the first of them of the same type.
     pub(crate) fn is_like(&self, other: &Key) -> bool {
         match (self, other) {
             (Key::Record(a), Key::Record(b)) => a.shape() == b.shape(),
             _ => false,
+        }
+    }
+
+    // Whether it has as many columns as another record, if both are records.
+    pub(crate) fn is_as_wide_as(&self, other: &Key) -> bool {
+        match (self, other) {
+            (Key::Record(a), Key::Record(b)) => a.shape().1 == b.shape().1,
+            _ => true,
         }
     }
 

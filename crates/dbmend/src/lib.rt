@@ -25,6 +25,7 @@ mod looking;
 mod lost;
 mod mending;
 mod numbers;
+mod ordered;
 mod places;
 mod pointers;
 mod ranked;

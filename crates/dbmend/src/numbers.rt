@@ -4,7 +4,7 @@ ghost use Rattle.std.specs.Prelude.{◌≤◌};
 use crate::pointers::longest_gap;
 use crate::ranked::{Ranked, add_try};
 use crate::reading::Paper;
-use dbpage::type_byte;
+use dbpage::{PageView, type_byte};
 use dbscan::{Desk, Mark};
 use std::alloc::Allocator;
 
@@ -37,15 +37,43 @@ fn add_short<A: Allocator>(
     add_at(tries, paper, at, &stored.to_be_bytes(), points);
 }
 
-// Adds each other type of the page.
-pub(crate) fn add_types<A: Allocator>(tries: &mut Ranked, paper: &Paper<A>) {
+// Whether each cell of a page can be read.
+fn is_whole(view: &PageView<'_>) -> bool {
+    for i in 0..view.cells() {
+        if view.cell(i).is_err() {
+            return false;
+        }
+    }
+    true
+}
+
+// Whether each cell of the page can be read if it has this type.
+fn is_whole_as<A: Allocator>(paper: &mut Paper<A>, kind: u8) -> bool {
+    let at = head(paper);
+    let Some(stated) = paper.short_at(at) else {
+        return false;
+    };
+    let other = u16::from_be_bytes([kind, (stated % 256) as u8]);
+    paper.put_short(at, other);
+    let is_whole = match paper.view() {
+        Some(view) => is_whole(&view),
+        None => false,
+    };
+    paper.put_short(at, u16::try_from(stated).unwrap_or(0));
+    is_whole
+}
+
+// Adds each other type of the page. In place of one that is known only those with which each cell can be read: other types may hide what is
+// wrong with its cells.
+pub(crate) fn add_types<A: Allocator>(tries: &mut Ranked, paper: &mut Paper<A>) {
     let bytes = paper.bytes();
     if bytes.len() < 480 {
         return;
     }
     let was = type_byte(bytes, paper.page());
+    let is_known = paper.view().is_some();
     for kind in TYPES {
-        if kind != was {
+        if kind != was && (!is_known || is_whole_as(paper, kind)) {
             add_at(tries, paper, head(paper), &[kind], 26);
         }
     }
@@ -93,13 +121,16 @@ fn pointed<A: Allocator>(paper: &Paper<A>) -> (u32, u32) {
     (count, least)
 }
 
-// Where the first cell of the page begins, of as many as it states, or its first freeblock.
+// Where the first cell of the page begins, of as many as it states, or its first freeblock. A pointer that leads before the pointers is wrong.
 fn least_pointer<A: Allocator>(paper: &Paper<A>) -> Option<u32> {
     let begin = pointers(paper);
     let cells = paper.short_at(head(paper) + 3)?;
     let mut least = paper.usable();
     for i in 0..cells.min(32768) {
-        least = least.min(paper.short_at(begin + 2 * i)?);
+        let pointer = paper.short_at(begin + 2 * i)?;
+        if pointer >= begin {
+            least = least.min(pointer);
+        }
     }
     match paper.short_at(head(paper) + 1)? {
         0 => Some(least),

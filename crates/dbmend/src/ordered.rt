@@ -1,0 +1,156 @@
+// Where a key belongs among the cells of a page.
+use crate::fit::{Fit, Span};
+use crate::key::{Key, Order};
+use dbpage::PageView;
+
+// How many cells are looked at to see how the keys of a page go.
+const MOST_STEPS: u32 = 64;
+
+// How many cells are looked at on each side of one.
+const MOST_LOST: u32 = 16;
+
+// How often a key of a page is above the one before it, and how often below.
+#[derive(Clone, Copy)]
+struct Steps {
+    rises: u32,
+    falls: u32,
+}
+
+impl Steps {
+    fn of(view: &PageView<'_>, folded: bool) -> Steps {
+        let mut steps = Steps { rises: 0, falls: 0 };
+        let mut last = Key::Unknown;
+        for i in 0..view.cells().min(MOST_STEPS) {
+            let key = Key::of(view, i);
+            match last.order(&key, folded) {
+                Order::Rising => steps.rises = steps.rises.saturating_add(1),
+                Order::Falling => steps.falls = steps.falls.saturating_add(1),
+                Order::Same | Order::Unknown => {}
+            }
+            if key.is_known() {
+                last = key;
+            }
+        }
+        steps
+    }
+
+    // How many of them go the other way than most.
+    fn against(&self) -> u32 {
+        self.rises.min(self.falls)
+    }
+
+    // Whether nearly all go one way.
+    fn are_clear(&self) -> bool {
+        self.against().saturating_mul(4) < self.rises.max(self.falls)
+    }
+}
+
+// How the keys of a page go: whether capital letters count as small ones, whether they fall, and whether that is clear.
+#[derive(Clone, Copy)]
+struct Way {
+    folded: bool,
+    falls: bool,
+    is_clear: bool,
+}
+
+impl Way {
+    fn of(view: &PageView<'_>) -> Way {
+        let plain = Steps::of(view, false);
+        let small = Steps::of(view, true);
+        let folded = small.against() < plain.against();
+        let steps = if folded { small } else { plain };
+        Way {
+            folded,
+            falls: steps.falls > steps.rises,
+            is_clear: steps.are_clear(),
+        }
+    }
+
+    // Whether one key comes before another.
+    fn leads(&self, one: &Key, other: &Key) -> bool {
+        let order = one.order(other, self.folded);
+        if self.falls {
+            order == Order::Falling
+        } else {
+            order == Order::Rising
+        }
+    }
+}
+
+// The nearest known key before a cell, and how many cells without one are between.
+fn before(view: &PageView<'_>, cell: u32) -> (Key, u32) {
+    for distance in 0..MOST_LOST {
+        let Some(other) = cell.checked_sub(distance + 1) else {
+            return (Key::Unknown, distance);
+        };
+        let key = Key::of(view, other);
+        if key.is_known() {
+            return (key, distance);
+        }
+    }
+    (Key::Unknown, 0)
+}
+
+// The nearest known key after a cell.
+fn behind(view: &PageView<'_>, cell: u32) -> Key {
+    for distance in 0..MOST_LOST {
+        let key = Key::of(view, cell.saturating_add(distance + 1));
+        if key.is_known() {
+            return key;
+        }
+    }
+    Key::Unknown
+}
+
+// The place of a cell in the order of its page.
+#[derive(Clone, Copy)]
+pub(crate) struct Rank {
+    way: Way,
+    keys: Span,
+    // How many cells without a key are directly before it.
+    lost: u32,
+}
+
+impl Rank {
+    pub(crate) fn of(view: &PageView<'_>, cell: u32) -> Rank {
+        let (first, lost) = before(view, cell);
+        let last = behind(view, cell);
+        Rank {
+            way: Way::of(view),
+            keys: Span { first, last },
+            lost,
+        }
+    }
+
+    // Whether a key may be there by those around.
+    fn has_room_for(&self, key: &Key) -> bool {
+        !self.way.leads(key, &self.keys.first) && !self.way.leads(&self.keys.last, key)
+    }
+
+    // Whether the page may have a cell of this key there: a record has as many columns as the others, and a rowid is between those around.
+    pub(crate) fn accepts(&self, key: &Key) -> bool {
+        match key {
+            Key::Rowid(_) => self.has_room_for(key),
+            _ => key.is_as_wide_as(&self.keys.first) && key.is_as_wide_as(&self.keys.last),
+        }
+    }
+
+    // Whether a key is out of order there, and no fault would say it: that of a record, as no index is checked for its order.
+    pub(crate) fn refuses(&self, key: &Key) -> bool {
+        self.way.is_clear && matches!(key, Key::Record(_)) && !self.has_room_for(key)
+    }
+
+    // How well a key fits there, of which this number of others come before it.
+    pub(crate) fn fit(&self, key: &Key, number: u32) -> Fit {
+        if self.has_room_for(key) {
+            Fit::new(32, self.lost.abs_diff(number))
+        } else {
+            Fit::new(22, 0)
+        }
+    }
+
+    // Whether one key comes before another, of those that may be there.
+    pub(crate) fn leads(&self, one: &Key, other: &Key) -> bool {
+        self.has_room_for(one) && self.way.leads(one, other)
+    }
+}
