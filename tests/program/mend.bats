@@ -191,6 +191,23 @@ END
     exactly 1 $'1 fault\n1 fault is left\n' '' mend "$work/x.db"
 }
 
+# Page 2 is the root of t, and its leaves are lost with it. Each would be one lost page fewer, and most of the rows would be lost for good.
+@test 'for a root page that was overwritten mend names no leaf' {
+    local bytes root
+    needs sqlite3
+    made 'CREATE TABLE t(a); CREATE TABLE u(a); CREATE INDEX i ON u(a); WITH RECURSIVE k(n) AS (SELECT 1 UNION ALL SELECT n + 1 FROM k WHERE n < 60)
+        INSERT INTO t SELECT zeroblob(20) || n FROM k; INSERT INTO u SELECT a FROM t'
+    for root in $(sqlite3 "$work/x.db" 'SELECT rootpage FROM sqlite_schema'); do
+        for bytes in '\0' 'x'; do
+            cp "$work/x.db" "$work/wrong.db"
+            head -c 512 /dev/zero | tr '\0' "$bytes" | dd of="$work/wrong.db" bs=512 seek=$((root - 1)) conv=notrunc status=none
+            dbck mend "$work/wrong.db"
+            row "root $root, $bytes" [ "$(wc -l < "$work/out")" = 2 ]
+        done
+    done
+    [ "$rows" = 6 ]
+}
+
 # chains_of: of each two rows in x.db with a first overflow page 42 bytes after the begin of their cells, where its number is.
 chains_of() {
     python3 - "$work/x.db" << 'END'

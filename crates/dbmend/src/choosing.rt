@@ -50,7 +50,7 @@ pub fn candidates<A: Allocator + Copy, S: Source>(
         read_page(source, edits, want.page, &mut paper)?;
         add_places(&mut tries, &found.desk, &lost, want, &mut paper);
     }
-    let kept = (&found.desk, &lost);
+    let kept = (found, &lost);
     add_roots(
         &mut tries,
         kept,

@@ -87,6 +87,11 @@ impl<A: Allocator> Lost<A> {
         let _ = self.roots.try_push(root);
     }
 
+    // Whether a lost page names this one.
+    pub(crate) fn names(&self, page: u32) -> bool {
+        self.named.has(page)
+    }
+
     // The first lost pages that no other one names.
     pub(crate) fn roots(&self) -> &[Root] {
         self.roots.as_slice()

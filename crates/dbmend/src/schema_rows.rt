@@ -1,13 +1,16 @@
 // The root page in a row of the schema (Database File Format, 2.6).
 ghost use Rattle.dbmend.specs.Deeds.{HasDone};
 
+use crate::counter::Noted;
+use crate::counting::Findings;
 use crate::edit::Edit;
 use crate::fit::{Fit, Root};
 use crate::key::{column_at, integer};
 use crate::lost::{Kind, Lost};
 use crate::ranked::Ranked;
 use crate::reading::{Paper, read_page};
-use crate::wanted::{Number, Want};
+use crate::wanted::{Number, Want, mark, named};
+use dbformat::FaultCode;
 use dbpage::PageView;
 use dbscan::{Desk, Mark};
 use dbsource::{RunError, Source};
@@ -125,8 +128,34 @@ pub(crate) fn add_root<A: Allocator>(
     }
 }
 
-// Adds what may have been the root page of each row of a page.
-fn add_rows<A: Allocator>(tries: &mut Ranked, lost: &Lost<A>, wanted: &[Want], paper: &Paper<A>) {
+// Whether a fault says that the head of a page is damaged.
+fn is_of_head(noted: &Noted, page: u32) -> bool {
+    let is_head = matches!(noted.fault.code, FaultCode::P01 | FaultCode::P03);
+    is_head && noted.fault.page == page
+}
+
+// Whether a fault says that a page is named twice.
+fn is_of_two(noted: &Noted, page: u32) -> bool {
+    matches!(noted.fault.code, FaultCode::R03) && named(&noted.fault) == page
+}
+
+// Whether the head of a root page is damaged, and nothing but its row names it: then the page was overwritten, and not its number.
+fn is_overwritten<A: Allocator>(found: &Findings<A>, lost: &Lost<A>, page: u32) -> bool {
+    let noted = found.counter.noted();
+    matches!(mark(&found.desk, page), Mark::Root)
+        && noted.iter().any(|it| is_of_head(it, page))
+        && !noted.iter().any(|it| is_of_two(it, page))
+        && !lost.names(page)
+}
+
+// Adds what may have been the root page of each row of a page, unless that itself was overwritten.
+fn add_rows<A: Allocator>(
+    tries: &mut Ranked,
+    found: &Findings<A>,
+    lost: &Lost<A>,
+    wanted: &[Want],
+    paper: &Paper<A>,
+) {
     let Some(view) = paper.view() else {
         return;
     };
@@ -135,8 +164,10 @@ fn add_rows<A: Allocator>(tries: &mut Ranked, lost: &Lost<A>, wanted: &[Want], p
     }
     for item in 0..view.cells() {
         let root = root_of(&view, item).unwrap_or(0);
-        let is_named = wanted.iter().any(|want| want.number == Number::Root(root));
-        add_root(tries, lost, paper, &view, item, is_named);
+        if !is_overwritten(found, lost, root) {
+            let is_named = wanted.iter().any(|want| want.number == Number::Root(root));
+            add_root(tries, lost, paper, &view, item, is_named);
+        }
     }
 }
 
@@ -164,7 +195,7 @@ fn is_wanted<A: Allocator>(desk: &Desk<A>, lost: &Lost<A>, page: u32) -> bool {
 // Reads the pages of the schema, if a page is lost, and adds what may have been in its rows.
 pub(crate) fn add_roots<A: Allocator, S: Source>(
     tries: &mut Ranked,
-    found: (&Desk<A>, &Lost<A>),
+    found: (&Findings<A>, &Lost<A>),
     wanted: &[Want],
     edits: &[Edit],
     source: &mut S,
@@ -172,11 +203,11 @@ pub(crate) fn add_roots<A: Allocator, S: Source>(
 ) -> Result<(), RunError>
     ensures { HasDone S.Source result 0 0 (λ a deeds. Unit {0}) source.old source.new }
 {
-    let (desk, lost) = found;
-    for index in 0..desk.geometry().pages {
-        if is_wanted(desk, lost, index + 1) {
+    let (known, lost) = found;
+    for index in 0..known.desk.geometry().pages {
+        if is_wanted(&known.desk, lost, index + 1) {
             read_page(source, edits, index + 1, paper)?;
-            add_rows(tries, lost, wanted, paper);
+            add_rows(tries, known, lost, wanted, paper);
         }
     }
     Ok(())

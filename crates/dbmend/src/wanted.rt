@@ -99,7 +99,7 @@ fn want_leaves<A: Allocator>(desk: &Desk<A>, page: u32, wanted: &mut Wanted) {
 }
 
 // The page that a fault says to be wrongly named, if it is one.
-fn named(fault: &Fault) -> u32 {
+pub(crate) fn named(fault: &Fault) -> u32 {
     u32::try_from(fault.value).unwrap_or(0)
 }
 
