@@ -191,6 +191,13 @@ END
     exactly 1 $'1 fault\n1 fault is left\n' '' mend "$work/x.db"
 }
 
+# 3 is a root page, so that no rule says that 3 is wrong, and page 2 would be one of a pointer map.
+@test 'mend finds that a file has no pointer map, where byte 52 has a number that fits' {
+    cp "$data/whole.db" "$work/x.db"
+    put_at "$work/x.db" 52 '\0\0\0\3'
+    exactly 1 $'12 faults\nat byte 52 put 00000000 for 00000003\n    page 1 at byte 0\nok\n' '' mend "$work/x.db"
+}
+
 # Page 2 is the root of t, and its leaves are lost with it. Each would be one lost page fewer, and most of the rows would be lost for good.
 @test 'for a root page that was overwritten mend names no leaf' {
     local bytes root

@@ -107,6 +107,13 @@ fn add_reserved<A: Allocator>(tries: &mut Ranked, desk: &Desk<A>) {
     }
 }
 
+// Adds that there is no pointer map, if a page has the place of one that something refers to.
+fn add_unmapped<A: Allocator>(tries: &mut Ranked, desk: &Desk<A>, code: FaultCode) {
+    if matches!(code, FaultCode::R02) && desk.geometry().has_map {
+        add_number(tries, GREATEST_ROOT, 0);
+    }
+}
+
 // Adds what may have been in the header, by a fault.
 pub(crate) fn add_header<A: Allocator>(
     tries: &mut Ranked,
@@ -139,6 +146,7 @@ pub(crate) fn add_header<A: Allocator>(
             if fault.page == 0 && fault.item == FREELIST_START {
                 add_first_trunk(tries, lost);
             }
+            add_unmapped(tries, desk, fault.code);
             add_size(tries, desk, fault.value);
         }
         FaultCode::P05 | FaultCode::P06 | FaultCode::P07 | FaultCode::P08 => add_reserved(
