@@ -19,6 +19,7 @@ with_device() {
 teardown() {
     [ -z "${loop:-}" ] || losetup --detach "$loop"
     [ -z "${work:-}" ] || rm -rf "$work"
+    [ ! -s "${failing:-}" ]
 }
 
 # as_a_file FILE: each command writes of the device what it writes of the file.
@@ -91,6 +92,18 @@ as_a_file() {
     done
     [ "$(stat -c '%i %Y %Z %a' "$loop")" = "$before" ]
     cmp "$work/x.db" "$data/whole.db"
+}
+
+# It is of the group that the system gives it, and nobody is not in that.
+@test 'of a device that the caller may not open a note says so' {
+    cp "$data/whole.db" "$work/x.db"
+    with_device "$work/x.db"
+    to_be_nobody
+    ! "${as[@]}" test -r "$loop" || skip "everybody may read $loop"
+    for command in "${five[@]}"; do
+        exactly 4 '' "dbck: note: $loop: Permission denied"$'\n'"$unread" "$command" "$loop"
+    done
+    [ "$rows" = 5 ]
 }
 
 @test 'a device without a disk has no bytes' {

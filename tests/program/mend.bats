@@ -67,6 +67,11 @@ is_put_back() {
     are_put "$work/wrong.db" "$work/lines" && cmp "$work/put.db" "$work/x.db"
 }
 
+# are_put_back OFFSET BYTES..: is_put_back, and to SQLite the changed copy is sound.
+are_put_back() {
+    is_put_back "$@" && [ "$(sqlite3 "$work/put.db" 'PRAGMA integrity_check')" = ok ]
+}
+
 # made SQL: makes x.db, with pages of 512 bytes.
 made() {
     rm -f "$work/x.db"
@@ -146,14 +151,30 @@ END
     [ "$rows" -gt 50 ]
 }
 
+# The keys are in no order of the rows, so the leaves are in none of their numbers. NULL comes before numbers, and texts before blobs. The
+# integers above 2^53 differ by less than doubles of their size do.
+@test 'mend finds which leaf of an index is where by integers of 6 and 8 bytes, a third column, NULL, and texts beside blobs' {
+    local what of keys value one other
+    needs python3 sqlite3
+    while IFS='|' read -r what of keys value; do
+        made "CREATE TABLE t(a, b DEFAULT 7, c DEFAULT 8); CREATE INDEX i ON t($of);
+            WITH RECURSIVE k(n) AS (SELECT $keys UNION ALL SELECT n - 1 FROM k WHERE n > 1) INSERT INTO t(a) SELECT $value FROM k;"
+        while read -r one other; do
+            row "$what: $one and $other" are_put_back "$one" '\0\0\0\0' "$other" '\0\0\0\0'
+        done < <(pairs_of i)
+    done << 'END'
+milliseconds, integers of 6 bytes|a|150|1700000000000 + n * 7919 % 211 * 86400000
+integers of 8 bytes|a|150|9007199254740992 + n * 7919 % 211
+integers after two columns that are 7 and 8 in each row|b, c, a|150|n * 7919 % 211
+NULL in every second row, and integers|a|300|CASE WHEN n % 2 = 0 THEN n * 7919 % 1201 END
+texts and blobs|a|30|CASE n % 2 WHEN 0 THEN printf('%066d', n * 89 % 211) ELSE CAST(printf('%066d', n * 89 % 211) AS BLOB) END
+END
+    [ "$rows" -gt 40 ]
+}
+
 # pointer INDEX CELL: where the pointer of a cell of an index of one page is in x.db.
 pointer() {
     sqlite3 "$work/x.db" "SELECT (rootpage - 1) * 512 + 8 + 2 * $2 FROM sqlite_schema WHERE name = '$1'"
-}
-
-# are_put_back OFFSET BYTES..: is_put_back, and to SQLite the changed copy is sound.
-are_put_back() {
-    is_put_back "$@" && [ "$(sqlite3 "$work/put.db" 'PRAGMA integrity_check')" = ok ]
 }
 
 # Cells of rows that were added one after another are adjacent: so two lost ones are in one run of bytes, or each in its own. No fault says which
@@ -269,6 +290,34 @@ END
     row 'the content start of an empty page of 65536 bytes' is_put_back 65541 '\0\03'
 }
 
+@test 'mend finds the greatest root page, and that there is none in a file without a pointer map' {
+    needs sqlite3
+    cp "$data/whole.db" "$work/x.db"
+    row 'none' is_put_back 52 '\0\0\0\07'
+    exactly 1 $'13 faults\nat byte 52 put 00000000 for 00000007\n    page 1 at byte 0\nok\n' '' mend "$work/wrong.db"
+    made 'PRAGMA auto_vacuum = incremental; CREATE TABLE t(a); CREATE TABLE u(a); INSERT INTO t VALUES (zeroblob(3000))'
+    row 'that of an incremental vacuum' are_put_back 52 '\0\0\0\0'
+    row 'a wrong one of an incremental vacuum' are_put_back 52 '\0\0\0\03'
+    made 'PRAGMA auto_vacuum = full; CREATE TABLE t(a); CREATE TABLE u(a); INSERT INTO t VALUES (zeroblob(3000))'
+    row 'a wrong one of a full vacuum' are_put_back 52 '\0\0\0\07'
+}
+
+@test 'mend finds the encoding where it is 0' {
+    local encoding
+    needs sqlite3
+    for encoding in UTF-8 UTF-16le UTF-16be; do
+        made "PRAGMA encoding = '$encoding'; CREATE TABLE t(a); CREATE INDEX i ON t(a); INSERT INTO t VALUES (1)"
+        row "$encoding" are_put_back 56 '\0\0\0\0'
+    done
+}
+
+# From byte 92 on come numbers that SQLite writes.
+@test 'mend puts zeros for reserved bytes of the header, and for no byte after them' {
+    cp "$data/whole.db" "$work/x.db"
+    row 'bytes 90 and 91' is_put_back 90 '\011'
+    exactly 1 $'1 fault\nat byte 90 put 0000 for 0900\n    page 1 at byte 0\nok\n' '' mend "$work/wrong.db"
+}
+
 # Pages 2 and 6 are the root and a leaf of t, and pages 3 and 4 those of i.
 @test 'mend finds the types of interior pages and leaves, of a table and of an index' {
     local page
@@ -285,6 +334,25 @@ END
     made 'PRAGMA auto_vacuum = full; CREATE TABLE t(a); INSERT INTO t VALUES (zeroblob(150000))'
     row 'an entry for page 107' is_put_back 53272 n
     row 'an entry for page 4, the first of a chain' is_put_back 517 '\07\07\07\07\07'
+}
+
+# Pages 3 and 4 are the roots of t and u. With the rows of t gone, the pages from 5 on are free: page 5 is a trunk, and the others its leaves.
+@test 'mend finds the entry of a root page and of a free page in the pointer map' {
+    local mode page pages
+    needs sqlite3
+    for mode in full incremental; do
+        made "PRAGMA auto_vacuum = $mode; CREATE TABLE t(a); CREATE TABLE u(a); INSERT INTO t VALUES (zeroblob(3000))"
+        for page in 3 4; do
+            row "root page $page, auto_vacuum = $mode" are_put_back $((512 + 5 * (page - 3))) '\07\07\07\07\07'
+        done
+    done
+    sqlite3 "$work/x.db" 'DELETE FROM t'
+    pages=$(($(wc -c < "$work/x.db") / 512))
+    row 'free pages' [ "$(sqlite3 "$work/x.db" 'PRAGMA freelist_count')" = $((pages - 4)) ]
+    for ((page = 5; page <= pages; page++)); do
+        row "free page $page" are_put_back $((512 + 5 * (page - 3))) '\07\07\07\07\07'
+    done
+    [ "$rows" -gt 8 ]
 }
 
 @test 'beside a page that is lost for good mend finds a number' {

@@ -68,6 +68,50 @@ pages_of() {
     done
 }
 
+# runs_of LENGTH SIZE FILE: a sound database of a table's one row in pages of SIZE bytes, of $size bytes. 2 MiB of its overflow pages follow one
+# another. After them come runs of LENGTH pages that do, each before the run that it follows.
+runs_of() {
+    local first=$((2097152 / $2)) runs=$((4194304 / $2 / $1))
+    needs python3
+    row_of $((2 + first + runs * $1)) "$2" "$3"
+    python3 - "$@" "$first" "$runs" << 'END'
+import sys
+length, size, path, first, runs = (int(word) if word.isdigit() else word for word in sys.argv[1:])
+chain = [*range(3, 3 + first), *(3 + first + length * run + k for run in reversed(range(runs)) for k in range(length))]
+with open(path, "r+b") as file:
+    for page, after in zip(chain, [*chain[1:], 0]):
+        file.seek(size * (page - 1))
+        file.write(after.to_bytes(4, "big"))
+END
+    [ "$(sqlite3 "$3" 'PRAGMA integrity_check')" = ok ] && [ "$size" = $((first * $2 + runs * $1 * $2 + 2 * $2)) ]
+}
+
+# reads_at_most BYTES WORDS..: the program reads so many bytes at most, in the best of some runs, as above.
+reads_at_most() {
+    for _ in {1..10}; do
+        counted "${@:2}"
+        [ "$bytes" -gt "$1" ] || return 0
+    done
+    fail "${*:2}: $bytes bytes, not at most $1"
+}
+
+# Two pages are too few for a longer read. Six begin one, and this is as short as the first, not as long as the last one before.
+@test 'where few pages follow one another, also after many that do, no more than twice the file is read' {
+    while read -r length page_size; do
+        rm -f "$work/x.db"
+        runs_of "$length" "$page_size" "$work/x.db"
+        for words in check 'stat --aggregate' explain map mend; do
+            # shellcheck disable=SC2086
+            row "$words: runs of $length pages of $page_size bytes" reads_at_most $((2 * size)) $words "$work/x.db"
+            row "$words: a sound file" [ "$status" = 0 ]
+        done
+    done << 'END'
+2 512
+6 4096
+END
+    [ "$rows" = 20 ]
+}
+
 @test 'what is not looked at is not read' {
     # A page that is used, and 20000 that are not: only explain and map look at these.
     cp "$data/empty.db" "$work/x.db"
