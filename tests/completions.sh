@@ -48,6 +48,21 @@ for file in dbck.bash _dbck dbck.fish; do
     compare "$file: commands"
 done
 
+# After help the other commands are offered.
+sed -i '/^help$/d' "$work/help"
+(
+    # shellcheck disable=SC1091
+    . ./dbck.bash
+    COMP_WORDS=(dbck help '') COMP_CWORD=2
+    _dbck
+    printf '%s\n' "${COMPREPLY[@]}"
+) | LC_ALL=C sort > "$work/words"
+compare 'dbck.bash: help'
+sed -n '/^ *help) /s/.*(\([a-z ]*\)).*/\1/p' _dbck | tr ' ' '\n' | LC_ALL=C sort > "$work/words"
+compare '_dbck: help'
+sed -n "/seen_subcommand_from help'/s/.* -a '\([a-z ]*\)'.*/\1/p" dbck.fish | tr ' ' '\n' | LC_ALL=C sort > "$work/words"
+compare 'dbck.fish: help'
+
 # After -- only files are offered: also one whose name begins with a dash.
 mkdir "$work/files"
 : > "$work/files/--limit.db"

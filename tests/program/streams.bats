@@ -220,3 +220,23 @@ if run.returncode != 6 or not run.stderr.startswith(b"dbck: note: standard outpu
     sys.exit(repr(run))
 END
 }
+
+# A packet may have some 8 KiB here, and faults come by at least 32.
+@test 'of standard error that takes no faults a note on it says so' {
+    needs python3
+    cp "$data/empty.db" "$work/x.db"
+    truncate -s $((512 * 6001)) "$work/x.db"
+    row 'the note on standard error' python3 - "$DBCK" "$work/x.db" << 'END'
+import socket, subprocess, sys
+
+near, far = socket.socketpair(socket.AF_UNIX, socket.SOCK_SEQPACKET)
+far.setsockopt(socket.SOL_SOCKET, socket.SO_SNDBUF, 4096)
+with subprocess.Popen([sys.argv[1], "stat", sys.argv[2]], stdout=subprocess.DEVNULL, stderr=far) as run:
+    far.close()
+    first = near.recv(70000)
+    while near.recv(70000):
+        pass
+if run.wait() != 6 or first != b"dbck: note: standard error: Message too long\n":
+    sys.exit(f"{run.returncode} {first}")
+END
+}

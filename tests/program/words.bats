@@ -45,3 +45,54 @@ load common
 @test 'the completions offer the words of the help' {
     row 'the words of the completions' tests/completions.sh "$DBCK"
 }
+
+# typed LINE: bash gets a line on a terminal, where a tabulator completes a word. It stands in $work/files, and its dbck says each of its words
+# in < and >, which is then the file out.
+typed() {
+    timeout 60 python3 - "$root/completions/dbck.bash" "$work/files" "$1" > "$work/out" << 'END'
+import os, pty, sys
+
+script, folder, line = sys.argv[1:]
+pid, terminal = pty.fork()
+if pid == 0:
+    os.chdir(folder)
+    os.environ.update(PS1="ready> ", INPUTRC="/dev/null", HISTFILE="", TERM="dumb")
+    os.execvp("bash", ["bash", "--norc", "--noprofile", "-i"])
+
+
+def until_ready():
+    text = b""
+    while not text.endswith(b"ready> "):
+        text += os.read(terminal, 4096)
+    return text
+
+
+until_ready()
+os.write(terminal, b"dbck() { printf '<%s>' \"$@\"; echo; }; bind 'set enable-bracketed-paste off'; . '" + os.fsencode(script) + b"'\n")
+until_ready()
+os.write(terminal, os.fsencode(line) + b"\n")
+said = until_ready().decode().splitlines()
+os.close(terminal)
+print(*(text for text in said if text.startswith("<")), sep="\n")
+END
+}
+
+# completes LINE WORDS: of the completed line dbck says these words.
+completes() {
+    typed "$1" && [ "$(< "$work/out")" = "$2" ]
+}
+
+@test 'bash completes commands, options, and the name of a file with a blank, which stays one word' {
+    needs python3
+    needs_terminal
+    mkdir "$work/files" "$work/files/many files"
+    : > "$work/files/one file.db"
+    : > "$work/files/many files/x.db"
+    row 'a command' completes $'dbck ex\t' '<explain>'
+    row 'a command after help' completes $'dbck help ma\t' '<help><map>'
+    row 'an option' completes $'dbck map --no\t' '<map><--no-progress>'
+    row 'a file' completes $'dbck check on\t' '<check><one file.db>'
+    row 'a file after an option' completes $'dbck check --limit 3 on\t' '<check><--limit><3><one file.db>'
+    row 'a file in a folder' completes $'dbck check ma\tx\t' '<check><many files/x.db>'
+    row 'a file after --' completes $'dbck check -- on\t' '<check><--><one file.db>'
+}
