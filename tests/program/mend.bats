@@ -55,14 +55,15 @@ are_put() {
     [ "$rows" -gt 140 ]
 }
 
-# is_put_back OFFSET BYTES..: of x.db with these bytes at these offsets mend writes the changes with which it is as it was. It stays so.
+# is_put_back OFFSET BYTES..: of x.db with these bytes at these offsets mend, with `flags`, writes the changes with which it is as it was. It
+# stays so.
 is_put_back() {
     cp "$work/x.db" "$work/wrong.db"
     while [ $# -gt 0 ]; do
         put_at "$work/wrong.db" "$1" "$2"
         shift 2
     done
-    dbck mend "$work/wrong.db"
+    dbck mend "${flags[@]}" "$work/wrong.db"
     cp "$work/out" "$work/lines"
     are_put "$work/wrong.db" "$work/lines" && cmp "$work/put.db" "$work/x.db"
 }
@@ -72,10 +73,10 @@ are_put_back() {
     is_put_back "$@" && [ "$(sqlite3 "$work/put.db" 'PRAGMA integrity_check')" = ok ]
 }
 
-# made SQL: makes x.db, with pages of 512 bytes.
+# made SQL [SIZE]: makes x.db, with pages of 512 bytes, or SIZE.
 made() {
     rm -f "$work/x.db"
-    sqlite3 "$work/x.db" "PRAGMA page_size = 512; $1"
+    sqlite3 "$work/x.db" "PRAGMA page_size = ${2:-512}; $1"
 }
 
 # before NAME: where the bytes before the statement of a table are in x.db.
@@ -89,6 +90,37 @@ before() {
     row 'a root of two bytes' is_put_back $(($(before t) - 2)) '\0177\0176'
     made 'CREATE TABLE t1(a); CREATE TABLE t2(a); CREATE TABLE t3(a); CREATE TABLE t4(a); DROP TABLE t1; CREATE TABLE t5(a);'
     row 'two roots' is_put_back $(($(before t3) - 1)) '\0143' $(($(before t5) - 1)) '\0143'
+}
+
+# The cell of t has the number of an overflow page after the bytes of its row.
+@test 'mend finds the root of a table whose statement goes on in an overflow page' {
+    local columns
+    needs sqlite3
+    columns=$(printf ", c%d TEXT NOT NULL DEFAULT 'none'" {1..40})
+    made "CREATE TABLE s(a); CREATE TABLE t(a$columns); CREATE TABLE u(a); INSERT INTO t(a) VALUES (1)"
+    row 'a long statement' [ ${#columns} -gt 1024 ]
+    row 'a root of one byte' are_put_back $(($(before t) - 1)) '\0143'
+    made "CREATE TABLE s(a); INSERT INTO s VALUES (zeroblob(200000)); CREATE TABLE t(a$columns); CREATE TABLE u(a); INSERT INTO t(a) VALUES (1)"
+    row 'a root of two bytes' are_put_back $(($(before t) - 2)) '\0177\0176'
+}
+
+# type_of PAGE: the type of a page of x.db; last_child: the last child of page 1.
+type_of() {
+    od -An -tu1 -N1 -j$(($1 == 1 ? 100 : 512 * ($1 - 1))) "$work/x.db" | tr -d ' '
+}
+last_child() {
+    echo $((16#$(od -An -tx1 -N4 -j108 "$work/x.db" | tr -d ' ')))
+}
+
+@test 'mend finds roots of tables in a schema of three levels' {
+    local table
+    needs sqlite3
+    made "BEGIN; $(printf 'CREATE TABLE t%d(a);' {1..900}) COMMIT"
+    row 'interior pages below page 1' [ "$(type_of 1) $(type_of "$(last_child)")" = '5 5' ]
+    row 'a root of one byte' are_put_back $(($(before t5) - 1)) '\0122'
+    for table in t450 t900; do
+        row "the root of $table" are_put_back $(($(before $table) - 2)) '\0177\0176'
+    done
 }
 
 # The root of u is page 66932, after the 66930 pages of a chain.
@@ -201,6 +233,19 @@ END
     [ "$rows" = 28 ]
 }
 
+# The first cell is at the end of page 2, and the others take most of the page.
+@test 'mend finds the pointer of a cell of a page of each size' {
+    local size cells
+    needs sqlite3
+    for size in 512 1024 2048 4096 8192 16384 32768 65536; do
+        cells=$((size / 32))
+        made "CREATE TABLE t(a); WITH RECURSIVE k(n) AS (SELECT 1 UNION ALL SELECT n + 1 FROM k WHERE n < $cells)
+            INSERT INTO t SELECT printf('row %016d', n) FROM k;" "$size"
+        row "a pointer in a page of $size bytes" is_put_back $((size + 8)) '\0\0'
+    done
+    [ "$rows" = 8 ]
+}
+
 # Cell 0 has the pointer of cell 1, and cell 1 that of cell 4: with the lost cell in the place of cell 1 each byte would be held once.
 @test 'mend puts no cell of an index where its key is out of order' {
     local first
@@ -220,20 +265,21 @@ END
 }
 
 # Page 2 is the root of t, and its leaves are lost with it. Each would be one lost page fewer, and most of the rows would be lost for good.
+# A line feed, and 13, 2 and 5, would be the type of a page.
 @test 'for a root page that was overwritten mend names no leaf' {
     local bytes root
     needs sqlite3
     made 'CREATE TABLE t(a); CREATE TABLE u(a); CREATE INDEX i ON u(a); WITH RECURSIVE k(n) AS (SELECT 1 UNION ALL SELECT n + 1 FROM k WHERE n < 60)
         INSERT INTO t SELECT zeroblob(20) || n FROM k; INSERT INTO u SELECT a FROM t'
     for root in $(sqlite3 "$work/x.db" 'SELECT rootpage FROM sqlite_schema'); do
-        for bytes in '\0' 'x'; do
+        for bytes in '\0' 'x' '\n' '\r' '\02' '\05'; do
             cp "$work/x.db" "$work/wrong.db"
             head -c 512 /dev/zero | tr '\0' "$bytes" | dd of="$work/wrong.db" bs=512 seek=$((root - 1)) conv=notrunc status=none
             dbck mend "$work/wrong.db"
             row "root $root, $bytes" [ "$(wc -l < "$work/out")" = 2 ]
         done
     done
-    [ "$rows" = 6 ]
+    [ "$rows" = 18 ]
 }
 
 # chains_of: of each two rows in x.db with a first overflow page 42 bytes after the begin of their cells, where its number is.
@@ -290,6 +336,23 @@ END
     row 'the content start of an empty page of 65536 bytes' is_put_back 65541 '\0\03'
 }
 
+@test 'mend finds five, eight, thirteen and sixteen numbers of the header and of pages in one run' {
+    local numbers
+    needs sqlite3
+    cp "$data/whole.db" "$work/x.db"
+    numbers=(18 '\011' 21 '\01\01\01' 56 '\0\0\0\07')
+    row 'five' is_put_back "${numbers[@]}"
+    numbers+=(44 '\0\0\0\011' 72 '\01' 64 '\0\0\0\01')
+    row 'eight' is_put_back "${numbers[@]}"
+    flags=(--limit 16)
+    numbers+=(19 '\011' 28 '\0\0\0\014' 36 '\0\0\0\077' 52 '\0\0\0\07' 2056 '\0\0\0\0')
+    row 'thirteen' is_put_back "${numbers[@]}"
+    made 'PRAGMA auto_vacuum = full; CREATE TABLE t(a); INSERT INTO t VALUES (zeroblob(9000))'
+    numbers=(21 '\01\01\01' 72 '\01' 512 "$(printf '\\07%.0s' {1..60})")
+    row 'sixteen, of which twelve are entries of the pointer map' is_put_back "${numbers[@]}"
+    row 'sixteen changes' [ "$(grep -c '^at byte' "$work/lines")" = 16 ]
+}
+
 @test 'mend finds the greatest root page, and that there is none in a file without a pointer map' {
     needs sqlite3
     cp "$data/whole.db" "$work/x.db"
@@ -329,6 +392,14 @@ END
     done
 }
 
+# Its children cannot be told before its type is put back.
+@test 'mend finds the type of an interior page, and then its last child or a pointer' {
+    needs sqlite3
+    made 'CREATE TABLE t(a); WITH RECURSIVE k(n) AS (SELECT 1 UNION ALL SELECT n + 1 FROM k WHERE n < 60) INSERT INTO t SELECT zeroblob(100) FROM k;'
+    row 'the type and the last child' are_put_back 512 '\0' 520 '\0\0\0\0'
+    row 'the type and a pointer' are_put_back 512 '\0' 524 '\0\0'
+}
+
 @test 'mend finds an entry of the second page of the pointer map, and of the first page of a chain' {
     needs sqlite3
     made 'PRAGMA auto_vacuum = full; CREATE TABLE t(a); INSERT INTO t VALUES (zeroblob(150000))'
@@ -355,6 +426,22 @@ END
     [ "$rows" -gt 8 ]
 }
 
+# freed ROWS: makes x.db, whose table t had so many rows, of a page each, and has none. The row of u has some of their pages again.
+freed() {
+    made "CREATE TABLE t(a); CREATE TABLE u(a); WITH RECURSIVE k(n) AS (SELECT 1 UNION ALL SELECT n + 1 FROM k WHERE n < $1)
+        INSERT INTO t SELECT zeroblob(450) FROM k; DELETE FROM t; INSERT INTO u VALUES (zeroblob(2000))"
+}
+
+# A trunk of SQLite has at most 120 leaves in a page of 512 bytes: so there are one, two and four trunks.
+@test 'mend finds the first trunk of a freelist of one trunk, and of some, of which the others are full' {
+    local count
+    needs sqlite3
+    for count in 90 130 400; do
+        freed "$count"
+        row "the first trunk, of $count rows" are_put_back 32 '\0\01\0\0'
+    done
+}
+
 @test 'beside a page that is lost for good mend finds a number' {
     printf '== whole: 3 0 7878787878787878787878787878787878787878, 5 8 00000000\nok\n' > "$work/two.txt"
     tests/small/make.py "$work/two.txt" "$work/two" > "$work/list"
@@ -362,13 +449,18 @@ END
     ended 1 $'*at byte 2056 put 00000007 for 00000000\n    page 5 at byte 2048\n    1 fault is left\n1 fault is left\n' ''
 }
 
-# Pages 3 to 7 are the leaves of t, of four rows each.
-@test 'beside three pages that are lost for good mend finds the type of a fourth' {
+# The pages from 3 on are the leaves of t, of four rows each. One of them is left between the lost ones and the one that is found.
+@test 'beside three to seven pages that are lost for good mend finds the type of one more' {
+    local lost at left
     needs sqlite3
-    made 'CREATE TABLE t(a); WITH RECURSIVE k(n) AS (SELECT 1 UNION ALL SELECT n + 1 FROM k WHERE n < 20) INSERT INTO t SELECT zeroblob(100) FROM k;'
-    dd if=/dev/zero of="$work/x.db" bs=512 seek=2 count=3 conv=notrunc status=none
-    put_at "$work/x.db" 3072 '\0'
-    exactly 1 $'4 faults\nat byte 3072 put 0d for 00\n    page 7 at byte 3072\n    3 faults are left\n3 faults are left\n' '' mend "$work/x.db"
+    for lost in 3 4 5 6 7; do
+        made 'CREATE TABLE t(a); WITH RECURSIVE k(n) AS (SELECT 1 UNION ALL SELECT n + 1 FROM k WHERE n < 40) INSERT INTO t SELECT zeroblob(100) FROM k;'
+        dd if=/dev/zero of="$work/x.db" bs=512 seek=2 count="$lost" conv=notrunc status=none
+        at=$((512 * (lost + 3))) left="$lost faults are left"
+        put_at "$work/x.db" "$at" '\0'
+        exactly 1 "$((lost + 1)) faults"$'\n'"at byte $at put 0d for 00"$'\n'"    page $((lost + 4)) at byte $at"$'\n'"    $left"$'\n'"$left"$'\n' \
+            '' mend "$work/x.db"
+    done
 }
 
 # refused NAME OFFSET BYTES TEXT [WORDS..]: NAME.db of tests with these bytes at an offset is refused, and mend writes this, and the notes and

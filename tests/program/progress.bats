@@ -87,10 +87,16 @@ progress_of_large() {
 }
 
 @test 'progress of pages above 4096 bytes is shown after each 256 MiB' {
+    local size count
     needs_terminal
-    cp tests/sqlite/pages-of-65536.db "$work/x.db"
-    put_at "$work/x.db" 28 '\0\0\0\0'
-    sparse "$work/x.db" $((65536 * 4097))
-    on_terminal "'$DBCK' explain --limit 1 '$work/x.db' > '$work/report'"
-    row 'progress of 4097 pages' ended 1 $'dbck: 4096 of 4097 pages, 99%\r'"$blank" ''
+    needs sqlite3
+    for size in 8192 16384 32768 65536; do
+        rm -f "$work/x.db"
+        sqlite3 "$work/x.db" "PRAGMA page_size = $size; CREATE TABLE t (a)"
+        put_at "$work/x.db" 28 '\0\0\0\0'
+        count=$((268435456 / size))
+        sparse "$work/x.db" $((size * (count + 1)))
+        on_terminal "'$DBCK' explain --limit 1 '$work/x.db' > '$work/report'"
+        row "progress of pages of $size bytes" ended 1 "dbck: $count of $((count + 1)) pages, 99%"$'\r'"$blank" ''
+    done
 }
