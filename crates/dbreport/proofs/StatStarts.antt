@@ -13,7 +13,7 @@ use Rattle.dbmarks.specs.Marking.{marks_of}
 use Rattle.dbmarks.specs.declared.marks.Mark.{Mark}
 use Rattle.dbtrace.specs.Finding.{Finding, reported_row, reported_fault, reported_below, visited_below}
 use Rattle.dbwalk.specs.Trunks.{freelist_reference}
-use Rattle.dbwalk.proofs.Reporting.Belows.{reported_none}
+use Rattle.dbwalk.proofs.Reporting.Belows.{quiet_go, reported_none}
 use Rattle.dbtrace.specs.declared.Part.{Part}
 use Rattle.dbscan.specs.Notices.{whole, found, pages_from, errands_left, root_reference, tree_notices, later_notices, start_notices, end_notices}
 use Rattle.dbscan.specs.Roots.{listed_rows}
@@ -24,7 +24,6 @@ use Rattle.dbreport.proofs.OtherRows.{others_from, others_text}
 use Rattle.dbreport.proofs.StatNotices.{Sheet, all_lines, lines, next, notices_written}
 use Rattle.dbreport.proofs.StatTrees.{freelist_rows}
 use Rattle.dbscan.proofs.StartByStart.{of_later}
-use Rattle.dbscan.proofs.Starts.{quiet_go}
 use Rattle.dbscan.proofs.ReceivedFaults.{faults_are_received}
 use Rattle.dbscan.proofs.ReportedStarts.{start_errands_listed}
 use Rattle.dbtrace.specs.declared.Part.TheVariants as part

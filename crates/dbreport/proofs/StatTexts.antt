@@ -9,10 +9,9 @@ use Rattle.dbsurvey.proofs.Remaining.{rest_join}
 use Rattle.dbformat.specs.Story.{Event, start_errands}
 use Rattle.dbformat.proofs.Rising.{starts_rise}
 use Rattle.dbtrace.specs.Finding.{visited_below}
-use Rattle.dbwalk.proofs.Reporting.Belows.{visited_none}
+use Rattle.dbwalk.proofs.Reporting.Belows.{quiet_go, visited_none}
 use Rattle.dbreport.specs.StatLines.{tree_rows_text, starts_text}
 use Rattle.dbscan.proofs.RunItems.{all_visited, goes_named}
-use Rattle.dbscan.proofs.Starts.{quiet_go}
 use Rattle.dbreport.proofs.StatTrees.{row_of_tree, HasLaterStarts, trees_apart, IsTree, no_tree, tree, IsStart, below_links, later_starts_below, row_start}
 use Rattle.dbreport.proofs.StatTrees.{one_tree}
 

@@ -67,7 +67,7 @@ pub use Rattle.dbscan.specs.Scans.{IsScanned}
 unfoldable pub use Rattle.dbscan.specs.StartTable.{most_starts}
 pub use Rattle.dbscan.specs.Starts.{AreBelowStarts, At, IsSchemaOf, at_freelist, at_row, at_schema, later_errands, root_of, schema_reference}
 pub use Rattle.dbscan.specs.Trees.{AreTrees, place_by, start_by}
-pub use Rattle.dbscan.specs.Walks.{AreReported, AreWalked, IsAtStarts, IsBetweenStarts, IsSchemaWalked, IsTreeWalked, IsWalkedOver, StopsReporting, Any}
+pub use Rattle.dbscan.specs.Walks.{AreReported, AreWalked, IsAtStarts, IsBetweenStarts, IsSchemaWalked, IsTreeWalked, IsWalkedOver, StopsReporting}
 pub use Rattle.dbscan.specs.declared.desk.Desk.TheInside.{Inside}
 pub use Rattle.dbscan.specs.declared.notifier.Notifier.{Notifier}
 pub use Rattle.dbsource.proofs.Logs.{asks_then, asks_weaker, has_none, has_weaker}
@@ -98,7 +98,7 @@ pub use Rattle.dbtrace.specs.declared.Cause.{Cause}
 pub use Rattle.dbtrace.specs.declared.Part.{Part}
 pub use Rattle.dbtrace.specs.declared.TracedFault.{TracedFault}
 pub use Rattle.dbwalk.proofs.Chaining.Overflows.{page_read}
-pub use Rattle.dbwalk.proofs.Reporting.Belows.{reported_none, visited_join}
+pub use Rattle.dbwalk.proofs.Reporting.Belows.{quiet_go, reported_none, visited_join, visited_none}
 pub use Rattle.dbwalk.proofs.Reporting.Sinks.{err_is, asked, asked_both, asked_open, asked_walks, moves_open, moves_some, moves_then, walks_end}
 pub use Rattle.dbwalk.proofs.RootTakings.{first_more, list_has_room, tree_given, tree_reported}
 pub use Rattle.dbwalk.specs.Reporting.{IsReadOrWrite, SinkAfter, SinkMoves, SinkState, Reports}

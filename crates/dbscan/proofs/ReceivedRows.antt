@@ -10,7 +10,7 @@ use Rattle.dbscan.proofs.PagesReceived.{past_pages}
 use Rattle.dbscan.proofs.RowsBelow.{rows_below, rows_join}
 use Rattle.dbscan.proofs.RunItems.{all_visited}
 use Rattle.dbscan.proofs.StartByStart.{first_alone, of_later}
-use Rattle.dbscan.proofs.Starts.{quiet_go}
+use Rattle.dbscan.proofs.Common.{quiet_go}
 use Rattle.dbscan.proofs.ReportedStarts.{start_errands_listed}
 use Rattle.dbtrace.specs.declared.Part.TheVariants as part
 

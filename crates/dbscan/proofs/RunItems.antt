@@ -2,10 +2,9 @@
 use Rattle.dbscan.proofs.Common.{◌≡◌, ℕ, List, [], ◌∷◌, ◌++◌, map, refl, sym, ap, subst, ◌∙◌, IsIn, Go, Follow, errands_at, goes, schema_start, geometry}
 use Rattle.dbscan.proofs.Common.{schema_part, Way, Reference, schema, later_starts, starts, Event, start_errands, Survey, rules_of, visited_below, AreMarksOf}
 use Rattle.dbscan.proofs.Common.{Mark, AreBelowStarts, schema_reference, later_errands, IsAtStarts, under, has_address, AreErrandsApart, Link, named_at}
-use Rattle.dbscan.proofs.Common.{errands_at-apart, by_starts, starts_rise, follows_pairs, visited_join, Any}
+use Rattle.dbscan.proofs.Common.{errands_at-apart, by_starts, starts_rise, follows_pairs, visited_join}
 use Rattle.dbsurvey.specs.Traverse.{part_of}
 use Rattle.dbformat.proofs.SchemaStart.{schema_below}
-use Rattle.dbwalk.proofs.Reporting.Lefts.{left_start}
 
 -- starts depend only on the schema
 later_same : (file : List ℕ) (U V : List Reference) → schema file U ≡ schema file V → later_starts file U ≡ later_starts file V
@@ -40,4 +39,4 @@ survey_below_starts file V s u i = has_address file V s u (subst (λ W. IsIn u W
 pub starts_left : (file : List ℕ) (V : List Reference) → Survey file V → (marks : List Mark) → AreMarksOf file [] marks
     → IsAtStarts file V [] ((Go schema_reference ∷ []) ++ later_errands file V) marks
 starts_left file V s marks fresh = subst (λ es. IsAtStarts file V [] es marks) (starts_are file V s)
-    (left_start Any file [] (start_errands file V) tt marks fresh (λ u e i. absurd i) (starts_apart file V))
+    (record { marked = fresh; past = λ u e i. absurd i; apart = starts_apart file V; visits = refl })

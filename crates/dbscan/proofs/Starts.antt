@@ -1,15 +1,11 @@
 -- The starts of a run, one after another: what a walk at the next one leaves.
-use Rattle.dbscan.proofs.Common.{◌≡◌, ◌≢◌, ℕ, ◌<◌, inl, inr, List, [], ◌∷◌, ◌++◌, length, Some, refl, sym, ap, subst, arith, slice_get, Address, IsIn, AreQuiet}
-use Rattle.dbscan.proofs.Common.{Errand, Go, encoding, root, Way, Reference, SchemaRow, Event, own_visit, start_errands, Encoding, visited_below, Mark}
+use Rattle.dbscan.proofs.Common.{◌≡◌, ◌≢◌, ℕ, ◌<◌, inl, inr, List, [], ◌∷◌, ◌++◌, length, Some, refl, sym, ap, subst, arith, slice_get, Address, IsIn}
+use Rattle.dbscan.proofs.Common.{Errand, Go, encoding, root, Way, Reference, SchemaRow, Event, start_errands, Encoding, visited_below, Mark}
 use Rattle.dbscan.proofs.Common.{root_reference, root_of, AreBelowStarts, IsAtStarts, IsRootAfter, slice_get_cases, IsBefore, IsIn-left, root_kind, Schema}
 use Rattle.dbformat.specs.declared.RowKind.{RowKind}
 use Rattle.dbtrace.specs.Starts.{IsOfEarlierStart}
 use Rattle.dbwalk.specs.Roots.{kind_in}
 use Rattle.dbscan.specs.Starts.{kind_by}
-
-pub quiet_go : (c : Reference) → AreQuiet own_visit (Go c ∷ [])
-quiet_go c e (inl h) = cc
-quiet_go c e (inr h) = absurd h
 
 -- the kind of a row's root is what a walk takes it for
 kind_same : (file : List ℕ) (encoding : Encoding) (k : ℕ) (r : SchemaRow) → kind_in file (root_of encoding k r) ≡ root_kind file r

@@ -1,39 +1,40 @@
 -- The walks from the starts, one after another: what a walk over the next tree leaves to be reported.
 use Rattle.dbscan.proofs.Common.{◌≡◌, ◌↔◌, ℕ, ◌+◌, ◌-◌, ◌<◌, Bool, false, List, [], ◌∷◌, ◌++◌, drop, length, map, Some, Result, Ok, Err, refl, sym, ap, subst}
 use Rattle.dbscan.proofs.Common.{◌∙◌, arith, append_assoc, append-nil, OnOk, slice_get, ◌==◌, Moves, MovesBySome, Errand, Go, schema_start, start_of, encoding}
-use Rattle.dbscan.proofs.Common.{first_trunk, Way, Reference, SchemaRow, Event, start_errands, Survey, Encoding, RunError, Finding, reported_below}
+use Rattle.dbscan.proofs.Common.{first_trunk, Way, Reference, SchemaRow, Event, Survey, Encoding, RunError, Finding, reported_below}
 use Rattle.dbscan.proofs.Common.{visited_below, AreMarksOf, Mark, Notice, found, ended, errands_left, root_reference, tree_notices, later_notices}
 use Rattle.dbscan.proofs.Common.{start_notices, IsSchemaOf, at_freelist, at_row, at_schema, later_errands, root_of, schema_reference, IsAtStarts, IsTreeWalked}
 use Rattle.dbscan.proofs.Common.{IsWalkedOver, IsSchemaWalked, IsBetweenStarts, StopsReporting, AreReported, AreWalked, enumerate_from, Moves-append}
 use Rattle.dbscan.proofs.Common.{some_first, some_after, StartsEmpty, IsRootAfter, Notifier, drop_more, get_or_from_slice_get, gives, readable_rows}
-use Rattle.dbscan.proofs.Common.{IsFirstTrunk, freelist_reference, Root, Schema, tree_given, tree_reported, reported_none, moves_some, Any}
+use Rattle.dbscan.proofs.Common.{IsFirstTrunk, freelist_reference, Root, Schema, tree_given, tree_reported, reported_none, visited_join, visited_none}
+use Rattle.dbscan.proofs.Common.{moves_some, rules_of, geometry, inr}
 use Rattle.dbwalk.specs.Done.{IsDone, IsTreeDone}
 use Rattle.dbwalk.specs.Entered.{IsNext}
 use Rattle.dbwalk.specs.declared.taker.Taken.{Taken}
-use Rattle.dbwalk.proofs.Reporting.Lefts.{left_call, left_none}
+use Rattle.dbformat.proofs.Theory.{are_rules}
+use Rattle.dbsurvey.proofs.Past.{past_join}
 use Rattle.dbwalk.proofs.Trees.Bounds.{root_address}
 use Rattle.dbscan.specs.Notifiers.{HandsOn}
 use Rattle.dbscan.proofs.RunItems.{all_visited, starts_left, survey_below_starts}
-use Rattle.dbscan.proofs.Starts.{no_schema_kind, quiet_go, root_next}
+use Rattle.dbscan.proofs.Starts.{no_schema_kind, root_next}
 use Rattle.dbscan.proofs.Notifiers.{notifier_moves, notifier_some}
-
-any_moves : (items : List Finding) → Moves Any tt items tt
-any_moves [] = refl
-any_moves (i ∷ items) = (tt, tt, any_moves items)
 
 -- one start is done: the next ones are left
 at_next : (file : List ℕ) (V U : List Reference) (c : Reference) (es : List (Errand Way Event)) (marks marks' : List Mark)
     → IsAtStarts file V U (Go c ∷ es) marks
     → AreMarksOf file (U ++ visited_below file U (Go c ∷ [])) marks' → IsAtStarts file V (U ++ visited_below file U (Go c ∷ [])) es marks'
-at_next file V U c es marks marks' h m = left_call Any file [] (start_errands file V) tt U marks tt {A = Unit {0}} tt marks' tt (Go c ∷ []) es h
-    (quiet_go c)
-    (record { marked = m; reported = any_moves (reported_below file U (Go c ∷ [])) })
+at_next file V U c es marks marks' h m = record {
+  marked = m;
+  past = past_join (rules_of file) (geometry file).pages (are_rules file) U (Go c ∷ []) es h.apart ((λ e i. absurd i), tt) (λ u f i j. h.past u f i (inr j));
+  apart = h.apart.1;
+  visits = sym (visited_join file U (Go c ∷ []) es) ∙ h.visits;
+}
 
 -- none is left
 at_end : (file : List ℕ) (V : List Reference) (survey : Survey file V) (U : List Reference) (marks : List Mark) → IsAtStarts file V U [] marks
     → AreMarksOf file V marks
 at_end file V survey U marks h =
-    subst (λ W. AreMarksOf file W marks) (all_visited file V survey) (left_none Any file [] (start_errands file V) tt U marks tt {A = Unit {0}} tt h).marked
+    subst (λ W. AreMarksOf file W marks) (sym (append-nil U) ∙ ap (λ L. U ++ L) (sym (visited_none file U)) ∙ h.visits ∙ all_visited file V survey) h.marked
 
 module _ {S : Type 0} (receives : S → Notice → S → Type 0) where
   -- ---- one tree

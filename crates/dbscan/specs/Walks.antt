@@ -2,7 +2,8 @@
 use Rattle.std.specs.Prelude.{◌≡◌, ℕ, Bool, ◌||◌, List, [], ◌∷◌, ◌++◌, Result, Ok, Err, IfOk, OnOk}
 use Rattle.std.specs.List.{list_any}
 use Rattle.dbsurvey.specs.Moves.{Moves}
-use Rattle.dbsurvey.specs.Story.{Errand, Go}
+use Rattle.dbsurvey.specs.InOrder.{IsPast}
+use Rattle.dbsurvey.specs.Story.{AreErrandsApart, Errand, Go}
 use Rattle.dbformat.specs.Address.{schema_start, start_of}
 use Rattle.dbformat.specs.EndFaults.{has_rows}
 use Rattle.dbformat.specs.Reference.{Way, Reference}
@@ -10,10 +11,9 @@ use Rattle.dbformat.specs.SchemaRow.{SchemaRow}
 use Rattle.dbformat.specs.Story.{Event, start_errands}
 use Rattle.dbformat.specs.Survey.{Survey}
 use Rattle.dbsource.specs.declared.error.RunError.{RunError}
-use Rattle.dbtrace.specs.Finding.{Finding, reported_below, visited_below}
+use Rattle.dbtrace.specs.Finding.{reported_below, visited_below}
 use Rattle.dbmarks.specs.Marking.{AreMarksOf}
 use Rattle.dbmarks.specs.declared.marks.Mark.{Mark}
-use Rattle.dbwalk.specs.Done.{IsLeft}
 use Rattle.dbwalk.specs.Taking.{gives, readable_rows}
 use Rattle.dbwalk.specs.Reporting.{Reports}
 use Rattle.dbwalk.specs.declared.taker.Taken.{Taken}
@@ -23,13 +23,12 @@ use Rattle.dbscan.specs.Notices.{Notice, errands_left, tree_notices, later_notic
 use Rattle.dbscan.specs.Starts.{At, IsSchemaOf, at_schema, schema_reference}
 use Rattle.dbscan.specs.declared.notifier.Notifier.{Notifier}
 
--- whatever was reported
-abbrev pub Any : Unit {0} → Finding → Unit {0} → Type 0
-Any s item t = Unit {0}
-
--- of the starts of a survey, those `left` are still to be walked from, after the visits of U
-abbrev pub IsAtStarts : List ℕ → List Reference → List Reference → List (Errand Way Event) → List Mark → Type 0
-IsAtStarts file V U left marks = IsLeft Any file [] (start_errands file V) tt U left (marks, tt)
+-- Of the starts of a survey, those `left` are still to be walked from, after the visits of U, which are marked.
+pub record IsAtStarts (file : List ℕ) (V U : List Reference) (left : List (Errand Way Event)) (marks : List Mark) : Type 0 where
+  pub marked : AreMarksOf file U marks
+  pub past : IsPast U left
+  pub apart : AreErrandsApart left
+  pub visits : U ++ visited_below file U left ≡ visited_below file [] (start_errands file V)
 
 -- The walk over the tree of a root: what is below it is marked and was received, and that it ended; or a beginning of it was received.
 pub record IsTreeWalked {S A : Type 0} (receives : S → Notice → S → Type 0)

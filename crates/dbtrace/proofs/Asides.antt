@@ -30,12 +30,12 @@ module _ (file : List ℕ) where
   no_view r e = rw e refl
 
   -- an event of no page of a tree
-  abbrev IsOff : Event → Type 0
+  abbrev pub IsOff : Event → Type 0
   IsOff (at_page r) = tree_kind (role_of r) ≡ None
   IsOff (at_key r v x) = ⊥
   IsOff (at_refused r) = tree_kind (role_of r) ≡ None
 
-  step_off : (U : List Reference) (p : Progress) (e : Event) → IsOff e → step file U p e ≡ p
+  pub step_off : (U : List Reference) (p : Progress) (e : Event) → IsOff e → step file U p e ≡ p
   step_off U p (at_page r) h = ap (λ leaf. record { greatest = p.greatest; leaf = leaf }) (kept p.leaf)
     where
       rowids : RowidBounds
@@ -79,7 +79,7 @@ module _ (file : List ℕ) where
   state_off now (t ∷ L) h = state_off (advance file now t.event) L (λ u i. h u (inr i))
       ∙ step_off (advance file now t.event).visits now.state t.event (h t (inl refl))
 
-  item_off : (U : List Reference) (p : Progress) (e : Event) → IsOff e → items_at file U p e ≡ map found (reported_at file U e)
+  pub item_off : (U : List Reference) (p : Progress) (e : Event) → IsOff e → items_at file U p e ≡ map found (reported_at file U e)
   item_off U p e h = ap (λ rows. map given rows ++ map found
       (map reported_row (option_to_list (event_row file e)) ++ reported_by (cause_by file U p e) (faults_at file U p e))) (rows_off U e h)
       ∙ ap (λ fs. map found (map reported_row (option_to_list (event_row file e)) ++ fs)) (faults_off U p e h)

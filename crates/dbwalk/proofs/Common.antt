@@ -69,8 +69,8 @@ pub use Rattle.dbtrace.specs.declared.CellKey.{CellKey}
 pub use Rattle.dbtrace.specs.declared.RowidBounds.{RowidBounds}
 pub use Rattle.dbtrace.specs.declared.TreeLeaf.{TreeLeaf}
 pub use Rattle.dbwalk.specs.Beside.{EntersBeside, Opens, Turns, WalksBeside}
-pub use Rattle.dbwalk.specs.Chains.{Feeds, FeedsChain, FeedsPages, IsChainOf, IsOnChain, IsPlace, next_of, walked_chain}
-pub use Rattle.dbwalk.specs.Done.{IsDone, IsLeft, IsTreeDone}
+pub use Rattle.dbwalk.specs.Chains.{Feeds, FeedsSince, IsChainOf, IsOnChain, IsPlace, next_of, walked_chain}
+pub use Rattle.dbwalk.specs.Done.{IsDone, IsTreeDone}
 pub use Rattle.dbwalk.specs.Entered.{Enters, IsNext, refused_reported}
 pub use Rattle.dbwalk.specs.Found.{HasPageAt, damaged_row, inner_cause, page_findings, view_cause, view_row, with_leaf}
 pub use Rattle.dbwalk.specs.LeafCells.{AreBefore, AreRisingFrom, HasCell, HasSpan, is_late, key_cause, late_reported, order_reported, overflow_errands, placed}
@@ -84,7 +84,7 @@ pub use Rattle.dbwalk.specs.Underway.{HasDone, IsAt, IsEntered, IsInterior, IsUn
 pub use Rattle.dbwalk.specs.Walked.{IsTreeError, SaysOfFiles, Walked}
 pub use Rattle.dbwalk.specs.Walking.{AreCalls, AreOpen, AreOpenFrames, AreRead, IsCandidate, IsOpen, IsStepped, IsVisitAt, child_at, cost, errands_from}
 pub use Rattle.dbwalk.specs.Walking.{left_over, path_of, role_at, top_visit}
-pub use Rattle.dbwalk.specs.Watching.{Handed, StopsAt, fails, row_at, watches}
+pub use Rattle.dbwalk.specs.Watching.{Handed, StopsAt, fails, fed, never, row_at, watches}
 pub use Rattle.dbwalk.specs.declared.chain.Chain.{Chain}
 pub use Rattle.dbwalk.specs.declared.entering.Step.{Step}
 pub use Rattle.dbwalk.specs.declared.state.Tree.{Tree}

@@ -1,5 +1,5 @@
--- What is reported below some errands.
+-- Walks beside the pages of a tree: how a reference is entered, what is visited below it, and what comes to a sink.
 pub mod Belows
 pub mod Besides
-pub mod Lefts
+pub mod Enterings
 pub mod Sinks

@@ -2,7 +2,7 @@
 use Rattle.std.specs.Prelude.{◌≡◌, ℕ, ◌≤◌, Bool, true, false, List, [], ◌∷◌, length, Option, None, Result, Ok, Err, IfErr, IfOk, IfSome}
 use Rattle.dbsurvey.specs.Story.{Go}
 use Rattle.dbformat.specs.File.{geometry, page_bytes}
-use Rattle.dbformat.specs.Reference.{Reference}
+use Rattle.dbformat.specs.Reference.{Reference, role_of, tree_kind}
 use Rattle.dbmarks.specs.Marking.{AreMarksOf}
 use Rattle.dbmarks.specs.Reads.{Reads}
 use Rattle.dbmarks.specs.declared.marks.Mark.{Mark}
@@ -13,11 +13,14 @@ use Rattle.dbsource.specs.Sources.{HasLog, SourceState}
 use Rattle.dbsource.specs.declared.error.RunError.{RunError}
 use Rattle.dbtrace.specs.Causes.{refusal_cause}
 use Rattle.dbtrace.specs.Finding.{Finding}
+use Rattle.dbtrace.specs.Walk.{Walk}
 use Rattle.dbtrace.specs.declared.Cause.{Cause}
-use Rattle.dbwalk.specs.Done.{IsDone, IsLeft}
 use Rattle.dbwalk.specs.Entered.{Enters, IsNext, IsStepOf}
 use Rattle.dbwalk.specs.Reporting.{IsReadOrWrite, SinkState, SinkWalks}
+use Rattle.dbwalk.specs.Underway.{HasDone, IsUnderway}
+use Rattle.dbwalk.specs.Watching.{fed, never}
 use Rattle.dbwalk.specs.declared.entering.Step.{Step}
+use Rattle.dbwalk.specs.declared.state.Tree.{Tree}
 
 -- a buffer for a page with this usable size
 pub record IsPageBuffer (usable : ℕ) (buffer : List ℕ) : Type 0 where
@@ -50,18 +53,19 @@ pub record EntersBeside {S : Type 0} (takes : S → Finding → S → Type 0) (f
   pub opens : (W : List Reference) (c : Reference) → IsStepOf step c → IsNext W c → AreMarksOf file W marks → refusal_cause file W c ≡ why
       → Opens takes file W c r marks' s t here
 
--- On the way below c: the reference of a step is left, after these visits.
-pub record IsAtStep {S : Type 0} (takes : S → Finding → S → Type 0) (file : List ℕ) (W : List Reference) (c : Reference) (before : S) (step : Step)
-    (why : Cause) (marks : List Mark) (now : S) : Type 0 where
-  pub visited : List Reference
+-- On the way of a whole walk: the reference of a step is left, which is to a page of no tree.
+pub record IsAtStep {S : Type 0} (takes : S → Finding → S → Type 0) (file : List ℕ) (whole : Walk) (before : S) (step : Step) (why : Cause)
+    (state : List Mark × Tree) (s : S) : Type 0 where
+  pub now : Walk
   pub d : Reference
   pub is : IsStepOf step d
-  pub cause_is : refusal_cause file visited d ≡ why
-  pub rest : IsLeft takes file W (Go c ∷ []) before visited (Go d ∷ []) (marks, now)
+  pub aside : tree_kind (role_of d) ≡ None
+  pub cause_is : refusal_cause file now.visits d ≡ why
+  pub rest : IsUnderway (fed takes) file whole before now (Go d ∷ []) state s
 
 -- What a turn leaves: it is on the way at the next place, or at the end, or stopped by an error.
-pub record Turns {S P : Type 0} (takes : S → Finding → S → Type 0) (file : List ℕ) (W : List Reference) (c : Reference) (before : S) (on : P → Type 0)
-    (end : Type 0) (r : Result (Option P) RunError) (marks : List Mark) (now : S) : Type 0 where
+pub record Turns {S P : Type 0} (takes : S → Finding → S → Type 0) (file : List ℕ) (whole : Walk) (before : S) (on : P → Type 0) (end : Type 0)
+    (r : Result (Option P) RunError) (state : List Mark × Tree) (s : S) : Type 0 where
   pub next : IfOk r (λ o. IfSome o on)
-  pub ended : IfOk r (λ o. o ≡ None → IsDone {A = Unit {0}} takes file W (Go c ∷ []) (Ok tt) marks before now × end)
-  pub stopped : IfErr r (λ e. IsDone {A = Unit {0}} takes file W (Go c ∷ []) (Err e) marks before now)
+  pub ended : IfOk r (λ o. o ≡ None → HasDone {A = Unit {0}} (fed takes) never file whole (Ok tt) state before s × end)
+  pub stopped : IfErr r (λ e. HasDone {A = Unit {0}} (fed takes) never file whole (Err e) state before s)

@@ -1,8 +1,7 @@
 -- Overflow chains as a program walks them, and what a sieve is fed on the way.
-use Rattle.std.specs.Prelude.{ℕ, ◌+◌, ◌≤◌, List, [], ◌∷◌, ◌++◌, flat_map, Option, Some, None, ◌≡◌}
+use Rattle.std.specs.Prelude.{ℕ, ◌+◌, ◌≤◌, List, ◌++◌, flat_map, Option, Some, None, ◌≡◌}
 use Rattle.std.specs.Prelude.{◌==◌, if◌then◌else◌}
 use Rattle.dbsurvey.specs.Moves.{Moves}
-use Rattle.dbsurvey.specs.Story.{Go}
 use Rattle.dbformat.specs.Reference.{Reference, first_overflow, later_overflow, bytes_left, role_of, from_of, item_of}
 use Rattle.dbformat.specs.Schema.{held_bytes}
 use Rattle.dbformat.specs.declared.Encoding.{Encoding}
@@ -13,7 +12,8 @@ use Rattle.dbtrace.specs.declared.Cause.{Cause}
 use Rattle.dbtrace.specs.declared.Cause.TheVariants as cause
 use Rattle.dbtrace.specs.declared.CellChain.{CellChain}
 use Rattle.dbtrace.specs.declared.SeenBytes.{SeenBytes}
-use Rattle.dbtrace.specs.Finding.{visited_below, Finding, reported_at}
+use Rattle.dbtrace.specs.Finding.{Finding, reported_at}
+use Rattle.dbtrace.specs.Walk.{Walk}
 use Rattle.dbformat.specs.Address.{start_of, then_step, child_path, chain_place}
 use Rattle.dbformat.specs.FixedPages.{IsPageNumber}
 use Rattle.dbformat.specs.Header.{usable_size}
@@ -22,6 +22,7 @@ use Rattle.dbformat.specs.Story.{at_page}
 use Rattle.dbwalk.specs.declared.chain.Chain.{Chain}
 use Rattle.dbwalk.specs.declared.chain.ChainPage.{ChainPage}
 use Rattle.dbwalk.specs.declared.chain.ChainPlace.{ChainPlace}
+use Rattle.dbwalk.specs.declared.state.Tree.{Tree}
 use Rattle.dbmarks.specs.declared.marks.Mark.{Mark}
 use Rattle.dbwalk.specs.Beside.{IsAtStep}
 use Rattle.dbmarks.specs.Marking.{IsUse, named_page}
@@ -35,13 +36,11 @@ Feeds None bytes (Some t) = ⊥
 Feeds (Some s) bytes None = ⊥
 Feeds (Some s) bytes (Some t) = (size : ℕ) (e : Encoding) (taken : List ℕ) → HasTaken s size e taken → HasTaken t size e (taken ++ bytes)
 
--- it was fed the payload bytes on these overflow pages
-abbrev pub FeedsPages : List ℕ → Option RowSieve → List Reference → Option RowSieve → Type 0
-FeedsPages file old pages new = Feeds old (flat_map (held_bytes file) pages) new
-
--- it was fed all that is held below a reference to an overflow page
-abbrev pub FeedsChain : List ℕ → List Reference → Reference → Option RowSieve → Option RowSieve → Type 0
-FeedsChain file W c old new = FeedsPages file old (visited_below file W (Go c ∷ [])) new
+-- it was fed the payload bytes on the overflow pages that were visited after the visits of W, up to those of V
+pub record FeedsSince (file : List ℕ) (W V : List Reference) (old new : Option RowSieve) : Type 0 where
+  pub pages : List Reference
+  pub since : V ≡ W ++ pages
+  pub fed : Feeds old (flat_map (held_bytes file) pages) new
 
 -- Overflow chains as a program walks them.
 
@@ -110,14 +109,12 @@ abbrev pub known_cause : Option ChainPage → List ℕ → Cause
 known_cause None here = cause.Itself
 known_cause (Some at) here = place_cause at.chain.now at.place here
 
--- Along the chain below c: the reference at this place is left, a sieve was fed the pages so far, and the last one was read.
-pub record IsOnWay {S : Type 0} (takes : S → Finding → S → Type 0) (file : List ℕ) (W : List Reference) (c : Reference) (before : S) (chain : Chain)
-    (place : ChainPlace) (marks : List Mark) (now : S) (old new : Option RowSieve) (here : List ℕ) : Type 0 where
+-- Along a chain, after the visits of W: the reference at this place is left, a sieve was fed the pages so far, and the last one was read.
+pub record IsOnWay {S : Type 0} (takes : S → Finding → S → Type 0) (file : List ℕ) (W : List Reference) (whole : Walk) (before : S) (chain : Chain)
+    (place : ChainPlace) (state : List Mark × Tree) (s : S) (old new : Option RowSieve) (here : List ℕ) : Type 0 where
   pub usable : chain.usable ≡ usable_size file
-  pub at : IsAtStep takes file W c before place.step (place_cause chain place here) marks now
-  pub pages : List Reference
-  pub fed : FeedsPages file old pages new
-  pub since : at.visited ≡ W ++ pages
+  pub at : IsAtStep takes file whole before place.step (place_cause chain place here) state s
+  pub fed : FeedsSince file W at.now.visits old new
   pub left : bytes_left (role_of at.d) ≡ Some place.left
   pub on : IsOnChain chain place.number at.d
-  pub head : HasHead file chain at.visited at.d
+  pub head : HasHead file chain at.now.visits at.d

@@ -1,6 +1,6 @@
--- What a call has done below some errands, and what is left during a walk, for the invariant of a loop.
-use Rattle.std.specs.Prelude.{◌≡◌, ◌≤◌, ℕ, List, [], ◌∷◌, ◌++◌, Result, OnOk}
-use Rattle.dbsurvey.specs.Story.{Errand, Go, AreErrandsApart}
+-- What a whole walk has done, by the visits and findings of the definitions.
+use Rattle.std.specs.Prelude.{◌≤◌, ℕ, List, [], ◌∷◌, ◌++◌, Result, OnOk}
+use Rattle.dbsurvey.specs.Story.{Errand, Go}
 use Rattle.dbformat.specs.Address.{start_of}
 use Rattle.dbformat.specs.Reference.{Way, Reference}
 use Rattle.dbformat.specs.SchemaRow.{SchemaRow}
@@ -13,8 +13,6 @@ use Rattle.dbwalk.specs.Reporting.{Reports}
 use Rattle.dbwalk.specs.Underway.{tree_walk}
 use Rattle.dbwalk.specs.Watching.{Handed, fails, watches}
 use Rattle.dbwalk.specs.declared.taker.Taken.{Taken}
-use Rattle.dbsurvey.specs.Moves.{Moves}
-use Rattle.dbsurvey.specs.InOrder.{IsPast}
 
 -- At Ok the marks are those of W and of all that is visited below the errands. What is reported below them was given to the
 -- sink: all of it at Ok, a beginning after an error.
@@ -32,15 +30,3 @@ pub record IsTreeDone {S T : Type 0} (takes : S → Finding → S → Type 0) (k
   pub marked : OnOk r (AreMarksOf file (W ++ visited_below file W (Go c ∷ [])) marks)
   pub handed : Handed (watches takes keeps) (fails refuses) r before (tree_walk file W c).items after
   pub others : 1 ≤ start_of c.address → Reports takes r before.0 (reported_below file W (Go c ∷ [])) after.0
-
--- Of all that is below the errands, after the visits of W, what is below the errands `left`, after those of U, is still to be
--- done. The rest was reported, and the marks are those of U.
-pub record IsLeft {S : Type 0} (takes : S → Finding → S → Type 0) (file : List ℕ) (W : List Reference) (errands : List (Errand Way Event)) (before : S)
-    (U : List Reference) (left : List (Errand Way Event)) (now : List Mark × S) : Type 0 where
-  pub marked : AreMarksOf file U now.0
-  pub past : IsPast U left
-  pub apart : AreErrandsApart left
-  pub visits : U ++ visited_below file U left ≡ W ++ visited_below file W errands
-  pub items : List Finding
-  pub reported : Moves takes before items now.1
-  pub rest : items ++ reported_below file U left ≡ reported_below file W errands

@@ -30,9 +30,10 @@ use Rattle.dbwalk.specs.declared.state.Tree.{Tree}
 use Rattle.dbwalk.specs.declared.tree_walk.TreeWalk.{TreeWalk}
 
 -- at the overflow chain of cell i of a leaf
-abbrev pub AtOverflow : List ℕ → Tree → CellPlace → LeafCell → List Mark → (List Reference → Reference → Type 0) → Type 0
-AtOverflow file tree place read marks leaves = (U : List Reference) (c : Reference) → IsVisitAt tree.kind tree.start tree.path.items c place.page
-    → cell_rowid file place.page place.item ≡ read.key → IsPast U (overflow_errands c place.item read.overflow) → AreMarksOf file U marks → leaves U c
+abbrev pub AtOverflow : List ℕ → Tree → CellPlace → LeafCell → List Mark → (Walk → Reference → Type 0) → Type 0
+AtOverflow file tree place read marks leaves = (from : Walk) (c : Reference) → IsVisitAt tree.kind tree.start tree.path.items c place.page
+    → cell_rowid file place.page place.item ≡ read.key → IsPast from.visits (overflow_errands c place.item read.overflow) → IsAt file from marks tree
+    → leaves from c
 
 -- at a cell of an undamaged leaf with this view
 abbrev pub AtCell : {A S K T : Type 0} → List ℕ → View → CellPlace → TreeWalk A S K T → (Walk → Reference → Type 0) → Type 0

@@ -12,8 +12,8 @@ use Rattle.dbformat.specs.Schema.{payload, schema}
 use Rattle.dbformat.specs.declared.Encoding.{Encoding}
 use Rattle.dbbytes.specs.Sieve.{HasTaken}
 use Rattle.dbbytes.specs.declared.sieve.RowSieve.{RowSieve}
-use Rattle.dbwalk.specs.LeafCells.{AreBefore, overflow_errands}
-use Rattle.dbtrace.specs.Finding.{visited_below, Finding}
+use Rattle.dbwalk.specs.LeafCells.{AreBefore}
+use Rattle.dbtrace.specs.Finding.{Finding}
 use Rattle.dbsurvey.specs.Moves.{Moves}
 use Rattle.dbsource.specs.declared.error.RunError.{RunError}
 use Rattle.dbsource.specs.declared.error.RunError.TheVariants.{OutOfMemory, WriteFailed}
@@ -72,11 +72,11 @@ abbrev pub HoldsCell : Option RowSieve → Encoding → Option Cell → Type 0
 HoldsCell sieve e None = sieve ≡ None
 HoldsCell sieve e (Some x) = HasFed sieve x.size e x.local
 
--- A sieve that had taken the payload bytes in the cell has taken all of the payload that can be found, when the cell's chain
--- was visited.
-pub record FeedsPayload (file : List ℕ) (U : List Reference) (c : Reference) (i : ℕ) (overflow : Option (ℕ × ℕ)) (old new : Option RowSieve) : Type 0 where
+-- A sieve that had taken the payload bytes in the cell has taken all of the payload that can be found, where the visits of U were
+-- before the cell's chain, and those of V up to its end.
+pub record FeedsPayload (file : List ℕ) (U V : List Reference) (c : Reference) (i : ℕ) (old new : Option RowSieve) : Type 0 where
   pub fed : (x : Cell) (e : Encoding) → AreBefore U (then_step c.address (overflow_step i)) → HasFed old x.size e x.local
-      → HasFed new x.size e (payload file (U ++ visited_below file U (overflow_errands c i overflow)) c.address i x)
+      → HasFed new x.size e (payload file V c.address i x)
 
 -- a row changes a taker, whatever it answers
 abbrev pub gives : {T : Type 0} → (T → SchemaRow → Taken → T → Type 0) → T → SchemaRow → T → Type 0

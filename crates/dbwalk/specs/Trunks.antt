@@ -1,17 +1,20 @@
 -- Trunks of the freelist, and their leaves.
 use Rattle.std.specs.Prelude.{ℕ, List, map, Result, Ok, Err, ◌≡◌, [], ◌∷◌, Option, Some, None, false, ◌==◌, if◌then◌else◌}
 use Rattle.std.specs.List.{range_with_len}
-use Rattle.dbsurvey.specs.Story.{Errand, Go}
+use Rattle.dbsurvey.specs.Story.{Errand}
 use Rattle.dbformat.specs.Errands.{leaf_errand, go}
 use Rattle.dbformat.specs.Reference.{Way, Reference, trunk, next_trunk, role_of, from_of, item_of}
 use Rattle.dbformat.specs.Story.{Event}
 use Rattle.dbsource.specs.declared.error.RunError.{RunError}
 use Rattle.dbmarks.specs.declared.marks.Mark.{Mark}
 use Rattle.dbtrace.specs.Finding.{Finding}
-use Rattle.dbwalk.specs.Done.{IsLeft, IsDone}
+use Rattle.dbtrace.specs.Walk.{Walk}
+use Rattle.dbwalk.specs.Underway.{HasDone, IsUnderway}
+use Rattle.dbwalk.specs.Watching.{fed, never}
 use Rattle.dbformat.specs.Address.{freelist_start}
 use Rattle.dbformat.specs.File.{page_bytes}
 use Rattle.dbwalk.specs.declared.entering.Step.{Step}
+use Rattle.dbwalk.specs.declared.state.Tree.{Tree}
 use Rattle.dbmarks.specs.declared.marks.Mark.TheVariants.{Trunk}
 use Rattle.dbtrace.specs.declared.Cause.TheVariants.{Itself}
 use Rattle.dbwalk.specs.Beside.{IsAtStep}
@@ -22,11 +25,11 @@ use Rattle.dbwalk.specs.Beside.{IsAtStep}
 abbrev pub leaves_from : Reference → List ℕ → ℕ → ℕ → List (Errand Way Event)
 leaves_from d page j n = map (leaf_errand d page) (range_with_len j n)
 
--- by the answer something is left after some visits, or an error stopped it
-abbrev pub LeavesErrands : {S A : Type 0} → (S → Finding → S → Type 0) → List ℕ → List Reference → List (Errand Way Event) → S
-    → (A → List (Errand Way Event)) → Result A RunError → List Mark → S → Type 0
-LeavesErrands takes file W errands before left (Ok a) marks now = (U : List Reference) × IsLeft takes file W errands before U (left a) (marks, now)
-LeavesErrands takes file W errands before left (Err e) marks now = IsDone {A = Unit {0}} takes file W errands (Err e) marks before now
+-- by the answer something is left at some point of a whole walk, or an error stopped it
+abbrev pub LeavesErrands : {S A : Type 0} → (S → Finding → S → Type 0) → List ℕ → Walk → S → (A → List (Errand Way Event)) → Result A RunError
+    → List Mark × Tree → S → Type 0
+LeavesErrands takes file whole before left (Ok a) state s = (now : Walk) × IsUnderway (fed takes) file whole before now (left a) state s
+LeavesErrands takes file whole before left (Err e) state s = HasDone {A = Unit {0}} (fed takes) never file whole (Err e) state before s
 
 -- The trunks of the freelist as a program walks them.
 
@@ -49,14 +52,12 @@ pub record IsFirstTrunk (first : ℕ) (c : Reference) : Type 0 where
 abbrev pub freelist_reference : ℕ → Reference
 freelist_reference first = record { address = freelist_start ∷ []; page = first; role = record { role = trunk; from = 0; item = freelist_start } }
 
--- On the way along the trunks from c on: this one is left.
-pub record IsOnTrunks {S : Type 0} (takes : S → Finding → S → Type 0) (file : List ℕ) (W : List Reference) (c : Reference) (before : S) (place : Step)
-    (marks : List Mark) (now : S) : Type 0 where
-  pub at : IsAtStep takes file W c before place Itself marks now
+-- On the way along the trunks: this one is left.
+pub record IsOnTrunks {S : Type 0} (takes : S → Finding → S → Type 0) (file : List ℕ) (whole : Walk) (before : S) (place : Step)
+    (state : List Mark × Tree) (s : S) : Type 0 where
+  pub at : IsAtStep takes file whole before place Itself state s
   pub role : role_of at.d ≡ trunk
 
 -- a trunk is open: the next one is left, from this item
-abbrev pub OpensTrunk : {S : Type 0} → (S → Finding → S → Type 0) → List ℕ → List Reference → Reference → S → Reference → Result ℕ RunError
-    → List Mark → S → Type 0
-OpensTrunk takes file W c before d =
-    LeavesErrands takes file W (Go c ∷ []) before (λ item. map (go d) (next_trunk d.page (page_bytes file d.page) item))
+abbrev pub OpensTrunk : {S : Type 0} → (S → Finding → S → Type 0) → List ℕ → Walk → S → Reference → Result ℕ RunError → List Mark × Tree → S → Type 0
+OpensTrunk takes file whole before d = LeavesErrands takes file whole before (λ item. map (go d) (next_trunk d.page (page_bytes file d.page) item))

@@ -26,6 +26,14 @@ abbrev pub fails : {S T : Type 0} → (T → SchemaRow → T → Type 0) → (S 
 fails refuses w (given c) x = FailsRow refuses OutOfMemory (row_at c) w x
 fails refuses w (found f) x = ⊥
 
+-- a sink alone: it is given findings and no row, and asks for no memory
+abbrev pub fed : {S : Type 0} → (S → Finding → S → Type 0) → S → Item → S → Type 0
+fed takes s (found f) t = takes s f t
+fed takes s (given c) t = ⊥
+
+abbrev pub never : {S : Type 0} → S → Item → S → Type 0
+never s item t = ⊥
+
 -- The items changed the state up to one that failed, if memory was refused; at another error, up to some point.
 abbrev pub StopsAt : {P : Type 0} → (P → Item → P → Type 0) → (P → Item → P → Type 0) → RunError → P → List Item → P → Type 0
 StopsAt moves stops OutOfMemory w items x = Stops moves stops w items x

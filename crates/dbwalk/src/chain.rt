@@ -7,10 +7,12 @@ ghost use Rattle.dbformat.specs.Header.{usable_size};
 ghost use Rattle.dbformat.specs.Payload.{most_payload, overflow_next};
 ghost use Rattle.dbformat.specs.Reference.{Reference};
 ghost use Rattle.dbbytes.specs.declared.sieve.RowSieve.{RowSieve};
-ghost use Rattle.dbwalk.specs.Chains.{IsChainOf, IsOnWay, IsOverflowVisited, FeedsChain, IsPlace};
-ghost use Rattle.dbwalk.specs.Done.{IsDone};
+ghost use Rattle.dbtrace.specs.Walk.{Walk};
+ghost use Rattle.dbwalk.specs.Chains.{IsChainOf, IsOnWay, IsOverflowVisited, FeedsSince, IsPlace};
+ghost use Rattle.dbwalk.specs.Underway.{HasDone, IsAt, done_below};
+ghost use Rattle.dbwalk.specs.Watching.{fed, never};
+ghost use Rattle.dbwalk.specs.declared.state.Tree.{Tree};
 ghost use Rattle.dbwalk.specs.Entered.{IsNext};
-ghost use Rattle.dbmarks.specs.Marking.{AreMarksOf};
 ghost use Rattle.dbwalk.specs.Beside.{IsPageBuffer, Turns, WalksBeside};
 ghost use Rattle.dbwalk.specs.Reporting.{SinkMoves};
 
@@ -100,10 +102,10 @@ fn enter_overflow<S: Source, K: Sink, A: Allocator>(
     requires place { IsPlace at.place }
     requires buffer { IsPageBuffer at.chain.now.usable buffer.old }
     ensures walks { WalksBeside S.step result (S.held source.old) (S.held source.new) (K.held sink.old) (K.held sink.new) (length buffer.old)
-        marks.old marks.new (λ file. (W : List Reference) (c : Reference) (before : K) (first : Option RowSieve)
-        → IsOnWay K.takes file W c before at.entry.chain.now at.entry.place marks.old sink.old first sieve.old buffer.old
-        → Turns K.takes file W c before (λ place. IsOnWay K.takes file W c before at.entry.chain.now place marks.new sink.new first sieve.new
-        buffer.new) (FeedsChain file W c first sieve.new) result marks.new sink.new) }
+        marks.old marks.new (λ file. (W : List Reference) (whole : Walk) (before : K) (first : Option RowSieve) (tree : Tree)
+        → IsOnWay K.takes file W whole before at.entry.chain.now at.entry.place (marks.old, tree) sink.old first sieve.old buffer.old
+        → Turns K.takes file whole before (λ place. IsOnWay K.takes file W whole before at.entry.chain.now place (marks.new, tree) sink.new first
+        sieve.new buffer.new) (FeedsSince file W whole.visits first sieve.new) result (marks.new, tree) sink.new) }
     ensures kept { is_some sieve.new ≡ is_some sieve.old }
     ensures next { IfOk result (λ o. IfSome o (λ next. IsPlace next × (next.left < at.entry.place.left))) }
 {
@@ -149,8 +151,10 @@ pub(crate) fn walk_chain<S: Source, K: Sink, A: Allocator>(
     requires chain { IsPageNumber chain.now.page × (chain.now.left ≤ most_payload) }
     requires buffer { IsPageBuffer chain.now.usable buffer.old }
     ensures walks { WalksBeside S.step result (S.held source.old) (S.held source.new) (K.held sink.old) (K.held sink.new) (length buffer.old)
-        marks.old marks.new (λ file. (W : List Reference) (c : Reference) → IsChainOf file chain.now c → IsNext W c → AreMarksOf file W marks.old
-        → IsDone K.takes file W (Go c ∷ []) result marks.new sink.old sink.new × OnOk result (FeedsChain file W c sieve.old sieve.new)) }
+        marks.old marks.new (λ file. (from : Walk) (c : Reference) (tree : Tree) → IsChainOf file chain.now c → IsNext from.visits c
+        → IsAt file from marks.old tree
+        → HasDone (fed K.takes) never file (done_below file from (Go c ∷ [])) result (marks.new, tree) sink.old sink.new
+        × OnOk result (FeedsSince file from.visits (done_below file from (Go c ∷ [])).visits sieve.old sieve.new)) }
     ensures kept { is_some sieve.new ≡ is_some sieve.old }
 {
     let step = Step {
@@ -198,8 +202,9 @@ pub(crate) fn walk_unfed<S: Source, K: Sink, A: Allocator>(
     requires chain { IsPageNumber chain.now.page × (chain.now.left ≤ most_payload) }
     requires usable { IsInRange bench.old.geometry × (chain.now.usable ≡ bench.old.geometry.usable) }
     ensures walks { WalksBeside S.step result (S.held source.old) (S.held source.new) (K.held sink.old) (K.held sink.new)
-        bench.old.geometry.page_size marks.old marks.new (λ file. (W : List Reference) (c : Reference) → IsChainOf file chain.now c → IsNext W c
-        → AreMarksOf file W marks.old → IsDone K.takes file W (Go c ∷ []) result marks.new sink.old sink.new) }
+        bench.old.geometry.page_size marks.old marks.new (λ file. (from : Walk) (c : Reference) (tree : Tree) → IsChainOf file chain.now c
+        → IsNext from.visits c → IsAt file from marks.old tree
+        → HasDone (fed K.takes) never file (done_below file from (Go c ∷ [])) result (marks.new, tree) sink.old sink.new) }
     ensures bench { bench.new ≡ record bench.old { chain = bench.new.chain } }
 {
     let (_, buffer) = bench.chain(0);

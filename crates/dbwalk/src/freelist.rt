@@ -11,9 +11,13 @@ ghost use Rattle.dbformat.specs.Survey.{rules_of};
 ghost use Rattle.dbformat.specs.Story.{Event};
 ghost use Rattle.dbsource.specs.declared.error.RunError.TheVariants as run_error;
 ghost use Rattle.dbwalk.specs.Beside.{IsPageBuffer, Turns, WalksBeside};
-ghost use Rattle.dbwalk.specs.Done.{IsDone, IsLeft};
+ghost use Rattle.dbwalk.specs.Done.{IsDone};
 ghost use Rattle.dbwalk.specs.Entered.{IsNext};
 ghost use Rattle.dbwalk.specs.Trunks.{LeavesErrands, IsFirstTrunk, IsOnTrunks, OpensTrunk, next_step};
+ghost use Rattle.dbwalk.specs.Underway.{HasDone, IsAt, IsUnderway, done_below};
+ghost use Rattle.dbwalk.specs.Watching.{fed, never};
+ghost use Rattle.dbwalk.specs.declared.state.Tree.{Tree};
+ghost use Rattle.dbtrace.specs.Walk.{Walk};
 ghost use Rattle.dbmarks.specs.Marking.{AreMarksOf, KeepsMarks, unmarked_pages};
 ghost use Rattle.dbwalk.specs.Reporting.{IsReadOrWrite, SinkAfter, SinkWalks};
 ghost use Rattle.dbmarks.specs.Reads.{Reads};
@@ -47,10 +51,9 @@ pub(crate) fn walk_leaves<K: Sink, A: Allocator>(
     ensures keeps { KeepsMarks marks.old marks.new }
     ensures writes { SinkWalks result (K.held sink.old) (K.held sink.new) }
     ensures only { IfErr result (λ e. e ≡ run_error.WriteFailed) }
-    ensures done { (file : List ℕ) (W : List Reference) (errands : List (Errand Way Event)) (before : K) (U : List Reference) (d : Reference)
-        (tail : List (Errand Way Event))
-        → d.page ≡ page → IsLeft K.takes file W errands before U (leaf_errands d bytes.now count ++ tail) (marks.old, sink.old)
-        → LeavesErrands K.takes file W errands before (λ u. tail) result marks.new sink.new }
+    ensures done { (file : List ℕ) (whole : Walk) (before : K) (now : Walk) (d : Reference) (tail : List (Errand Way Event)) (tree : Tree)
+        → d.page ≡ page → IsUnderway (fed K.takes) file whole before now (leaf_errands d bytes.now count ++ tail) (marks.old, tree) sink.old
+        → LeavesErrands K.takes file whole before (λ u. tail) result (marks.new, tree) sink.new }
 {
     for index in 0..count {
         let step = Step {
@@ -77,10 +80,10 @@ fn open_trunk<K: Sink, A: Allocator>(
     ensures keeps { KeepsMarks marks.old marks.new }
     ensures writes { SinkWalks result (K.held sink.old) (K.held sink.new) }
     ensures only { IfErr result (λ e. e ≡ run_error.WriteFailed) }
-    ensures opened { (file : List ℕ) (W : List Reference) (c : Reference) (before : K) (U : List Reference) (d : Reference) (old : List Mark)
-        → d.page ≡ page → role_of d ≡ trunk → bytes.now ≡ page_bytes file page → usable ≡ usable_size file → is_followed (rules_of file) U d ≡ true
-        → AreMarksOf file (U ++ d ∷ []) marks.old → IsLeft K.takes file W (Go c ∷ []) before U (Go d ∷ []) (old, sink.old)
-        → OpensTrunk K.takes file W c before d result marks.new sink.new }
+    ensures opened { (file : List ℕ) (whole : Walk) (before : K) (now : Walk) (d : Reference) (old : List Mark) (tree : Tree)
+        → d.page ≡ page → role_of d ≡ trunk → bytes.now ≡ page_bytes file page → usable ≡ usable_size file → is_followed (rules_of file) now.visits d ≡ true
+        → AreMarksOf file (now.visits ++ d ∷ []) marks.old → IsUnderway (fed K.takes) file whole before now (Go d ∷ []) (old, tree) sink.old
+        → OpensTrunk K.takes file whole before d result (marks.new, tree) sink.new }
 {
     let count = u32_at(bytes, 4);
     if count <= usable / 4 - 2 {
@@ -124,8 +127,9 @@ fn enter_trunk<S: Source, K: Sink, A: Allocator>(
     requires buffer { IsPageBuffer usable buffer.old }
     ensures walks { WalksBeside S.step result (S.held source.old) (S.held source.new) (K.held sink.old) (K.held sink.new) (length buffer.old)
         marks.old marks.new (λ file. usable ≡ usable_size file
-        → (W : List Reference) (c : Reference) (before : K) → IsOnTrunks K.takes file W c before step marks.old sink.old
-        → Turns K.takes file W c before (λ next. IsOnTrunks K.takes file W c before next marks.new sink.new) Unit result marks.new sink.new) }
+        → (whole : Walk) (before : K) (tree : Tree) → IsOnTrunks K.takes file whole before step (marks.old, tree) sink.old
+        → Turns K.takes file whole before (λ next. IsOnTrunks K.takes file whole before next (marks.new, tree) sink.new) Unit result
+        (marks.new, tree) sink.new) }
     ensures trunk { IfOk result (λ o. IfSome o (λ next. next.mark ≡ use_mark.Trunk)) }
     ensures less { IfOk result (λ o. IfSome o (λ next. unmarked_pages marks.new < unmarked_pages marks.old)) }
 {
@@ -148,8 +152,9 @@ fn walk_trunks<S: Source, K: Sink, A: Allocator>(
 ) -> Result<(), RunError>
     requires buffer { IsPageBuffer usable buffer.old }
     ensures walks { WalksBeside S.step result (S.held source.old) (S.held source.new) (K.held sink.old) (K.held sink.new) (length buffer.old)
-        marks.old marks.new (λ file. usable ≡ usable_size file → (W : List Reference) (c : Reference) → IsFirstTrunk first c → IsNext W c
-        → AreMarksOf file W marks.old → IsDone K.takes file W (Go c ∷ []) result marks.new sink.old sink.new) }
+        marks.old marks.new (λ file. usable ≡ usable_size file → (from : Walk) (c : Reference) (tree : Tree) → IsFirstTrunk first c
+        → IsNext from.visits c → IsAt file from marks.old tree
+        → HasDone (fed K.takes) never file (done_below file from (Go c ∷ [])) result (marks.new, tree) sink.old sink.new) }
 {
     let mut step = Step {
         page: first,

@@ -5,9 +5,9 @@ ghost use Rattle.dbformat.specs.FixedPages.{IsInRange, IsPageNumber};
 ghost use Rattle.dbsurvey.specs.Story.{errands_of};
 ghost use Rattle.dbwalk.specs.Points.{AtLeaf, IsSameButGreatest, AtCell, AtOverflow};
 ghost use Rattle.dbformat.specs.Story.{story_of};
-ghost use Rattle.dbwalk.specs.Underway.{done_below};
+ghost use Rattle.dbwalk.specs.Underway.{HasDone, done_below};
 ghost use Rattle.dbwalk.specs.Walked.{Does, SaysOfFiles, Walked};
-ghost use Rattle.dbwalk.specs.Watching.{fails, watches};
+ghost use Rattle.dbwalk.specs.Watching.{fails, fed, never, watches};
 ghost use Rattle.dbformat.specs.Errands.{cell_errands};
 ghost use Rattle.dbformat.specs.Payload.{most_payload};
 ghost use Rattle.dbformat.specs.File.{geometry as shape_of};
@@ -15,7 +15,6 @@ ghost use Rattle.dbwalk.specs.LeafCells.{overflow_errands, late_reported, top_af
 ghost use Rattle.dbwalk.specs.Taking.{FeedsPayload};
 ghost use Rattle.dbwalk.specs.Beside.{WalksBeside};
 ghost use Rattle.dbwalk.specs.Reporting.{IsReportedTo};
-ghost use Rattle.dbwalk.specs.Done.{IsDone};
 
 use crate::cells::{LeafCell, leaf_cell, pass_cells};
 use crate::chain::{Chain, walk_chain};
@@ -143,9 +142,10 @@ pub(crate) fn walk_overflow<A: Allocator, S: Source, K: Sink>(
     requires shape { IsInRange at.place.shape × (length buffer.old ≡ at.place.shape.page_size) }
     ensures walks { WalksBeside S.step result (S.held source.old) (S.held source.new) (K.held sink.old) (K.held sink.new)
         at.entry.place.shape.page_size marks.old marks.new (λ file. at.entry.place.shape ≡ shape_of file
-        → AtOverflow file at.entry.tree.now at.entry.place at.entry.cell marks.old (λ U c.
-        IsDone K.takes file U (overflow_errands c at.entry.place.item at.entry.cell.overflow) result marks.new sink.old sink.new
-        × OnOk result (FeedsPayload file U c at.entry.place.item at.entry.cell.overflow sieve.old sieve.new))) }
+        → AtOverflow file at.entry.tree.now at.entry.place at.entry.cell marks.old (λ from c.
+        HasDone (fed K.takes) never file (done_below file from (overflow_errands c at.entry.place.item at.entry.cell.overflow)) result
+        (marks.new, at.entry.tree.now) sink.old sink.new × OnOk result (FeedsPayload file from.visits
+        (done_below file from (overflow_errands c at.entry.place.item at.entry.cell.overflow)).visits c at.entry.place.item sieve.old sieve.new))) }
     ensures kept { is_some sieve.new ≡ is_some sieve.old }
 {
     match at.cell.overflow {

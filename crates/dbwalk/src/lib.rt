@@ -14,8 +14,9 @@
 //! it keeps of them, its progress, and which items it hands out: findings to the sink, rows of the schema to the taker. For
 //! each file a call of the walk over a tree states one thing, `HasDone`: the marks and the tree's state are those after its
 //! part of the walk, and all items of this part were handed out; or, at an error, a beginning of them. Parts that follow one
-//! another are one part, so the contract of a tree is made from those of its pages, and theirs from those of their cells. For
-//! an overflow chain and for the freelist, which do not change the progress, `IsDone` states the same by the visits.
+//! another are one part, so the contract of a tree is made from those of its pages, and theirs from those of their cells. A walk
+//! along an overflow chain or the freelist states the same of a sink alone (`fed`), for each state that a tree may have: the
+//! progress stays as it is there. `walk_freelist` states it by the visits and findings of the definitions (`IsDone`).
 //!
 //! **Beside the pages of a tree** (specs/Beside) a walk goes from step to step: along an overflow chain, or from trunk to trunk.
 //! `enter_beside` marks the page of a step and reads it into a buffer, which the bench lends once for the whole walk. `IsAtStep`

@@ -1,16 +1,16 @@
 -- What a sieve is fed of a payload along its overflow chain.
-use Rattle.std.proofs.Common.{◌≡◌, ℕ, true, inl, inr, List, [], ◌∷◌, ◌++◌, Some, refl, sym, ap, subst, ◌∙◌, arith, false, Option, None, append_assoc, Result}
+use Rattle.std.proofs.Common.{◌≡◌, ℕ, true, inl, inr, List, [], ◌∷◌, ◌++◌, Some, refl, sym, ap, subst, ◌∙◌, arith, Option, None, append_assoc, Result}
 use Rattle.std.proofs.Common.{Ok, Err, flat_map, filter, nat_eq, OnOk}
-use Rattle.dbwalk.proofs.Common.{IsIn, Address, IsBefore, Go, is_followed, then_step, overflow_step, Cell, page_bytes, Reference, role_of, bytes_left}
-use Rattle.dbwalk.proofs.Common.{first_overflow, payload, rules_of, RowSieve, IsNext, FeedsChain, Feeds, FeedsPages, visited_below, usable_size, overflow_bytes}
-use Rattle.dbwalk.proofs.Common.{HasFed, FeedsPayload, unwrap_or, eqb-true, append-nil, flat_map-append}
+use Rattle.dbwalk.proofs.Common.{IsIn, Address, IsBefore, Go, then_step, overflow_step, Cell, page_bytes, Reference, role_of, bytes_left}
+use Rattle.dbwalk.proofs.Common.{first_overflow, payload, RowSieve, IsNext, FeedsSince, Feeds, visited_below, usable_size, overflow_bytes}
+use Rattle.dbwalk.proofs.Common.{Walk, bare, done_below, has_steps, HasFed, FeedsPayload, unwrap_or, eqb-true, append-nil, flat_map-append}
 use Rattle.std.specs.List.{starts_with}
 use Rattle.std.proofs.lemmas.Bool.{and_parts}
 use Rattle.std.proofs.lemmas.List.Elements.{filter-append}
 use Rattle.dbformat.specs.Schema.{chain, held_bytes}
 use Rattle.dbformat.specs.declared.Encoding.{Encoding}
 use Rattle.dbbytes.specs.Sieve.{HasTaken}
-use Rattle.dbwalk.proofs.Reporting.Belows.{below_begins, visited_none, visited_refused}
+use Rattle.dbwalk.proofs.Reporting.Belows.{below_begins, quiet_go}
 use Rattle.dbsurvey.proofs.Beginnings.{begins}
 use Rattle.dbsurvey.proofs.Lists.{filter-all, filter-none}
 
@@ -37,6 +37,10 @@ pub payload_before : (file : List ℕ) (W : List Reference) (a : Address) (i : �
 unfolding payload
 payload_before file W a i cell h = ap (λ rs. cell.local ++ flat_map (held_bytes file) rs) (chain_before W a i h) ∙ append-nil cell.local
 
+same_rest : {X : Type 0} (W xs ys : List X) → W ++ xs ≡ W ++ ys → xs ≡ ys
+same_rest [] xs ys h = h
+same_rest (w ∷ W) xs ys h = same_rest W xs ys (let k : W ++ xs ≡ W ++ ys = cc in k)
+
 module _ (file : List ℕ) (W : List Reference) (c : Reference) (a : Address) (i : ℕ) (at : c.address ≡ then_step a (overflow_step i)) (next : IsNext W c) where
   -- all that is visited below the first reference of a chain begins with its address
   all_begin : (t : Reference) → IsIn t (visited_below file W (Go c ∷ [])) → starts_with nat_eq t.address (then_step a (overflow_step i)) ≡ true
@@ -58,10 +62,12 @@ module _ (file : List ℕ) (W : List Reference) (c : Reference) (a : Address) (i
   unfolding payload
   payload_below cell = ap (λ rs. cell.local ++ flat_map (held_bytes file) rs) chain_below
 
-  -- a sieve that had taken the payload bytes in the cell has taken the payload
-  pub sieve_payload : (old new : RowSieve) (cell : Cell) (size : ℕ) (e : Encoding) → FeedsChain file W c (Some old) (Some new) → HasTaken old size e cell.local
-      → HasTaken new size e (payload file (W ++ visited_below file W (Go c ∷ [])) a i cell)
-  sieve_payload old new cell size e fed taken = subst (λ l. HasTaken new size e l) (sym (payload_below cell)) (fed size e cell.local taken)
+  -- a sieve that had taken the payload bytes in the cell, and is fed the pages of the chain, has taken the payload
+  pub sieve_payload : (V : List Reference) (old new : RowSieve) (cell : Cell) (size : ℕ) (e : Encoding) → V ≡ W ++ visited_below file W (Go c ∷ [])
+      → FeedsSince file W V (Some old) (Some new) → HasTaken old size e cell.local → HasTaken new size e (payload file V a i cell)
+  sieve_payload V old new cell size e visits fed taken = subst (λ l. HasTaken new size e l)
+      (ap (λ l. cell.local ++ flat_map (held_bytes file) l) (same_rest W fed.pages (visited_below file W (Go c ∷ [])) (sym fed.since ∙ visits))
+      ∙ sym (payload_below cell) ∙ ap (λ V. payload file V a i cell) (sym visits)) (fed.fed size e cell.local taken)
 
 -- What a sieve is fed, page after page.
 
@@ -81,33 +87,20 @@ feeds_then (Some r) (Some s) (Some t) x y h k = λ size e taken f. subst (λ l. 
     (k size e (taken ++ x) (h size e taken f))
 
 -- the pages so far, and one more
-pub feeds_page : (file : List ℕ) (a b c : Option RowSieve) (pages : List Reference) (d : Reference) → FeedsPages file a pages b → Feeds b (held_bytes file d) c
-    → FeedsPages file a (pages ++ d ∷ []) c
-feeds_page file a b c pages d h k = subst (λ l. Feeds a l c)
-    (sym (flat_map-append (held_bytes file) pages (d ∷ []) ∙ ap (λ l. flat_map (held_bytes file) pages ++ l) (append-nil (held_bytes file d))))
-    (feeds_then a b c (flat_map (held_bytes file) pages) (held_bytes file d) h k)
+pub feeds_page : {file : List ℕ} {W V : List Reference} {a b c : Option RowSieve} (d : Reference) → FeedsSince file W V a b → Feeds b (held_bytes file d) c
+    → FeedsSince file W (V ++ d ∷ []) a c
+feeds_page {file} {W} {V} {a} {b} {c} d h k = record {
+  pages = h.pages ++ d ∷ [];
+  since = ap (λ V. V ++ d ∷ []) h.since ∙ append_assoc W h.pages (d ∷ []);
+  fed = subst (λ l. Feeds a l c)
+      (sym (flat_map-append (held_bytes file) h.pages (d ∷ []) ∙ ap (λ l. flat_map (held_bytes file) h.pages ++ l) (append-nil (held_bytes file d))))
+      (feeds_then a b c (flat_map (held_bytes file) h.pages) (held_bytes file d) h.fed k);
+}
 
 -- what an overflow page holds
 pub held_is : (file : List ℕ) (c : Reference) (left : ℕ) → bytes_left (role_of c) ≡ Some left → held_bytes file c
     ≡ overflow_bytes (usable_size file) left (page_bytes file c.page)
 held_is file c left h = ap (λ o. overflow_bytes (usable_size file) (unwrap_or o 0) (page_bytes file c.page)) h
-
-same_rest : {X : Type 0} (W xs ys : List X) → W ++ xs ≡ W ++ ys → xs ≡ ys
-same_rest [] xs ys h = h
-same_rest (w ∷ W) xs ys h = same_rest W xs ys (let k : W ++ xs ≡ W ++ ys = cc in k)
-
--- at the end of a chain its pages are all that is below its first reference
-pub fed_whole : (file : List ℕ) (W : List Reference) (c : Reference) (old new : Option RowSieve) (pages U : List Reference) → FeedsPages file old pages new → U
-    ≡ W ++ pages
-    → U ++ visited_below file U [] ≡ W ++ visited_below file W (Go c ∷ []) → FeedsChain file W c old new
-fed_whole file W c old new pages U h e v = subst (λ l. FeedsPages file old l new)
-    (same_rest W pages (visited_below file W (Go c ∷ [])) (sym e ∙ sym (append-nil U) ∙ ap (λ l. U ++ l) (sym (visited_none file U)) ∙ v)) h
-
--- the same where the last reference is refused
-pub fed_refused : (file : List ℕ) (W : List Reference) (c d : Reference) (old new : Option RowSieve) (pages U : List Reference) → FeedsPages file old pages new
-    → U ≡ W ++ pages → is_followed (rules_of file) U d ≡ false
-    → U ++ visited_below file U (Go d ∷ []) ≡ W ++ visited_below file W (Go c ∷ []) → FeedsChain file W c old new
-fed_refused file W c d old new pages U h e f v = fed_whole file W c old new pages U h e (ap (λ l. U ++ l) (sym (visited_refused file U d [] f)) ∙ v)
 
 -- The payload of a cell of the schema, as a sieve takes it: the bytes in the cell, and then those of its chain.
 
@@ -116,12 +109,13 @@ on_ok (Ok a) p f = f p
 on_ok (Err e) p f = tt
 
 -- no chain: nothing is fed
-pub feeds_nothing : (file : List ℕ) (U : List Reference) (c : Reference) (i : ℕ) (overflow : Option (ℕ × ℕ)) (sieve : Option RowSieve) → overflow ≡ None
-    → FeedsPayload file U c i overflow sieve sieve
-feeds_nothing file U c i overflow sieve e = subst (λ o. FeedsPayload file U c i o sieve sieve) (sym e) (record {
+pub feeds_nothing : (file : List ℕ) (from : Walk) (c : Reference) (i : ℕ) (sieve : Option RowSieve)
+    → FeedsPayload file from.visits (done_below file from []).visits c i sieve sieve
+feeds_nothing file from c i sieve = record {
   fed = λ x e before h. subst (λ l. HasFed sieve x.size e l)
-      (sym (ap (λ V. payload file V c.address i x) (ap (λ V. U ++ V) (visited_none file U) ∙ append-nil U) ∙ payload_before file U c.address i x before)) h;
-})
+      (sym (ap (λ (m : Walk). payload file m.visits c.address i x) ((has_steps file).none (bare from))
+      ∙ payload_before file from.visits c.address i x before)) h;
+}
 
 -- the reference of a cell to its first overflow page
 abbrev pub first_of : Reference → ℕ → ℕ → ℕ → Reference
@@ -132,12 +126,19 @@ first_of c i first left = record {
 }
 
 -- a chain: its pages are fed
-pub feeds_chain : (file : List ℕ) (U : List Reference) (c : Reference) (i first left : ℕ) (overflow : Option (ℕ × ℕ)) (old new : Option RowSieve) → overflow
-    ≡ Some (first, left) → IsNext U (first_of c i first left) → FeedsChain file U (first_of c i first left) old new
-    → FeedsPayload file U c i overflow old new
-feeds_chain file U c i first left overflow old new e next fed = subst (λ o. FeedsPayload file U c i o old new) (sym e) (by_sieve old new fed)
+pub feeds_chain : (file : List ℕ) (from : Walk) (c : Reference) (i first left : ℕ) (old new : Option RowSieve)
+    → IsNext from.visits (first_of c i first left)
+    → FeedsSince file from.visits (done_below file from (Go (first_of c i first left) ∷ [])).visits old new
+    → FeedsPayload file from.visits (done_below file from (Go (first_of c i first left) ∷ [])).visits c i old new
+feeds_chain file from c i first left old new next fed = by_sieve old new fed
   where
-    by_sieve : (old new : Option RowSieve) → FeedsChain file U (first_of c i first left) old new → FeedsPayload file U c i (Some (first, left)) old new
+    V : List Reference
+    V = (done_below file from (Go (first_of c i first left) ∷ [])).visits
+
+    by_sieve : (old new : Option RowSieve) → FeedsSince file from.visits V old new → FeedsPayload file from.visits V c i old new
     by_sieve None new fed = record { fed = λ x e before h. absurd h }
-    by_sieve (Some s) None fed = record { fed = λ x e before h. absurd fed }
-    by_sieve (Some s) (Some t) fed = record { fed = λ x e before h. sieve_payload file U (first_of c i first left) c.address i refl next s t x x.size e fed h }
+    by_sieve (Some s) None fed = record { fed = λ x e before h. absurd fed.fed }
+    by_sieve (Some s) (Some t) fed = record {
+      fed = λ x e before h. sieve_payload file from.visits (first_of c i first left) c.address i refl next V s t x x.size e
+          ((has_steps file).visits (bare from) (Go (first_of c i first left) ∷ []) (quiet_go (first_of c i first left))) fed h;
+    }

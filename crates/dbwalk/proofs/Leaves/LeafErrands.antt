@@ -1,18 +1,17 @@
 -- What a cell of a leaf leads to: its overflow chain, and then its own event.
 use Rattle.std.proofs.Common.{◌≡◌, ℕ, ◌+◌, ◌*◌, ◌%◌, ◌/◌, false, cond, inl, inr, List, [], ◌∷◌, ◌++◌, length, map, Option, Some, None, Result, Ok}
 use Rattle.std.proofs.Common.{Err, refl, sym, ap, ap₂, subst, arith, ◌∙◌, option_map, option_and_then, option_to_list}
-use Rattle.dbwalk.proofs.Common.{IsBefore, AreQuiet, IsPast, Moves, Errand, errand_key, errands_of, start_of, then_step, overflow_step, child_step}
+use Rattle.dbwalk.proofs.Common.{IsBefore, AreQuiet, IsPast, Errand, errand_key, errands_of, start_of, then_step, overflow_step, child_step}
 use Rattle.dbwalk.proofs.Common.{is_child_step, cell_of_step, children_on, chain_on, child_path, chain_place, View, if_of_tree, is_interior}
 use Rattle.dbwalk.proofs.Common.{undamaged, view, Cell, cell, count, overflow_size, go, report_cell, errands_in, cell_errands, errands_before}
 use Rattle.dbwalk.proofs.Common.{page_bytes, usable_size, first_overflow, Way, Reference, link, role_of, tree_kind, tree_view, right_links, Event, own_visit}
-use Rattle.dbwalk.proofs.Common.{story_of, CellFault, InteriorIndex, InteriorTable, LeafIndex, LeafTable, TreeKind, cell_rowid, Finding, IsOnChain, IsChainOf}
-use Rattle.dbwalk.proofs.Common.{IsDone, overflow_errands, AreBefore, AreMarksOf, IsVisitAt, Mark, option_map_or, result_ok, append-nil, nat_tests, child}
+use Rattle.dbwalk.proofs.Common.{story_of, CellFault, InteriorIndex, InteriorTable, LeafIndex, LeafTable, TreeKind, cell_rowid, IsOnChain, IsChainOf}
+use Rattle.dbwalk.proofs.Common.{overflow_errands, AreBefore, IsVisitAt, option_map_or, result_ok, append-nil, nat_tests, child}
 use Rattle.dbwalk.proofs.Common.{PageKind, Chain, Fits, at_offset, cell_fits}
 use Rattle.dbformat.specs.Head.{right_number}
 use Rattle.dbformat.proofs.Looping.{by_cell}
 use Rattle.dbformat.specs.declared.HeadFault.{HeadFault}
 use Rattle.dbwalk.proofs.Pages.PageReportings.{view_is}
-use Rattle.dbwalk.proofs.Reporting.Belows.{visited_none, reported_none}
 use Rattle.dbwalk.proofs.Chaining.Overflows.{child_by, place_by, steps_then}
 
 -- a leaf's cells have no left child
@@ -76,15 +75,6 @@ pub quiet_overflow : (c : Reference) (i : ℕ) (overflow : Option (ℕ × ℕ)) 
 quiet_overflow c i None e h = absurd h
 quiet_overflow c i (Some o) e (inl h) = cc
 quiet_overflow c i (Some o) e (inr h) = absurd h
-
-pub none_done : {S : Type 0} (takes : S → Finding → S → Type 0) (file : List ℕ) (U : List Reference) (c : Reference) (i : ℕ) (overflow : Option (ℕ × ℕ))
-    (marks : List Mark) (s : S) → overflow ≡ None → AreMarksOf file U marks
-    → IsDone {A = Unit {0}} takes file U (overflow_errands c i overflow) (Ok tt) marks s s
-none_done takes file U c i overflow marks s e m =
-    subst (λ o. IsDone {A = Unit {0}} takes file U (overflow_errands c i o) (Ok tt) marks s s) (sym e) (record {
-      marked = subst (λ V. AreMarksOf file V marks) (sym (ap (λ V. U ++ V) (visited_none file U) ∙ append-nil U)) m;
-      reported = subst (λ L. Moves takes s L s) (sym (reported_none file U)) refl;
-    })
 
 -- the first reference of a chain
 pub chain_start : (chain : Chain) (file : List ℕ) (kind : TreeKind) (k : ℕ) (children : List ℕ) (c : Reference) (p i first left : ℕ)

@@ -1,14 +1,19 @@
 -- What a walk beside the pages of a tree leaves, part after part.
-use Rattle.std.proofs.Common.{◌≡◌, ℕ, Bool, true, false, inl, inr, List, [], ◌∷◌, Option, Some, None, Result, Ok, Err, refl, sym, ap, subst, ◌∙◌, IfErr, IfSome}
-use Rattle.dbwalk.proofs.Common.{Go, is_followed, geometry, Reference, rules_of, Finding, Cause, KeepsMarks, Mark, is_read_failed, failures_after, SourceState}
-use Rattle.dbwalk.proofs.Common.{RunError, WriteFailed, EntersBeside, Opens, Turns, WalksBeside, IsDone, IsReadOrWrite, SinkMoves, SinkState, SinkWalks}
-use Rattle.dbwalk.proofs.Common.{Geometry, log_then, Reads, has_weaker, ReadFailed, Step}
+use Rattle.std.proofs.Common.{◌≡◌, ℕ, Bool, true, false, inl, inr, List, [], ◌∷◌, ◌++◌, Option, Some, None, Result, Ok, Err, refl, sym, ap, subst, ◌∙◌, IfErr}
+use Rattle.std.proofs.Common.{IfSome}
+use Rattle.dbwalk.proofs.Common.{Go, Errand, errands_of, is_followed, geometry, Way, Reference, role_of, tree_kind, rules_of, Event, at_page, at_refused}
+use Rattle.dbwalk.proofs.Common.{story_of, Moves, Finding, reported_at, refusal_cause, Cause, KeepsMarks, Mark, AreMarksOf, is_read_failed, failures_after}
+use Rattle.dbwalk.proofs.Common.{SourceState, Walk, advance, RunError, WriteFailed, EntersBeside, Enters, Opens, Turns, WalksBeside, IsReadOrWrite, SinkMoves}
+use Rattle.dbwalk.proofs.Common.{SinkState, SinkWalks, Geometry, log_then, Reads, has_weaker, ReadFailed, Step, Tree, HasDone, IsUnderway, IsAt, fed, never}
+use Rattle.dbwalk.proofs.Common.{append-nil}
 use Rattle.dbmarks.proofs.Readings.{reads_none}
 use Rattle.dbsource.proofs.Logs.{has_none}
 use Rattle.dbsource.specs.Sources.{HasLog}
+use Rattle.dbtrace.proofs.Asides.{IsOff, item_off, step_off}
 use Rattle.dbwalk.specs.Beside.{IsAtStep, LeavesBeside}
-use Rattle.dbwalk.proofs.Reporting.Lefts.{left_unreported, refused_last}
 use Rattle.dbwalk.proofs.Reporting.Sinks.{walks_after, walks_as, walks_err, walks_ok}
+use Rattle.dbwalk.proofs.Underway.Handing.{found_fed}
+use Rattle.dbwalk.proofs.Underway.Underways.{items_of, stop_now, under_end, under_refused, under_visit, under_whole}
 use Rattle.dbsource.specs.Answers as answers
 
 -- nothing was read
@@ -99,42 +104,79 @@ log_shaped {l = l} {m = m} same h says = has_weaker _ _ h (λ log k. subst (λ n
 
 -- A turn, by what it answers.
 
-module _ {S P : Type 0} {takes : S → Finding → S → Type 0} {file : List ℕ} {W : List Reference} {c : Reference} {before : S} {on : P → Type 0}
-    {end : Type 0} {marks : List Mark} {s : S} where
-  pub turn_failed : {r : Result (Option P) RunError} {e : RunError} → r ≡ Err e → IsDone {A = Unit {0}} takes file W (Go c ∷ []) (Err e) marks before s
-      → Turns takes file W c before on end r marks s
-  turn_failed q h = subst (λ r. Turns takes file W c before on end r marks s) (sym q) (record { next = tt; ended = tt; stopped = h })
+module _ {S P : Type 0} {takes : S → Finding → S → Type 0} {file : List ℕ} {whole : Walk} {before : S} {on : P → Type 0} {end : Type 0}
+    {state : List Mark × Tree} {s : S} where
+  pub turn_failed : {r : Result (Option P) RunError} {e : RunError} → r ≡ Err e
+      → HasDone {A = Unit {0}} (fed takes) never file whole (Err e) state before s → Turns takes file whole before on end r state s
+  turn_failed q h = subst (λ r. Turns takes file whole before on end r state s) (sym q) (record { next = tt; ended = tt; stopped = h })
 
-  pub turn_ended : IsDone {A = Unit {0}} takes file W (Go c ∷ []) (Ok tt) marks before s → end → Turns takes file W c before on end (Ok None) marks s
-  turn_ended h e = record { next = tt; ended = λ none. (h, e); stopped = tt }
+  -- nothing is left
+  pub turn_ended : {now : Walk} → IsUnderway (fed takes) file whole before now [] state s → (whole.visits ≡ now.visits → end)
+      → Turns takes file whole before on end (Ok None) state s
+  turn_ended {now = now} h end = record {
+    next = tt;
+    ended = λ none. (under_end (fed takes) never file whole before tt now state s h, end (ap (λ m. m.visits) (sym (under_whole h))));
+    stopped = tt;
+  }
 
-  pub turn_on : {place : P} → on place → Turns takes file W c before on end (Ok (Some place)) marks s
+  pub turn_on : {place : P} → on place → Turns takes file whole before on end (Ok (Some place)) state s
   turn_on h = record { next = h; ended = λ none. cc; stopped = tt }
 
-  pub turned_on : {o : Option P} {place : P} → Turns takes file W c before on end (Ok o) marks s → o ≡ Some place → on place
+  pub turned_on : {o : Option P} {place : P} → Turns takes file whole before on end (Ok o) state s → o ≡ Some place → on place
   turned_on h is = subst (λ o. IfSome o on) is h.next
 
+-- A reference to a page of no tree: it is refused, or visited. Marks and findings are those of its event, and the tree's state stays.
+module _ {S : Type 0} {takes : S → Finding → S → Type 0} {file : List ℕ} {whole : Walk} {before : S} {now : Walk} {d : Reference}
+    {es : List (Errand Way Event)} {marks : List Mark} {tree : Tree} {s : S}
+    (under : IsUnderway (fed takes) file whole before now (Go d ∷ es) (marks, tree) s) (aside : tree_kind (role_of d) ≡ None) where
+  at_off : {marks' : List Mark} (event : Event) → IsOff file event → AreMarksOf file (advance file now event).visits marks'
+      → IsAt file (advance file now event) marks' tree
+  at_off event off m =
+      let same = sym (step_off file (advance file now event).visits now.state event off) in
+      (m, under.at.1 ∙ ap (λ p. p.greatest) same, under.at.2 ∙ ap (λ p. p.leaf) same)
+
+  moves_off : (t : S) (event : Event) → IsOff file event → Moves takes s (reported_at file (advance file now event).visits event) t
+      → Moves (fed takes) s (items_of file now event) t
+  moves_off t event off h =
+      let U = (advance file now event).visits in
+      subst (λ l. Moves (fed takes) s l t) (sym (item_off file U now.state event off)) (found_fed takes (reported_at file U event) s t h)
+
+  pub refused_beside : {marks' : List Mark} {t : S} → Enters takes file now.visits d (refusal_cause file now.visits d) (Ok false) marks' s t
+      → IsUnderway (fed takes) file whole before (advance file now (at_refused d)) es (marks', tree) t
+  refused_beside {marks'} {t} e =
+      let same = sym (append-nil now.visits) in
+      under_refused (fed takes) file whole before now (marks, tree) (marks', tree) s t d es under e.0
+      (at_off (at_refused d) aside (subst (λ V. AreMarksOf file V marks') same e.1))
+      (moves_off t (at_refused d) aside (subst (λ V. Moves takes s (reported_at file V (at_refused d)) t) same e.2))
+
+  pub visited_beside : {marks' : List Mark} {t : S} → is_followed (rules_of file) now.visits d ≡ true → AreMarksOf file (now.visits ++ (d ∷ [])) marks'
+      → Moves takes s (reported_at file (now.visits ++ (d ∷ [])) (at_page d)) t
+      → IsUnderway (fed takes) file whole before (advance file now (at_page d)) (errands_of (story_of file) d ++ es) (marks', tree) t
+  visited_beside {marks'} {t} f m h = under_visit (fed takes) file whole before now (marks, tree) (marks', tree) s t d es under f (at_off (at_page d) aside m)
+      (moves_off t (at_page d) aside h)
+
 -- a turn at a step
-module _ {S : Type 0} {takes : S → Finding → S → Type 0} {file : List ℕ} {W : List Reference} {c : Reference} {before : S} {step : Step} {why : Cause}
-    {marks : List Mark} {s : S} (at : IsAtStep takes file W c before step why marks s) where
+module _ {S : Type 0} {takes : S → Finding → S → Type 0} {file : List ℕ} {whole : Walk} {before : S} {step : Step} {why : Cause} {marks : List Mark}
+    {tree : Tree} {s : S} (at : IsAtStep takes file whole before step why (marks, tree) s) where
   -- an error stopped it
   pub turn_stopped : {P : Type 0} {on : P → Type 0} {end : Type 0} {r : Result (Option P) RunError} {e : RunError} {marks' : List Mark} {t : S}
-      {here : List ℕ} → r ≡ Err e → EntersBeside takes file step why marks s (Err e) marks' t here → Turns takes file W c before on end r marks' t
-  turn_stopped {e = e} {marks' = marks'} {t = t} q h = turn_failed q (left_unreported takes file W (Go c ∷ []) before at.visited marks s t marks' e (Go at.d
-      ∷ [])
-      at.rest (h.opens at.visited at.d at.is at.rest.past at.rest.marked at.cause_is))
+      {here : List ℕ} → r ≡ Err e → IsReadOrWrite e → EntersBeside takes file step why marks s (Err e) marks' t here
+      → Turns takes file whole before on end r (marks', tree) t
+  turn_stopped {e = e} {t = t} q only h = turn_failed q (record {
+    at = tt;
+    handed = stop_now (fed takes) file whole before at.now (marks, tree) (marks, tree) s t never e (Go at.d ∷ []) at.rest only
+        (h.opens at.now.visits at.d at.is at.rest.past at.rest.at.0 at.cause_is);
+  })
 
   -- the reference is refused, or followed
   module _ {b : Bool} {marks' : List Mark} {t : S} {here : List ℕ} (h : EntersBeside takes file step why marks s (Ok b) marks' t here) where
-    entered : (d : Bool) → b ≡ d → Opens takes file at.visited at.d (Ok d) marks' s t here
-    entered d is = subst (λ b. Opens takes file at.visited at.d (Ok b) marks' s t here) is
-        (h.opens at.visited at.d at.is at.rest.past at.rest.marked at.cause_is)
+    entered : (d : Bool) → b ≡ d → Opens takes file at.now.visits at.d (Ok d) marks' s t here
+    entered d is = subst (λ b. Opens takes file at.now.visits at.d (Ok b) marks' s t here) is
+        (h.opens at.now.visits at.d at.is at.rest.past at.rest.at.0 at.cause_is)
 
-    pub turn_refused : {P : Type 0} {on : P → Type 0} {end : Type 0} → b ≡ false → (is_followed (rules_of file) at.visited at.d ≡ false → end)
-        → Turns takes file W c before on end (Ok None) marks' t
-    turn_refused is end =
-        let e = entered false is in
-        turn_ended (refused_last takes file W (Go c ∷ []) before at.visited marks marks' s t at.d at.rest e) (end e.0)
+    pub turn_refused : {P : Type 0} {on : P → Type 0} {end : Type 0} → b ≡ false → (whole.visits ≡ at.now.visits → end)
+        → Turns takes file whole before on end (Ok None) (marks', tree) t
+    turn_refused is end = turn_ended (refused_beside at.rest at.aside (entered false is)) (λ e. end (e ∙ append-nil at.now.visits))
 
-    pub turn_entered : b ≡ true → Opens takes file at.visited at.d (Ok true) marks' s t here
+    pub turn_entered : b ≡ true → Opens takes file at.now.visits at.d (Ok true) marks' s t here
     turn_entered is = entered true is

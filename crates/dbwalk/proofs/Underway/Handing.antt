@@ -1,7 +1,7 @@
 -- Items that are handed to a sink and a taker, one list after another.
-use Rattle.std.proofs.Common.{◌≡◌, Bool, inl, inr, List, [], ◌∷◌, ◌++◌, map, Result, Ok, Err, refl, sym, ap, subst, ℕ, ◌∙◌, IfErr, OnOk, arith}
+use Rattle.std.proofs.Common.{◌≡◌, Bool, inl, inr, List, [], ◌∷◌, ◌++◌, map, Result, Ok, Err, refl, sym, ap, subst, ℕ, ◌∙◌, OnOk}
 use Rattle.dbwalk.proofs.Common.{Moves, Stops, MovesBySome, SchemaCell, SchemaRow, RunError, WriteFailed, OutOfMemory, Finding, Item, found, given}
-use Rattle.dbwalk.proofs.Common.{given_cells, counted_findings, IsReadOrWrite, Reports, ReportsRow, watches, fails, row_at, StopsAt, Handed, Taken, AreQuiet}
+use Rattle.dbwalk.proofs.Common.{given_cells, counted_findings, Reports, ReportsRow, watches, fails, fed, never, row_at, StopsAt, Handed, Taken, AreQuiet}
 use Rattle.dbwalk.proofs.Common.{Errand, geometry, rules_of, Way, Event, own_visit, story_of, Walk, bare, run_below, AreMarksOf, IsAt, HasDone, done_below}
 use Rattle.dbwalk.proofs.Common.{Mark, Tree, Moves-append, some_after, has_steps}
 use Rattle.dbsurvey.proofs.Moving.{some_first, stops_first, stops_after}
@@ -35,10 +35,6 @@ pub asked_done : {P : Type 0} {moves : P → Item → P → Type 0} {stops : P �
 asked_done {moves = moves} {stops = stops} {file = file} {done = done} {now = now} {w = w} {x = x} shut e h =
     asked_both (λ r. HasDone moves stops file done r now w x) shut e h (record { at = tt; handed = moves_some moves w x done.items h.handed })
 
--- no memory is asked for where only reading and writing can fail
-pub no_memory : {A : Type 0} (r : Result A RunError) → IfErr r IsReadOrWrite → r ≡ Err OutOfMemory → ⊥
-no_memory r h e = grind arith
-
 module _ {P : Type 0} (moves : P → Item → P → Type 0) (stops : P → Item → P → Type 0) where
   -- an error in the first of two lists
   pub stop_first : (e : RunError) (w x : P) (L M : List Item) → StopsAt moves stops e w L x → StopsAt moves stops e w (L ++ M) x
@@ -56,45 +52,41 @@ module _ {P : Type 0} (moves : P → Item → P → Type 0) (stops : P → Item 
   handed_after (Ok a) w m x L M h k = Moves-append moves w m x L M h k
   handed_after (Err e) w m x L M h k = stop_after e w m x L M h k
 
+-- findings alone, to a sink alone
+pub found_fed : {S : Type 0} (takes : S → Finding → S → Type 0) (fs : List Finding) (s t : S) → Moves takes s fs t → Moves (fed takes) s (map found fs) t
+found_fed takes [] s t e = e
+found_fed takes (f ∷ fs) s t h = (h.0, h.1, found_fed takes fs h.0 t h.2)
+
 module _ {S T : Type 0} (takes : S → Finding → S → Type 0) (keeps : T → SchemaRow → Taken → T → Type 0) (refuses : T → SchemaRow → T → Type 0) where
-  -- findings alone, to the sink
+  -- what a sink alone is handed, beside a taker
+  fed_moves : (items : List Item) (s s' : S) (t : T) → Moves (fed takes) s items s' → Moves (watches takes keeps) (s, t) items (s', t)
+  fed_moves [] s s' t e = ap (λ m. (m, t)) e
+  fed_moves (found f ∷ items) s s' t h = ((h.0, t), (h.1, refl), fed_moves items h.0 s' t h.2)
+  fed_moves (given c ∷ items) s s' t h = absurd h.1
+
   pub found_moves : (fs : List Finding) (s s' : S) (t : T) → Moves takes s fs s' → Moves (watches takes keeps) (s, t) (map found fs) (s', t)
-  found_moves [] s s' t e = ap (λ m. (m, t)) e
-  found_moves (f ∷ fs) s s' t h = ((h.0, t), (h.1, refl), found_moves fs h.0 s' t h.2)
+  found_moves fs s s' t h = fed_moves (map found fs) s s' t (found_fed takes fs s s' h)
 
-  pub found_some : (fs : List Finding) (s s' : S) (t : T) → MovesBySome takes s fs s' → MovesBySome (watches takes keeps) (s, t) (map found fs) (s', t)
-  found_some [] s s' t e = ap (λ m. (m, t)) e
-  found_some (f ∷ fs) s s' t (inl e) = inl (ap (λ m. (m, t)) e)
-  found_some (f ∷ fs) s s' t (inr h) = inr ((h.0, t), (h.1, refl), found_some fs h.0 s' t h.2)
+  fed_some : (items : List Item) (s s' : S) (t : T) → MovesBySome (fed takes) s items s' → MovesBySome (watches takes keeps) (s, t) items (s', t)
+  fed_some [] s s' t e = ap (λ m. (m, t)) e
+  fed_some (i ∷ items) s s' t (inl e) = inl (ap (λ m. (m, t)) e)
+  fed_some (found f ∷ items) s s' t (inr h) = inr ((h.0, t), (h.1, refl), fed_some items h.0 s' t h.2)
+  fed_some (given c ∷ items) s s' t (inr h) = absurd h.1
 
-  -- at Ok and after an error of reading or writing
-  pub found_handed : {A : Type 0} (r : Result A RunError) (fs : List Finding) (s s' : S) (t : T) → (r ≡ Err OutOfMemory → ⊥) → Reports takes r s fs s'
-      → Handed (watches takes keeps) (fails refuses) r (s, t) (map found fs) (s', t)
-  found_handed (Ok a) fs s s' t quiet h = found_moves fs s s' t h
-  found_handed (Err OutOfMemory) fs s s' t quiet h = absurd (quiet refl)
-  found_handed (Err _) fs s s' t quiet h = found_some fs s s' t h
+  fed_never : (items : List Item) (s s' : S) → Stops (fed takes) never s items s' → ⊥
+  fed_never [] s s' h = h
+  fed_never (i ∷ items) s s' (inl h) = h
+  fed_never (i ∷ items) s s' (inr h) = fed_never items h.0 s' h.2
 
-  -- and what findings alone left of the sink
-  moves_found : (fs : List Finding) (w x : S × T) → Moves (watches takes keeps) w (map found fs) x → Moves takes w.0 fs x.0
-  moves_found [] w x e = ap (λ p. p.0) e
-  moves_found (f ∷ fs) w x h = (h.0.0, h.1.0, moves_found fs h.0 x h.2)
-
-  some_found : (fs : List Finding) (w x : S × T) → MovesBySome (watches takes keeps) w (map found fs) x → MovesBySome takes w.0 fs x.0
-  some_found [] w x e = ap (λ p. p.0) e
-  some_found (f ∷ fs) w x (inl e) = inl (ap (λ p. p.0) e)
-  some_found (f ∷ fs) w x (inr h) = inr (h.0.0, h.1.0, some_found fs h.0 x h.2)
-
-  -- no memory was asked for
-  never_refused : (fs : List Finding) (w x : S × T) → Stops (watches takes keeps) (fails refuses) w (map found fs) x → ⊥
-  never_refused [] w x h = h
-  never_refused (f ∷ fs) w x (inl h) = h
-  never_refused (f ∷ fs) w x (inr h) = never_refused fs h.0 x h.2
-
-  pub handed_found : {A : Type 0} (r : Result A RunError) (fs : List Finding) (w x : S × T)
-      → Handed (watches takes keeps) (fails refuses) r w (map found fs) x → Reports takes r w.0 fs x.0
-  handed_found (Ok a) fs w x h = moves_found fs w x h
-  handed_found (Err OutOfMemory) fs w x h = absurd (never_refused fs w x h)
-  handed_found (Err _) fs w x h = some_found fs w x h
+  pub fed_done : {A : Type 0} {file : List ℕ} {done : Walk} (r : Result A RunError) {now : List Mark × Tree} {s s' : S} (t : T)
+      → HasDone (fed takes) never file done r now s s' → HasDone (watches takes keeps) (fails refuses) file done r now (s, t) (s', t)
+  fed_done {A = A} {done = done} r {s = s} {s' = s'} t h = record { at = h.at; handed = by_result r h.handed }
+    where
+      by_result : (r : Result A RunError) → Handed (fed takes) never r s done.items s'
+          → Handed (watches takes keeps) (fails refuses) r (s, t) done.items (s', t)
+      by_result (Ok a) h = fed_moves done.items s s' t h
+      by_result (Err OutOfMemory) h = absurd (fed_never done.items s s' h)
+      by_result (Err _) h = fed_some done.items s s' t h
 
   -- a row of the schema alone, and none
   pub row_handed : (r : Result (Unit {0}) RunError) (c : SchemaCell) (w x : S × T) → ReportsRow takes keeps refuses (row_at c) r w x
@@ -103,6 +95,30 @@ module _ {S T : Type 0} (takes : S → Finding → S → Type 0) (keeps : T → 
   row_handed (Err WriteFailed) c w x h = inl h
   row_handed (Err OutOfMemory) c w x h = inl h
   row_handed (Err _) c w x h = absurd h
+
+-- what findings alone leave of a sink, which is in a state that is handed items
+module _ {P S : Type 0} (moves stops : P → Item → P → Type 0) (takes : S → Finding → S → Type 0) (sink : P → S)
+    (each : (f : Finding) (w x : P) → moves w (found f) x → takes (sink w) f (sink x)) (none : (f : Finding) (w x : P) → stops w (found f) x → ⊥) where
+  moves_found : (fs : List Finding) (w x : P) → Moves moves w (map found fs) x → Moves takes (sink w) fs (sink x)
+  moves_found [] w x e = ap sink e
+  moves_found (f ∷ fs) w x h = (sink h.0, each f w h.0 h.1, moves_found fs h.0 x h.2)
+
+  some_found : (fs : List Finding) (w x : P) → MovesBySome moves w (map found fs) x → MovesBySome takes (sink w) fs (sink x)
+  some_found [] w x e = ap sink e
+  some_found (f ∷ fs) w x (inl e) = inl (ap sink e)
+  some_found (f ∷ fs) w x (inr h) = inr (sink h.0, each f w h.0 h.1, some_found fs h.0 x h.2)
+
+  -- no memory was asked for
+  never_refused : (fs : List Finding) (w x : P) → Stops moves stops w (map found fs) x → ⊥
+  never_refused [] w x h = h
+  never_refused (f ∷ fs) w x (inl h) = none f w x h
+  never_refused (f ∷ fs) w x (inr h) = never_refused fs h.0 x h.2
+
+  pub handed_found : {A : Type 0} (r : Result A RunError) (fs : List Finding) (w x : P) → Handed moves stops r w (map found fs) x
+      → Reports takes r (sink w) fs (sink x)
+  handed_found (Ok a) fs w x h = moves_found fs w x h
+  handed_found (Err OutOfMemory) fs w x h = absurd (never_refused fs w x h)
+  handed_found (Err _) fs w x h = some_found fs w x h
 
 -- What calls have done, one after another.
 

@@ -1,21 +1,19 @@
 -- One turn of the loop over the interior pages of a tree.
 use Rattle.std.proofs.Common.{◌≡◌, ℕ, suc, ◌+◌, ◌-◌, ◌*◌, ◌<◌, ◌≤◌, true, false, not, inl, inr, List, [], ◌∷◌, ◌++◌, map, length, Some, Ok, Err, refl, sym, ap}
-use Rattle.std.proofs.Common.{cond, subst, arith, ◌∙◌, append_assoc, None, Result, slice_get, OnOk, IfErr}
-use Rattle.dbwalk.proofs.Common.{AreQuiet, Moves, Errand, Go, errands_of, child_step, Cell, count, report_cell, page_bytes, Way, Reference, role_of, tree_kind}
-use Rattle.dbwalk.proofs.Common.{Event, at_page, at_key, own_visit, story_of, TreeKind, RunError, key_from, root_of, key_before, RowidBounds, Item, found, Walk}
-use Rattle.dbwalk.proofs.Common.{advance, run_below, bare, IsNext, top_after, AreMarksOf, errands_from, child_at, top_visit, left_over, IsStepped}
-use Rattle.dbwalk.proofs.Common.{AreOpenFrames, AreRead, IsReadOrWrite, IsUnderway, HasDone, IsInterior, done_below, entered, IsAt, IsWalkingOn, tree_walk}
-use Rattle.dbwalk.proofs.Common.{StopsAt, watches, fails, Handed, StackFrame, Mark, Tree, SchemaRow, Finding, reported_below, visited_below, IsDone, Taken}
+use Rattle.std.proofs.Common.{cond, subst, arith, ◌∙◌, append_assoc, None, slice_get, IfErr}
+use Rattle.dbwalk.proofs.Common.{Moves, Errand, Go, errands_of, child_step, Cell, count, report_cell, page_bytes, Way, Reference, role_of, tree_kind}
+use Rattle.dbwalk.proofs.Common.{Event, at_page, at_key, story_of, TreeKind, RunError, key_from, root_of, key_before, RowidBounds, Item, found, Walk}
+use Rattle.dbwalk.proofs.Common.{advance, run_below, IsNext, top_after, AreMarksOf, errands_from, child_at, top_visit, left_over, IsStepped}
+use Rattle.dbwalk.proofs.Common.{AreOpenFrames, AreRead, IsUnderway, HasDone, IsInterior, done_below, entered, IsWalkingOn, tree_walk}
+use Rattle.dbwalk.proofs.Common.{StopsAt, StackFrame, Mark, Tree, visited_below}
 use Rattle.dbwalk.proofs.Common.{append-nil, has_steps}
-use Rattle.dbtrace.specs.Steps.{IsAside}
 use Rattle.dbwalk.specs.Walking.{IsOpenFrame}
 use Rattle.dbwalk.proofs.Trees.Bounds.{root_stays}
 use Rattle.dbwalk.proofs.Trees.Stacking.{left-push, top-push, from_first}
 use Rattle.dbwalk.proofs.Trees.Frames.{read_front, read_push, read_kept, calls_front, calls_on, calls_push}
 use Rattle.dbwalk.proofs.Underway.CellSteps.{order_reported_of, cell_items, no_row_inside, greatest_behind}
 use Rattle.dbwalk.proofs.Underway.Underways.{items_of, under_event, under_visit, under_call, stop_call}
-use Rattle.dbtrace.proofs.Asides.{are_aside}
-use Rattle.dbwalk.proofs.Underway.Handing.{found_handed, no_memory}
+use Rattle.dbwalk.proofs.Reporting.Belows.{quiet_go}
 
 -- frames
 
@@ -34,10 +32,6 @@ read_on : (file : List ℕ) (levels : List (List ℕ)) (f g : StackFrame) → g.
     → AreRead file levels level (hs ++ (f ∷ [])) → AreRead file levels level (hs ++ (g ∷ []))
 read_on file levels f g page level [] r = (r.0 ∙ ap (λ p. Some (page_bytes file p)) (sym page), tt)
 read_on file levels f g page level (h ∷ hs) r = (r.0, read_on file levels f g page (level + 1) hs r.1)
-
-pub quiet_go : (d : Reference) → AreQuiet {E = Event} own_visit (Go d ∷ [])
-quiet_go d e (inl h) = cc
-quiet_go d e (inr h) = absurd h
 
 -- the same by another state of the tree, other buffers, and another name of the frames
 module _ {P : Type 0} {moves : P → Item → P → Type 0} {file : List ℕ} {W : List Reference} {c : Reference} {before : P} {frames items : List StackFrame}
@@ -216,28 +210,3 @@ module _ {P : Type 0} {moves : P → Item → P → Type 0} {file : List ℕ} {W
                   (ap (slice_get levels') (let z : 0 + length on_frames ≡ length d.address - 1 = omega arith in z) ∙ inside.bytes
                   ∙ ap (λ p. Some (page_bytes file p)) (sym here));
             }
-
--- A call that walks over an overflow chain, by what it promises of the visits: it has done its part of a walk.
-
-module _ {S T A : Type 0} (takes : S → Finding → S → Type 0) (keeps : T → SchemaRow → Taken → T → Type 0) (refuses : T → SchemaRow → T → Type 0)
-    (file : List ℕ) (from : Walk) (c : Reference) (none : tree_kind (role_of c) ≡ None) where
-  pub aside_done : (r : Result A RunError) (marks marks' : List Mark) (tree : Tree) (s s' : S) (t : T) → IfErr r IsReadOrWrite → IsAt file from marks tree
-      → IsDone takes file from.visits (Go c ∷ []) r marks' s s'
-      → HasDone (watches takes keeps) (fails refuses) file (done_below file from (Go c ∷ [])) r (marks', tree) (s, t) (s', t)
-  aside_done r marks marks' tree s s' t only at done = record {
-    at = on_ok r done.marked;
-    handed = subst (λ items. Handed (watches takes keeps) (fails refuses) r (s, t) items (s', t)) (sym aside.items)
-        (found_handed takes keeps refuses r (reported_below file from.visits (Go c ∷ [])) s s' t (no_memory r only) done.reported);
-  }
-    where
-      aside : IsAside file (bare from) c
-      aside = are_aside file (bare from) c none
-
-      on_ok : (r : Result A RunError) → OnOk r (AreMarksOf file (from.visits ++ visited_below file from.visits (Go c ∷ [])) marks')
-          → OnOk r (IsAt file (done_below file from (Go c ∷ [])) marks' tree)
-      on_ok (Ok a) h = (
-        subst (λ V. AreMarksOf file V marks') (sym ((has_steps file).visits (bare from) (Go c ∷ []) (quiet_go c))) h,
-        at.1 ∙ ap (λ p. p.greatest) (sym aside.state),
-        at.2 ∙ ap (λ p. p.leaf) (sym aside.state),
-      )
-      on_ok (Err e) h = tt

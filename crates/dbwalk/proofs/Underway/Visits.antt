@@ -2,16 +2,16 @@
 use Rattle.std.proofs.Common.{ℕ, ℤ, ◌<◌, inl, inr, List, [], ◌∷◌, ◌++◌, refl, sym, subst, ◌≡◌, Bool, true, false, map, Option, Some, Result, Ok, Err, ap, ap₂}
 use Rattle.std.proofs.Common.{◌∙◌, OnOk, option_to_list}
 use Rattle.dbwalk.proofs.Common.{Address, IsBefore, Reference, role_of, tree_kind, TreeKind, CellKey, AreBefore, Moves, Go, errands_of, is_followed, then_step}
-use Rattle.dbwalk.proofs.Common.{SchemaRow, at_page, at_refused, story_of, rules_of, RunError, WriteFailed, OutOfMemory, Finding, reported_by, reported_row}
+use Rattle.dbwalk.proofs.Common.{SchemaRow, at_page, at_refused, story_of, rules_of, RunError, WriteFailed, Finding, reported_by, reported_row}
 use Rattle.dbwalk.proofs.Common.{Item, found, key_up_to, refusal_of, key_value, leaf_after, rowids_by, Cause, FaultCode, Walk, bare, advance, run_below, IsNext}
-use Rattle.dbwalk.proofs.Common.{refused_reported, AreMarksOf, Reports, page_findings, IsAt, HasDone, done_below, entered, IsEntered, watches, fails, Handed}
+use Rattle.dbwalk.proofs.Common.{refused_reported, AreMarksOf, page_findings, IsAt, HasDone, done_below, entered, IsEntered, watches, Handed}
 use Rattle.dbwalk.proofs.Common.{Mark, Tree, Taken, IsIn-cases, TreeLeaf, append-nil, some_none, ReadFailed, has_steps}
 use Rattle.dbsurvey.proofs.Order.{IsBefore-trans, IsBefore-beginning}
 use Rattle.dbformat.specs.Laws.{event_row}
 use Rattle.dbformat.specs.ReferenceFaults.{reference_faults}
 use Rattle.dbwalk.proofs.Trees.Bounds.{key_up_to_itself}
 use Rattle.dbwalk.proofs.Pages.PageReportings.{page_causes}
-use Rattle.dbwalk.proofs.Underway.Handing.{done_none, done_on, found_moves, found_handed}
+use Rattle.dbwalk.proofs.Underway.Handing.{done_none, done_on, found_moves}
 use Rattle.dbtrace.specs.declared.Cause.TheVariants as cause
 
 -- Places between the steps of a page.
@@ -127,14 +127,14 @@ refused_items file from c {kind} role {top} top_is {up_to} bound =
     (reference_faults file from.visits c))) role
     ∙ ap₂ (λ t u. map found (refused_reported file from.visits c (rows_below t u))) (sym top_is) (sym (key_up_to_itself file from.visits c) ∙ bound)
 
-pub refused_handed : {S T A : Type 0} (takes : S → Finding → S → Type 0) (keeps : T → SchemaRow → Taken → T → Type 0)
+pub refused_moves : {S T : Type 0} (takes : S → Finding → S → Type 0) (keeps : T → SchemaRow → Taken → T → Type 0)
     (refuses : T → SchemaRow → T → Type 0) (file : List ℕ) (from : Walk) (c : Reference) {kind : TreeKind} → tree_kind (role_of c) ≡ Some kind
     → {top : Option CellKey} → top ≡ from.state.greatest → {up_to : Option ℤ} → key_up_to file (from.visits ++ (c ∷ [])) c ≡ up_to
-    → (r : Result A RunError) (s s' : S) (t : T) → (r ≡ Err OutOfMemory → ⊥) → Reports takes r s (refused_reported file from.visits c (rows_below top up_to)) s'
-    → Handed (watches takes keeps) (fails refuses) r (s, t) (refused file from c).items (s', t)
-refused_handed takes keeps refuses file from c role {top} top_is {up_to} bound r s s' t quiet h =
-    subst (λ items. Handed (watches takes keeps) (fails refuses) r (s, t) items (s', t)) (sym (refused_items file from c role top_is bound))
-    (found_handed takes keeps refuses r (refused_reported file from.visits c (rows_below top up_to)) s s' t quiet h)
+    → (s s' : S) (t : T) → Moves takes s (refused_reported file from.visits c (rows_below top up_to)) s'
+    → Moves (watches takes keeps) (s, t) (refused file from c).items (s', t)
+refused_moves takes keeps refuses file from c role {top} top_is {up_to} bound s s' t h =
+    subst (λ items. Moves (watches takes keeps) (s, t) items (s', t)) (sym (refused_items file from c role top_is bound))
+    (found_moves takes keeps refuses (refused_reported file from.visits c (rows_below top up_to)) s s' t h)
 
 -- what was before a page is before what it leads to, and so is the page
 pub visited_before : (file : List ℕ) (from : Walk) (c : Reference) → IsNext from.visits c → AreBefore (visited file from c).visits (then_step c.address 0)

@@ -1,18 +1,19 @@
 -- The walk over a whole tree: its root, and the end of the loop.
 use Rattle.std.proofs.Common.{◌≡◌, ℕ, [], ◌∷◌, length, ap, arith, ◌<◌, ◌≤◌, true, false, inl, inr, List, Option, Some, None, refl, sym, subst, ◌↔◌, ◌-◌, cond}
-use Rattle.std.proofs.Common.{◌++◌, map, Result, Ok, Err, ◌∙◌, Bool, ◌==◌, IsSome, OnOk, IfErr, slice_get}
+use Rattle.std.proofs.Common.{◌++◌, map, Result, Ok, Err, ◌∙◌, Bool, ◌==◌, IsSome, OnOk, slice_get}
 use Rattle.dbwalk.proofs.Common.{Address, IsIn, IsBefore, start_of, schema_start, errand_key, Go, errands_of, Reference, role_of, tree_kind, TreeKind, IsNext}
 use Rattle.dbwalk.proofs.Common.{refused_reported, IsCandidate, left_over, is_followed, geometry, page_bytes, schema, SchemaRow, at_page, at_refused, story_of}
 use Rattle.dbwalk.proofs.Common.{rules_of, RunError, WriteFailed, Finding, reported_below, visited_below, Item, found, given_cells, no_rowids, begin, advance}
-use Rattle.dbwalk.proofs.Common.{AreMarksOf, Reports, IsReadOrWrite, IsAt, HasDone, IsUnderway, IsEntered, entered, IsWalkingOn, tree_walk, IsTreeDone, watches}
+use Rattle.dbwalk.proofs.Common.{AreMarksOf, Walk, Moves, IsAt, HasDone, IsUnderway, IsEntered, entered, IsWalkingOn, tree_walk, IsTreeDone, watches}
 use Rattle.dbwalk.proofs.Common.{fails, Handed, StackFrame, Mark, Tree, Taken, nat_tests, append-nil, some_none, ReadFailed, has_steps}
 use Rattle.dbtrace.specs.Starts.{IsOfEarlierStart, AreOfEarlierStarts}
-use Rattle.dbwalk.proofs.Underway.Visits.{refused_items}
+use Rattle.dbwalk.proofs.Underway.Visits.{refused_moves}
+use Rattle.dbwalk.proofs.Reporting.Sinks.{asked, asked_both, moves_some}
 use Rattle.dbtrace.proofs.Folding.{is_fold}
 use Rattle.dbmarks.specs.Marking.{marks_of}
 use Rattle.dbwalk.proofs.Trees.Bounds.{no_key_from, root_address, root_first, no_key_up_to}
 use Rattle.dbwalk.proofs.Trees.Stacking.{from_first}
-use Rattle.dbwalk.proofs.Underway.Handing.{found_handed, handed_found, no_memory, only_found}
+use Rattle.dbwalk.proofs.Underway.Handing.{handed_found, only_found}
 use Rattle.dbwalk.proofs.Underway.Underways.{under_visit, under_end}
 use Rattle.dbtrace.specs.declared.Cause.TheVariants as cause
 
@@ -65,7 +66,7 @@ module _ {S T : Type 0} (takes : S → Finding → S → Type 0) (keeps : T → 
         let items = (tree_walk file W c).items in
         let none : given_cells items ≡ [] = (is_fold file).rows_are k W c at early
         ∙ ap (λ b. cond b (schema file (W ++ visited_below file W (Go c ∷ []))) []) (other (start_of c.address) l (ap start_of at)) in
-        handed_found takes keeps refuses r (reported_below file W (Go c ∷ [])) before after
+        handed_found (watches takes keeps) (fails refuses) takes (λ w. w.0) (λ f w x h. h.0) (λ f w x h. h) r (reported_below file W (Go c ∷ [])) before after
         (subst (λ L. Handed (watches takes keeps) (fails refuses) r before L after)
         (only_found items none ∙ ap (map found) ((is_fold file).findings_are k W c at early)) h);
   }
@@ -83,22 +84,20 @@ module _ {S T : Type 0} (takes : S → Finding → S → Type 0) (keeps : T → 
       marked (Ok u) h = h.0
       marked (Err e) h = tt
 
-  -- the root is refused, and that was reported
+  -- the root is refused, and that was reported; the sink is asked then
   pub tree_refused : {kind : TreeKind} → tree_kind (role_of c) ≡ Some kind
-      → (r : Result (Unit {0}) RunError) (marks : List Mark) (s s' : S) (t : T) → IfErr r IsReadOrWrite → is_followed (rules_of file) W c ≡ false
+      → {r : Result (Unit {0}) RunError} (shut : Bool) → r ≡ asked shut → (marks : List Mark) (s s' : S) (t : T) → is_followed (rules_of file) W c ≡ false
       → AreMarksOf file W marks
-      → Reports takes r s (refused_reported file W c (cause.Rows no_rowids)) s' → IsTreeDone takes keeps refuses file W c r marks (s, t) (s', t)
-  tree_refused role r marks s s' t only refused m reported =
+      → Moves takes s (refused_reported file W c (cause.Rows no_rowids)) s' → IsTreeDone takes keeps refuses file W c r marks (s, t) (s', t)
+  tree_refused role shut is marks s s' t refused m reported =
       let whole : tree_walk file W c ≡ advance file (begin W) (at_refused c) = (has_steps file).refused (begin W) c [] refused
       ∙ (has_steps file).none (advance file (begin W) (at_refused c)) in
-      tree_handed r marks (s, t) (s', t) (on_ok r (sym (ap (λ m. m.visits) whole ∙ append-nil W)))
-      (subst (λ items. Handed (watches takes keeps) (fails refuses) r (s, t) items (s', t))
-      (sym (refused_items file (begin W) c role refl (no_key_up_to file (W ++ (c ∷ [])) c (ap length at))) ∙ sym (ap (λ m. m.items) whole))
-      (found_handed takes keeps refuses r (refused_reported file W c (cause.Rows no_rowids)) s s' t (no_memory r only) reported))
-    where
-      on_ok : (r : Result (Unit {0}) RunError) → W ≡ (tree_walk file W c).visits → OnOk r (AreMarksOf file (tree_walk file W c).visits marks)
-      on_ok (Ok u) e = subst (λ U. AreMarksOf file U marks) e m
-      on_ok (Err e) k = tt
+      let moves : Moves (watches takes keeps) (s, t) (tree_walk file W c).items (s', t) =
+      subst (λ (w : Walk). Moves (watches takes keeps) (s, t) w.items (s', t)) (sym whole)
+      (refused_moves takes keeps refuses file (begin W) c role refl (no_key_up_to file (W ++ (c ∷ [])) c (ap length at)) s s' t reported) in
+      asked_both (λ r. IsTreeDone takes keeps refuses file W c r marks (s, t) (s', t)) shut is
+      (tree_handed (Ok tt) marks (s, t) (s', t) (subst (λ U. AreMarksOf file U marks) (sym (ap (λ m. m.visits) whole ∙ append-nil W)) m) moves)
+      (tree_handed (Err WriteFailed) marks (s, t) (s', t) tt (moves_some (watches takes keeps) (s, t) (s', t) (tree_walk file W c).items moves))
 
   -- the sink was found shut at first
   pub tree_unasked : (marks : List Mark) (s : S) (t : T) → IsTreeDone takes keeps refuses file W c (Err WriteFailed) marks (s, t) (s, t)

@@ -12,23 +12,24 @@ place_on number left usable most counted least more = (omega arith, omega arith)
 pub returns-in_err-enter_beside-clause-walks : goal.returns-in_err-enter_beside-clause-walks
 returns-in_err-enter_beside-clause-walks g c =
     let q = err_is c.from_residual.ensures.1 in
-    walk_as q c.in_err-enter_beside.ensures.walks (λ file opens W d before first on. turn_stopped on.at q opens)
+    walk_as q c.in_err-enter_beside.ensures.walks (λ file opens W whole before first tree on. turn_stopped on.at q
+    c.in_err-enter_beside.ensures.walks.beside.only opens)
 
 pub returns-then-not-branch-clause-walks : goal.returns-then-not-branch-clause-walks
 returns-then-not-branch-clause-walks g c = walk_reported c.in_ok-enter_beside.ensures.walks (inl refl)
-    (λ file opens W d before first on. turn_refused on.at opens c.if-not-branch.true (fed_so_far on))
+    (λ file opens W whole before first tree on. turn_refused on.at opens c.if-not-branch.true (fed_so_far on))
 
 pub returns-then-place-room-clause-walks : goal.returns-then-place-room-clause-walks
 returns-then-place-room-clause-walks g c =
     let walks = c.in_ok-enter_beside.ensures.walks in
-    walk_reported walks c.visit_overflow-next.ensures.moves (λ file opens W d before first on.
+    walk_reported walks c.visit_overflow-next.ensures.moves (λ file opens W whole before first tree on.
     turn_last on c.if-not-branch.false opens (λ k. c.visit_overflow-next.ensures.visited file k on.usable) (ap (λ s. s - 4) on.usable)
     c.if-place-room.true)
 
 pub returns-clause-walks : goal.returns-clause-walks
 returns-clause-walks g c =
     let walks = c.in_ok-enter_beside.ensures.walks in
-    walk_reported walks c.visit_overflow-next.ensures.moves (λ file opens W d before first on.
+    walk_reported walks c.visit_overflow-next.ensures.moves (λ file opens W whole before first tree on.
     turn_on (turn_more on c.if-not-branch.false opens (λ k. c.visit_overflow-next.ensures.visited file k on.usable) (ap (λ s. s - 4) on.usable)
     c.if-place-room.false c.visit_overflow-next.ensures.next))
 

@@ -4,7 +4,8 @@ use Rattle.dbwalk.proofs.Reporting.Besides.{walk_sized}
 use Rattle.dbwalk.proofs.chain.walk_unfed.Goals as goal
 
 pub returns-clause-walks : goal.returns-clause-walks
-returns-clause-walks g c = walk_sized c.chain-buffer.ensures.len.1 c.walk_chain.ensures.walks (λ file done W d is next m. (done W d is next m).0)
+returns-clause-walks g c = walk_sized c.chain-buffer.ensures.len.1 c.walk_chain.ensures.walks (λ file done from d tree is next at.
+    (done from d tree is next at).0)
 
 pub walk_chain-requires : goal.walk_chain-requires
 walk_chain-requires g c =

@@ -1,7 +1,7 @@
 use Rattle.std.proofs.Common.{rules, [], ◌∷◌, ◌++◌, refl, sym, ap, subst, ◌∙◌}
 use Rattle.dbwalk.proofs.Common.{Moves, AreMarksOf, reported_fault}
 use Rattle.dbmarks.specs.Marking.{followed}
-use Rattle.dbwalk.proofs.Reporting.Lefts.{refusal_none, entered_yes, entered_no}
+use Rattle.dbwalk.proofs.Reporting.Enterings.{refusal_none, entered_yes, entered_no}
 use Rattle.dbwalk.proofs.Reporting.Sinks.{err_is}
 use Rattle.dbwalk.proofs.entering.enter.Goals as goal
 

@@ -18,11 +18,12 @@ returns-clause-less g c = if_some_all _ c.next_trunk.result (λ next.
 pub returns-in_err-enter_beside-clause-walks : goal.returns-in_err-enter_beside-clause-walks
 returns-in_err-enter_beside-clause-walks g c =
     let q = err_is c.from_residual.ensures.1 in
-    walk_as q c.in_err-enter_beside.ensures.walks (λ file opens usable W d before on. turn_stopped on.at q opens)
+    walk_as q c.in_err-enter_beside.ensures.walks (λ file opens usable whole before tree on. turn_stopped on.at q
+    c.in_err-enter_beside.ensures.walks.beside.only opens)
 
 pub returns-then-not-branch-clause-walks : goal.returns-then-not-branch-clause-walks
 returns-then-not-branch-clause-walks g c = walk_reported c.in_ok-enter_beside.ensures.walks (inl refl)
-    (λ file opens usable W d before on. turn_refused on.at opens c.if-not-branch.true (λ f. tt))
+    (λ file opens usable whole before tree on. turn_refused on.at opens c.if-not-branch.true (λ f. tt))
 
 pub returns-in_err-item-clause-walks : goal.returns-in_err-item-clause-walks
 returns-in_err-item-clause-walks g c =
@@ -30,20 +31,20 @@ returns-in_err-item-clause-walks g c =
     let r = err_is c.from_residual-in_err-item.ensures.1 in
     walk_then refl walks (walk_unread {T = λ file. Unit {0}}
     (beside_shut (r ∙ ap Err c.in_err-item.ensures.only) (walks_as r c.in_err-item.ensures.writes)) c.open_trunk.ensures.keeps (λ file. tt))
-    (λ file opens none u W d before on.
+    (λ file opens none u whole before tree on.
     let b = trunk_read on opens c.if-not-branch.false in
     turn_failed r
-    (trunk_opened on opens c.if-not-branch.false (Err c.in_err-item.field-0.0) c.open_trunk.new.marks c.open_trunk.new.sink
-    (λ U e old p k f m h. c.in_err-item.ensures.opened file W d before U e old p k b u f m h)))
+    (trunk_opened on opens c.if-not-branch.false (Err c.in_err-item.field-0.0) (c.open_trunk.new.marks, tree) c.open_trunk.new.sink
+    (λ now d p k f m h. c.in_err-item.ensures.opened file whole before now d _ tree p k b u f m h)))
 
 pub returns-clause-walks : goal.returns-clause-walks
 returns-clause-walks g c =
     let walks = c.in_ok-enter_beside.ensures.walks in
     walk_then refl walks (walk_unread {T = λ file. Unit {0}} (beside_reported c.in_ok-item.ensures.writes.moves) c.open_trunk.ensures.keeps (λ file. tt))
-    (λ file opens none u W d before on.
+    (λ file opens none u whole before tree on.
     let b = trunk_read on opens c.if-not-branch.false in
-    let o = trunk_opened on opens c.if-not-branch.false (Ok c.in_ok-item.item) c.open_trunk.new.marks c.open_trunk.new.sink
-    (λ U e old p k f m h. c.in_ok-item.ensures.opened file W d before U e old p k b u f m h) in
+    let o = trunk_opened on opens c.if-not-branch.false (Ok c.in_ok-item.item) (c.open_trunk.new.marks, tree) c.open_trunk.new.sink
+    (λ now d p k f m h. c.in_ok-item.ensures.opened file whole before now d _ tree p k b u f m h) in
     let p = sym on.at.is.page in
     rw (c.next_trunk.ensures ∙ ap₂ (λ b p. next_step (u32_at 0 b) p c.in_ok-item.item) (b ∙ ap (page_bytes file) p) p)
     (next_turned on.at.d c.in_ok-item.item o.1))

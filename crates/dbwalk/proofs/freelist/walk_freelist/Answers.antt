@@ -1,9 +1,15 @@
-use Rattle.std.proofs.Common.{◌≡◌, [], ◌∷◌, ap, ◌∙◌}
-use Rattle.dbwalk.proofs.Common.{Go, is_read_failed, failures_after, IsDone, reported_below}
+use Rattle.std.proofs.Common.{◌≡◌, [], ◌∷◌, None, refl, ap, ◌∙◌}
+use Rattle.dbwalk.proofs.Common.{Go, begin, is_read_failed, failures_after, IsDone, Tree, reported_below}
+use Rattle.dbformat.specs.declared.TreeKind.TheVariants.{Table}
+use Rattle.dbwalk.proofs.FreeTrunks.{trunks_done}
 use Rattle.dbwalk.proofs.Pages.Levels.{page_buffer}
 use Rattle.dbwalk.proofs.Reporting.Besides.{beside_as, log_shaped}
 use Rattle.dbwalk.proofs.Reporting.Sinks.{err_is, asked_both, asked_open, asked_walks, moves_some, walks_as, walks_end}
 use Rattle.dbwalk.proofs.freelist.walk_freelist.Goals as goal
+
+-- the state of no tree
+abbrev no_tree : Tree
+no_tree = record { start = 0; kind = Table; greatest = None; leaf = None; path = record { items = [] } }
 
 pub returns-in_err-walk_trunks-clause-asks : goal.returns-in_err-walk_trunks-clause-asks
 returns-in_err-walk_trunks-clause-asks g c =
@@ -11,7 +17,8 @@ returns-in_err-walk_trunks-clause-asks g c =
     let walks = c.in_err-walk_trunks.ensures.walks in
     record {
       log = log_shaped c.chain-buffer.ensures.len.1 walks.log
-          (λ file e done W d h next m. rw q (done (ap (λ s. s.usable) (c.geometry-usable.ensures.value ∙ e)) W d h next m));
+          (λ file e done W d h next m. rw q (trunks_done h (done (ap (λ s. s.usable) (c.geometry-usable.ensures.value ∙ e)) (begin W) d no_tree h next
+          (m, refl, refl))));
       count = (beside_as q walks.beside).reads;
     }
 
@@ -21,7 +28,7 @@ returns-clause-asks g c =
     let walks = c.in_ok-walk_trunks.ensures.walks in
     record {
       log = log_shaped c.chain-buffer.ensures.len.1 walks.log (λ file e walked W d h next m.
-          let done = walked (ap (λ s. s.usable) (c.geometry-usable.ensures.value ∙ e)) W d h next m in
+          let done = trunks_done h (walked (ap (λ s. s.usable) (c.geometry-usable.ensures.value ∙ e)) (begin W) d no_tree h next (m, refl, refl)) in
           asked_both (λ r. IsDone g.K.Sink.takes file W (Go d ∷ []) r c.walk_trunks.new.marks c.args.sink.now c.walk_trunks.new.sink) shut c.ask.ensures
           done (record {
             marked = tt;

@@ -7,8 +7,8 @@ use Rattle.dbwalk.proofs.freelist.walk_trunks.Goals as goal
 
 pub loop-next-init : goal.loop-next-init
 loop-next-init g c = record {
-  walks = walk_unread (beside_reported (inl refl)) (keeps_same c.args.marks.now) (λ file u W d h next m.
-      trunks_start g.K.Sink.takes file W d c.args.first c.args.marks.now c.args.sink.now h next m);
+  walks = walk_unread (beside_reported (inl refl)) (keeps_same c.args.marks.now) (λ file u from d tree h next at.
+      trunks_start g.K.Sink.takes file from d c.args.first (c.args.marks.now, tree) c.args.sink.now h next at);
   trunk = refl;
   size = refl;
 }
@@ -18,13 +18,13 @@ returns-in_err-next g c =
     let q = err_is c.from_residual.ensures.1 in
     record {
       walks = walk_as q (walk_then c.loop-next.invariant.size c.loop-next.invariant.walks c.in_err-next.ensures.walks
-          (λ file way turned u W d h next m. rw q (turned u W d c.args.sink.now (way u W d h next m)).stopped)) (λ file done. done);
+          (λ file way turned u from d tree h next at. rw q (turned u _ c.args.sink.now tree (way u from d tree h next at)).stopped)) (λ file done. done);
     }
 
 pub loop-next-preserved : goal.loop-next-preserved
 loop-next-preserved g c = record {
-  walks = walk_reported (walk_then c.loop-next.invariant.size c.loop-next.invariant.walks c.in_ok-next.ensures.walks (λ file way turned u W d h next m.
-      turned_on (turned u W d c.args.sink.now (way u W d h next m)) c.in-Some.is)) (inl refl) (λ file way. way);
+  walks = walk_reported (walk_then c.loop-next.invariant.size c.loop-next.invariant.walks c.in_ok-next.ensures.walks (λ file way turned u from d
+      tree h next at. turned_on (turned u _ c.args.sink.now tree (way u from d tree h next at)) c.in-Some.is)) (inl refl) (λ file way. way);
   trunk = subst (λ o. IfSome o (λ next. next.mark ≡ Trunk)) c.in-Some.is c.in_ok-next.ensures.trunk;
   size = c.enter_trunk.auto.buffer ∙ c.loop-next.invariant.size;
 }
@@ -38,7 +38,8 @@ enter_trunk-requires g c =
 pub returns : goal.returns
 returns g c = record {
   walks = walk_reported (walk_then c.loop-next.invariant.size c.loop-next.invariant.walks c.in_ok-next.ensures.walks
-      (λ file way turned u W d h next m. ((turned u W d c.args.sink.now (way u W d h next m)).ended c.in_default.is).0)) (inl refl) (λ file done. done);
+      (λ file way turned u from d tree h next at. ((turned u _ c.args.sink.now tree (way u from d tree h next at)).ended c.in_default.is).0))
+      (inl refl) (λ file done. done);
 }
 
 pub loop-next-smaller : goal.loop-next-smaller

@@ -1,6 +1,6 @@
 use Rattle.std.proofs.Common.{rules, ◌≡◌, ◌<◌, ◌≤◌, [], Ok, Err, inl, inr, refl, sym, ap, subst, arith, ◌∙◌, List, IfErr}
 use Rattle.dbwalk.proofs.Common.{geometry, page_bytes, IsPageNumber, encoding, Reference, bytes_at, is_read_failed, is_write_failed, failures_after}
-use Rattle.dbwalk.proofs.Common.{refused_reported, HasPageAt, IsReadOrWrite, SinkAfter, Reports, IsTreeDone, Mark, no_rowids}
+use Rattle.dbwalk.proofs.Common.{HasPageAt, SinkAfter, IsTreeDone, Mark, no_rowids}
 use Rattle.dbwalk.proofs.Common.{Reads, log_none, log_then, has_weaker}
 use Rattle.dbsource.specs.Sources.{Asks}
 use Rattle.dbwalk.specs.Roots.{IsRootAfter, kind_of, kind_in}
@@ -10,7 +10,7 @@ use Rattle.dbwalk.proofs.Pages.Levels.{geometry_kept, log_entered, read_there}
 use Rattle.dbwalk.proofs.Trees.Bounds.{root_address}
 use Rattle.dbwalk.proofs.Underway.WalkedTrees.{candidate_as, root_next, tree_done, tree_refused, tree_unasked, tree_unread}
 use Rattle.dbwalk.proofs.Underway.Walks.{with_memory, without_memory}
-use Rattle.dbwalk.proofs.Reporting.Sinks.{err_is, asked_both, asked_open, asked_walks, moves_open, moves_some, walks_after, walks_as, walks_end}
+use Rattle.dbwalk.proofs.Reporting.Sinks.{err_is, asked_both, asked_open, asked_walks, moves_open, walks_after, walks_as, walks_end}
 use Rattle.dbtrace.specs.declared.Cause.TheVariants as cause
 use Rattle.dbwalk.proofs.tree.walk_tree.Goals as goal
 
@@ -44,11 +44,8 @@ returns-then-not-branch-clause-asks g c = record {
       let one = root_address d.address root.start at.candidate.depth at.candidate.start in
       let none = rw c.if-not-branch.true at (c.in_ok-enter.ensures.entered file W d (cause.Rows no_rowids) is next at.marked (λ made p. sym p)) in
       tree_refused g.K.Sink.takes g.T.Taker.takes g.T.Taker.refuses file root.start W d one at.early
-      (kind_is file (kind_in file root) root.start [] root.page 0 root.start d at.candidate) c.ask.result c.enter.new.marks c.args.sink.now
-      c.enter.new.sink c.args.taker.now (asked_both (λ r. IfErr r IsReadOrWrite) (g.K.Sink.held c.enter.new.sink).is_shut c.ask.ensures tt (inr refl))
-      none.0 none.1 (asked_both (λ r. Reports g.K.Sink.takes r c.args.sink.now (refused_reported file W d (cause.Rows no_rowids)) c.enter.new.sink)
-      (g.K.Sink.held c.enter.new.sink).is_shut c.ask.ensures none.2
-      (moves_some g.K.Sink.takes c.args.sink.now c.enter.new.sink (refused_reported file W d (cause.Rows no_rowids)) none.2)));
+      (kind_is file (kind_in file root) root.start [] root.page 0 root.start d at.candidate) (g.K.Sink.held c.enter.new.sink).is_shut c.ask.ensures
+      c.enter.new.marks c.args.sink.now c.enter.new.sink c.args.taker.now none.0 none.1 none.2);
   count = asked_both (λ r. (g.S.Source.held c.args.source.now).failures ≡ failures_after is_read_failed r (g.S.Source.held c.args.source.now).failures)
       (g.K.Sink.held c.enter.new.sink).is_shut c.ask.ensures refl refl;
 }

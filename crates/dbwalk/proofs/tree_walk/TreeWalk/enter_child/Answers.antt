@@ -11,7 +11,7 @@ use Rattle.dbwalk.proofs.Pages.PageVisits.{kind_is}
 use Rattle.dbwalk.proofs.Trees.Frames.{open_push, left_on, ends_enter, path_last, at_turn, step_on, as_deep, way_on, goes_on, path_length, path_popped}
 use Rattle.dbwalk.proofs.Underway.TreeSteps.{turned}
 use Rattle.dbwalk.proofs.Underway.TreeTurns.{next_here, child, child_asked, child_passed, child_stopped, child_entered}
-use Rattle.dbwalk.proofs.Underway.Visits.{done_from, done_refused, entered_done, rows_below, refused_handed, unasked, unread}
+use Rattle.dbwalk.proofs.Underway.Visits.{done_from, done_refused, entered_done, rows_below, refused_moves, unasked, unread}
 use Rattle.dbwalk.proofs.Underway.Walks.{walked_as, walked_as_ok, walked_behind, walked_by, walked_err, walked_tree}
 use Rattle.dbwalk.proofs.Reporting.Sinks.{err_is, walks_as, walks_err, walks_ok}
 use Rattle.dbtrace.specs.declared.Cause.TheVariants as cause
@@ -82,9 +82,8 @@ returns-then-not-branch-clause-log g c = log_none _ _ _ _ (c.in_ok-enter.ensures
     asked.0) asked.1 walk.under.at.0 (λ made p. ap (λ above. rows_of above c.or-up_to.result) (sym c.key_value-above.ensures) ∙ sym p)) in
     let done = done_refused (watches g.K.Sink.takes g.T.Taker.takes) (fails g.T.Taker.refuses) file walk.now r (Ok false)
     (c.enter.new.marks, t) (c.args.self.now.sink.now, c.args.self.now.taker.now) (c.enter.new.sink, c.args.self.now.taker.now) n.0
-    (n.1, walk.under.at.1, walk.under.at.2) (refused_handed g.K.Sink.takes g.T.Taker.takes g.T.Taker.refuses file walk.now r
-    (kind_is file t.kind t.start _ _ _ _ r asked.0) walk.under.at.1 asked.2 (Ok false) c.args.self.now.sink.now c.enter.new.sink c.args.self.now.taker.now
-    (λ o. cc) n.2) in
+    (n.1, walk.under.at.1, walk.under.at.2) (refused_moves g.K.Sink.takes g.T.Taker.takes g.T.Taker.refuses file walk.now r
+    (kind_is file t.kind t.start _ _ _ _ r asked.0) walk.under.at.1 asked.2 c.args.self.now.sink.now c.enter.new.sink c.args.self.now.taker.now n.2) in
     turned (child_passed c.args.frames.now.items c.args.frame walk candidate c.stepped.ensures here (fails g.T.Taker.refuses) refl done) c.push.ensures.items
     refl refl refl (λ n l. refl))
 

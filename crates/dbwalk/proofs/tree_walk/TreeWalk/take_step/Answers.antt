@@ -5,9 +5,9 @@ use Rattle.std.proofs.lemmas.Int.{to_z-of_z}
 use Rattle.dbwalk.proofs.Trees.Frames.{ends_behind, left_on, on_ok_all, next_at, at_turn, path_popped, path_push}
 use Rattle.dbwalk.proofs.Leaves.LeafCells.{cell_size}
 use Rattle.dbwalk.proofs.Pages.Levels.{keeps_fewer}
-use Rattle.dbwalk.proofs.Underway.TreeSteps.{aside_done, turned}
-use Rattle.dbwalk.proofs.Underway.Handing.{found_moves}
-use Rattle.dbwalk.proofs.Underway.TreeTurns.{next_here, turned_behind, turned_empty, left_here, turned_key, chained, chain_is, chain_next, turned_chain}
+use Rattle.dbwalk.proofs.Underway.TreeSteps.{turned}
+use Rattle.dbwalk.proofs.Underway.Handing.{fed_done, found_moves}
+use Rattle.dbwalk.proofs.Underway.TreeTurns.{next_here, turned_behind, turned_empty, left_here, turned_key, chain_is, chain_next, turned_chain}
 use Rattle.dbwalk.proofs.Underway.Walks.{none_refused, read_or_write, walked_by}
 use Rattle.dbwalk.proofs.Reporting.Sinks.{walks_ok}
 use Rattle.dbwalk.proofs.tree_walk.TreeWalk.take_step.Goals as goal
@@ -108,11 +108,8 @@ returns-in-Chain-clause-log g c = has_weaker _ _ c.walk_unfed.ensures.walks.log 
     let is = chain_is c.args.frames.now.items c.args.frame walk candidate c.stepped-in-Chain.ensures here _
     (ap (λ s. s.usable) (c.geometry.ensures.value ∙ e)) refl (c.as_slice.ensures.value ∙ c.requires.path) refl refl refl refl refl in
     let next = chain_next c.args.frames.now.items c.args.frame walk candidate c.stepped-in-Chain.ensures here in
-    let done = aside_done g.K.Sink.takes g.T.Taker.takes g.T.Taker.refuses file walk.now
-    (chained c.args.frames.now.items c.args.frame walk candidate c.stepped-in-Chain.ensures here) refl r c.args.self.now.marks.now n.marks c.args.self.now.tree
-    c.args.self.now.sink.now n.sink
-    c.args.self.now.taker.now c.walk_unfed.ensures.walks.beside.only walk.under.at
-    (h (ap (λ s. s.page_size) e) walk.now.visits _ is next walk.under.at.0) in
+    let done = fed_done g.K.Sink.takes g.T.Taker.takes g.T.Taker.refuses r c.args.self.now.taker.now
+    (h (ap (λ s. s.page_size) e) walk.now _ c.args.self.now.tree is next walk.under.at) in
     turned_chain c.args.frames.now.items c.args.frame walk candidate c.stepped-in-Chain.ensures here (fails g.T.Taker.refuses) n.marks
     (n.sink, c.args.self.now.taker.now) c.push-in-Chain.ensures.items (ap (λ (p : Pages). p.levels) c.walk_unfed.ensures.bench) r done)
 

@@ -15,11 +15,10 @@ returns-in_err-walk_overflow-clause-log g c = has_weaker _ _ c.in_err-walk_overf
     let cell = c.leaf_cell-cell.ensures in
     stopped_as (err_is c.from_residual.ensures.1)
     (chain_stops file from d c.args.self.now.tree.kind v leaf c.args.place.item read.overflow cell.chain read.key cell.key_is g.K.Sink.takes g.T.Taker.takes
-    g.T.Taker.refuses c.in_err-walk_overflow.field-0.0 c.walk_overflow.new.marks (c.walk_overflow.new.marks, c.args.self.now.tree)
-    c.args.self.now.sink.now c.walk_overflow.new.sink c.args.self.now.taker.now c.in_err-walk_overflow.ensures.walks.beside.only c.args.self.now.tree
-    isat.1 isat.2
-    (h (ap (λ s. s.page_size) e) e from.visits d at (rowid_here file at viewed c.args.place.item ∙ sym cell.key_is)
-    (past_cell from.visits d c.args.place.item read.overflow before) isat.0).0).handed)
+    g.T.Taker.refuses c.in_err-walk_overflow.field-0.0 (c.walk_overflow.new.marks, c.args.self.now.tree) (c.walk_overflow.new.marks, c.args.self.now.tree)
+    c.args.self.now.sink.now c.walk_overflow.new.sink c.args.self.now.taker.now
+    (h (ap (λ s. s.page_size) e) e from d at (rowid_here file at viewed c.args.place.item ∙ sym cell.key_is)
+    (past_cell from.visits d c.args.place.item read.overflow before) isat).0).handed)
 
 pub returns-in_err-report_row-clause-log : goal.returns-in_err-report_row-clause-log
 returns-in_err-report_row-clause-log g c = has_weaker _ _ c.in_ok-walk_overflow.ensures.walks.log (λ log r. r)
@@ -27,12 +26,12 @@ returns-in_err-report_row-clause-log g c = has_weaker _ _ c.in_ok-walk_overflow.
     let v = c.args.view.now in
     let read = c.leaf_cell-cell.result in
     let cell = c.leaf_cell-cell.ensures in
-    let done = h (ap (λ s. s.page_size) e) e from.visits d at (rowid_here file at viewed c.args.place.item ∙ sym cell.key_is)
-    (past_cell from.visits d c.args.place.item read.overflow before) isat.0 in
+    let done = h (ap (λ s. s.page_size) e) e from d at (rowid_here file at viewed c.args.place.item ∙ sym cell.key_is)
+    (past_cell from.visits d c.args.place.item read.overflow before) isat in
     stopped_as (err_is c.from_residual-in_err-report_row.ensures.1)
     (row_stops file from d c.args.self.now.tree.kind v leaf c.args.place.item read.overflow cell.chain read.key cell.key_is g.K.Sink.takes g.T.Taker.takes
     g.T.Taker.refuses c.in_err-report_row.field-0.0 c.walk_overflow.new.marks c.args.self.now.tree c.args.self.now.tree
-    c.args.self.now.sink.now c.walk_overflow.new.sink c.args.self.now.taker.now (c.report_row.new.sink, c.report_row.new.taker) isat.1 isat.2 done.0
+    c.args.self.now.sink.now c.walk_overflow.new.sink c.args.self.now.taker.now (c.report_row.new.sink, c.report_row.new.taker) done.0
     (row_reported file from d c.args.self.now.tree.kind v leaf c.args.place.item read.overflow cell.chain read.key cell.key_is g.K.Sink.takes g.T.Taker.takes
     g.T.Taker.refuses c.args.self.now.taker.now c.report_row.new.taker c.new-row.result c.args.place.page c.new-row.ensures
     at.page c.args.self.now.encoding coded (Err c.in_err-report_row.field-0.0)
@@ -45,14 +44,14 @@ returns-clause-log g c = has_weaker _ _ c.in_ok-walk_overflow.ensures.walks.log 
     let v = c.args.view.now in
     let read = c.leaf_cell-cell.result in
     let cell = c.leaf_cell-cell.ensures in
-    let done = h (ap (λ s. s.page_size) e) e from.visits d at (rowid_here file at viewed c.args.place.item ∙ sym cell.key_is)
-    (past_cell from.visits d c.args.place.item read.overflow before) isat.0 in
+    let done = h (ap (λ s. s.page_size) e) e from d at (rowid_here file at viewed c.args.place.item ∙ sym cell.key_is)
+    (past_cell from.visits d c.args.place.item read.overflow before) isat in
     let late = ap (λ top. late_reported top c.args.place.page c.args.place.item read.key) isat.1
     ∙ ap (λ p. late_reported from.state.greatest p c.args.place.item read.key) (sym at.page) in
     key_done file from d c.args.self.now.tree.kind v leaf c.args.place.item read.overflow cell.chain read.key cell.key_is g.K.Sink.takes g.T.Taker.takes
     g.T.Taker.refuses (Ok tt) c.walk_overflow.new.marks c.args.self.now.tree c.report_rowid.new.tree
     c.args.self.now.sink.now c.walk_overflow.new.sink c.report_row.new.sink c.args.self.now.taker.now c.report_row.new.taker
-    (c.report_rowid.new.sink, c.report_row.new.taker) isat.1 isat.2 done.0
+    (c.report_rowid.new.sink, c.report_row.new.taker) done.0
     (row_reported file from d c.args.self.now.tree.kind v leaf c.args.place.item read.overflow cell.chain read.key cell.key_is g.K.Sink.takes g.T.Taker.takes
     g.T.Taker.refuses c.args.self.now.taker.now c.report_row.new.taker c.new-row.result c.args.place.page c.new-row.ensures
     at.page c.args.self.now.encoding coded (Ok tt)
