@@ -2,6 +2,7 @@
 use crate::fit::{Around, fit_of};
 use crate::lost::{Kind, Lost};
 use crate::ranked::{Ranked, add_try};
+use crate::refused::{PAGE_SIZE, SIZES};
 use dbformat::{FREELIST_START, Fault, FaultCode};
 use dbscan::Desk;
 use std::alloc::Allocator;
@@ -111,6 +112,21 @@ fn add_reserved<A: Allocator>(tries: &mut Ranked, desk: &Desk<A>) {
 fn add_unmapped<A: Allocator>(tries: &mut Ranked, desk: &Desk<A>, code: FaultCode) {
     if matches!(code, FaultCode::R02) && desk.geometry().has_map {
         add_number(tries, GREATEST_ROOT, 0);
+    }
+}
+
+// Adds the page size with which the file is as long as it states, if it is not so with its own.
+pub(crate) fn add_page_size<A: Allocator>(tries: &mut Ranked, desk: &Desk<A>) {
+    let stated = u64::from(desk.header().stated_pages());
+    let len = desk.header().file_len();
+    if stated * u64::from(desk.geometry().page_size) == len {
+        return;
+    }
+    for size in SIZES {
+        let bytes = if size == 1 { 65536 } else { u64::from(size) };
+        if stated * bytes == len {
+            add_try(tries, PAGE_SIZE, &size.to_be_bytes(), SURE);
+        }
     }
 }
 

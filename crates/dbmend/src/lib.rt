@@ -11,6 +11,7 @@
 //! ends, and that it reads pieces of at most 65536 bytes, and nothing else.
 #![tactic(auto)]
 
+mod blocks;
 mod choosing;
 mod count;
 mod counter;

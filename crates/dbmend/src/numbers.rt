@@ -12,7 +12,7 @@ use std::alloc::Allocator;
 const TYPES: [u8; 4] = [13, 5, 10, 2];
 
 // Where the head of a page begins.
-fn head<A: Allocator>(paper: &Paper<A>) -> u32
+pub(crate) fn head<A: Allocator>(paper: &Paper<A>) -> u32
     ensures { result ≤ 100 }
 {
     if paper.page() == 1 { 100 } else { 0 }
@@ -25,8 +25,8 @@ fn add_at<A: Allocator>(tries: &mut Ranked, paper: &Paper<A>, at: u32, bytes: &[
     }
 }
 
-// Adds a number of two bytes, where 65536 is stored as 0.
-fn add_short<A: Allocator>(
+// Adds a number of two bytes, where 65536 is stored as 0, if there is another one.
+pub(crate) fn add_short<A: Allocator>(
     tries: &mut Ranked,
     paper: &Paper<A>,
     at: u32,
@@ -34,7 +34,9 @@ fn add_short<A: Allocator>(
     points: u32,
 ) {
     let stored = u16::try_from(number).unwrap_or(0);
-    add_at(tries, paper, at, &stored.to_be_bytes(), points);
+    if paper.short_at(at) != Some(u32::from(stored)) {
+        add_at(tries, paper, at, &stored.to_be_bytes(), points);
+    }
 }
 
 // Whether each cell of a page can be read.
@@ -79,10 +81,29 @@ pub(crate) fn add_types<A: Allocator>(tries: &mut Ranked, paper: &mut Paper<A>) 
     }
 }
 
-// Adds a count of fragmented bytes. A fragment has at most three bytes: where more are free at one place, another number is wrong.
+// The most bytes of a fragment. If more are free at one place, another number is wrong.
+pub(crate) const MOST_FRAGMENT: u32 = 3;
+
+// Adds that a leaf is an interior page of the same kind of tree, or that one is a leaf, if each cell can be read so.
+pub(crate) fn add_leaf<A: Allocator>(tries: &mut Ranked, paper: &mut Paper<A>) {
+    let bytes = paper.bytes();
+    if bytes.len() < 480 {
+        return;
+    }
+    let other = type_byte(bytes, paper.page()) ^ 8;
+    if is_whole_as(paper, other) {
+        add_at(tries, paper, head(paper), &[other], 26);
+    }
+}
+
+// Adds a count of fragmented bytes.
 pub(crate) fn add_fragments<A: Allocator>(tries: &mut Ranked, paper: &Paper<A>, count: i64) {
     if let Ok(stored) = u8::try_from(count) {
-        let points = if longest_gap(paper) <= 3 { 38 } else { 20 };
+        let points = if longest_gap(paper) <= MOST_FRAGMENT {
+            38
+        } else {
+            20
+        };
         add_at(tries, paper, head(paper) + 7, &[stored], points);
     }
 }
@@ -121,14 +142,15 @@ fn pointed<A: Allocator>(paper: &Paper<A>) -> (u32, u32) {
     (count, least)
 }
 
-// Where the first cell of the page begins, of as many as it states, or its first freeblock. A pointer that leads before the pointers is wrong.
+// Where the first cell of the page begins, of as many as it states, or its first freeblock. A pointer that leads before the end of the
+// pointers is wrong.
 fn least_pointer<A: Allocator>(paper: &Paper<A>) -> Option<u32> {
     let begin = pointers(paper);
-    let cells = paper.short_at(head(paper) + 3)?;
+    let cells = paper.short_at(head(paper) + 3)?.min(32768);
     let mut least = paper.usable();
-    for i in 0..cells.min(32768) {
+    for i in 0..cells {
         let pointer = paper.short_at(begin + 2 * i)?;
-        if pointer >= begin {
+        if pointer >= begin + 2 * cells {
             least = least.min(pointer);
         }
     }
@@ -138,10 +160,25 @@ fn least_pointer<A: Allocator>(paper: &Paper<A>) -> Option<u32> {
     }
 }
 
+// Whether the content area has no run of bytes longer than a fragment without an item, if a number of two bytes is another one. A longer run
+// may be cells that are left out, or none of the area.
+fn is_full_with<A: Allocator>(paper: &mut Paper<A>, at: u32, number: u32) -> bool {
+    let Some(stated) = paper.short_at(at) else {
+        return false;
+    };
+    paper.put_short(at, u16::try_from(number).unwrap_or(0));
+    let longest = longest_gap(paper);
+    paper.put_short(at, u16::try_from(stated).unwrap_or(0));
+    longest <= MOST_FRAGMENT
+}
+
 // Adds where the content area may begin: where the first cell or freeblock does.
-pub(crate) fn add_start<A: Allocator>(tries: &mut Ranked, paper: &Paper<A>) {
-    if let Some(least) = least_pointer(paper) {
-        add_short(tries, paper, head(paper) + 5, least, 30);
+pub(crate) fn add_start<A: Allocator>(tries: &mut Ranked, paper: &mut Paper<A>) {
+    let at = head(paper) + 5;
+    if let Some(least) = least_pointer(paper)
+        && (least >= paper.start() || is_full_with(paper, at, least))
+    {
+        add_short(tries, paper, at, least, 30);
     }
 }
 
@@ -172,19 +209,17 @@ fn count_by_area<A: Allocator>(paper: &mut Paper<A>, stated: u32) -> Option<u32>
     count
 }
 
-// Adds how many cells there may be: as many as fill the content area, and as many as there are pointers.
+// Adds how many cells there may be: as many as fill the content area, and as many as there are pointers, if no cells are left out then.
 pub(crate) fn add_count<A: Allocator>(tries: &mut Ranked, paper: &mut Paper<A>) {
     let at = head(paper) + 3;
     let Some(stated) = paper.short_at(at) else {
         return;
     };
-    if let Some(count) = count_by_area(paper, stated)
-        && count != stated
-    {
+    if let Some(count) = count_by_area(paper, stated) {
         add_short(tries, paper, at, count, 36);
     }
     let (count, _) = pointed(paper);
-    if count != stated {
+    if count >= stated || is_full_with(paper, at, count) {
         add_short(tries, paper, at, count, 24);
     }
 }

@@ -1,8 +1,9 @@
 // Where a page names another one, and what may have been there.
+use crate::blocks::{add_block, add_block_over, add_longer};
 use crate::fit::{Around, Span, fit_of};
 use crate::key::Key;
 use crate::lost::{Kind, Lost};
-use crate::numbers::{add_count, add_fragments, add_start, add_types};
+use crate::numbers::{add_count, add_fragments, add_leaf, add_start, add_types};
 use crate::pointers::{add_gaps, add_pointer};
 use crate::ranked::{Ranked, add_try};
 use crate::reading::Paper;
@@ -234,13 +235,19 @@ pub(crate) fn add_places<A: Allocator>(
 ) {
     match want.number {
         Number::Type => add_types(tries, paper),
+        Number::Leaf => add_leaf(tries, paper),
         Number::Start => add_start(tries, paper),
         Number::Fragments(count) => {
             add_fragments(tries, paper, count);
             add_gaps(tries, paper);
+            add_longer(tries, paper);
         }
+        Number::Block(number, at) => add_block(tries, paper, number, at),
         Number::Cells => add_count(tries, paper),
-        Number::Pointer(cell) => add_pointer(tries, paper, cell),
+        Number::Pointer(item) => {
+            add_pointer(tries, paper, item);
+            add_block_over(tries, paper, item);
+        }
         Number::Leaves => add_leaves(tries, desk, paper),
         Number::End => add_try(tries, paper.begins(), &[0, 0, 0, 0], 40),
         Number::Row(item) => add_row(tries, lost, paper, item),

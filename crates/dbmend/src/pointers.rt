@@ -10,9 +10,9 @@ use std::alloc::Allocator;
 
 // A run of bytes.
 #[derive(Clone, Copy)]
-struct Gap {
-    at: u32,
-    len: u32,
+pub(crate) struct Gap {
+    pub(crate) at: u32,
+    pub(crate) len: u32,
 }
 
 // Notes a run among the four longest, the longest first.
@@ -70,36 +70,78 @@ fn runs(begun: &[u16], start: u32, end: u32) -> [Gap; 4] {
     longest
 }
 
-// The four longest runs of bytes that no item but this cell holds.
-fn gaps(view: &PageView<'_>, cell: u32, start: u32, end: u32) -> [Gap; 4] {
-    let mut begun = [0u16; 65537];
+// Adds all cells but one, and the first freeblocks.
+fn add_items(begun: &mut [u16], view: &PageView<'_>, cell: u32, blocks: u32) {
     for i in 0..view.cells() {
         if i == cell {
             continue;
         }
         if let Some(bytes) = cell_bytes(view, i) {
-            add_item(&mut begun, &bytes);
+            add_item(begun, &bytes);
         }
     }
+    let mut left = blocks;
     for block in view.freeblocks() {
+        if left == 0 {
+            return;
+        }
+        left -= 1;
         let bytes = Gap {
             at: block.offset,
             len: block.size,
         };
-        add_item(&mut begun, &bytes);
+        add_item(begun, &bytes);
     }
+}
+
+// The four longest runs of bytes that no item but this cell holds.
+fn gaps(view: &PageView<'_>, cell: u32, start: u32, end: u32) -> [Gap; 4] {
+    let mut begun = [0u16; 65537];
+    add_items(&mut begun, view, cell, u32::MAX);
     runs(&begun, start, end)
 }
 
 // No cell of a page.
 const NO_CELL: u32 = u32::MAX;
 
-// The longest run of bytes that no item holds.
+// The four longest runs of bytes that no item holds.
+pub(crate) fn longest_gaps<A: Allocator>(paper: &Paper<A>, view: &PageView<'_>) -> [Gap; 4] {
+    gaps(view, NO_CELL, paper.start(), paper.usable())
+}
+
+// The longest of them.
 pub(crate) fn longest_gap<A: Allocator>(paper: &Paper<A>) -> u32 {
     match paper.view() {
-        Some(view) => gaps(&view, NO_CELL, paper.start(), paper.usable())[0].len,
+        Some(view) => longest_gaps(paper, &view)[0].len,
         None => 0,
     }
+}
+
+// The first run of four bytes or more, from an offset on, that no cell and none of the first freeblocks holds.
+pub(crate) fn first_gap<A: Allocator>(
+    paper: &Paper<A>,
+    view: &PageView<'_>,
+    blocks: u32,
+    from: u32,
+) -> Option<Gap> {
+    let mut begun = [0u16; 65537];
+    add_items(&mut begun, view, NO_CELL, blocks);
+    let mut run = Gap { at: from, len: 0 };
+    let mut held = 0u16;
+    for at in paper.start()..paper.usable() {
+        held = held.wrapping_add(begun.get(at as usize).copied().unwrap_or(0));
+        if held == 0 && at >= from {
+            run.len = run.len.saturating_add(1);
+        } else if run.len >= 4 {
+            return Some(run);
+        } else {
+            run = Gap {
+                at: at.saturating_add(1).max(from),
+                len: 0,
+            };
+        }
+    }
+    (run.len >= 4).then_some(run)
 }
 
 // Where a page has the pointer of a cell.
@@ -300,8 +342,8 @@ pub(crate) fn add_pointer<A: Allocator>(tries: &mut Ranked, paper: &mut Paper<A>
     }
 }
 
-// The first cell after an offset.
-fn cell_after(view: &PageView<'_>, from: u32) -> Option<u32> {
+// The first cell from an offset on.
+pub(crate) fn cell_after(view: &PageView<'_>, from: u32) -> Option<u32> {
     let mut next = None;
     let mut least = u32::MAX;
     for i in 0..view.cells() {
@@ -321,7 +363,7 @@ pub(crate) fn add_gaps<A: Allocator>(tries: &mut Ranked, paper: &Paper<A>) {
     let Some(view) = paper.view() else {
         return;
     };
-    for gap in gaps(&view, NO_CELL, paper.start(), paper.usable()) {
+    for gap in longest_gaps(paper, &view) {
         if gap.len == 0 {
             continue;
         }

@@ -6,12 +6,12 @@ use arrayvec::ArrayVec;
 // What a database begins with.
 const MAGIC: &[u8; 16] = b"SQLite format 3\0";
 
-const PAGE_SIZE: u64 = 16;
+pub(crate) const PAGE_SIZE: u64 = 16;
 
 const RESERVED: u64 = 20;
 
 // The sizes of a page, the usual one first, as the header has them: 1 is 65536.
-const SIZES: [u16; 8] = [4096, 1024, 512, 2048, 8192, 16384, 32768, 1];
+pub(crate) const SIZES: [u16; 8] = [4096, 1024, 512, 2048, 8192, 16384, 32768, 1];
 
 // The edits with which it may be read: what it has to begin with, each page size, and that no bytes are reserved.
 pub(crate) fn reading_tries() -> Tries {

@@ -15,6 +15,8 @@ pub(crate) enum Number {
     Any(u32),
     // The type of the page.
     Type,
+    // Whether the page is a leaf, where it is of the right kind of tree.
+    Leaf,
     // Where its content area begins.
     Start,
     // How many fragmented bytes it has, and how many there are.
@@ -23,6 +25,8 @@ pub(crate) enum Number {
     Cells,
     // The pointer of this cell, or of those that overlap this item.
     Pointer(u32),
+    // The size of the freeblock of this number, or the link to it, and where that leads.
+    Block(u32, u32),
     // How many leaves a trunk has.
     Leaves,
     // The page after the last overflow page, which is 0.
@@ -122,12 +126,18 @@ fn add_reference<A: Allocator>(desk: &Desk<A>, fault: &Fault, wanted: &mut Wante
     }
 }
 
-// What may be wrong where items of a page are: its pointers, and the numbers of its head.
-fn add_items(wanted: &mut Wanted, page: u32, number: Number) {
+// What may be wrong where items of a page are: its pointers, and the numbers of its head. Page 1 and a child have no P02, so they are of the
+// right kind of tree.
+fn add_items<A: Allocator>(desk: &Desk<A>, wanted: &mut Wanted, page: u32, number: Number) {
     add_want(wanted, page, number);
     add_want(wanted, page, Number::Cells);
     add_want(wanted, page, Number::Start);
-    add_want(wanted, page, Number::Type);
+    let kind = match mark(desk, page) {
+        Mark::Child(_) => Number::Leaf,
+        _ if page == 1 => Number::Leaf,
+        _ => Number::Type,
+    };
+    add_want(wanted, page, kind);
 }
 
 // What may be wrong by a key out of order: a pointer of its page, or of that of the greater key, or how one of these was reached.
@@ -154,9 +164,10 @@ fn add_wanted<A: Allocator>(desk: &Desk<A>, noted: &Noted, wanted: &mut Wanted) 
             add_want(wanted, page, Number::Cells);
         }
         FaultCode::P05 | FaultCode::P06 | FaultCode::P08 => {
-            add_items(wanted, page, Number::Pointer(fault.item));
+            add_items(desk, wanted, page, Number::Pointer(fault.item));
         }
-        FaultCode::P09 => add_items(wanted, page, Number::Fragments(fault.value)),
+        FaultCode::P07 => add_want(wanted, page, Number::Block(fault.item, named(fault))),
+        FaultCode::P09 => add_items(desk, wanted, page, Number::Fragments(fault.value)),
         FaultCode::P10 => add_want(wanted, page, Number::Cells),
         FaultCode::T06 => add_keys(desk, noted, wanted),
         FaultCode::O01 => add_want(wanted, page, Number::End),

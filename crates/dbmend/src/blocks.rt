@@ -1,0 +1,135 @@
+// What the numbers of a freeblock may have been: its size, and the link to it (Database File Format, 1.6).
+ghost use Rattle.std.specs.Prelude.{◌≤◌};
+
+use crate::numbers::{MOST_FRAGMENT, add_short, head};
+use crate::pointers::{cell_after, first_gap, longest_gaps};
+use crate::ranked::Ranked;
+use crate::reading::Paper;
+use dbpage::PageView;
+use std::alloc::Allocator;
+
+// The link to a freeblock: which it is, from 0, and where the link is and the freeblock before it ends.
+#[derive(Clone, Copy)]
+struct Link {
+    number: u32,
+    place: u32,
+    from: u32,
+}
+
+impl Link {
+    // That of the first one.
+    fn first<A: Allocator>(paper: &Paper<A>) -> Link {
+        Link {
+            number: 0,
+            place: head(paper) + 1,
+            from: paper.start(),
+        }
+    }
+
+    // The one of this number, or the last.
+    fn of<A: Allocator>(paper: &Paper<A>, view: &PageView<'_>, number: u32) -> Link {
+        let mut link = Link::first(paper);
+        for block in view.freeblocks() {
+            if link.number == number {
+                return link;
+            }
+            link = Link {
+                number: link.number.saturating_add(1),
+                place: block.offset,
+                from: block.offset.saturating_add(block.size),
+            };
+        }
+        link
+    }
+}
+
+// How many fragmented bytes may be at one place.
+fn most_fragmented(view: &PageView<'_>) -> u32
+    ensures { result ≤ 3 }
+{
+    u32::from(view.fragments()).min(MOST_FRAGMENT)
+}
+
+// Adds the sizes that a freeblock may have, where the bytes up to an offset are its own but for a fragment.
+fn add_sizes<A: Allocator>(
+    tries: &mut Ranked,
+    paper: &Paper<A>,
+    view: &PageView<'_>,
+    at: u32,
+    end: u32,
+) {
+    for fragment in 0..most_fragmented(view) + 1 {
+        let size = end.saturating_sub(at).saturating_sub(fragment);
+        if size >= 4 {
+            add_short(tries, paper, at.saturating_add(2), size, 30 - fragment);
+        }
+    }
+}
+
+// Adds where a freeblock may begin: with the first run of bytes that no item holds, after at most a fragment. Or there is none.
+fn add_link<A: Allocator>(tries: &mut Ranked, paper: &Paper<A>, view: &PageView<'_>, link: Link) {
+    if let Some(gap) = first_gap(paper, view, link.number, link.from) {
+        for fragment in 0..most_fragmented(view) + 1 {
+            let at = gap.at.saturating_add(fragment);
+            add_short(tries, paper, link.place, at, 28 - fragment);
+        }
+    }
+    add_short(tries, paper, link.place, 0, 22);
+}
+
+// Where the bytes end that a freeblock at an offset may have: where the next cell begins, or with the usable bytes.
+fn end_of<A: Allocator>(paper: &Paper<A>, view: &PageView<'_>, at: u32) -> u32 {
+    match cell_after(view, at) {
+        Some(cell) => view.item_offset(cell),
+        None => paper.usable(),
+    }
+}
+
+// Adds what the size of the freeblock of this number may have been, and the link to it, which leads to an offset.
+pub(crate) fn add_block<A: Allocator>(tries: &mut Ranked, paper: &Paper<A>, number: u32, at: u32) {
+    if let Some(view) = paper.view() {
+        add_sizes(tries, paper, &view, at, end_of(paper, &view, at));
+        add_link(tries, paper, &view, Link::of(paper, &view, number));
+    }
+}
+
+// The freeblock that holds the byte at an offset: its number, and where it begins.
+fn block_over(view: &PageView<'_>, at: u32) -> Option<(u32, u32)> {
+    let mut number = 0u32;
+    for block in view.freeblocks() {
+        if block.offset <= at && at < block.offset.saturating_add(block.size) {
+            return Some((number, block.offset));
+        }
+        number = number.saturating_add(1);
+    }
+    None
+}
+
+// The same of the freeblock that is an item, or overlaps its first byte.
+pub(crate) fn add_block_over<A: Allocator>(tries: &mut Ranked, paper: &Paper<A>, item: u32) {
+    let over = match paper.view() {
+        Some(view) => block_over(&view, view.item_offset(item)),
+        None => None,
+    };
+    if let Some((number, at)) = over {
+        add_block(tries, paper, number, at);
+    }
+}
+
+// Adds that a freeblock has the run of bytes after it that no item holds, or that one more begins with such a run.
+pub(crate) fn add_longer<A: Allocator>(tries: &mut Ranked, paper: &Paper<A>) {
+    let Some(view) = paper.view() else {
+        return;
+    };
+    let longest = longest_gaps(paper, &view);
+    for block in view.freeblocks() {
+        let end = block.offset.saturating_add(block.size);
+        for gap in longest {
+            if gap.at == end {
+                let end = end.saturating_add(gap.len);
+                add_sizes(tries, paper, &view, block.offset, end);
+            }
+        }
+    }
+    add_link(tries, paper, &view, Link::of(paper, &view, u32::MAX));
+}
