@@ -14,6 +14,7 @@ use Rattle.dbsource.specs.Changes.{Change}
 use Rattle.dbsource.specs.Failures.{one_more}
 use Rattle.dbsource.specs.HeaderBytes.{HeaderBytes}
 use Rattle.dbsource.specs.Headers.{Opens}
+use Rattle.dbsource.specs.Patched.{Over}
 use Rattle.dbsource.specs.declared.error.OpenError.{OpenError}
 use Rattle.dbsource.specs.declared.error.OpenError.TheVariants as opening
 use Rattle.dbsource.specs.declared.error.RunError.{RunError}
@@ -25,7 +26,7 @@ use Rattle.dbcli.specs.ErrorLines.{error_line, unrun_line}
 use Rattle.dbcli.specs.Exit.{EndsWithLine}
 use Rattle.dbcli.specs.Finishing.{RunsInside}
 use Rattle.dbcli.specs.Status.{exit_status}
-use Rattle.dbcli.specs.Tasks.{DoesWith}
+use Rattle.dbcli.specs.Tasks.{DoesWith, changed_words}
 use Rattle.dbcli.specs.declared.error_lines.Unrun.TheVariants.{Version, PageSize}
 use Rattle.dbcli.specs.declared.task.Task.{Task}
 
@@ -69,6 +70,12 @@ joined pages len both = record { placed = placed pages len; base = both.0; log =
 abbrev pub is_used : Indexed → ℕ → Bool
 is_used index len = nat_lt 0 index.pages && nat_lt 0 len
 
+-- The header of a source was looked at, and the size of a page that it states was compared with this one.
+pub record LooksAtHeader {S : Type 0} (source : SourceWords S) (size : ℕ) (r : Result Bool Unread) (old new : S) : Type 0 where
+  pub header : Result HeaderBytes OpenError
+  pub opens : Opens source.step source.lengths header (source.held old) (source.held new)
+  pub fits : FitsHeader size header r
+
 module _ {B L : Type 0} (base : SourceWords B) (log : SourceWords L) where
   -- a source over both
   abbrev pub both_words : SourceWords (Beside B L)
@@ -78,11 +85,10 @@ module _ {B L : Type 0} (base : SourceWords B) (log : SourceWords L) where
     lengths = BesideLength;
   }
 
-  -- The header of both as one was looked at.
-  pub record LooksAtHeader (r : Result Bool Unread) (old new : Beside B L) : Type 0 where
-    pub header : Result HeaderBytes OpenError
-    pub opens : Opens both_words.step both_words.lengths header (both_words.held old) (both_words.held new)
-    pub fits : FitsHeader old.placed.page_size header r
+  -- The header of both as one, with these changes, was looked at.
+  abbrev pub LooksWith : List Change → Result Bool Unread → Beside B L → Beside B L → Type 0
+  LooksWith changes r old new = (left : Over (Beside B L)) × (left.source ≡ new)
+      × LooksAtHeader (changed_words both_words) old.placed.page_size r (record { changes = changes; source = old }) left
 
 module _ {S : Type 0} (source : SourceWords S) where
   -- a length that a source answered: that of its told bytes
@@ -122,7 +128,7 @@ module _ {B L O E : Type 0} (base : SourceWords B) (log : SourceWords L) (out : 
   pub record RunsLogged (changes : List Change) (asked : Task) (status : ℕ) (old new : Beside B L × O × E) : Type 0 where
     pub fits : Result Bool Unread
     pub mid : Beside B L
-    pub looked : LooksAtHeader base log fits old.0 mid
+    pub looked : LooksWith base log changes fits old.0 mid
     pub ran : RunsFitting err (RunsInside (both_words base log) out err changes (DoesWith (both_words base log) out err changes asked status) status)
         status fits (mid, old.1, old.2) new
 
@@ -161,7 +167,7 @@ module _ {S O E : Type 0} (source : SourceWords S) (out : OutWords O) (err : Out
   pub record RunsRolled (changes : List Change) (asked : Task) (status : ℕ) (old new : (Beside S S × Option S) × O × E) : Type 0 where
     pub fits : Result Bool Unread
     pub mid : Beside S S
-    pub looked : LooksAtHeader source source fits old.0.0 mid
+    pub looked : LooksWith source source changes fits old.0.0 mid
     pub ran : RunsFitting err (RunsBase (both_words source source) source out err changes asked status) status fits
         ((mid, old.0.1), old.1, old.2) new
 

@@ -1,7 +1,7 @@
 // A file, and the write-ahead log beside it.
 ghost use Rattle.std.specs.Prelude.{◌≡◌, IfSome, OnOk};
 ghost use Rattle.dbsource.specs.Sources.{AreBytes};
-ghost use Rattle.dbcli.specs.Beside.{FindsLog, FitsError, LooksAtHeader, RunsBase, RunsBeside, RunsLogged, is_used, log_line, log_status};
+ghost use Rattle.dbcli.specs.Beside.{FindsLog, FitsError, LooksAtHeader, LooksWith, RunsBase, RunsBeside, RunsLogged, is_used, log_line, log_status};
 ghost use Rattle.dbcli.specs.Exit.{EndsWithLine};
 ghost use Rattle.dbcli.specs.Finishing.{RunsInside};
 ghost use Rattle.dbcli.specs.Tasks.{DoesWith};
@@ -78,15 +78,27 @@ fn unless_unread(error: OpenError) -> Result<bool, ReadFailed>
     }
 }
 
-// Whether the header of the database states the page size of the log. One that is refused is left to the run.
-pub(crate) fn fits<B: Source, L: Source>(both: &mut Logged<B, L>) -> Result<bool, ReadFailed>
-    ensures { LooksAtHeader B.Source L.Source result both.old both.new }
+// Whether the header of a database states this size of a page. One that is refused is left to the run.
+fn has_size<S: Source>(size: u32, source: &mut S) -> Result<bool, ReadFailed>
+    ensures { LooksAtHeader S.Source size result source.old source.new }
 {
-    let size = both.page_size();
-    match Header::read(both) {
+    match Header::read(source) {
         Ok(header) => Ok(header.geometry().page_size == size),
         Err(error) => unless_unread(error),
     }
+}
+
+// Whether the header of the database, with the changes of a line, states the page size of the log. Gives both back.
+pub(crate) fn fits<B: Source + Drop, L: Source + Drop>(
+    line: &Line<'_>,
+    both: Logged<B, L>,
+) -> (Result<bool, ReadFailed>, Logged<B, L>)
+    ensures { LooksWith B.Source L.Source line.now.changes result.0 both result.1 }
+{
+    let size = both.page_size();
+    let mut patched = Patched::new(&line.changes, both);
+    let looked = has_size(size, &mut patched);
+    (looked, patched.into_inner())
 }
 
 // Runs a line over a file and its log as one, if they fit.
@@ -108,8 +120,8 @@ fn run_logged<
 ) -> (u8, Logged<B, L>)
     ensures { RunsLogged B.Source L.Source O.Out E.Out line.now.changes line.now.task result.0 (both, out.old, err.old) (result.1, out.new, err.new) }
 {
-    let mut both = both;
-    match fits(&mut both) {
+    let (looked, both) = fits(line, both);
+    match looked {
         Ok(is_fit) => {
             if is_fit {
                 notes.joined(line.task);

@@ -8,11 +8,13 @@ const PAGES: u64 = 65_536;
 
 const BYTES: u64 = 268_435_456;
 
-// Blanks over the longest text of a file that is read once, between two returns to the beginning of the line.
+// Blanks over the longest text of a file that is read once, between two returns to the beginning of the line. No file that is read has
+// more than 67108864 pages, so it is `dbck: 67108864 of 67108864 pages, 100%`.
 const BLANK: &str = "\r                                        \r";
 
-// And over the longest of one that is read again.
-const LONG_BLANK: &str = "\r                                                 \r";
+// And over the longest of one that is read again, of 256 runs at most. Of a file that is refused all pages are counted, which may be as
+// many as `dbck: run 256, 67108864 of 9223372036854775807 pages, 0%` says.
+const LONG_BLANK: &str = "\r                                                        \r";
 
 /// A line of a stream that is overwritten, if the stream is a terminal. After each text the cursor goes back to the beginning
 /// of the line, so that the next text overwrites it, also after an interrupted run. A failed write changes nothing.

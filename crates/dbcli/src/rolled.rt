@@ -34,8 +34,9 @@ fn run_rolled<R: Lookup + AllocGlobal, S: Source + Drop, O: Out, E: Out, N: Out,
 ) -> (u8, (Logged<S, S>, Option<S>))
     ensures { RunsRolled S.Source O.Out E.Out line.now.changes line.now.task result.0 (opened, out.old, err.old) (result.1, out.new, err.new) }
 {
-    let (mut rolled, wal) = opened;
-    match fits(&mut rolled) {
+    let (rolled, wal) = opened;
+    let (looked, rolled) = fits(line, rolled);
+    match looked {
         Ok(is_fit) => {
             if is_fit {
                 notes.joined(line.task);

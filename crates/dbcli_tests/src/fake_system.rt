@@ -58,6 +58,14 @@ impl<'a> FakeSystem<'a> {
         }
     }
 
+    /// Whether this text was printed, which ends where the cursor goes back to the beginning of the line, and then as many blanks at least.
+    pub(crate) fn has_wiped(&self, text: &str) -> bool {
+        match self.printed.try_borrow() {
+            Ok(printed) => is_wiped(printed.as_str(), text),
+            Err(_) => false,
+        }
+    }
+
     // Notes a call.
     fn note(&self, call: &str, path: &str) {
         if let Ok(mut calls) = self.calls.try_borrow_mut() {
@@ -73,6 +81,22 @@ impl<'a> FakeSystem<'a> {
         }
         Ok(())
     }
+}
+
+// Whether what was printed is a text and then a line of blanks over all of it.
+fn is_wiped(printed: &str, text: &str) -> bool {
+    let Some(blanks) = printed.strip_prefix(text) else {
+        return false;
+    };
+    let Some((before, blanks)) = blanks.split_once('\r') else {
+        return false;
+    };
+    let Some((blanks, after)) = blanks.split_once('\r') else {
+        return false;
+    };
+    // The text has its return besides.
+    let is_long = blanks.len().saturating_add(1) >= text.len();
+    is_long && before.is_empty() && after.is_empty() && blanks.chars().all(|char| char == ' ')
 }
 
 fn refusal() -> io::Error {

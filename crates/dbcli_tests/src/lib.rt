@@ -11,4 +11,6 @@ mod names;
 #[cfg(test)]
 mod paths;
 #[cfg(test)]
+mod progress;
+#[cfg(test)]
 mod stops;

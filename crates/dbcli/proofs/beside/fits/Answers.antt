@@ -1,14 +1,15 @@
-use Rattle.std.proofs.Common.{ℕ, ap₂, Ok, Err}
-use Rattle.std.specs.Prelude.{◌==◌}
-use Rattle.dbformat.specs.declared.Geometry.{Geometry}
+use Rattle.std.proofs.Common.{sym, subst}
+use Rattle.dbcli.specs.Beside.{LooksAtHeader, both_words}
+use Rattle.dbcli.specs.Tasks.{changed_words}
 use Rattle.dbcli.proofs.beside.fits.Goals as goal
 
-pub returns-in-Ok : goal.returns-in-Ok
-returns-in-Ok g c = record {
-  header = Ok c.in-Ok.header;
-  opens = c.in-Ok.ensures.opens;
-  fits = ap₂ (λ (x : Geometry) (n : ℕ). Ok (x.page_size == n)) c.geometry.ensures.shape c.page_size-size.ensures;
-}
-
-pub returns-in-Err : goal.returns-in-Err
-returns-in-Err g c = record { header = Err c.in-Err.error; opens = c.in-Err.ensures.opens; fits = c.unless_unread.ensures }
+pub returns : goal.returns
+returns g c =
+    let words = changed_words (both_words g.B.Source g.L.Source) in
+    let r = c.has_size-looked.result in
+    let left = c.has_size-looked.new.source in (
+      left,
+      sym c.into_inner.ensures,
+      subst (λ x. LooksAtHeader words c.args.both.placed.page_size r x left) c.new-patched.ensures
+          (subst (λ n. LooksAtHeader words n r c.new-patched.result left) c.page_size-size.ensures c.has_size-looked.ensures),
+    )
