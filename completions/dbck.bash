@@ -25,6 +25,8 @@ _dbck() {
     else
         compopt -o filenames 2> /dev/null
         mapfile -t COMPREPLY < <(compgen -f -- "$cur")
+        # Before -- a file whose name begins with a dash would be read as an option.
+        [ -n "$after" ] || COMPREPLY=("${COMPREPLY[@]/#-/./-}")
     fi
 }
 

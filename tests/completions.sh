@@ -63,9 +63,10 @@ compare '_dbck: help'
 sed -n "/seen_subcommand_from help'/s/.* -a '\([a-z ]*\)'.*/\1/p" dbck.fish | tr ' ' '\n' | LC_ALL=C sort > "$work/words"
 compare 'dbck.fish: help'
 
-# After -- only files are offered: also one whose name begins with a dash.
+# After -- only files are offered: also one whose name begins with a dash. Before it that one is offered with its folder.
 mkdir "$work/files"
 : > "$work/files/--limit.db"
+: > "$work/files/x-y.db"
 words=$(
     . ./dbck.bash
     cd "$work/files" || exit
@@ -73,11 +74,14 @@ words=$(
         COMP_WORDS=(dbck "$command" -- --) COMP_CWORD=3
         _dbck
         printf '%s\n' "$command: ${COMPREPLY[*]}"
+        COMP_WORDS=(dbck "$command" '') COMP_CWORD=2
+        _dbck
+        printf '%s\n' "$command:" "${COMPREPLY[@]}" | LC_ALL=C sort
     done
 )
 for command in check explain map mend stat; do
-    echo "$command: --limit.db"
+    printf '%s\n' "$command: --limit.db" ./--limit.db "$command:" x-y.db
 done > "$work/help"
 echo "$words" > "$work/words"
-compare 'dbck.bash: files after --'
+compare 'dbck.bash: files'
 exit $status

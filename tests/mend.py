@@ -7,8 +7,8 @@ number of the copy. --first begins at another copy than 0, for files that nobody
 those that are refused by themselves. The changes that `mend` prints are made in a copy, by the line alone, as its reader would. Where `mend`
 says `ok`, `dbck check` has to say `ok` of that copy; the bytes that it says were there have to be there; and it has to end as `check` does:
 else the status is 1. A row of the table that is printed has, for one kind, the files, those made sound, and those that are byte for byte as
-before the injury. In each row at least 90 of 100 files, rounded down, have to be sound, and as before, or the status is 1 too: docs/REPAIR.md
-has at least 98 and 96 of each kind.
+before the injury. In each row at least 90 of 100 files, rounded down, have to be sound, and as before (60 where three cell pointers are
+wrong), or the status is 1 too: docs/REPAIR.md has at least 98 and 96 of each other kind, and 90 of that one.
 """
 
 import argparse
@@ -45,9 +45,10 @@ def overwrite(db, at, size):
         db.put(at, size, db.one_of([0, 1 + db.below(db.pages), db.below(1 << (8 * size)), old ^ 1 << db.below(8 * size)]))
 
 
-def overwrite_references(count):
+def overwrite_some(count, places_of):
+    """So many numbers of those that places_of finds, if there are as many."""
     def injure(db):
-        places = references(db)
+        places = places_of(db)
         if len(places) < count:
             return True
         for _ in range(count):
@@ -61,8 +62,26 @@ def overwrite_head(at, size):
     return injure
 
 
-def overwrite_cell_pointer(db):
-    overwrite(db, db.one_of(db.cell_pointers(db.one_of([page for page in db.tree_pages() if db.cell_pointers(page)]))), 2)
+def cell_pointers(count):
+    """Those of a page that has so many."""
+    def places_of(db):
+        pages = [places for places in map(db.cell_pointers, db.tree_pages()) if len(places) >= count]
+        return [(at, 2) for at in db.one_of(pages)] if pages else []
+    return places_of
+
+
+def freeblock_numbers(db):
+    """The links to the freeblocks of each page, their sizes, and the end of the list if it has some."""
+    places = []
+    for page in db.tree_pages():
+        link = db.head(page) + 1
+        while db.number(link, 2):
+            block = db.start(page) + db.number(link, 2)
+            places += [(link, 2), (block + 2, 2)]
+            link = block
+        if link > db.head(page) + 1:
+            places.append((link, 2))
+    return places
 
 
 def overwrite_root(db):
@@ -74,14 +93,16 @@ def overwrite_header(db):
 
 
 KINDS = {
-    "one reference": overwrite_references(1),
-    "two references": overwrite_references(2),
-    "three references": overwrite_references(3),
+    "one reference": overwrite_some(1, references),
+    "two references": overwrite_some(2, references),
+    "three references": overwrite_some(3, references),
     "the type byte of a page": overwrite_head(0, 1),
     "the count of cells": overwrite_head(3, 2),
     "the content start": overwrite_head(5, 2),
     "the count of fragments": overwrite_head(7, 1),
-    "a cell pointer": overwrite_cell_pointer,
+    "a cell pointer": overwrite_some(1, cell_pointers(1)),
+    "three cell pointers of a page": overwrite_some(3, cell_pointers(3)),
+    "a number of a freeblock": overwrite_some(1, freeblock_numbers),
     "a root page in the schema": overwrite_root,
     "a number of the header": overwrite_header,
 }
@@ -91,6 +112,7 @@ REFUSED = "any of these, and the file is refused"
 
 # Of 100 files of a kind, how many at least have to be made sound, and to be as before.
 LEAST = 90
+LEAST_OF = {"three cell pointers of a page": 60}
 
 
 def run(*words):
@@ -123,7 +145,7 @@ def tried(dbck, file, kind, before, complaints):
 def counts(kind, outcomes, complaints):
     """How many files there are, how many of them are sound, and how many as before."""
     files, sound, as_before = len(outcomes), sum(it[0] for it in outcomes), sum(it[1] for it in outcomes)
-    least = files * LEAST // 100
+    least = files * LEAST_OF.get(kind, LEAST) // 100
     for what, count in (("made sound", sound), ("as before", as_before)):
         if count < least:
             complaints.append(f"{kind}: {count} of {files} files are {what}, fewer than {least}")

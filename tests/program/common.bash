@@ -29,9 +29,13 @@ setup() {
 }
 
 # A row that does not hold is named at once, and fails its test here: so all rows of a table are looked at.
-teardown() {
+ends_test() {
     [ -z "${work:-}" ] || rm -rf "$work"
     [ ! -s "${failing:-}" ]
+}
+
+teardown() {
+    ends_test
 }
 
 # row NAME TEST..: a row of a table, which is named where its test fails, before what the test says.

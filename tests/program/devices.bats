@@ -18,8 +18,7 @@ with_device() {
 
 teardown() {
     [ -z "${loop:-}" ] || losetup --detach "$loop"
-    [ -z "${work:-}" ] || rm -rf "$work"
-    [ ! -s "${failing:-}" ]
+    ends_test
 }
 
 # as_a_file FILE: each command writes of the device what it writes of the file.

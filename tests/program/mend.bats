@@ -79,9 +79,18 @@ made() {
     sqlite3 "$work/x.db" "PRAGMA page_size = ${2:-512}; $1"
 }
 
-# before NAME: where the bytes before the statement of a table are in x.db.
+# place_of TEXT: where it is first in x.db; before NAME: where the bytes before the statement of a table are.
+place_of() {
+    grep -abo "$1" "$work/x.db" | head -n 1 | cut -d: -f1
+}
+
 before() {
-    grep -abo "CREATE TABLE $1(" "$work/x.db" | head -n 1 | cut -d: -f1
+    place_of "CREATE TABLE $1("
+}
+
+# number_at OFFSET [SIZE]: the number of two bytes there in x.db, or of SIZE.
+number_at() {
+    echo $((16#$(od -An -tx1 -N"${2:-2}" -j"$1" "$work/x.db" | tr -d ' ')))
 }
 
 @test 'mend finds the roots of tables, of one byte and of two, between those of the rows beside them' {
@@ -104,12 +113,36 @@ before() {
     row 'a root of two bytes' are_put_back $(($(before t) - 2)) '\0177\0176'
 }
 
+# root_at STATEMENT: where the root page, of one byte, is in the row of x.db with a statement that begins so.
+root_at() {
+    echo $(($(place_of "$1") - 1))
+}
+
+# With 0 a row of a table is that of a virtual one, and no fault names it.
+@test 'mend finds the root of an index, and of a table without rowids, where it is 0, negative or past the end' {
+    local bytes statement
+    needs sqlite3
+    made 'CREATE TABLE s(a); CREATE TABLE t(a PRIMARY KEY, b) WITHOUT ROWID; CREATE INDEX i ON s(a); CREATE TABLE u(a); INSERT INTO s VALUES (1);
+        INSERT INTO t VALUES (2, 3); INSERT INTO u VALUES (4)'
+    for statement in 'CREATE TABLE t(' 'CREATE INDEX i ' 'CREATE TABLE u('; do
+        for bytes in '\0' '\0377' '\0143'; do
+            row "$statement: $bytes" are_put_back "$(root_at "$statement")" "$bytes"
+        done
+    done
+    # The index gets the page of the table that is gone, so its root page is before those of the rows before it.
+    made 'CREATE TABLE s(a); CREATE TABLE t(a); CREATE TABLE u(a); DROP TABLE s; CREATE INDEX i ON u(a); INSERT INTO u VALUES (1)'
+    for bytes in '\0' '\0377' '\0143'; do
+        row "the index in the place of a table: $bytes" are_put_back "$(root_at 'CREATE INDEX i ')" "$bytes"
+    done
+    [ "$rows" = 12 ]
+}
+
 # type_of PAGE: the type of a page of x.db; last_child: the last child of page 1.
 type_of() {
-    od -An -tu1 -N1 -j$(($1 == 1 ? 100 : 512 * ($1 - 1))) "$work/x.db" | tr -d ' '
+    number_at $(($1 == 1 ? 100 : 512 * ($1 - 1))) 1
 }
 last_child() {
-    echo $((16#$(od -An -tx1 -N4 -j108 "$work/x.db" | tr -d ' ')))
+    number_at 108 4
 }
 
 @test 'mend finds roots of tables in a schema of three levels' {
@@ -146,19 +179,25 @@ last_child() {
     done
 }
 
-# pairs_of TREE: of each two children of its root in x.db, where their numbers are.
-pairs_of() {
+# children_of TREE: of each child of its root in x.db, where its number is; pairs_of TREE: of each two of them.
+children_of() {
     python3 - "$work/x.db" "$1" << 'END'
-import itertools, sqlite3, sys
+import sqlite3, sys
 path, tree = sys.argv[1:]
 ((root,),) = sqlite3.connect(path).execute("SELECT rootpage FROM sqlite_schema WHERE name = ?", (tree,))
-begin = 512 * (root - 1)
-page = open(path, "rb").read()[begin : begin + 512]
+data = open(path, "rb").read()
+size = int.from_bytes(data[16:18], "big")
+begin = size * (root - 1)
+page = data[begin : begin + size]
 cells = int.from_bytes(page[3:5], "big")
 places = [int.from_bytes(page[12 + 2 * k : 14 + 2 * k], "big") for k in range(cells)] + [8]
-for one, other in itertools.combinations(places, 2):
-    print(begin + one, begin + other)
+print(*(begin + place for place in places), sep="\n")
 END
+}
+pairs_of() {
+    children_of "$1" | python3 -c 'import itertools, sys
+for one, other in itertools.combinations(sys.stdin.read().split(), 2):
+    print(one, other)'
 }
 
 # The rows come from the last key to the first, or in any order, so the leaves are in no order of their numbers: only the keys say which is
@@ -204,6 +243,48 @@ END
     [ "$rows" -gt 40 ]
 }
 
+# The rows of u go between those of t, three below each, and so do its leaves. Of its leaves one would fit each of the first nine places of t,
+# and is nearer to the leaves beside that; but then one of t fits none of u.
+@test 'of leaves of two tables that fit one place mend takes the one whose last rowid is the key there' {
+    local here there number=0
+    needs python3 sqlite3
+    made 'CREATE TABLE t(id INTEGER PRIMARY KEY, a); CREATE TABLE u(id INTEGER PRIMARY KEY, a);
+        CREATE TRIGGER r AFTER INSERT ON t BEGIN INSERT INTO u VALUES (new.id - 3, new.a); END;
+        WITH RECURSIVE k(n) AS (SELECT 1 UNION ALL SELECT n + 1 FROM k WHERE n < 40) INSERT INTO t SELECT 10 * n, zeroblob(100) FROM k;'
+    while read -r here there; do
+        number=$((number + 1))
+        [ "$number" -gt 9 ] || row "child $number of both" are_put_back "$here" '\0\0\0\0' "$there" '\0\0\0\0'
+    done < <(paste <(children_of t) <(children_of u))
+    [ "$rows" = 9 ]
+}
+
+# The pages below a child of the root come before it in the file, and are lost with it.
+@test 'mend finds a child that has many children of its own' {
+    local at
+    needs python3 sqlite3
+    made 'CREATE TABLE t(a); WITH RECURSIVE k(n) AS (SELECT 1 UNION ALL SELECT n + 1 FROM k WHERE n < 1200) INSERT INTO t SELECT zeroblob(100) FROM k;'
+    for at in $(children_of t); do
+        row "the child at $at" are_put_back "$at" '\0\0\0\0'
+    done
+    [ "$rows" -gt 3 ]
+}
+
+# The first 800 bytes of each text are zeros, and the first five columns are numbers that are the same in each row.
+@test 'mend finds which leaf of an index is where by texts that differ after 800 bytes, and by a sixth column' {
+    local keys one other
+    needs python3 sqlite3
+    keys='WITH RECURSIVE k(n) AS (SELECT 150 UNION ALL SELECT n - 1 FROM k WHERE n > 1) INSERT INTO t SELECT'
+    made "CREATE TABLE t(a); CREATE INDEX i ON t(a); $keys printf('%0800d%04d', 0, n * 7919 % 211) FROM k WHERE n <= 25" 4096
+    while read -r one other; do
+        row "texts: $one and $other" are_put_back "$one" '\0\0\0\0' "$other" '\0\0\0\0'
+    done < <(pairs_of i)
+    made "CREATE TABLE t(a); CREATE INDEX i ON t(a * 0, a * 0 + 2, a * 0 + 3, a * 0 + 4, a * 0 + 5, a); $keys n * 7919 % 211 FROM k"
+    while read -r one other; do
+        row "a sixth column: $one and $other" are_put_back "$one" '\0\0\0\0' "$other" '\0\0\0\0'
+    done < <(pairs_of i)
+    [ "$rows" = 25 ]
+}
+
 # pointer INDEX CELL: where the pointer of a cell of an index of one page is in x.db.
 pointer() {
     sqlite3 "$work/x.db" "SELECT (rootpage - 1) * 512 + 8 + 2 * $2 FROM sqlite_schema WHERE name = '$1'"
@@ -226,11 +307,134 @@ rising;n;a
 falling;n;a DESC
 rows from the last to the first;100 - n;a
 no order;n * 7919 % 211;a
-texts;'text ' || n * 7919 % 211;a
-texts in capital and small letters;char(n % 2 * 32 + 64 + n) || n * 7919 % 211;a COLLATE NOCASE
+texts;'text ' || (n * 7919 % 211);a
+texts in capital and small letters;char(n % 2 * 32 + 64 + n) || (n * 7919 % 211);a COLLATE NOCASE
 doubles;n * 7919 % 211 * 1.3 - 90;a
 END
     [ "$rows" = 28 ]
+}
+
+# One lower count of cells would leave one fault, and each pointer leaves one fewer. Pages 2 and 3 are the leaves of t and i.
+@test 'mend finds three cell pointers and more of a page, and leaves out no row' {
+    local page count first number
+    needs sqlite3
+    made 'CREATE TABLE t(a); CREATE INDEX i ON t(a); WITH RECURSIVE k(n) AS (SELECT 1 UNION ALL SELECT n + 1 FROM k WHERE n < 20)
+        INSERT INTO t SELECT n FROM k;'
+    for page in 2 3; do
+        for count in 3 5 8; do
+            for first in 0 6 12; do
+                numbers=()
+                for ((number = first; number < first + count; number++)); do
+                    numbers+=($((512 * (page - 1) + 8 + 2 * number)) '\0\0')
+                done
+                row "$count pointers of page $page from $first on" are_put_back "${numbers[@]}"
+            done
+        done
+    done
+    [ "$rows" = 18 ]
+}
+
+@test 'mend finds twelve cell pointers of cells that follow one another' {
+    local number
+    needs sqlite3
+    made 'CREATE TABLE t(a); WITH RECURSIVE k(n) AS (SELECT 1 UNION ALL SELECT n + 1 FROM k WHERE n < 20) INSERT INTO t SELECT n FROM k;'
+    flags=(--limit 16)
+    numbers=()
+    for ((number = 2; number < 14; number++)); do
+        numbers+=($((512 + 8 + 2 * number)) '\0\0')
+    done
+    row 'twelve pointers' are_put_back "${numbers[@]}"
+}
+
+# A pointer before the end of the pointers is that of no cell. Were the content area to begin there, the page would have one fault: P03.
+@test 'mend does not let the content area begin among the cell pointers' {
+    needs sqlite3
+    made 'CREATE TABLE t(a); WITH RECURSIVE k(n) AS (SELECT 1 UNION ALL SELECT n + 1 FROM k WHERE n < 20) INSERT INTO t SELECT n FROM k;'
+    row 'pointers to bytes 18, 20 and 30' are_put_back $((512 + 12)) '\0\022' $((512 + 20)) '\0\024' $((512 + 36)) '\0\036'
+}
+
+# The five pointers are those of the last five cells. Were the leaf one of an index, all its faults would be one, P02.
+@test 'mend does not make a leaf of a table one of an index' {
+    local leaf=2048
+    needs sqlite3
+    made 'CREATE TABLE t(a); WITH RECURSIVE k(n) AS (SELECT 1 UNION ALL SELECT n + 1 FROM k WHERE n < 200) INSERT INTO t SELECT n FROM k;'
+    row 'page 5 is a leaf' [ "$(type_of 5)" = 13 ]
+    dd if="$work/x.db" of="$work/x.db" bs=1 skip=$((leaf + 8 + 2 * $(number_at $((leaf + 3))) - 10)) seek=$((leaf + 8)) count=10 conv=notrunc status=none
+    dbck mend "$work/x.db"
+    row 'no other type' [ "$(grep -c "^at byte $leaf " "$work/out")" = 0 ]
+}
+
+# The first link of page 2 is at byte 513. Rows 3, 9 and 15 of 20 are gone, so that there are three freeblocks, of which each is where a cell was.
+@test 'mend finds the links to freeblocks, and their sizes' {
+    local block number link=513 value
+    needs sqlite3
+    made "CREATE TABLE t(a); WITH RECURSIVE k(n) AS (SELECT 1 UNION ALL SELECT n + 1 FROM k WHERE n < 20)
+        INSERT INTO t SELECT printf('row %d', n) FROM k; DELETE FROM t WHERE a IN ('row 3', 'row 9', 'row 15')"
+    for number in 0 1 2; do
+        block=$((512 + $(number_at $link)))
+        for value in '\0\0' '\0377\0377' '\0\07' "\\01\\0220"; do
+            row "the link to freeblock $number, put $value" are_put_back $link "$value"
+        done
+        for value in '\0377\0377' '\0\03' '\0\0' '\0\0177' '\0\04'; do
+            row "the size of freeblock $number, put $value" are_put_back $((block + 2)) "$value"
+        done
+        link=$block
+    done
+    row 'the end of the list' are_put_back $link '\01\0220'
+    [ "$rows" = 28 ]
+}
+
+# fragmented IDS: makes x.db, whose rows 3 and 6 are one and two bytes shorter than those that they took the place of: a fragment comes after
+# each. Then come rows 2 and 5. The rows with these ids are gone.
+fragmented() {
+    made "CREATE TABLE t(id INTEGER PRIMARY KEY, a); WITH RECURSIVE k(n) AS (SELECT 1 UNION ALL SELECT n + 1 FROM k WHERE n < 12)
+        INSERT INTO t SELECT n, printf('row number %02d', n) FROM k; DELETE FROM t WHERE id = 6; INSERT INTO t VALUES (6, 'row number ');
+        DELETE FROM t WHERE id = 3; INSERT INTO t VALUES (3, 'row number 3'); DELETE FROM t WHERE id IN ($1)"
+    [ "$(number_at 519 1)" = 3 ]
+}
+
+@test 'mend finds cells after fragments, links to freeblocks after them, and the sizes of freeblocks before them' {
+    local block cell ids link value
+    needs sqlite3
+    row 'fragments between cells' fragmented 0
+    for cell in 1 2 4 5; do
+        row "the pointer of cell $cell" are_put_back $((520 + 2 * cell)) '\0\0'
+    done
+    for ids in 2,5 3,6; do
+        row "fragments beside freeblocks in the place of rows $ids" fragmented "$ids"
+        link=513
+        while [ "$(number_at $link)" != 0 ]; do
+            block=$((512 + $(number_at $link)))
+            for value in '\0\0' '\0377\0377' '\0\07'; do
+                row "the link at $link of rows $ids, put $value" are_put_back $link "$value"
+            done
+            for value in '\0377\0377' '\0\03' '\0\0' '\0\04'; do
+                row "the size of the freeblock at $block of rows $ids, put $value" are_put_back $((block + 2)) "$value"
+            done
+            link=$block
+        done
+    done
+    [ "$rows" = 35 ]
+}
+
+# Behind the pointers SQLite leaves some of cells that are gone. The cells that are left out have more bytes than fragments may have.
+@test 'mend finds the count of cells of a page with freeblocks' {
+    local count
+    needs sqlite3
+    made "CREATE TABLE t(a); WITH RECURSIVE k(n) AS (SELECT 1 UNION ALL SELECT n + 1 FROM k WHERE n < 20)
+        INSERT INTO t SELECT printf('row %d', n) FROM k; DELETE FROM t WHERE a IN ('row 3', 'row 9', 'row 15')"
+    for count in 1 12 17 20 22 377; do
+        row "a count of octal $count" are_put_back 515 "\\0\\0$count"
+    done
+    [ "$rows" = 6 ]
+}
+
+@test 'mend finds a page size that is another one of those that there are' {
+    local bytes
+    cp "$data/whole.db" "$work/x.db"
+    for bytes in '\04\0' '\010\0' '\020\0'; do
+        row "page size $bytes" is_put_back 16 "$bytes"
+    done
 }
 
 # The first cell is at the end of page 2, and the others take most of the page.
@@ -255,13 +459,6 @@ END
     dd if="$work/x.db" of="$work/x.db" bs=1 skip=$((first + 2)) seek="$first" count=2 conv=notrunc status=none
     dd if="$work/x.db" of="$work/x.db" bs=1 skip=$((first + 8)) seek=$((first + 2)) count=2 conv=notrunc status=none
     exactly 1 $'1 fault\n1 fault is left\n' '' mend "$work/x.db"
-}
-
-# 3 is a root page, so that no rule says that 3 is wrong, and page 2 would be one of a pointer map.
-@test 'mend finds that a file has no pointer map, where byte 52 has a number that fits' {
-    cp "$data/whole.db" "$work/x.db"
-    put_at "$work/x.db" 52 '\0\0\0\3'
-    exactly 1 $'12 faults\nat byte 52 put 00000000 for 00000003\n    page 1 at byte 0\nok\n' '' mend "$work/x.db"
 }
 
 # Page 2 is the root of t, and its leaves are lost with it. Each would be one lost page fewer, and most of the rows would be lost for good.
@@ -353,16 +550,35 @@ END
     row 'sixteen changes' [ "$(grep -c '^at byte' "$work/lines")" = 16 ]
 }
 
+# vacuumed MODE: makes x.db of two tables, with a pointer map for this auto_vacuum.
+vacuumed() {
+    made "PRAGMA auto_vacuum = $1; CREATE TABLE t(a); CREATE TABLE u(a); INSERT INTO t VALUES (zeroblob(3000))"
+}
+
+# 3 is a root page, so that no rule says that 3 is wrong, and page 2 would be one of a pointer map.
 @test 'mend finds the greatest root page, and that there is none in a file without a pointer map' {
+    local number count
     needs sqlite3
     cp "$data/whole.db" "$work/x.db"
-    row 'none' is_put_back 52 '\0\0\0\07'
-    exactly 1 $'13 faults\nat byte 52 put 00000000 for 00000007\n    page 1 at byte 0\nok\n' '' mend "$work/wrong.db"
-    made 'PRAGMA auto_vacuum = incremental; CREATE TABLE t(a); CREATE TABLE u(a); INSERT INTO t VALUES (zeroblob(3000))'
+    while read -r number count; do
+        row "none, where byte 52 has the number $number" is_put_back 52 "\\0\\0\\0\\0$number"
+        exactly 1 "$count faults"$'\n'"at byte 52 put 00000000 for 0000000$number"$'\n    page 1 at byte 0\nok\n' '' mend "$work/wrong.db"
+    done <<< $'7 13\n3 12'
+    vacuumed incremental
     row 'that of an incremental vacuum' are_put_back 52 '\0\0\0\0'
     row 'a wrong one of an incremental vacuum' are_put_back 52 '\0\0\0\03'
-    made 'PRAGMA auto_vacuum = full; CREATE TABLE t(a); CREATE TABLE u(a); INSERT INTO t VALUES (zeroblob(3000))'
+    vacuumed full
     row 'a wrong one of a full vacuum' are_put_back 52 '\0\0\0\07'
+}
+
+# These are pages past the end, and the root of t.
+@test 'mend finds that there is no first trunk in a file without a freelist' {
+    local number
+    needs sqlite3
+    made 'CREATE TABLE t(a); INSERT INTO t VALUES (1)'
+    for number in '\0\0\0\011' '\0\0\0\02' '\0377\0\0\0'; do
+        row "a first trunk of $number" are_put_back 32 "$number"
+    done
 }
 
 @test 'mend finds the encoding where it is 0' {
@@ -390,6 +606,23 @@ END
     for page in 2 3 4 6; do
         row "the type of page $page" is_put_back $((512 * (page - 1))) '\0'
     done
+    # Interior pages that say to be leaves, and a leaf that says to be an interior page. Page 6 has no room for pointers that begin later.
+    row 'page 2, of type 13' is_put_back 512 '\015'
+    row 'page 3, of type 10' is_put_back 1024 '\012'
+    row 'page 4, of type 2' is_put_back 1536 '\02'
+}
+
+@test 'mend finds the type of page 1, a leaf and an interior page' {
+    local bytes
+    needs sqlite3
+    made 'CREATE TABLE t(a); CREATE INDEX i ON t(a)'
+    for bytes in '\0' '\05' 'x'; do
+        row "page 1, a leaf, put $bytes" are_put_back 100 "$bytes"
+    done
+    made "$(printf 'CREATE TABLE t%d(a);' {1..60})"
+    for bytes in '\0' '\015' 'x'; do
+        row "page 1, an interior page, put $bytes" are_put_back 100 "$bytes"
+    done
 }
 
 # Its children cannot be told before its type is put back.
@@ -412,7 +645,7 @@ END
     local mode page pages
     needs sqlite3
     for mode in full incremental; do
-        made "PRAGMA auto_vacuum = $mode; CREATE TABLE t(a); CREATE TABLE u(a); INSERT INTO t VALUES (zeroblob(3000))"
+        vacuumed "$mode"
         for page in 3 4; do
             row "root page $page, auto_vacuum = $mode" are_put_back $((512 + 5 * (page - 3))) '\07\07\07\07\07'
         done
@@ -702,7 +935,7 @@ END
     put_at "$work/large.db" 72 '\01'
     on_terminal "'$DBCK' mend '$work/large.db' > '$work/report'"
     wiped="dbck: 65536 of $pages pages, 97%"$'\r\r'"$(printf '%40s' '')"$'\r'
-    row 'progress of two runs' ended 1 "${wiped}dbck: run 2, 65536 of $pages pages, 97%"$'\r\r'"$(printf '%49s' '')"$'\r' ''
+    row 'progress of two runs' ended 1 "${wiped}dbck: run 2, 65536 of $pages pages, 97%"$'\r\r'"$(printf '%56s' '')"$'\r' ''
     row 'a report beside progress' grep -qx ok "$work/report"
 }
 

@@ -174,6 +174,11 @@ END
     exactly 0 $'ok\n' "$note" check --recovered "$work/x.db"
 }
 
+# read_by_sqlite FILE: SQLite reads a table of a database, and recovers it before.
+read_by_sqlite() {
+    python3 -c 'import sqlite3, sys; sqlite3.connect(sys.argv[1]).execute("SELECT count(*) FROM t").fetchall()' "$1"
+}
+
 # The first record is of a page that the database did not have, and its sum is wrong.
 @test 'a record of a page that the database did not have is passed over, as SQLite does' {
     needs python3
@@ -183,7 +188,7 @@ END
     put_at "$work/before.db-journal" 1028 '\xee\xee\xee\xee'
     mv "$work/before.db-journal" "$work/then.db-journal"
     for suffix in '' -journal; do cp "$work/then.db$suffix" "$work/whole.db$suffix"; done
-    python3 -c 'import sqlite3, sys; sqlite3.connect(sys.argv[1]).execute("SELECT count(*) FROM t").fetchall()' "$work/whole.db"
+    read_by_sqlite "$work/whole.db"
     row 'what SQLite makes of both' cmp "$work/whole.db" "$work/before.db"
     dbck stat --all "$work/whole.db"
     cp "$work/out" "$work/wanted"
@@ -239,6 +244,17 @@ with open(sys.argv[1], "ab") as journal:
 END
 }
 
+# The report of then.db with its journal is that of before.db, which is what SQLite makes of it.
+is_rolled_back() {
+    dbck check "$work/before.db"
+    cp "$work/out" "$work/wanted"
+    dbck check --recovered "$work/then.db"
+    cmp "$work/out" "$work/wanted"
+    grep -q "then.db-journal: [0-9]* pages are read from it; the database had [0-9]* pages" "$work/err"
+    read_by_sqlite "$work/then.db"
+    cmp "$work/then.db" "$work/before.db"
+}
+
 @test 'the name of a super-journal is shown in its note' {
     journaled_alone
     name_super "$work/"$'main\e[2J\n.db-mj1'
@@ -248,8 +264,6 @@ END
 @test 'a journal that names a super-journal is rolled back where that is there' {
     local name=$work/main.db-mj1
     journaled_alone
-    dbck check "$work/before.db"
-    cp "$work/out" "$work/wanted"
     name_super "$name"
     cold "names the super-journal $name, which is not here, and is not rolled back (see the manual)"
     # One of the same name in another folder, which is the one that the program runs in, is not it.
@@ -262,32 +276,16 @@ END
     : > "$name"
     cold "names the super-journal $name, which is not here, and is not rolled back (see the manual)"
     echo then.db-journal > "$name"
-    dbck check --recovered "$work/then.db"
-    cmp "$work/out" "$work/wanted"
-    grep -q "then.db-journal: [0-9]* pages are read from it; the database had [0-9]* pages" "$work/err"
-    # It is what SQLite makes of the three.
-    python3 - "$work/then.db" << 'END'
-import sqlite3, sys
-sqlite3.connect(sys.argv[1]).execute("SELECT count(*) FROM t").fetchone()
-END
-    cmp "$work/then.db" "$work/before.db"
+    is_rolled_back
 }
 
 @test 'the name of a super-journal ends at a byte of 0' {
     journaled_alone
-    dbck check "$work/before.db"
-    cp "$work/out" "$work/wanted"
     name_super "$work/main.db-mj1@more"
     cold "names the super-journal $work/main.db-mj1, which is not here, and is not rolled back (see the manual)"
     echo then.db-journal > "$work/main.db-mj1"
-    dbck check --recovered "$work/then.db"
-    cmp "$work/out" "$work/wanted"
     # SQLite reads the name so.
-    python3 - "$work/then.db" << 'END'
-import sqlite3, sys
-sqlite3.connect(sys.argv[1]).execute("SELECT count(*) FROM t").fetchone()
-END
-    cmp "$work/then.db" "$work/before.db"
+    is_rolled_back
 }
 
 @test 'of a super-journal whose name is not UTF-8 it is not known whether it is here' {
@@ -706,6 +704,22 @@ END
     put_at "$work/pair.db" 16 '\x04\x00'
     exactly 3 '' "dbck: note: $work/pair.db-wal: 1 page of 1 transaction is read from it"$'\n'"dbck: note: $work/pair.db and its log have pages of different sizes"$'\ndbck: E11 the log does not fit the database\n' \
         check --recovered "$work/pair.db"
+}
+
+@test 'a log has to fit the header with the bytes of --with' {
+    local log unfit
+    needs python3
+    paired
+    cp "$data/whole.db" "$work/x.db"
+    journal_of "$work/x.db" <<< 2
+    unfit=" and its log have pages of different sizes"$'\ndbck: E11 the log does not fit the database\n'
+    for log in "pair.db|-wal: 1 page of 1 transaction is read from it" "x.db|-journal: 1 page is read from it; the database had 13 pages"; do
+        set -- "$work/${log%|*}" "dbck: note: $work/${log/|/}"$'\n'
+        exactly 3 '' "$2dbck: note: $1$unfit" check --recovered --with 16=0400 "$1"
+        put_at "$1" 16 '\x04\x00'
+        exactly 3 '' "$2dbck: note: $1$unfit" check --recovered "$1"
+        exactly 0 $'ok\n' "$2dbck: note: $1 with 2 other bytes"$'\n' check --recovered --with 16=0200 "$1"
+    done
 }
 
 # A writer that stops leaves a journal that is older than the pages that it wrote after it, and a checkpoint a log that is older than those.

@@ -89,10 +89,26 @@ completes() {
     : > "$work/files/one file.db"
     : > "$work/files/many files/x.db"
     row 'a command' completes $'dbck ex\t' '<explain>'
+    row 'the version' completes $'dbck --v\t' '<--version>'
     row 'a command after help' completes $'dbck help ma\t' '<help><map>'
     row 'an option' completes $'dbck map --no\t' '<map><--no-progress>'
     row 'a file' completes $'dbck check on\t' '<check><one file.db>'
     row 'a file after an option' completes $'dbck check --limit 3 on\t' '<check><--limit><3><one file.db>'
     row 'a file in a folder' completes $'dbck check ma\tx\t' '<check><many files/x.db>'
     row 'a file after --' completes $'dbck check -- on\t' '<check><--><one file.db>'
+}
+
+@test 'bash completes a file whose name begins with a dash so that it is no option' {
+    needs python3
+    needs_terminal
+    mkdir "$work/files"
+    : > "$work/files/-x.db"
+    row 'a file' completes $'dbck check \t' '<check><./-x.db>'
+    row 'a file after an option' completes $'dbck check --no-progress \t' '<check><--no-progress><./-x.db>'
+    row 'a file after --' completes $'dbck check -- \t' '<check><--><-x.db>'
+    # What these take is no file, but after -- they are files.
+    row 'nothing after --limit' completes $'dbck check --limit \t' '<check><--limit>'
+    row 'nothing after --with' completes $'dbck check --with \t' '<check><--with>'
+    row 'a file after -- and a file of the name --limit' completes $'dbck check -- --limit \t' '<check><--><--limit><-x.db>'
+    row 'an option' completes $'dbck map --no\t' '<map><--no-progress>'
 }

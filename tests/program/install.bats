@@ -1,0 +1,111 @@
+#!/usr/bin/env bats
+# What `make install`, `make uninstall` and `make deb` do with the program that is built; none of them builds it here.
+load common
+
+# makes WORDS..: make with these words, of which the files go below $work/root.
+makes() {
+    make -s -o all PROGRAM="$DBCK" DESTDIR="$work/root" "$@"
+}
+
+# files: the files below $work/root, a line each with its mode.
+files() {
+    (cd "$work/root" && find . -type f -printf '%m %P\n' | sort -k 2)
+}
+
+# are_of FOLDER: below a folder of $work/root documents, script and completions are those of the repository.
+are_of() {
+    local name from
+    for name in DECISIONS FAULTS FORMAT REPAIR; do
+        cmp "$work/root/$1/share/doc/dbck/$name.md" "docs/$name.md" || return
+    done
+    while read -r name from; do
+        cmp "$work/root/$1/$name" "$from" || return
+    done << 'END'
+share/doc/dbck/both-ways.sh docs/both-ways.sh
+share/bash-completion/completions/dbck completions/dbck.bash
+share/fish/vendor_completions.d/dbck.fish completions/dbck.fish
+END
+}
+
+@test 'make install puts the program, its manual, completions and documents in their places' {
+    needs make install
+    row 'make install' makes install PREFIX=/usr/local
+    row 'the files' diff <(files) - << 'END'
+755 usr/local/bin/dbck
+644 usr/local/share/bash-completion/completions/dbck
+644 usr/local/share/doc/dbck/DECISIONS.md
+644 usr/local/share/doc/dbck/FAULTS.md
+644 usr/local/share/doc/dbck/FORMAT.md
+644 usr/local/share/doc/dbck/REPAIR.md
+755 usr/local/share/doc/dbck/both-ways.sh
+644 usr/local/share/fish/vendor_completions.d/dbck.fish
+644 usr/local/share/man/man1/dbck.1
+644 usr/local/share/zsh/site-functions/_dbck
+END
+    row 'what they have' are_of usr/local
+    row 'the program' cmp "$DBCK" "$work/root/usr/local/bin/dbck"
+    row 'the manual' cmp docs/dbck.1 "$work/root/usr/local/share/man/man1/dbck.1"
+    row 'what zsh gets' cmp completions/_dbck "$work/root/usr/local/share/zsh/site-functions/_dbck"
+}
+
+@test 'make uninstall takes all of it away, and nothing of others' {
+    needs make install
+    row 'make install' makes install PREFIX=/opt/dbck
+    row 'make uninstall' makes uninstall PREFIX=/opt/dbck
+    row 'nothing is left' [ "$(cd "$work/root" && find . | sort | tr '\n' ' ')" = '. ./opt ./opt/dbck ' ]
+    row 'make install once more' makes install PREFIX=/usr
+    : > "$work/root/usr/bin/other"
+    : > "$work/root/usr/share/bash-completion/completions/other"
+    row 'make uninstall beside others' makes uninstall PREFIX=/usr
+    row 'those of others' diff <(files) <(printf '644 usr/%s/other\n' bin share/bash-completion/completions)
+}
+
+@test 'the package has the same files, examples, and the sums of all' {
+    needs make install dpkg-deb strip gzip md5sum
+    cd "$work"
+    # Whatever the mask of the caller is.
+    (umask 077 && "$root/packaging/make-deb" "$DBCK" 1.2.3 > said)
+    row 'the package' dpkg-deb -x dbck_1.2.3_amd64.deb "$work/root"
+    dpkg-deb -e dbck_1.2.3_amd64.deb "$work/control"
+    cd "$root"
+    row 'the files' diff <(files) - << 'END'
+755 usr/bin/dbck
+644 usr/share/bash-completion/completions/dbck
+644 usr/share/doc/dbck/DECISIONS.md
+644 usr/share/doc/dbck/FAULTS.md
+644 usr/share/doc/dbck/FORMAT.md
+644 usr/share/doc/dbck/REPAIR.md
+755 usr/share/doc/dbck/both-ways.sh
+644 usr/share/doc/dbck/changelog.gz
+644 usr/share/doc/dbck/copyright
+644 usr/share/doc/dbck/examples/empty.db
+644 usr/share/doc/dbck/examples/two-owners.db
+644 usr/share/doc/dbck/examples/two-tables.db
+644 usr/share/doc/dbck/examples/whole.db
+644 usr/share/fish/vendor_completions.d/dbck.fish
+644 usr/share/man/man1/dbck.1.gz
+644 usr/share/zsh/vendor-completions/_dbck
+END
+    row 'what they have' are_of usr
+    row 'the manual' cmp docs/dbck.1 <(gzip -dc "$work/root/usr/share/man/man1/dbck.1.gz")
+    row 'what zsh gets' cmp completions/_dbck "$work/root/usr/share/zsh/vendor-completions/_dbck"
+    row 'the version' grep -qx 'Version: 1.2.3' "$work/control/control"
+    row 'the sums' eval "(cd '$work/root' && md5sum --quiet -c '$work/control/md5sums')"
+    row 'a sum for each' [ "$(wc -l < "$work/control/md5sums")" = 16 ]
+    row 'all are those of root' [ "$(dpkg-deb -c "$work/dbck_1.2.3_amd64.deb" | awk '{ print $2 }' | sort -u)" = root/root ]
+    # The program of the package answers of the examples what the manual says.
+    row 'an example' [ "$("$work/root/usr/bin/dbck" check "$work/root/usr/share/doc/dbck/examples/whole.db")" = ok ]
+}
+
+@test 'a package that is made again from the same commit has the same bytes' {
+    needs make install dpkg-deb strip gzip
+    mkdir "$work/one" "$work/other"
+    (cd "$work/one" && "$root/packaging/make-deb" "$DBCK" 1.2.3 > "$work/said")
+    (cd "$work/other" && TZ=Asia/Tokyo "$root/packaging/make-deb" "$DBCK" 1.2.3 > "$work/said")
+    row 'two packages' cmp "$work/one/dbck_1.2.3_amd64.deb" "$work/other/dbck_1.2.3_amd64.deb"
+}
+
+@test 'the version of the package is that of the program' {
+    needs make
+    row 'the version' [ "dbck $(make -s version)" = "$("$DBCK" --version)" ]
+}
