@@ -93,6 +93,11 @@ number_at() {
     echo $((16#$(od -An -tx1 -N"${2:-2}" -j"$1" "$work/x.db" | tr -d ' ')))
 }
 
+# short NUMBER: its two bytes, as put_at takes them.
+short() {
+    printf '\\0%03o\\0%03o' $(($1 / 256)) $(($1 % 256))
+}
+
 @test 'mend finds the roots of tables, of one byte and of two, between those of the rows beside them' {
     needs sqlite3
     made 'CREATE TABLE s(a); INSERT INTO s VALUES (zeroblob(200000)); CREATE TABLE t(a)'
@@ -292,6 +297,38 @@ pointer() {
 
 # Cells of rows that were added one after another are adjacent: so two lost ones are in one run of bytes, or each in its own. No fault says which
 # of them is which, but their keys and those around.
+# The indexes have texts that are alike, one with a second column: only that says which leaf is of which.
+@test 'mend finds which leaf is of which index by the number of columns' {
+    local here there
+    needs python3 sqlite3
+    made "CREATE TABLE t(a, b); CREATE INDEX i ON t(a); CREATE INDEX j ON t(a, b); WITH RECURSIVE k(n) AS (SELECT 150 UNION ALL SELECT n - 1 FROM k WHERE n > 1)
+        INSERT INTO t SELECT printf('text %04d', n), 1 FROM k;"
+    while read -r here there; do
+        row "the children at $here and $there" are_put_back "$here" '\0\0\0\0' "$there" '\0\0\0\0'
+    done < <(paste <(children_of i) <(children_of j) | awk 'NF == 2')
+    [ "$rows" -gt 4 ]
+}
+
+@test 'mend finds which leaf of an index is where by texts and blobs, empty ones, zero and numbers below it' {
+    local keys number one other
+    needs python3 sqlite3
+    keys='WITH RECURSIVE k(n) AS (SELECT 100 UNION ALL SELECT n - 1 FROM k WHERE n > 1) INSERT INTO t SELECT'
+    number=0
+    while read -r expression; do
+        number=$((number + 1))
+        made "CREATE TABLE t(a); CREATE INDEX i ON t(a, zeroblob(20)); $keys $expression FROM k"
+        while read -r one other; do
+            row "$expression: $one and $other" are_put_back "$one" '\0\0\0\0' "$other" '\0\0\0\0'
+        done < <(pairs_of i)
+    done << 'END'
+CASE WHEN n % 2 THEN printf('%03d', n * 7919 % 101) ELSE CAST(printf('%03d', n * 7919 % 101) AS BLOB) END
+CASE n * 7919 % 101 / 20 WHEN 0 THEN NULL WHEN 1 THEN 0 WHEN 2 THEN -2.5 WHEN 3 THEN x'' ELSE '' END
+n * 7919 % 101 - 50
+(n * 7919 % 101 - 50) / 8.0
+END
+    [ "$rows" -gt 40 ]
+}
+
 @test 'mend finds which cell of an index is where of two, of keys that rise, fall, are in no order of the rows, or differ in case' {
     local what key of pair one other
     needs sqlite3
@@ -354,6 +391,15 @@ END
 }
 
 # The five pointers are those of the last five cells. Were the leaf one of an index, all its faults would be one, P02.
+# A cell of zeros has 4 bytes. Were the content area to begin there, the page would have one fault: P09.
+@test 'mend does not let the content area begin in the free bytes before it' {
+    needs sqlite3
+    made "CREATE TABLE t(a); CREATE INDEX i ON t(a); WITH RECURSIVE k(n) AS (SELECT 1 UNION ALL SELECT n + 1 FROM k WHERE n < 20) INSERT INTO t SELECT 'row ' || n FROM k;"
+    row 'four free bytes' [ "$(number_at $((1024 + 5)))" -gt $((8 + 2 * 20 + 100)) ]
+    row 'three pointers of page 3' are_put_back $((1024 + 12)) '\0\0100' $((1024 + 20)) '\0\0110' $((1024 + 36)) '\0\0120'
+    row 'three pointers of page 2' are_put_back $((512 + 12)) '\0\0100' $((512 + 20)) '\0\0110' $((512 + 36)) '\0\0120'
+}
+
 @test 'mend does not make a leaf of a table one of an index' {
     local leaf=2048
     needs sqlite3
@@ -393,6 +439,23 @@ fragmented() {
     [ "$(number_at 519 1)" = 3 ]
 }
 
+@test 'mend finds the pointer of a cell that leads into a freeblock' {
+    local at block cell link=513
+    needs sqlite3
+    made "CREATE TABLE t(a); WITH RECURSIVE k(n) AS (SELECT 1 UNION ALL SELECT n + 1 FROM k WHERE n < 20)
+        INSERT INTO t SELECT printf('row number %02d', n) FROM k; DELETE FROM t WHERE a IN ('row number 03', 'row number 09', 'row number 15')"
+    while [ "$(number_at $link)" != 0 ]; do
+        block=$((512 + $(number_at $link)))
+        for cell in 0 5 16; do
+            for at in 0 1 4 8; do
+                row "cell $cell at $at of the freeblock at $block" are_put_back $((520 + 2 * cell)) "$(short $((block - 512 + at)))"
+            done
+        done
+        link=$block
+    done
+    [ "$rows" = 36 ]
+}
+
 @test 'mend finds cells after fragments, links to freeblocks after them, and the sizes of freeblocks before them' {
     local block cell ids link value
     needs sqlite3
@@ -418,6 +481,25 @@ fragmented() {
 }
 
 # Behind the pointers SQLite leaves some of cells that are gone. The cells that are left out have more bytes than fragments may have.
+# Each cell has 4 bytes, so that a run of bytes that is one byte longer than a fragment is a cell.
+@test 'mend finds cells of four bytes, and leaves none out' {
+    local cell count first place
+    needs sqlite3
+    made "CREATE TABLE t(a); WITH RECURSIVE k(n) AS (SELECT 1 UNION ALL SELECT n + 1 FROM k WHERE n < 20) INSERT INTO t SELECT NULL FROM k;"
+    row 'each has four bytes' [ "$(number_at 517)" = $((512 - 4 * 20)) ]
+    for cell in 0 9 19; do
+        row "the pointer of cell $cell" are_put_back $((520 + 2 * cell)) '\0\0'
+    done
+    for first in 0 6 17; do
+        place=$((520 + 2 * first))
+        row "three pointers from $first on" are_put_back $place '\0\0' $((place + 2)) '\0\0' $((place + 4)) '\0\0'
+    done
+    for count in 1 21 23 25 377; do
+        row "a count of octal $count" are_put_back 515 "\\0\\0$count"
+    done
+    [ "$rows" = 12 ]
+}
+
 @test 'mend finds the count of cells of a page with freeblocks' {
     local count
     needs sqlite3
@@ -429,12 +511,52 @@ fragmented() {
     [ "$rows" = 6 ]
 }
 
-@test 'mend finds a page size that is another one of those that there are' {
-    local bytes
-    cp "$data/whole.db" "$work/x.db"
-    for bytes in '\04\0' '\010\0' '\020\0'; do
-        row "page size $bytes" is_put_back 16 "$bytes"
+# A child without cells has P10.
+@test 'mend finds the count of cells of a child where it is 0' {
+    local page
+    needs sqlite3
+    made "CREATE TABLE t(a); CREATE INDEX i ON t(a); WITH RECURSIVE k(n) AS (SELECT 1 UNION ALL SELECT n + 1 FROM k WHERE n < 90)
+        INSERT INTO t SELECT printf('row %d', n) FROM k;"
+    for page in {4..9}; do
+        row "page $page is a leaf" grep -qx '10\|13' <<< "$(type_of "$page")"
+        row "page $page" are_put_back $((512 * page - 512 + 3)) '\0\0'
     done
+    [ "$rows" = 12 ]
+}
+
+# One byte later a cell of an index begins with the length of its header, so it is a short one, and no fault but P09 says so.
+@test 'mend finds the pointer of a cell of an index that leads to a byte inside it' {
+    local cell place pointer
+    needs sqlite3
+    made "CREATE TABLE t(a); CREATE INDEX i ON t(a); WITH RECURSIVE k(n) AS (SELECT 1 UNION ALL SELECT n + 1 FROM k WHERE n < 20)
+        INSERT INTO t SELECT printf('row %d', n) FROM k;"
+    for cell in 0 1 7 18 19; do
+        place=$((1024 + 8 + 2 * cell))
+        pointer=$(number_at "$place")
+        row "cell $cell" are_put_back "$place" "$(short $((pointer + 1)))"
+    done
+    [ "$rows" = 5 ]
+}
+
+@test 'mend finds a page size that is another one of those that there are' {
+    local right stored wrong
+    needs sqlite3
+    while read -r right stored; do
+        made 'CREATE TABLE t(a); INSERT INTO t VALUES (zeroblob(200000))' "$right"
+        for wrong in '\02\0' '\04\0' '\020\0' '\0\01'; do
+            [ "$wrong" = "$stored" ] || row "page size $right, put $wrong" are_put_back 16 "$wrong"
+        done
+    done << 'END'
+512 \02\0
+1024 \04\0
+2048 \010\0
+4096 \020\0
+8192 \040\0
+16384 \0100\0
+32768 \0200\0
+65536 \0\01
+END
+    [ "$rows" = 28 ]
 }
 
 # The first cell is at the end of page 2, and the others take most of the page.
@@ -518,10 +640,15 @@ a_pointer_of_an_interior_page 524 \0\0
 a_pointer_of_page_1 108 \0\0
 the_least_payload_fraction 22 \041
 the_payload_fraction_of_leaves 23 \041
+the_greatest_payload_fraction 21 \041
+the_read_version 19 \0143
+no_schema_format 44 \0\0\0\0
+a_schema_format_that_there_is_not 44 \0\0\0\011
 END
     cp "$data/whole.db" "$work/x.db"
     put_at "$work/x.db" 18 '\02\02'
     row 'the write version of a database with a -wal' is_put_back 18 '\0143'
+    row 'the read version of a database with a -wal' is_put_back 19 '\0143'
     for at in 104 106 107; do
         made 'CREATE TABLE t(a); CREATE TABLE u(a)'
         row "the head of page 1, at $at" is_put_back "$at" '\07'
@@ -612,6 +739,35 @@ vacuumed() {
     row 'page 4, of type 2' is_put_back 1536 '\02'
 }
 
+# A cell and its pointer take 12 bytes, so 42 fill a page. As an interior page it has 4 bytes more before its pointers, and P03 alone.
+@test 'mend finds the type of a leaf without a free byte, of a child and of a root page' {
+    needs sqlite3
+    made "CREATE TABLE t(a); WITH RECURSIVE k(n) AS (SELECT 1 UNION ALL SELECT n + 1 FROM k WHERE n < 100)
+        INSERT INTO t SELECT printf('%06d', n) FROM k;"
+    row 'page 3 is full' [ "$(number_at 1027)" = 42 ]
+    row 'a child' are_put_back 1024 '\05'
+    made "CREATE TABLE t(a); CREATE INDEX i ON t(a); WITH RECURSIVE k(n) AS (SELECT 2 UNION ALL SELECT n + 1 FROM k WHERE n < 43)
+        INSERT INTO t SELECT printf('%05d', n) FROM k;"
+    row 'page 3 is full' [ "$(number_at 1027)" = 42 ]
+    row 'the root page of an index' are_put_back 1024 '\02'
+    dbck check "$work/wrong.db"
+    row 'P03 alone' grep -q '^P03 page 3 ' "$work/out"
+    row 'P03 alone' [ "$(wc -l < "$work/out")" = 1 ]
+}
+
+# The root page of a table may be one of an index, if the table has no rowids: no fault names its type.
+@test 'mend finds the type of a root page of a table that says to be one of an index' {
+    local count kind
+    needs sqlite3
+    for count in 1 20 200; do
+        made "CREATE TABLE t(a); WITH RECURSIVE k(n) AS (SELECT 1 UNION ALL SELECT n + 1 FROM k WHERE n < $count) INSERT INTO t SELECT 'row ' || n FROM k;"
+        for kind in '\02' '\05' '\012' '\015'; do
+            row "$count rows, type $kind" are_put_back 512 "$kind"
+        done
+    done
+    [ "$rows" = 12 ]
+}
+
 @test 'mend finds the type of page 1, a leaf and an interior page' {
     local bytes
     needs sqlite3
@@ -673,6 +829,24 @@ freed() {
         freed "$count"
         row "the first trunk, of $count rows" are_put_back 32 '\0\01\0\0'
     done
+}
+
+@test 'mend finds how many leaves a trunk has, of one that is not full, of a full one, and of one without leaves' {
+    local count trunk
+    needs sqlite3
+    for count in 90 130; do
+        freed "$count"
+        trunk=$(number_at 32 4)
+        while [ "$trunk" != 0 ]; do
+            for bytes in '\0\0\0\0' '\0\0\0\01' '\0\0\0\0176' '\0\0\0\0177' '\0\0\0\0377' '\0377\0377\0377\0377'; do
+                row "trunk $trunk of $count rows, put $bytes" are_put_back $((512 * trunk - 508)) "$bytes"
+            done
+            trunk=$(number_at $((512 * trunk - 512)) 4)
+        done
+    done
+    made 'CREATE TABLE t(a); CREATE TABLE u(a); DROP TABLE u'
+    row 'a trunk without leaves' are_put_back $((512 * $(number_at 32 4) - 508)) '\0\0\0\01'
+    [ "$rows" = 19 ]
 }
 
 @test 'beside a page that is lost for good mend finds a number' {

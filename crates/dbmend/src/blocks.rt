@@ -1,8 +1,6 @@
 // What the numbers of a freeblock may have been: its size, and the link to it (Database File Format, 1.6).
-ghost use Rattle.std.specs.Prelude.{◌≤◌};
-
-use crate::numbers::{MOST_FRAGMENT, add_short, head};
-use crate::pointers::{cell_after, first_gap, longest_gaps};
+use crate::gaps::{cell_after, first_gap, longest_gaps, most_fragmented};
+use crate::numbers::{add_short, head};
 use crate::ranked::Ranked;
 use crate::reading::Paper;
 use dbpage::PageView;
@@ -17,18 +15,13 @@ struct Link {
 }
 
 impl Link {
-    // That of the first one.
-    fn first<A: Allocator>(paper: &Paper<A>) -> Link {
-        Link {
+    // The one of this number, or the last.
+    fn of<A: Allocator>(paper: &Paper<A>, view: &PageView<'_>, number: u32) -> Link {
+        let mut link = Link {
             number: 0,
             place: head(paper) + 1,
             from: paper.start(),
-        }
-    }
-
-    // The one of this number, or the last.
-    fn of<A: Allocator>(paper: &Paper<A>, view: &PageView<'_>, number: u32) -> Link {
-        let mut link = Link::first(paper);
+        };
         for block in view.freeblocks() {
             if link.number == number {
                 return link;
@@ -41,13 +34,6 @@ impl Link {
         }
         link
     }
-}
-
-// How many fragmented bytes may be at one place.
-fn most_fragmented(view: &PageView<'_>) -> u32
-    ensures { result ≤ 3 }
-{
-    u32::from(view.fragments()).min(MOST_FRAGMENT)
 }
 
 // Adds the sizes that a freeblock may have, where the bytes up to an offset are its own but for a fragment.

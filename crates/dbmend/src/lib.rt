@@ -18,6 +18,7 @@ mod counter;
 mod counting;
 mod edit;
 mod fit;
+mod gaps;
 mod header_edits;
 mod key;
 mod known;

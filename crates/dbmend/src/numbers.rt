@@ -1,10 +1,10 @@
 // What may have been in the head of a page of a tree, in its cell pointers, and in an entry of the pointer map.
 ghost use Rattle.std.specs.Prelude.{◌≤◌};
 
-use crate::pointers::longest_gap;
+use crate::gaps::{MOST_FRAGMENT, longest_gap};
 use crate::ranked::{Ranked, add_try};
 use crate::reading::Paper;
-use dbpage::{PageView, type_byte};
+use dbpage::type_byte;
 use dbscan::{Desk, Mark};
 use std::alloc::Allocator;
 
@@ -39,8 +39,11 @@ pub(crate) fn add_short<A: Allocator>(
     }
 }
 
-// Whether each cell of a page can be read.
-fn is_whole(view: &PageView<'_>) -> bool {
+// Whether each cell of the page can be read.
+fn is_whole<A: Allocator>(paper: &Paper<A>) -> bool {
+    let Some(view) = paper.view() else {
+        return false;
+    };
     for i in 0..view.cells() {
         if view.cell(i).is_err() {
             return false;
@@ -49,24 +52,18 @@ fn is_whole(view: &PageView<'_>) -> bool {
     true
 }
 
-// Whether each cell of the page can be read if it has this type.
-fn is_whole_as<A: Allocator>(paper: &mut Paper<A>, kind: u8) -> bool {
+// The longest run of bytes of the page that no item holds, if each cell can be read with this type.
+fn longest_gap_as<A: Allocator>(paper: &mut Paper<A>, kind: u8) -> Option<u32> {
     let at = head(paper);
-    let Some(stated) = paper.short_at(at) else {
-        return false;
-    };
-    let other = u16::from_be_bytes([kind, (stated % 256) as u8]);
-    paper.put_short(at, other);
-    let is_whole = match paper.view() {
-        Some(view) => is_whole(&view),
-        None => false,
-    };
-    paper.put_short(at, u16::try_from(stated).unwrap_or(0));
-    is_whole
+    let other = u32::from(kind) * 256 + paper.short_at(at)? % 256;
+    let stated = paper.replace_short(at, other)?;
+    let longest = is_whole(paper).then(|| longest_gap(paper));
+    paper.put_short(at, stated);
+    longest
 }
 
-// Adds each other type of the page. In place of one that is known only those with which each cell can be read: other types may hide what is
-// wrong with its cells.
+// Adds each other type of the page: first one with which its cells fill it. In place of one that is known only those with which each cell can
+// be read: other types may hide what is wrong with its cells.
 pub(crate) fn add_types<A: Allocator>(tries: &mut Ranked, paper: &mut Paper<A>) {
     let bytes = paper.bytes();
     if bytes.len() < 480 {
@@ -75,14 +72,13 @@ pub(crate) fn add_types<A: Allocator>(tries: &mut Ranked, paper: &mut Paper<A>) 
     let was = type_byte(bytes, paper.page());
     let is_known = paper.view().is_some();
     for kind in TYPES {
-        if kind != was && (!is_known || is_whole_as(paper, kind)) {
-            add_at(tries, paper, head(paper), &[kind], 26);
+        let gap = longest_gap_as(paper, kind);
+        if kind != was && (!is_known || gap.is_some()) {
+            let points = if gap == Some(0) { 39 } else { 26 };
+            add_at(tries, paper, head(paper), &[kind], points);
         }
     }
 }
-
-// The most bytes of a fragment. If more are free at one place, another number is wrong.
-pub(crate) const MOST_FRAGMENT: u32 = 3;
 
 // Adds that a leaf is an interior page of the same kind of tree, or that one is a leaf, if each cell can be read so.
 pub(crate) fn add_leaf<A: Allocator>(tries: &mut Ranked, paper: &mut Paper<A>) {
@@ -91,7 +87,7 @@ pub(crate) fn add_leaf<A: Allocator>(tries: &mut Ranked, paper: &mut Paper<A>) {
         return;
     }
     let other = type_byte(bytes, paper.page()) ^ 8;
-    if is_whole_as(paper, other) {
+    if longest_gap_as(paper, other).is_some() {
         add_at(tries, paper, head(paper), &[other], 26);
     }
 }
@@ -99,11 +95,8 @@ pub(crate) fn add_leaf<A: Allocator>(tries: &mut Ranked, paper: &mut Paper<A>) {
 // Adds a count of fragmented bytes.
 pub(crate) fn add_fragments<A: Allocator>(tries: &mut Ranked, paper: &Paper<A>, count: i64) {
     if let Ok(stored) = u8::try_from(count) {
-        let points = if longest_gap(paper) <= MOST_FRAGMENT {
-            38
-        } else {
-            20
-        };
+        let is_full = longest_gap(paper) <= MOST_FRAGMENT;
+        let points = if is_full { 38 } else { 20 };
         add_at(tries, paper, head(paper) + 7, &[stored], points);
     }
 }
@@ -122,24 +115,22 @@ fn pointers<A: Allocator>(paper: &Paper<A>) -> u32
     }
 }
 
-// Of the pointers up to where the first of the cells begins: how many there are, and where that is. The list ends with the first one that
-// leads before the pointers or past the usable bytes.
-fn pointed<A: Allocator>(paper: &Paper<A>) -> (u32, u32) {
+// How many pointers there are up to where the first of their cells begins. The list ends with the first one that leads before the pointers or
+// past the usable bytes.
+fn pointed<A: Allocator>(paper: &Paper<A>) -> u32 {
     let begin = pointers(paper);
     let mut least = paper.usable();
-    let mut count = 0;
     for i in 0..32768u32 {
         let at = begin + 2 * i;
         let Some(pointer) = paper.short_at(at) else {
-            break;
+            return i;
         };
         if at + 2 > least || pointer < at + 2 || pointer.saturating_add(4) > paper.usable() {
-            break;
+            return i;
         }
         least = least.min(pointer);
-        count = i + 1;
     }
-    (count, least)
+    32768
 }
 
 // Where the first cell of the page begins, of as many as it states, or its first freeblock. A pointer that leads before the end of the
@@ -163,12 +154,11 @@ fn least_pointer<A: Allocator>(paper: &Paper<A>) -> Option<u32> {
 // Whether the content area has no run of bytes longer than a fragment without an item, if a number of two bytes is another one. A longer run
 // may be cells that are left out, or none of the area.
 fn is_full_with<A: Allocator>(paper: &mut Paper<A>, at: u32, number: u32) -> bool {
-    let Some(stated) = paper.short_at(at) else {
+    let Some(stated) = paper.replace_short(at, number) else {
         return false;
     };
-    paper.put_short(at, u16::try_from(number).unwrap_or(0));
     let longest = longest_gap(paper);
-    paper.put_short(at, u16::try_from(stated).unwrap_or(0));
+    paper.put_short(at, stated);
     longest <= MOST_FRAGMENT
 }
 
@@ -200,12 +190,12 @@ fn fitting_count<A: Allocator>(paper: &Paper<A>) -> Option<u32> {
 }
 
 // The same, whatever count the page states.
-fn count_by_area<A: Allocator>(paper: &mut Paper<A>, stated: u32) -> Option<u32> {
+fn count_by_area<A: Allocator>(paper: &mut Paper<A>) -> Option<u32> {
     let at = head(paper) + 3;
     let room = paper.start().saturating_sub(pointers(paper)) / 2;
-    paper.put_short(at, u16::try_from(room).unwrap_or(0));
+    let stated = paper.replace_short(at, room)?;
     let count = fitting_count(paper);
-    paper.put_short(at, u16::try_from(stated).unwrap_or(0));
+    paper.put_short(at, stated);
     count
 }
 
@@ -215,10 +205,10 @@ pub(crate) fn add_count<A: Allocator>(tries: &mut Ranked, paper: &mut Paper<A>) 
     let Some(stated) = paper.short_at(at) else {
         return;
     };
-    if let Some(count) = count_by_area(paper, stated) {
+    if let Some(count) = count_by_area(paper) {
         add_short(tries, paper, at, count, 36);
     }
-    let (count, _) = pointed(paper);
+    let count = pointed(paper);
     if count >= stated || is_full_with(paper, at, count) {
         add_short(tries, paper, at, count, 24);
     }

@@ -8,7 +8,7 @@ use crate::pointers::{add_gaps, add_pointer};
 use crate::ranked::{Ranked, add_try};
 use crate::reading::Paper;
 use crate::schema_rows::add_root;
-use crate::trunks::{add_leaves, trunk_place, trunk_place_of};
+use crate::trunks::{add_leaves, add_more, trunk_place, trunk_place_of};
 use crate::wanted::{Number, Want, mark};
 use dbpage::PageView;
 use dbscan::{Desk, Mark, PageKind};
@@ -248,7 +248,8 @@ pub(crate) fn add_places<A: Allocator>(
             add_pointer(tries, paper, item);
             add_block_over(tries, paper, item);
         }
-        Number::Leaves => add_leaves(tries, desk, paper),
+        Number::Leaves(most) => add_leaves(tries, desk, paper, most),
+        Number::More(missing) => add_more(tries, paper, missing),
         Number::End => add_try(tries, paper.begins(), &[0, 0, 0, 0], 40),
         Number::Row(item) => add_row(tries, lost, paper, item),
         Number::Root(_) => {}

@@ -1,5 +1,6 @@
 // What a cell's pointer may have been: where a cell is that no other item holds.
 use crate::fit::Fit;
+use crate::gaps::{Gap, cell_after, cell_bytes, gaps, longest_gaps, most_fragmented};
 use crate::key::Key;
 use crate::ordered::Rank;
 use crate::ranked::Ranked;
@@ -7,142 +8,6 @@ use crate::reading::Paper;
 use arrayvec::ArrayVec;
 use dbpage::PageView;
 use std::alloc::Allocator;
-
-// A run of bytes.
-#[derive(Clone, Copy)]
-pub(crate) struct Gap {
-    pub(crate) at: u32,
-    pub(crate) len: u32,
-}
-
-// Notes a run among the four longest, the longest first.
-fn note(longest: &mut [Gap; 4], gap: Gap) {
-    let mut gap = gap;
-    for kept in longest.iter_mut() {
-        if gap.len > kept.len {
-            let shorter = *kept;
-            *kept = gap;
-            gap = shorter;
-        }
-    }
-}
-
-// The bytes of a cell.
-fn cell_bytes(view: &PageView<'_>, cell: u32) -> Option<Gap> {
-    if cell >= view.cells() {
-        return None;
-    }
-    let found = view.cell(cell).ok()?;
-    Some(Gap {
-        at: found.offset,
-        len: found.len.max(4),
-    })
-}
-
-// Adds an item to how many more items begin at each offset than end there.
-fn add_item(begun: &mut [u16], item: &Gap) {
-    if let Some(count) = begun.get_mut(item.at as usize) {
-        *count = count.wrapping_add(1);
-    }
-    if let Some(count) = begun.get_mut(item.at.saturating_add(item.len) as usize) {
-        *count = count.wrapping_sub(1);
-    }
-}
-
-// The four longest runs of bytes of the content area where no item is.
-fn runs(begun: &[u16], start: u32, end: u32) -> [Gap; 4] {
-    let mut longest = [Gap { at: 0, len: 0 }; 4];
-    let mut run = Gap { at: start, len: 0 };
-    let mut held = 0u16;
-    for at in start..end {
-        held = held.wrapping_add(begun.get(at as usize).copied().unwrap_or(0));
-        if held == 0 {
-            run.len = run.len.saturating_add(1);
-        } else {
-            note(&mut longest, run);
-            run = Gap {
-                at: at.saturating_add(1),
-                len: 0,
-            };
-        }
-    }
-    note(&mut longest, run);
-    longest
-}
-
-// Adds all cells but one, and the first freeblocks.
-fn add_items(begun: &mut [u16], view: &PageView<'_>, cell: u32, blocks: u32) {
-    for i in 0..view.cells() {
-        if i == cell {
-            continue;
-        }
-        if let Some(bytes) = cell_bytes(view, i) {
-            add_item(begun, &bytes);
-        }
-    }
-    let mut left = blocks;
-    for block in view.freeblocks() {
-        if left == 0 {
-            return;
-        }
-        left -= 1;
-        let bytes = Gap {
-            at: block.offset,
-            len: block.size,
-        };
-        add_item(begun, &bytes);
-    }
-}
-
-// The four longest runs of bytes that no item but this cell holds.
-fn gaps(view: &PageView<'_>, cell: u32, start: u32, end: u32) -> [Gap; 4] {
-    let mut begun = [0u16; 65537];
-    add_items(&mut begun, view, cell, u32::MAX);
-    runs(&begun, start, end)
-}
-
-// No cell of a page.
-const NO_CELL: u32 = u32::MAX;
-
-// The four longest runs of bytes that no item holds.
-pub(crate) fn longest_gaps<A: Allocator>(paper: &Paper<A>, view: &PageView<'_>) -> [Gap; 4] {
-    gaps(view, NO_CELL, paper.start(), paper.usable())
-}
-
-// The longest of them.
-pub(crate) fn longest_gap<A: Allocator>(paper: &Paper<A>) -> u32 {
-    match paper.view() {
-        Some(view) => longest_gaps(paper, &view)[0].len,
-        None => 0,
-    }
-}
-
-// The first run of four bytes or more, from an offset on, that no cell and none of the first freeblocks holds.
-pub(crate) fn first_gap<A: Allocator>(
-    paper: &Paper<A>,
-    view: &PageView<'_>,
-    blocks: u32,
-    from: u32,
-) -> Option<Gap> {
-    let mut begun = [0u16; 65537];
-    add_items(&mut begun, view, NO_CELL, blocks);
-    let mut run = Gap { at: from, len: 0 };
-    let mut held = 0u16;
-    for at in paper.start()..paper.usable() {
-        held = held.wrapping_add(begun.get(at as usize).copied().unwrap_or(0));
-        if held == 0 && at >= from {
-            run.len = run.len.saturating_add(1);
-        } else if run.len >= 4 {
-            return Some(run);
-        } else {
-            run = Gap {
-                at: at.saturating_add(1).max(from),
-                len: 0,
-            };
-        }
-    }
-    (run.len >= 4).then_some(run)
-}
 
 // Where a page has the pointer of a cell.
 fn pointer_place<A: Allocator>(paper: &Paper<A>, view: &PageView<'_>, cell: u32) -> u32 {
@@ -197,12 +62,8 @@ impl Found {
 // What a cell is if it begins at an offset.
 fn cell_from<A: Allocator>(paper: &mut Paper<A>, cell: u32, at: u32) -> Option<Found> {
     let place = pointer_place(paper, &paper.view()?, cell);
-    let stated = u16::try_from(paper.short_at(place)?).ok()?;
-    paper.put_short(place, u16::try_from(at).ok()?);
-    let found = match paper.view() {
-        Some(view) => Found::of(&view, cell),
-        None => None,
-    };
+    let stated = paper.replace_short(place, at)?;
+    let found = paper.view().and_then(|view| Found::of(&view, cell));
     paper.put_short(place, stated);
     found
 }
@@ -215,8 +76,8 @@ fn next_found<A: Allocator>(
     gap: &Gap,
     rank: &Rank,
 ) -> Option<Found> {
-    let fragments = u32::from(paper.view()?.fragments());
-    for skipped in 0..fragments.min(3) + 1 {
+    let most = most_fragmented(&paper.view()?);
+    for skipped in 0..most + 1 {
         let from = gap.at.saturating_add(skipped);
         if let Some(found) = cell_from(paper, cell, from)
             && found.bytes.len.saturating_add(skipped) <= gap.len
@@ -340,22 +201,6 @@ pub(crate) fn add_pointer<A: Allocator>(tries: &mut Ranked, paper: &mut Paper<A>
     for cell in others.as_slice() {
         add_cell(tries, paper, *cell);
     }
-}
-
-// The first cell from an offset on.
-pub(crate) fn cell_after(view: &PageView<'_>, from: u32) -> Option<u32> {
-    let mut next = None;
-    let mut least = u32::MAX;
-    for i in 0..view.cells() {
-        if let Ok(cell) = view.cell(i)
-            && cell.offset >= from
-            && cell.offset < least
-        {
-            least = cell.offset;
-            next = Some(i);
-        }
-    }
-    next
 }
 
 // Adds of each long run of bytes that no item holds, that the cell after it begins with it.

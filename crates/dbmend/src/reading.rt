@@ -66,12 +66,20 @@ impl<A: Allocator> Paper<A> {
         PageView::new(self.bytes.as_slice(), self.page, usable).ok()
     }
 
-    // Puts a number of two bytes at an offset of the page, if that is in it.
-    pub(crate) fn put_short(&mut self, at: u32, number: u16) {
+    // Puts a number of two bytes at an offset of the page, if that is in it. 65536 is stored as 0.
+    pub(crate) fn put_short(&mut self, at: u32, number: u32) {
+        let stored = u16::try_from(number).unwrap_or(0);
         let at = at as usize;
         if at + 2 <= self.bytes.len() {
-            self.bytes[at..at + 2].copy_from_slice(&number.to_be_bytes());
+            self.bytes[at..at + 2].copy_from_slice(&stored.to_be_bytes());
         }
+    }
+
+    // The same. What was there is to be put back.
+    pub(crate) fn replace_short(&mut self, at: u32, number: u32) -> Option<u32> {
+        let stated = self.short_at(at)?;
+        self.put_short(at, number);
+        Some(stated)
     }
 
     // The number of two bytes at an offset of the page, if that is in it.

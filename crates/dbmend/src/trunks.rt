@@ -63,10 +63,22 @@ fn may_be_leaf<A: Allocator>(desk: &Desk<A>, page: u32) -> bool {
         && matches!(desk.marks().get(page), Mark::FreeLeaf | Mark::Unmarked)
 }
 
-// Adds how many leaves it may have: as many of its numbers, from the first on, as may be leaves.
-pub(crate) fn add_leaves<A: Allocator>(tries: &mut Ranked, desk: &Desk<A>, paper: &Paper<A>) {
+// Adds a count of leaves.
+fn add_count<A: Allocator>(tries: &mut Ranked, paper: &Paper<A>, count: u32, points: u32) {
+    if let Some(offset) = paper.begins().checked_add(4) {
+        add_try(tries, offset, &count.to_be_bytes(), points);
+    }
+}
+
+// Adds how many leaves it may have: as many of its numbers, from the first on, as may be leaves, and so many at most.
+pub(crate) fn add_leaves<A: Allocator>(
+    tries: &mut Ranked,
+    desk: &Desk<A>,
+    paper: &Paper<A>,
+    most: u32,
+) {
     let mut count = 0;
-    for leaf in 0..room(paper) {
+    for leaf in 0..room(paper).min(most) {
         match leaf_at(paper, leaf) {
             Some(page) if may_be_leaf(desk, page) => count = leaf.saturating_add(1),
             _ => break,
@@ -75,7 +87,15 @@ pub(crate) fn add_leaves<A: Allocator>(tries: &mut Ranked, desk: &Desk<A>, paper
     if paper.number_at(4) == Some(count) {
         return;
     }
-    if let Some(offset) = paper.begins().checked_add(4) {
-        add_try(tries, offset, &count.to_be_bytes(), 34);
+    add_count(tries, paper, count, 34);
+}
+
+// Adds that it has so many more leaves than it states. What was a leaf of it may still stand behind its leaves.
+pub(crate) fn add_more<A: Allocator>(tries: &mut Ranked, paper: &Paper<A>, missing: i64) {
+    let count = i64::from(stated(paper)).saturating_add(missing);
+    if let Ok(count) = u32::try_from(count)
+        && count <= room(paper)
+    {
+        add_count(tries, paper, count, 36);
     }
 }

@@ -2,7 +2,7 @@
 use crate::counter::Noted;
 use crate::fit::Root;
 use arrayvec::ArrayVec;
-use dbformat::{FREELIST_START, Fault, FaultCode};
+use dbformat::{FREELIST_START, Fault, FaultCode, u32_at};
 use dbscan::{Desk, Mark};
 use std::alloc::Allocator;
 
@@ -27,8 +27,10 @@ pub(crate) enum Number {
     Pointer(u32),
     // The size of the freeblock of this number, or the link to it, and where that leads.
     Block(u32, u32),
-    // How many leaves a trunk has.
-    Leaves,
+    // How many leaves a trunk has, if none from this one on is one.
+    Leaves(u32),
+    // The same, if it has so many more than it states.
+    More(i64),
     // The page after the last overflow page, which is 0.
     End,
     // The root page in the row of the schema at this cell.
@@ -95,16 +97,54 @@ fn want_before<A: Allocator>(desk: &Desk<A>, lost: &Root, wanted: &mut Wanted) {
     }
 }
 
-// Adds the count of leaves of a page, if it is a trunk.
-fn want_leaves<A: Allocator>(desk: &Desk<A>, page: u32, wanted: &mut Wanted) {
-    if let Mark::Trunk = mark(desk, page) {
-        add_want(wanted, page, Number::Leaves);
+// How many more pages are free as the header says than in the freelist.
+fn missing<A: Allocator>(desk: &Desk<A>, faults: &[Noted]) -> i64 {
+    let header = desk.header().bytes();
+    if header.len() < 40 {
+        return 0;
+    }
+    let stated = i64::from(u32_at(header, 36));
+    for noted in faults {
+        if let FaultCode::H10 = noted.fault.code {
+            return stated.saturating_sub(noted.fault.value);
+        }
+    }
+    0
+}
+
+// How many trunks are looked at, if pages are missing.
+const MOST_TRUNKS: u32 = 16;
+
+// Adds the counts of leaves of the first trunks, if pages are missing from the freelist, or are too many.
+fn want_trunks<A: Allocator>(desk: &Desk<A>, missing: i64, wanted: &mut Wanted) {
+    if missing == 0 {
+        return;
+    }
+    let mut left = MOST_TRUNKS;
+    for index in 0..desk.marks().pages() {
+        if left == 0 {
+            return;
+        }
+        if let Mark::Trunk = mark(desk, index + 1) {
+            left -= 1;
+            add_want(wanted, index + 1, Number::Leaves(u32::MAX));
+            add_want(wanted, index + 1, Number::More(missing));
+        }
     }
 }
 
 // The page that a fault says to be wrongly named, if it is one.
 pub(crate) fn named(fault: &Fault) -> u32 {
     u32::try_from(fault.value).unwrap_or(0)
+}
+
+// Adds the count of leaves of a trunk, of which a fault names a leaf, if it is the first such fault.
+fn want_leaves(fault: &Fault, wanted: &mut Wanted) {
+    let is_there = |want: &Want| want.page == fault.page
+        && matches!(want.number, Number::Leaves(_));
+    if !wanted.as_slice().iter().any(is_there) {
+        add_want(wanted, fault.page, Number::Leaves(fault.item));
+    }
 }
 
 // What may be wrong by a fault of a reference.
@@ -119,17 +159,15 @@ fn add_reference<A: Allocator>(desk: &Desk<A>, fault: &Fault, wanted: &mut Wante
     }
     if let Mark::Trunk = mark(desk, fault.page) {
         add_want(wanted, fault.page, Number::Any(named(fault)));
-        want_leaves(desk, fault.page, wanted);
+        want_leaves(fault, wanted);
     }
     if let FaultCode::R03 = fault.code {
         want_owner(desk, named(fault), wanted);
     }
 }
 
-// What may be wrong where items of a page are: its pointers, and the numbers of its head. Page 1 and a child have no P02, so they are of the
-// right kind of tree.
-fn add_items<A: Allocator>(desk: &Desk<A>, wanted: &mut Wanted, page: u32, number: Number) {
-    add_want(wanted, page, number);
+// Adds the numbers of the head of a page. Page 1 and a child have no P02, so they are of the right kind of tree.
+fn want_head<A: Allocator>(desk: &Desk<A>, page: u32, wanted: &mut Wanted) {
     add_want(wanted, page, Number::Cells);
     add_want(wanted, page, Number::Start);
     let kind = match mark(desk, page) {
@@ -159,20 +197,20 @@ fn add_wanted<A: Allocator>(desk: &Desk<A>, noted: &Noted, wanted: &mut Wanted) 
             return;
         }
         FaultCode::P01 | FaultCode::P02 => add_want(wanted, page, Number::Type),
-        FaultCode::P03 => {
-            add_want(wanted, page, Number::Start);
-            add_want(wanted, page, Number::Cells);
-        }
+        FaultCode::P03 => want_head(desk, page, wanted),
         FaultCode::P05 | FaultCode::P06 | FaultCode::P08 => {
-            add_items(desk, wanted, page, Number::Pointer(fault.item));
+            add_want(wanted, page, Number::Pointer(fault.item));
+            want_head(desk, page, wanted);
         }
         FaultCode::P07 => add_want(wanted, page, Number::Block(fault.item, named(fault))),
-        FaultCode::P09 => add_items(desk, wanted, page, Number::Fragments(fault.value)),
+        FaultCode::P09 => {
+            add_want(wanted, page, Number::Fragments(fault.value));
+            want_head(desk, page, wanted);
+        }
         FaultCode::P10 => add_want(wanted, page, Number::Cells),
         FaultCode::T06 => add_keys(desk, noted, wanted),
         FaultCode::O01 => add_want(wanted, page, Number::End),
-        FaultCode::L01 => add_want(wanted, page, Number::Leaves),
-        FaultCode::H10 => want_leaves(desk, desk.header().first_trunk(), wanted),
+        FaultCode::L01 => add_want(wanted, page, Number::Leaves(u32::MAX)),
         FaultCode::S03 => add_want(wanted, page, Number::Row(fault.item)),
         _ => {}
     }
@@ -185,6 +223,7 @@ pub(crate) fn wanted_of<A: Allocator>(desk: &Desk<A>, faults: &[Noted], lost: &[
     for noted in faults {
         add_wanted(desk, noted, &mut wanted);
     }
+    want_trunks(desk, missing(desk, faults), &mut wanted);
     for root in lost {
         want_before(desk, root, &mut wanted);
     }
