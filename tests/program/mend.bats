@@ -538,6 +538,20 @@ fragmented() {
     [ "$rows" = 5 ]
 }
 
+# The cells do not fill the content area, as the page states it: so their count is that of the pointers.
+@test 'mend finds the count of cells and that of fragmented bytes of one page' {
+    local count page
+    needs sqlite3
+    made "CREATE TABLE t(a); CREATE INDEX i ON t(a); WITH RECURSIVE k(n) AS (SELECT 1 UNION ALL SELECT n + 1 FROM k WHERE n < 20)
+        INSERT INTO t SELECT 'row ' || n FROM k;"
+    for page in 2 3; do
+        for count in '\0\040' '\0\060' '\0\0100'; do
+            row "page $page, count $count" are_put_back $((512 * page - 509)) "$count" $((512 * page - 505)) '\05'
+        done
+    done
+    [ "$rows" = 6 ]
+}
+
 @test 'mend finds a page size that is another one of those that there are' {
     local right stored wrong
     needs sqlite3
