@@ -708,6 +708,10 @@ vacuumed() {
     vacuumed incremental
     row 'that of an incremental vacuum' are_put_back 52 '\0\0\0\0'
     row 'a wrong one of an incremental vacuum' are_put_back 52 '\0\0\0\03'
+    # The root of v is moved to the page of that of t: so that of u, in the row before, is the greatest.
+    made 'PRAGMA auto_vacuum = incremental; CREATE TABLE t(a); CREATE TABLE u(a); CREATE TABLE v(a); DROP TABLE t'
+    row 'the greatest root is not that of the last row' [ "$(sqlite3 "$work/x.db" 'SELECT group_concat(rootpage) FROM sqlite_schema')" = 4,3 ]
+    row 'that of an incremental vacuum where it is in the first row' are_put_back 52 '\0\0\0\0'
     vacuumed full
     row 'a wrong one of a full vacuum' are_put_back 52 '\0\0\0\07'
 }
@@ -843,6 +847,15 @@ freed() {
         freed "$count"
         row "the first trunk, of $count rows" are_put_back 32 '\0\01\0\0'
     done
+}
+
+# The row that was added last goes first: so its overflow page is the trunk, and those of the others are leaves before it.
+@test 'mend finds the first trunk of a freelist whose leaves come before it' {
+    needs sqlite3
+    made "CREATE TABLE t(a); WITH RECURSIVE k(n) AS (SELECT 1 UNION ALL SELECT n + 1 FROM k WHERE n < 20) INSERT INTO t SELECT zeroblob(900) FROM k;
+        $(seq -f 'DELETE FROM t WHERE rowid = %.0f;' 20 -1 1)"
+    row 'leaves before the trunk' [ "$(number_at 32 4)" -gt 12 ]
+    row 'the first trunk' are_put_back 32 '\0\01\0\0'
 }
 
 @test 'mend finds how many leaves a trunk has, of one that is not full, of a full one, and of one without leaves' {

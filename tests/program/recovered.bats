@@ -75,6 +75,15 @@ noted() {
         "frame 3 is not valid, at byte 1104; 1 frame after it has the log's salts, and is left out"
 }
 
+@test 'the note on a log counts the pages that the database has left' {
+    logged t << 'END'
+INSERT INTO t VALUES (zeroblob(5000))
+DELETE FROM t
+VACUUM
+END
+    noted '2 pages of 3 transactions are read from it'
+}
+
 @test 'the logs of a link are those beside what it leads to, and the notes name these' {
     paired
     mkdir "$work/links"
@@ -484,6 +493,17 @@ x.db 32768 32768
 x.db 163840 32768
 x.db 327680 32768
 END
+}
+
+@test 'of a link the note on a read of a log that fails names the log that is read' {
+    local log
+    row_of 12 32768 "$work/x.db"
+    journal_of "$work/x.db" <<< '1 5 7 12'
+    ln -s x.db "$work/link.db"
+    log=$(realpath "$work")/x.db-journal
+    on_disk AT=33292 NAME=/x.db-journal
+    exactly 4 '' "dbck: note: $log: 4 pages are read from it; the database had 12 pages"$'\n'"dbck: note: $log: the 32768 bytes at 33292 cannot be read"$'\n'"$unread" \
+        check --recovered "$work/link.db"
 }
 
 # long_name COUNT: a name of so many letters.
