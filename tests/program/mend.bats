@@ -663,6 +663,9 @@ END
     put_at "$work/x.db" 18 '\02\02'
     row 'the write version of a database with a -wal' is_put_back 18 '\0143'
     row 'the read version of a database with a -wal' is_put_back 19 '\0143'
+    cp "$data/whole.db" "$work/x.db"
+    printf '%100s' '' >> "$work/x.db"
+    row 'a size that is too small, of a file with bytes after its last page' is_put_back 31 '\014'
     for at in 104 106 107; do
         made 'CREATE TABLE t(a); CREATE TABLE u(a)'
         row "the head of page 1, at $at" is_put_back "$at" '\07'
@@ -805,6 +808,14 @@ vacuumed() {
     made 'CREATE TABLE t(a); WITH RECURSIVE k(n) AS (SELECT 1 UNION ALL SELECT n + 1 FROM k WHERE n < 60) INSERT INTO t SELECT zeroblob(100) FROM k;'
     row 'the type and the last child' are_put_back 512 '\0' 520 '\0\0\0\0'
     row 'the type and a pointer' are_put_back 512 '\0' 524 '\0\0'
+}
+
+# Each change is looked for in the page as the changes before it leave it.
+@test 'mend finds the type of an interior page, and then two pointers of it' {
+    needs sqlite3
+    made "CREATE TABLE t(a); WITH RECURSIVE k(n) AS (SELECT 1 UNION ALL SELECT n + 1 FROM k WHERE n < 400) INSERT INTO t SELECT 'row ' || n FROM k;"
+    row 'page 2 is an interior page' [ "$(type_of 2)" = 5 ]
+    row 'its pointers' are_put_back 512 '\0' 526 '\0\0' 532 '\0\0'
 }
 
 @test 'mend finds an entry of the second page of the pointer map, and of the first page of a chain' {
