@@ -818,6 +818,19 @@ vacuumed() {
     row 'its pointers' are_put_back 512 '\0' 526 '\0\0' 532 '\0\0'
 }
 
+# The row is read before the freelist, so the fault is of the trunk. But the numbers beside that one in the trunk are near it.
+@test 'mend finds the overflow chain of a row that names a leaf of the freelist' {
+    local at page
+    needs sqlite3
+    made 'CREATE TABLE t(a); WITH RECURSIVE k(n) AS (SELECT 1 UNION ALL SELECT n + 1 FROM k WHERE n < 6) INSERT INTO t SELECT zeroblob(560) FROM k;
+        CREATE TABLE u(a); INSERT INTO u VALUES (zeroblob(9000)); DROP TABLE u'
+    page=$(number_at $((512 * $(number_at 32 4) - 512 + 8 + 4 * 5)) 4)
+    for at in 1020 958 896 834 772; do
+        row "the chain at $at, put page $page" are_put_back "$at" "$(printf '\\0%03o' 0 0 0 "$page")"
+    done
+    [ "$rows" = 5 ]
+}
+
 @test 'mend finds an entry of the second page of the pointer map, and of the first page of a chain' {
     needs sqlite3
     made 'PRAGMA auto_vacuum = full; CREATE TABLE t(a); INSERT INTO t VALUES (zeroblob(150000))'
