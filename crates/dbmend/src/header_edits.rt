@@ -14,7 +14,7 @@ const PAGES: u64 = 28;
 
 const FIRST_TRUNK: u64 = 32;
 
-const FREE_PAGES: u64 = 36;
+pub(crate) const FREE_PAGES: u64 = 36;
 
 const SCHEMA_FORMAT: u64 = 44;
 

@@ -19,7 +19,13 @@ pub(crate) fn head<A: Allocator>(paper: &Paper<A>) -> u32
 }
 
 // Adds some bytes at an offset of a page.
-fn add_at<A: Allocator>(tries: &mut Ranked, paper: &Paper<A>, at: u32, bytes: &[u8], points: u32) {
+pub(crate) fn add_at<A: Allocator>(
+    tries: &mut Ranked,
+    paper: &Paper<A>,
+    at: u32,
+    bytes: &[u8],
+    points: u32,
+) {
     if let Some(offset) = paper.begins().checked_add(u64::from(at)) {
         add_try(tries, offset, bytes, points);
     }

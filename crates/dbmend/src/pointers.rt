@@ -2,6 +2,7 @@
 use crate::fit::Fit;
 use crate::gaps::{Gap, cell_after, cell_bytes, gaps, longest_gaps, most_fragmented};
 use crate::key::Key;
+use crate::numbers::head;
 use crate::ordered::Rank;
 use crate::ranked::Ranked;
 use crate::reading::Paper;
@@ -11,8 +12,7 @@ use std::alloc::Allocator;
 
 // Where a page has the pointer of a cell.
 fn pointer_place<A: Allocator>(paper: &Paper<A>, view: &PageView<'_>, cell: u32) -> u32 {
-    let head = if paper.page() == 1 { 100 } else { 0 };
-    let begins = head + if view.kind().is_interior() { 12 } else { 8 };
+    let begins = head(paper) + if view.kind().is_interior() { 12 } else { 8 };
     cell.saturating_mul(2).saturating_add(begins)
 }
 

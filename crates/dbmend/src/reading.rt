@@ -75,7 +75,7 @@ impl<A: Allocator> Paper<A> {
         }
     }
 
-    // The same. What was there is to be put back.
+    // Does the same, and returns the number that was there, for the caller to put back.
     pub(crate) fn replace_short(&mut self, at: u32, number: u32) -> Option<u32> {
         let stated = self.short_at(at)?;
         self.put_short(at, number);

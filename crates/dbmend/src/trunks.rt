@@ -1,11 +1,15 @@
 // What may have been in a trunk of the freelist (Database File Format, 1.5).
 use crate::fit::Around;
 use crate::lost::{Kind, leaf_at};
+use crate::numbers::add_at;
 use crate::places::Place;
-use crate::ranked::{Ranked, add_try};
+use crate::ranked::Ranked;
 use crate::reading::Paper;
 use dbscan::{Desk, Mark};
 use std::alloc::Allocator;
+
+// Where a trunk states how many leaves it has.
+const LEAVES: u32 = 4;
 
 // How many leaves a trunk has room for.
 fn room<A: Allocator>(paper: &Paper<A>) -> u32 {
@@ -14,7 +18,7 @@ fn room<A: Allocator>(paper: &Paper<A>) -> u32 {
 
 // How many leaves it states, if it has room for them.
 fn stated<A: Allocator>(paper: &Paper<A>) -> u32 {
-    match paper.number_at(4) {
+    match paper.number_at(LEAVES) {
         Some(leaves) if leaves <= room(paper) => leaves,
         _ => 0,
     }
@@ -63,14 +67,7 @@ fn may_be_leaf<A: Allocator>(desk: &Desk<A>, page: u32) -> bool {
         && matches!(desk.marks().get(page), Mark::FreeLeaf | Mark::Unmarked)
 }
 
-// Adds a count of leaves.
-fn add_count<A: Allocator>(tries: &mut Ranked, paper: &Paper<A>, count: u32, points: u32) {
-    if let Some(offset) = paper.begins().checked_add(4) {
-        add_try(tries, offset, &count.to_be_bytes(), points);
-    }
-}
-
-// Adds how many leaves it may have: as many of its numbers, from the first on, as may be leaves, and so many at most.
+// Adds a count of leaves: those of its first numbers that may all be leaves, up to `most`.
 pub(crate) fn add_leaves<A: Allocator>(
     tries: &mut Ranked,
     desk: &Desk<A>,
@@ -84,18 +81,18 @@ pub(crate) fn add_leaves<A: Allocator>(
             _ => break,
         }
     }
-    if paper.number_at(4) == Some(count) {
+    if paper.number_at(LEAVES) == Some(count) {
         return;
     }
-    add_count(tries, paper, count, 34);
+    add_at(tries, paper, LEAVES, &count.to_be_bytes(), 34);
 }
 
-// Adds that it has so many more leaves than it states. What was a leaf of it may still stand behind its leaves.
+// Adds the count of leaves that a trunk states, plus `missing`. (SQLite leaves old numbers after the last leaf, and they look like leaves.)
 pub(crate) fn add_more<A: Allocator>(tries: &mut Ranked, paper: &Paper<A>, missing: i64) {
     let count = i64::from(stated(paper)).saturating_add(missing);
     if let Ok(count) = u32::try_from(count)
         && count <= room(paper)
     {
-        add_count(tries, paper, count, 36);
+        add_at(tries, paper, LEAVES, &count.to_be_bytes(), 36);
     }
 }

@@ -1,6 +1,7 @@
 // The pages that may have a wrong number, by the faults that were noted.
 use crate::counter::Noted;
 use crate::fit::Root;
+use crate::header_edits::FREE_PAGES;
 use arrayvec::ArrayVec;
 use dbformat::{FREELIST_START, Fault, FaultCode, u32_at};
 use dbscan::{Desk, Mark};
@@ -27,9 +28,9 @@ pub(crate) enum Number {
     Pointer(u32),
     // The size of the freeblock of this number, or the link to it, and where that leads.
     Block(u32, u32),
-    // How many leaves a trunk has, if none from this one on is one.
+    // How many leaves a trunk has: this many at most.
     Leaves(u32),
-    // The same, if it has so many more than it states.
+    // How many leaves a trunk has: as many as it states, plus this number of pages.
     More(i64),
     // The page after the last overflow page, which is 0.
     End,
@@ -97,13 +98,13 @@ fn want_before<A: Allocator>(desk: &Desk<A>, lost: &Root, wanted: &mut Wanted) {
     }
 }
 
-// How many more pages are free as the header says than in the freelist.
+// How many free pages the header states beyond those that were reached, by H10.
 fn missing<A: Allocator>(desk: &Desk<A>, faults: &[Noted]) -> i64 {
     let header = desk.header().bytes();
     if header.len() < 40 {
         return 0;
     }
-    let stated = i64::from(u32_at(header, 36));
+    let stated = i64::from(u32_at(header, FREE_PAGES as u32));
     for noted in faults {
         if let FaultCode::H10 = noted.fault.code {
             return stated.saturating_sub(noted.fault.value);
