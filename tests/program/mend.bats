@@ -79,6 +79,11 @@ made() {
     sqlite3 "$work/x.db" "PRAGMA page_size = ${2:-512}; $1"
 }
 
+# up_to COUNT: the beginning of a statement that takes the numbers n from 1 to COUNT from k.
+up_to() {
+    echo "WITH RECURSIVE k(n) AS (SELECT 1 UNION ALL SELECT n + 1 FROM k WHERE n < $1)"
+}
+
 # place_of TEXT: where it is first in x.db; before NAME: where the bytes before the statement of a table are.
 place_of() {
     grep -abo "$1" "$work/x.db" | head -n 1 | cut -d: -f1
@@ -253,9 +258,9 @@ END
 @test 'of leaves of two tables that fit one place mend takes the one whose last rowid is the key there' {
     local here there number=0
     needs python3 sqlite3
-    made 'CREATE TABLE t(id INTEGER PRIMARY KEY, a); CREATE TABLE u(id INTEGER PRIMARY KEY, a);
+    made "CREATE TABLE t(id INTEGER PRIMARY KEY, a); CREATE TABLE u(id INTEGER PRIMARY KEY, a);
         CREATE TRIGGER r AFTER INSERT ON t BEGIN INSERT INTO u VALUES (new.id - 3, new.a); END;
-        WITH RECURSIVE k(n) AS (SELECT 1 UNION ALL SELECT n + 1 FROM k WHERE n < 40) INSERT INTO t SELECT 10 * n, zeroblob(100) FROM k;'
+        $(up_to 40) INSERT INTO t SELECT 10 * n, zeroblob(100) FROM k;"
     while read -r here there; do
         number=$((number + 1))
         [ "$number" -gt 9 ] || row "child $number of both" are_put_back "$here" '\0\0\0\0' "$there" '\0\0\0\0'
@@ -267,7 +272,7 @@ END
 @test 'mend finds a child that has many children of its own' {
     local at
     needs python3 sqlite3
-    made 'CREATE TABLE t(a); WITH RECURSIVE k(n) AS (SELECT 1 UNION ALL SELECT n + 1 FROM k WHERE n < 1200) INSERT INTO t SELECT zeroblob(100) FROM k;'
+    made "CREATE TABLE t(a); $(up_to 1200) INSERT INTO t SELECT zeroblob(100) FROM k;"
     for at in $(children_of t); do
         row "the child at $at" are_put_back "$at" '\0\0\0\0'
     done
@@ -334,7 +339,7 @@ END
     needs sqlite3
     while IFS=';' read -r what key of; do
         made "CREATE TABLE t(a); CREATE INDEX i ON t($of);
-            WITH RECURSIVE k(n) AS (SELECT 1 UNION ALL SELECT n + 1 FROM k WHERE n < 20) INSERT INTO t SELECT $key FROM k;"
+            $(up_to 20) INSERT INTO t SELECT $key FROM k;"
         for pair in '0 1' '7 8' '18 19' '3 11'; do
             read -r one other <<< "$pair"
             row "$what: $pair" are_put_back "$(pointer i "$one")" '\0\0' "$(pointer i "$other")" '\0\0'
@@ -355,8 +360,8 @@ END
 @test 'mend finds three cell pointers and more of a page, and leaves out no row' {
     local page count first number
     needs sqlite3
-    made 'CREATE TABLE t(a); CREATE INDEX i ON t(a); WITH RECURSIVE k(n) AS (SELECT 1 UNION ALL SELECT n + 1 FROM k WHERE n < 20)
-        INSERT INTO t SELECT n FROM k;'
+    made "CREATE TABLE t(a); CREATE INDEX i ON t(a); $(up_to 20)
+        INSERT INTO t SELECT n FROM k;"
     for page in 2 3; do
         for count in 3 5 8; do
             for first in 0 6 12; do
@@ -374,7 +379,7 @@ END
 @test 'mend finds twelve cell pointers of cells that follow one another' {
     local number
     needs sqlite3
-    made 'CREATE TABLE t(a); WITH RECURSIVE k(n) AS (SELECT 1 UNION ALL SELECT n + 1 FROM k WHERE n < 20) INSERT INTO t SELECT n FROM k;'
+    made "CREATE TABLE t(a); $(up_to 20) INSERT INTO t SELECT n FROM k;"
     flags=(--limit 16)
     numbers=()
     for ((number = 2; number < 14; number++)); do
@@ -386,7 +391,7 @@ END
 # A pointer before the end of the pointers is that of no cell. Were the content area to begin there, the page would have one fault: P03.
 @test 'mend does not let the content area begin among the cell pointers' {
     needs sqlite3
-    made 'CREATE TABLE t(a); WITH RECURSIVE k(n) AS (SELECT 1 UNION ALL SELECT n + 1 FROM k WHERE n < 20) INSERT INTO t SELECT n FROM k;'
+    made "CREATE TABLE t(a); $(up_to 20) INSERT INTO t SELECT n FROM k;"
     row 'pointers to bytes 18, 20 and 30' are_put_back $((512 + 12)) '\0\022' $((512 + 20)) '\0\024' $((512 + 36)) '\0\036'
 }
 
@@ -394,7 +399,7 @@ END
 # A cell of zeros has 4 bytes. Were the content area to begin there, the page would have one fault: P09.
 @test 'mend does not let the content area begin in the free bytes before it' {
     needs sqlite3
-    made "CREATE TABLE t(a); CREATE INDEX i ON t(a); WITH RECURSIVE k(n) AS (SELECT 1 UNION ALL SELECT n + 1 FROM k WHERE n < 20) INSERT INTO t SELECT 'row ' || n FROM k;"
+    made "CREATE TABLE t(a); CREATE INDEX i ON t(a); $(up_to 20) INSERT INTO t SELECT 'row ' || n FROM k;"
     row 'four free bytes' [ "$(number_at $((1024 + 5)))" -gt $((8 + 2 * 20 + 100)) ]
     row 'three pointers of page 3' are_put_back $((1024 + 12)) '\0\0100' $((1024 + 20)) '\0\0110' $((1024 + 36)) '\0\0120'
     row 'three pointers of page 2' are_put_back $((512 + 12)) '\0\0100' $((512 + 20)) '\0\0110' $((512 + 36)) '\0\0120'
@@ -403,7 +408,7 @@ END
 @test 'mend does not make a leaf of a table one of an index' {
     local leaf=2048
     needs sqlite3
-    made 'CREATE TABLE t(a); WITH RECURSIVE k(n) AS (SELECT 1 UNION ALL SELECT n + 1 FROM k WHERE n < 200) INSERT INTO t SELECT n FROM k;'
+    made "CREATE TABLE t(a); $(up_to 200) INSERT INTO t SELECT n FROM k;"
     row 'page 5 is a leaf' [ "$(type_of 5)" = 13 ]
     dd if="$work/x.db" of="$work/x.db" bs=1 skip=$((leaf + 8 + 2 * $(number_at $((leaf + 3))) - 10)) seek=$((leaf + 8)) count=10 conv=notrunc status=none
     dbck mend "$work/x.db"
@@ -414,7 +419,7 @@ END
 @test 'mend finds the links to freeblocks, and their sizes' {
     local block number link=513 value
     needs sqlite3
-    made "CREATE TABLE t(a); WITH RECURSIVE k(n) AS (SELECT 1 UNION ALL SELECT n + 1 FROM k WHERE n < 20)
+    made "CREATE TABLE t(a); $(up_to 20)
         INSERT INTO t SELECT printf('row %d', n) FROM k; DELETE FROM t WHERE a IN ('row 3', 'row 9', 'row 15')"
     for number in 0 1 2; do
         block=$((512 + $(number_at $link)))
@@ -433,7 +438,7 @@ END
 # fragmented IDS: makes x.db, whose rows 3 and 6 are one and two bytes shorter than those that they took the place of: a fragment comes after
 # each. Then come rows 2 and 5. The rows with these ids are gone.
 fragmented() {
-    made "CREATE TABLE t(id INTEGER PRIMARY KEY, a); WITH RECURSIVE k(n) AS (SELECT 1 UNION ALL SELECT n + 1 FROM k WHERE n < 12)
+    made "CREATE TABLE t(id INTEGER PRIMARY KEY, a); $(up_to 12)
         INSERT INTO t SELECT n, printf('row number %02d', n) FROM k; DELETE FROM t WHERE id = 6; INSERT INTO t VALUES (6, 'row number ');
         DELETE FROM t WHERE id = 3; INSERT INTO t VALUES (3, 'row number 3'); DELETE FROM t WHERE id IN ($1)"
     [ "$(number_at 519 1)" = 3 ]
@@ -442,7 +447,7 @@ fragmented() {
 @test 'mend finds the pointer of a cell that leads into a freeblock' {
     local at block cell link=513
     needs sqlite3
-    made "CREATE TABLE t(a); WITH RECURSIVE k(n) AS (SELECT 1 UNION ALL SELECT n + 1 FROM k WHERE n < 20)
+    made "CREATE TABLE t(a); $(up_to 20)
         INSERT INTO t SELECT printf('row number %02d', n) FROM k; DELETE FROM t WHERE a IN ('row number 03', 'row number 09', 'row number 15')"
     while [ "$(number_at $link)" != 0 ]; do
         block=$((512 + $(number_at $link)))
@@ -485,7 +490,7 @@ fragmented() {
 @test 'mend finds cells of four bytes, and leaves none out' {
     local cell count first place
     needs sqlite3
-    made "CREATE TABLE t(a); WITH RECURSIVE k(n) AS (SELECT 1 UNION ALL SELECT n + 1 FROM k WHERE n < 20) INSERT INTO t SELECT NULL FROM k;"
+    made "CREATE TABLE t(a); $(up_to 20) INSERT INTO t SELECT NULL FROM k;"
     row 'each has four bytes' [ "$(number_at 517)" = $((512 - 4 * 20)) ]
     for cell in 0 9 19; do
         row "the pointer of cell $cell" are_put_back $((520 + 2 * cell)) '\0\0'
@@ -503,7 +508,7 @@ fragmented() {
 @test 'mend finds the count of cells of a page with freeblocks' {
     local count
     needs sqlite3
-    made "CREATE TABLE t(a); WITH RECURSIVE k(n) AS (SELECT 1 UNION ALL SELECT n + 1 FROM k WHERE n < 20)
+    made "CREATE TABLE t(a); $(up_to 20)
         INSERT INTO t SELECT printf('row %d', n) FROM k; DELETE FROM t WHERE a IN ('row 3', 'row 9', 'row 15')"
     for count in 1 12 17 20 22 377; do
         row "a count of octal $count" are_put_back 515 "\\0\\0$count"
@@ -515,7 +520,7 @@ fragmented() {
 @test 'mend finds the count of cells of a child where it is 0' {
     local page
     needs sqlite3
-    made "CREATE TABLE t(a); CREATE INDEX i ON t(a); WITH RECURSIVE k(n) AS (SELECT 1 UNION ALL SELECT n + 1 FROM k WHERE n < 90)
+    made "CREATE TABLE t(a); CREATE INDEX i ON t(a); $(up_to 90)
         INSERT INTO t SELECT printf('row %d', n) FROM k;"
     for page in {4..9}; do
         row "page $page is a leaf" grep -qx '10\|13' <<< "$(type_of "$page")"
@@ -528,7 +533,7 @@ fragmented() {
 @test 'mend finds the pointer of a cell of an index that leads to a byte inside it' {
     local cell place pointer
     needs sqlite3
-    made "CREATE TABLE t(a); CREATE INDEX i ON t(a); WITH RECURSIVE k(n) AS (SELECT 1 UNION ALL SELECT n + 1 FROM k WHERE n < 20)
+    made "CREATE TABLE t(a); CREATE INDEX i ON t(a); $(up_to 20)
         INSERT INTO t SELECT printf('row %d', n) FROM k;"
     for cell in 0 1 7 18 19; do
         place=$((1024 + 8 + 2 * cell))
@@ -542,7 +547,7 @@ fragmented() {
 @test 'mend finds the count of cells and that of fragmented bytes of one page' {
     local count page
     needs sqlite3
-    made "CREATE TABLE t(a); CREATE INDEX i ON t(a); WITH RECURSIVE k(n) AS (SELECT 1 UNION ALL SELECT n + 1 FROM k WHERE n < 20)
+    made "CREATE TABLE t(a); CREATE INDEX i ON t(a); $(up_to 20)
         INSERT INTO t SELECT 'row ' || n FROM k;"
     for page in 2 3; do
         for count in '\0\040' '\0\060' '\0\0100'; do
@@ -579,7 +584,7 @@ END
     needs sqlite3
     for size in 512 1024 2048 4096 8192 16384 32768 65536; do
         cells=$((size / 32))
-        made "CREATE TABLE t(a); WITH RECURSIVE k(n) AS (SELECT 1 UNION ALL SELECT n + 1 FROM k WHERE n < $cells)
+        made "CREATE TABLE t(a); $(up_to $cells)
             INSERT INTO t SELECT printf('row %016d', n) FROM k;" "$size"
         row "a pointer in a page of $size bytes" is_put_back $((size + 8)) '\0\0'
     done
@@ -590,7 +595,7 @@ END
 @test 'mend puts no cell of an index where its key is out of order' {
     local first
     needs sqlite3
-    made 'CREATE TABLE t(a); CREATE INDEX i ON t(a); WITH RECURSIVE k(n) AS (SELECT 1 UNION ALL SELECT n + 1 FROM k WHERE n < 20) INSERT INTO t SELECT n FROM k;'
+    made "CREATE TABLE t(a); CREATE INDEX i ON t(a); $(up_to 20) INSERT INTO t SELECT n FROM k;"
     first=$(pointer i 0)
     dd if="$work/x.db" of="$work/x.db" bs=1 skip=$((first + 2)) seek="$first" count=2 conv=notrunc status=none
     dd if="$work/x.db" of="$work/x.db" bs=1 skip=$((first + 8)) seek=$((first + 2)) count=2 conv=notrunc status=none
@@ -602,8 +607,8 @@ END
 @test 'for a root page that was overwritten mend names no leaf' {
     local bytes root
     needs sqlite3
-    made 'CREATE TABLE t(a); CREATE TABLE u(a); CREATE INDEX i ON u(a); WITH RECURSIVE k(n) AS (SELECT 1 UNION ALL SELECT n + 1 FROM k WHERE n < 60)
-        INSERT INTO t SELECT zeroblob(20) || n FROM k; INSERT INTO u SELECT a FROM t'
+    made "CREATE TABLE t(a); CREATE TABLE u(a); CREATE INDEX i ON u(a); $(up_to 60)
+        INSERT INTO t SELECT zeroblob(20) || n FROM k; INSERT INTO u SELECT a FROM t"
     for root in $(sqlite3 "$work/x.db" 'SELECT rootpage FROM sqlite_schema'); do
         for bytes in '\0' 'x' '\n' '\r' '\02' '\05'; do
             cp "$work/x.db" "$work/wrong.db"
@@ -635,7 +640,7 @@ END
 @test 'mend finds which overflow chain is of which row by the order of the rows' {
     local one other
     needs python3 sqlite3
-    made 'CREATE TABLE t(a); WITH RECURSIVE k(n) AS (SELECT 1 UNION ALL SELECT n + 1 FROM k WHERE n < 14) INSERT INTO t SELECT zeroblob(1500) FROM k;'
+    made "CREATE TABLE t(a); $(up_to 14) INSERT INTO t SELECT zeroblob(1500) FROM k;"
     while read -r one other; do
         row "$one and $other" is_put_back "$one" '\0\0\0\0' "$other" '\0\0\0\0'
     done < <(chains_of)
@@ -749,8 +754,8 @@ vacuumed() {
 @test 'mend finds the types of interior pages and leaves, of a table and of an index' {
     local page
     needs sqlite3
-    made 'CREATE TABLE t(a); CREATE INDEX i ON t(a); WITH RECURSIVE k(n) AS (SELECT 1 UNION ALL SELECT n + 1 FROM k WHERE n < 400)
-        INSERT INTO t SELECT n FROM k;'
+    made "CREATE TABLE t(a); CREATE INDEX i ON t(a); $(up_to 400)
+        INSERT INTO t SELECT n FROM k;"
     for page in 2 3 4 6; do
         row "the type of page $page" is_put_back $((512 * (page - 1))) '\0'
     done
@@ -763,7 +768,7 @@ vacuumed() {
 # A cell and its pointer take 12 bytes, so 42 fill a page. As an interior page it has 4 bytes more before its pointers, and P03 alone.
 @test 'mend finds the type of a leaf without a free byte, of a child and of a root page' {
     needs sqlite3
-    made "CREATE TABLE t(a); WITH RECURSIVE k(n) AS (SELECT 1 UNION ALL SELECT n + 1 FROM k WHERE n < 100)
+    made "CREATE TABLE t(a); $(up_to 100)
         INSERT INTO t SELECT printf('%06d', n) FROM k;"
     row 'page 3 is full' [ "$(number_at 1027)" = 42 ]
     row 'a child' are_put_back 1024 '\05'
@@ -772,8 +777,8 @@ vacuumed() {
     row 'page 3 is full' [ "$(number_at 1027)" = 42 ]
     row 'the root page of an index' are_put_back 1024 '\02'
     dbck check "$work/wrong.db"
-    row 'P03 alone' grep -q '^P03 page 3 ' "$work/out"
-    row 'P03 alone' [ "$(wc -l < "$work/out")" = 1 ]
+    row 'P03' grep -q '^P03 page 3 ' "$work/out"
+    row 'one fault' [ "$(wc -l < "$work/out")" = 1 ]
 }
 
 # The root page of a table may be one of an index, if the table has no rowids: no fault names its type.
@@ -781,7 +786,7 @@ vacuumed() {
     local count kind
     needs sqlite3
     for count in 1 20 200; do
-        made "CREATE TABLE t(a); WITH RECURSIVE k(n) AS (SELECT 1 UNION ALL SELECT n + 1 FROM k WHERE n < $count) INSERT INTO t SELECT 'row ' || n FROM k;"
+        made "CREATE TABLE t(a); $(up_to $count) INSERT INTO t SELECT 'row ' || n FROM k;"
         for kind in '\02' '\05' '\012' '\015'; do
             row "$count rows, type $kind" are_put_back 512 "$kind"
         done
@@ -805,7 +810,7 @@ vacuumed() {
 # Its children cannot be told before its type is put back.
 @test 'mend finds the type of an interior page, and then its last child or a pointer' {
     needs sqlite3
-    made 'CREATE TABLE t(a); WITH RECURSIVE k(n) AS (SELECT 1 UNION ALL SELECT n + 1 FROM k WHERE n < 60) INSERT INTO t SELECT zeroblob(100) FROM k;'
+    made "CREATE TABLE t(a); $(up_to 60) INSERT INTO t SELECT zeroblob(100) FROM k;"
     row 'the type and the last child' are_put_back 512 '\0' 520 '\0\0\0\0'
     row 'the type and a pointer' are_put_back 512 '\0' 524 '\0\0'
 }
@@ -813,7 +818,7 @@ vacuumed() {
 # Each change is looked for in the page as the changes before it leave it.
 @test 'mend finds the type of an interior page, and then two pointers of it' {
     needs sqlite3
-    made "CREATE TABLE t(a); WITH RECURSIVE k(n) AS (SELECT 1 UNION ALL SELECT n + 1 FROM k WHERE n < 400) INSERT INTO t SELECT 'row ' || n FROM k;"
+    made "CREATE TABLE t(a); $(up_to 400) INSERT INTO t SELECT 'row ' || n FROM k;"
     row 'page 2 is an interior page' [ "$(type_of 2)" = 5 ]
     row 'its pointers' are_put_back 512 '\0' 526 '\0\0' 532 '\0\0'
 }
@@ -822,11 +827,11 @@ vacuumed() {
 @test 'mend finds the overflow chain of a row that names a leaf of the freelist' {
     local at page
     needs sqlite3
-    made 'CREATE TABLE t(a); WITH RECURSIVE k(n) AS (SELECT 1 UNION ALL SELECT n + 1 FROM k WHERE n < 6) INSERT INTO t SELECT zeroblob(560) FROM k;
-        CREATE TABLE u(a); INSERT INTO u VALUES (zeroblob(9000)); DROP TABLE u'
+    made "CREATE TABLE t(a); $(up_to 6) INSERT INTO t SELECT zeroblob(560) FROM k;
+        CREATE TABLE u(a); INSERT INTO u VALUES (zeroblob(9000)); DROP TABLE u"
     page=$(number_at $((512 * $(number_at 32 4) - 512 + 8 + 4 * 5)) 4)
     for at in 1020 958 896 834 772; do
-        row "the chain at $at, put page $page" are_put_back "$at" "$(printf '\\0%03o' 0 0 0 "$page")"
+        row "the chain at $at, put page $page" are_put_back "$at" "\\0\\0$(short "$page")"
     done
     [ "$rows" = 5 ]
 }
@@ -859,7 +864,7 @@ vacuumed() {
 
 # freed ROWS: makes x.db, whose table t had so many rows, of a page each, and has none. The row of u has some of their pages again.
 freed() {
-    made "CREATE TABLE t(a); CREATE TABLE u(a); WITH RECURSIVE k(n) AS (SELECT 1 UNION ALL SELECT n + 1 FROM k WHERE n < $1)
+    made "CREATE TABLE t(a); CREATE TABLE u(a); $(up_to $1)
         INSERT INTO t SELECT zeroblob(450) FROM k; DELETE FROM t; INSERT INTO u VALUES (zeroblob(2000))"
 }
 
@@ -876,7 +881,7 @@ freed() {
 # The row that was added last goes first: so its overflow page is the trunk, and those of the others are leaves before it.
 @test 'mend finds the first trunk of a freelist whose leaves come before it' {
     needs sqlite3
-    made "CREATE TABLE t(a); WITH RECURSIVE k(n) AS (SELECT 1 UNION ALL SELECT n + 1 FROM k WHERE n < 20) INSERT INTO t SELECT zeroblob(900) FROM k;
+    made "CREATE TABLE t(a); $(up_to 20) INSERT INTO t SELECT zeroblob(900) FROM k;
         $(seq -f 'DELETE FROM t WHERE rowid = %.0f;' 20 -1 1)"
     row 'leaves before the trunk' [ "$(number_at 32 4)" -gt 12 ]
     row 'the first trunk' are_put_back 32 '\0\01\0\0'
@@ -912,7 +917,7 @@ freed() {
     local lost at left
     needs sqlite3
     for lost in 3 4 5 6 7; do
-        made 'CREATE TABLE t(a); WITH RECURSIVE k(n) AS (SELECT 1 UNION ALL SELECT n + 1 FROM k WHERE n < 40) INSERT INTO t SELECT zeroblob(100) FROM k;'
+        made "CREATE TABLE t(a); $(up_to 40) INSERT INTO t SELECT zeroblob(100) FROM k;"
         dd if=/dev/zero of="$work/x.db" bs=512 seek=2 count="$lost" conv=notrunc status=none
         at=$((512 * (lost + 3))) left="$lost faults are left"
         put_at "$work/x.db" "$at" '\0'
@@ -1170,7 +1175,7 @@ END
     needs sqlite3
     for size in 512 1024 2048 4096 8192 16384 32768 65536; do
         rm -f "$work/x.db"
-        sqlite3 "$work/x.db" "PRAGMA page_size = $size; CREATE TABLE t (a); WITH RECURSIVE k(n) AS (SELECT 1 UNION ALL SELECT n + 1 FROM k WHERE n < 500)
+        sqlite3 "$work/x.db" "PRAGMA page_size = $size; CREATE TABLE t (a); $(up_to 500)
             INSERT INTO t SELECT zeroblob(300) FROM k;"
         bytes=$(printf %04x $((size == 65536 ? 1 : size)))
         put_at "$work/x.db" 16 '\0\0'
