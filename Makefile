@@ -13,8 +13,13 @@ DOCUMENTS := DECISIONS FAULTS FORMAT REPAIR
 # Where the toolchain is.
 KIT = $(patsubst %/,%,$(dir $(shell rt doc)))
 
+# A name with a blank would be two.
+ifneq ($(words x$(DESTDIR)$(PREFIX)x),1)
+$(error DESTDIR and PREFIX must not have blanks)
+endif
+
 # The folders that `uninstall` removes if they are empty. Those that every system has below /usr and /usr/local stay.
-SHARED := $(if $(filter /usr /usr/local,$(PREFIX)),,bin share/man/man1)
+SHARED := $(if $(filter /usr /usr/local,$(PREFIX:%/=%)),,bin share/man/man1)
 EMPTIED := share/doc/dbck share/bash-completion/completions share/zsh/site-functions share/fish/vendor_completions.d $(SHARED)
 
 .PHONY: all check test install uninstall deb static version

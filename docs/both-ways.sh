@@ -18,8 +18,9 @@ die() {
     printf 'both-ways.sh: %s\n' "$1" >&2
     exit 2
 }
+# Two of them may open one database at once, and one waits for the other.
 sql() {
-    "${SQLITE3:-sqlite3}" -batch -init /dev/null -list -noheader "$@"
+    "${SQLITE3:-sqlite3}" -batch -init /dev/null -cmd '.timeout 60000' -list -noheader "$@"
 }
 
 case $#:${1-} in
@@ -27,9 +28,12 @@ case $#:${1-} in
     1:[!-]* | 2:[!-]*) ;;
     *) printf '%s\n' "$usage" >&2; exit 2 ;;
 esac
+case ${2-} in -*) die "NEW must not begin with -: ./$2" ;; esac
 damaged=$1 new=${2:-new.db}
 beside=$(dirname -- "$new")
 [ -f "$damaged" ] || die "$damaged is not a file"
+# The logs are beside what a link leads to.
+damaged=$(realpath -- "$damaged") || exit 2
 for file in "$new" "$beside/replaced.db" "$beside/dumped.db" "$beside/both-ways.log"; do
     [ ! -e "$file" ] || die "$file is there already"
 done

@@ -60,6 +60,35 @@ END
     row 'those of others' diff <(files) <(printf '644 usr/%s/other\n' bin share/bash-completion/completions)
 }
 
+@test 'make uninstall leaves the folders of every system, also where PREFIX ends with a slash' {
+    needs make install
+    row 'make install' makes install PREFIX=/usr/local/
+    row 'make uninstall' makes uninstall PREFIX=/usr/local/
+    row 'what is left' [ "$(cd "$work/root/usr/local" && find . | sort | tr '\n' ' ')" = '. ./bin ./share ./share/man ./share/man/man1 ' ]
+}
+
+# In a shell such a name is two, and the first of them may be a file of somebody.
+@test 'make install and make uninstall refuse a folder whose name has a blank' {
+    local target
+    needs make install
+    mkdir "$work/my root"
+    : > "$work/my"
+    for target in install uninstall; do
+        row "make $target" [ "$(make -s -o all PROGRAM="$DBCK" DESTDIR="$work/my root" "$target" 2>&1 | sed 's/.*\*\*\* //')" = \
+            'DESTDIR and PREFIX must not have blanks.  Stop.' ]
+    done
+    row 'the file' [ -f "$work/my" ]
+    row 'the folder' [ -z "$(ls "$work/my root")" ]
+}
+
+@test 'make install and make deb build the program first' {
+    local target
+    needs make
+    for target in install deb; do
+        row "make $target" grep -q 'crates/dbck && rt run' <(make -n "$target")
+    done
+}
+
 @test 'the package has the same files, examples, and the sums of all' {
     needs make install dpkg-deb strip gzip md5sum
     cd "$work"
@@ -90,6 +119,8 @@ END
     row 'the manual' cmp docs/dbck.1 <(gzip -dc "$work/root/usr/share/man/man1/dbck.1.gz")
     row 'what zsh gets' cmp completions/_dbck "$work/root/usr/share/zsh/vendor-completions/_dbck"
     row 'the version' grep -qx 'Version: 1.2.3' "$work/control/control"
+    row 'the processor' grep -qx 'Architecture: amd64' "$work/control/control"
+    row 'the C library' grep -qx 'Depends: libc6 (>= 2.34)' "$work/control/control"
     row 'the sums' eval "(cd '$work/root' && md5sum --quiet -c '$work/control/md5sums')"
     row 'a sum for each' [ "$(wc -l < "$work/control/md5sums")" = 16 ]
     row 'all are those of root' [ "$(dpkg-deb -c "$work/dbck_1.2.3_amd64.deb" | awk '{ print $2 }' | sort -u)" = root/root ]
