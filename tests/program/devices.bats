@@ -66,6 +66,15 @@ as_a_file() {
     as_a_file "$work/file/x.db"
 }
 
+@test 'of a device each MiB is read as a whole where it is slow' {
+    row_of 300 65536 "$work/x.db"
+    with_device "$work/x.db"
+    on_disk SLOW=1000 "READS=$work/reads"
+    exactly 0 $'ok\n' '' check "$device"
+    # 300 pages of 65536 bytes are 18 MiB and a part of one.
+    [ "$(grep -c '^1048576 ' "$work/reads")" = 19 ]
+}
+
 @test 'a device that is shorter than its database, and one without one' {
     mkdir "$work/file"
     head -c 6144 "$data/whole.db" > "$work/file/x.db"

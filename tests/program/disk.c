@@ -1,5 +1,6 @@
-// A disk, for tests: it is loaded before the C library. These settings, each from the environment, say what it does:
+// A disk and a standard error, for tests: they are loaded before the C library. These settings, each from the environment, say what they do:
 //   SLOW         how many microseconds each read takes
+//   QUICK        how many bytes a read may ask for that takes no such time
 //   BAD, NAME    4096 bytes from this offset on of the file whose name ends so cannot be read: a read that begins there fails, and one that
 //                comes to them ends there
 //   ERROR        the number of the error of such a read, if not EIO
@@ -9,7 +10,10 @@
 //   INTERRUPTED  every second read is interrupted
 //   HIDDEN       what is at a path that ends so cannot be looked at
 //   HIDDEN_LINK  nor whether that path is a link
+//   OTHER, NAME  the file that is opened where that one is named
+//   UNTAKEN      how many writes to standard error fail before it takes one
 //   OPENED       a file that gets a line for each file that is opened: how, and its path
+//   READS        a file that gets a line for each read: how many bytes it asks for, and where it begins
 #define _GNU_SOURCE
 #include <dlfcn.h>
 #include <errno.h>
@@ -42,13 +46,26 @@ static int is_named(int file) {
     return ends_with(path, "NAME");
 }
 
+// Adds a line to the file whose path a variable has.
+static void tell(const char *variable, const char *line, ...) {
+    const char *path = getenv(variable);
+    FILE *file = path ? fopen(path, "a") : NULL;
+    if (!file) return;
+    va_list rest;
+    va_start(rest, line);
+    vfprintf(file, line, rest);
+    va_end(rest);
+    fclose(file);
+}
+
 ssize_t pread(int file, void *bytes, size_t count, off_t from) {
     static ssize_t (*real)(int, void *, size_t, off_t);
     static int reads;
     if (!real) real = (ssize_t (*)(int, void *, size_t, off_t))dlsym(RTLD_NEXT, "pread");
     off_t bad = number("BAD", -1);
     size_t most = number("SHORT", count);
-    usleep(number("SLOW", 0));
+    tell("READS", "%zu %ld\n", count, (long)from);
+    if (count > (size_t)number("QUICK", 0)) usleep(number("SLOW", 0));
     if (getenv("INTERRUPTED") && ++reads % 2) {
         errno = EINTR;
         return -1;
@@ -88,11 +105,18 @@ int open(const char *path, int flags, ...) {
     va_start(rest, flags);
     int mode = flags & O_CREAT ? va_arg(rest, int) : 0;
     va_end(rest);
-    const char *opened = getenv("OPENED");
-    if (opened) {
-        int kept = real(opened, O_WRONLY | O_APPEND | O_CREAT, 0600);
-        dprintf(kept, "%s %s\n", (flags & (O_ACCMODE | O_CREAT | O_TRUNC)) == O_RDONLY ? "reading" : "writing", path);
-        close(kept);
+    tell("OPENED", "%s %s\n", (flags & (O_ACCMODE | O_CREAT | O_TRUNC)) == O_RDONLY ? "reading" : "writing", path);
+    const char *other = ends_with(path, "NAME") ? getenv("OTHER") : NULL;
+    return real(other ? other : path, flags, mode);
+}
+
+ssize_t write(int file, const void *bytes, size_t count) {
+    static ssize_t (*real)(int, const void *, size_t);
+    static long writes;
+    if (!real) real = (ssize_t (*)(int, const void *, size_t))dlsym(RTLD_NEXT, "write");
+    if (file == STDERR_FILENO && ++writes <= number("UNTAKEN", 0)) {
+        errno = EAGAIN;
+        return -1;
     }
-    return real(path, flags, mode);
+    return real(file, bytes, count);
 }

@@ -1,8 +1,8 @@
 #!/usr/bin/env python3
-"""Makes large databases: make.py tables COUNT LENGTH FILE, long GIB FILE, far FILE, back COUNT FILE. The first two are sound.
+"""Makes large databases: make.py tables COUNT LENGTH FILE, long GIB FILE, far FILE, beyond FILE, back COUNT FILE, halves COUNT FILE.
 
-A `tables` file has as many tables as COUNT, each with a name of LENGTH bytes and an empty page of 512 bytes. First comes its schema, a tree
-in levels, and then the roots, in the order of their rows.
+The first two are sound. A `tables` file has as many tables as COUNT, each with a name of LENGTH bytes and an empty page of 512 bytes. First
+comes its schema, a tree in levels, and then the roots, in the order of their rows.
 
 A `long` file has pages of 65536 bytes and takes little room, and each page is in use: of a table t, whose pages lie in its second half, or
 of the freelist, whose trunks lie all over the file.
@@ -10,7 +10,11 @@ of the freelist, whose trunks lie all over the file.
 A `far` file has pages of 4096 bytes, and little more than 4 GiB. A row's overflow pages follow one another up to page 40; the others do from
 2^32 bytes after page 36 on, to the end of the file. No other page above 2 is in use.
 
+A `beyond` file has pages of 65536 bytes, and more than 73 GiB. A row's overflow chain is in its last 300 pages.
+
 A `back` file has pages of 16384 bytes, and a row of as many overflow pages as COUNT, each 2^29 bytes before the page that it follows.
+
+In a `halves` file the row takes such pages by turns: the last that is left of their second half, and the last that is left of their first.
 
 What lies where is printed, in lines that a shell reads: for `tables` the first root, and the leaf and cell of the last row; for `long` the
 pages of the table, and of the last trunk its page, how many leaves it has, and the last of them.
@@ -137,9 +141,22 @@ def far(path):
     chained(path, 4096, 489, beyond + 64, [*range(3, 41), *range(beyond + 36, beyond + 65)])
 
 
+def beyond(path):
+    first = 1200001
+    chained(path, 65536, 8199, first + 299, range(first, first + 300))
+
+
+def apart(path, places):
+    pages = (1 << 29) // 16384
+    chained(path, 16384, 2031, pages * (len(places) + 1), [3 + pages * k for k in places])
+
+
 def back(count, path):
-    apart = (1 << 29) // 16384
-    chained(path, 16384, 2031, apart * (count + 1), [3 + apart * k for k in range(count, 0, -1)])
+    apart(path, range(count, 0, -1))
+
+
+def halves(count, path):
+    apart(path, [k for low in range(count // 2, 0, -1) for k in (low + count // 2, low)])
 
 
 if __name__ == "__main__":
@@ -147,7 +164,11 @@ if __name__ == "__main__":
         tables(int(sys.argv[2]), int(sys.argv[3]), sys.argv[4])
     elif sys.argv[1] == "far":
         far(sys.argv[2])
+    elif sys.argv[1] == "beyond":
+        beyond(sys.argv[2])
     elif sys.argv[1] == "back":
         back(int(sys.argv[2]), sys.argv[3])
+    elif sys.argv[1] == "halves":
+        halves(int(sys.argv[2]), sys.argv[3])
     else:
         long(int(sys.argv[2]), sys.argv[3])

@@ -46,6 +46,26 @@ noted() {
     [ "$(wc -l < "$work/out")" = $(($(wc -c < "$work/x.db") / 512)) ]
 }
 
+@test 'a file that is written while it is read has the note also where its rows cannot be written' {
+    grown "$work/x.db"
+    note=$(changed_note "$work/x.db")
+    trap '' PIPE
+    # As it fails, the pipe is read no more.
+    touched() { touch -d '2001-01-01 00:00:00.1' "$work/x.db" && false; }
+    meanwhile "$work/x.db" touched
+    ended_exactly 6 s $'dbck: note: standard output: Broken pipe\n'"${note%.}$unwritten"
+}
+
+@test 'a file that is written while it is read has the note also where memory is refused after that' {
+    needs prlimit
+    cp "$data/empty.db" "$work/x.db"
+    sparse "$work/x.db" 34359738368
+    log_notes "$work/x.db"
+    note=$(changed_note "$work/x.db")
+    at_first_note "touch -d '2001-01-01 00:00:00.1' '$work/x.db'; prlimit --pid \$pid --as=40000000" check "$work/x.db"
+    ended_exactly 5 '' "$wal${note%.}"$'dbck: E9 out of memory\n'
+}
+
 @test 'a longer or a shorter file has the note, also where its time stays' {
     log_notes "$work/x.db"
     note=$(changed_note "$work/x.db")
@@ -151,6 +171,22 @@ e28241
 ff
 c0af
 END
+}
+
+# The header is read first, and then the page with it.
+@test 'a page that was not copied as text has no note, also where its header alone looks as if it was' {
+    local at bytes
+    while read -r at bytes; do
+        # After the header come a line feed alone, and a byte that is of no letter.
+        copied ff
+        put_at "$work/copied.db" 200 '\n'
+        put_at "$work/copied.db" "$at" "$bytes"
+        expect 1 "$version*" "$rest" check "$work/copied.db"
+    done << 'END'
+72 \r\n\r\n\r\n\r\n
+80 \0303\0251\0303\0251\0303\0251\0303\0251
+END
+    [ "$rows" = 2 ]
 }
 
 @test 'the notes on copied files come for all commands, and not for a sound file or one of whole pages' {

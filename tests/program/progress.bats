@@ -54,6 +54,19 @@ progress_of_large() {
 "dbck: note: 7 bytes after page $pages are not read"$'\r\n' ''
 }
 
+@test 'progress is wiped before a note, of a file with bytes after its last page, which are no pages' {
+    progress_of_large
+    truncate -s $((512 * 200000 + 1)) "$work/large.db"
+    on_terminal "'$DBCK' check '$work/large.db' > '$work/report'"
+    row 'progress before a note' ended 0 "${wiped}dbck: note: $((512 * (200000 - pages) + 1)) bytes after page $pages are not read, $((200000 - pages)) whole pages among them"$'\r\n' ''
+}
+
+@test 'progress of a file with other bytes has no number of a run' {
+    progress_of_large
+    on_terminal "'$DBCK' check --with 100=0d '$work/large.db' 2>&1 > '$work/report'"
+    row 'progress of --with' ended 0 "dbck: note: $work/large.db with 1 other byte"$'\r\n'"$wiped" ''
+}
+
 @test 'progress is wiped before a fault where both outputs lead to one terminal' {
     progress_of_large
     put_at "$work/large.db" $((512 * pages - 512)) '\0\0\0\01'
@@ -75,6 +88,38 @@ progress_of_large() {
     on_terminal "'$DBCK' mend '$work/large.db' > '$work/report'"
     row 'a change that makes it readable' grep -qx 'at byte 0 put 53514c69746520666f726d6174203300 for 58514c69746520666f726d6174203300' "$work/report"
     row 'progress of a refused file' ended 3 "dbck: run 2, 65536 of $pages pages, 97%"$'\r'"*" ''
+}
+
+# A text of a later run may be shorter than that before it.
+@test 'progress of mend is wiped before that of each run' {
+    local count=200000 run wanted
+    needs_terminal
+    needs sqlite3
+    sqlite3 "$work/x.db" "PRAGMA page_size = 512; CREATE TABLE t(a); INSERT INTO t VALUES (zeroblob(508 * $count))"
+    # Two numbers of the header: a change, and then another one.
+    put_at "$work/x.db" 21 A
+    put_at "$work/x.db" 72 '\01'
+    count=$(($(wc -c < "$work/x.db") / 512))
+    on_terminal "'$DBCK' mend '$work/x.db' > '$work/report'"
+    row 'two changes' [ "$(grep -c '^at byte' "$work/report")" = 2 ]
+    tr '\r' '\n' < "$work/out" > "$work/lines"
+    for run in '' 'run 2, ' 'run 3, '; do
+        for wanted in 65536 131072 196608; do
+            row "progress of '$run' at $wanted" grep -qx "dbck: $run$wanted of $count pages, $((100 * wanted / count))%" "$work/lines"
+        done
+    done
+    for run in 2 3; do
+        row "blanks before run $run" grep -q '^ *$' <(grep -B 1 "run $run, 65536 " "$work/lines")
+    done
+}
+
+# It reads some pages of a damaged file twice, so there are 65536 reads.
+@test 'progress of mend counts no more pages than there are' {
+    needs_terminal
+    cp "$data/empty.db" "$work/few.db"
+    truncate -s $((512 * 65530)) "$work/few.db"
+    on_terminal "'$DBCK' mend '$work/few.db' > '$work/report'"
+    row 'progress of 65530 pages' ended 1 $'dbck: 65530 of 65530 pages, 100%\r'"*" ''
 }
 
 # `explain` reads each page that is not in use.

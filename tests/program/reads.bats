@@ -46,6 +46,11 @@ reads_at_most() {
     fail "${*:2}: $bytes bytes, not at most $1"
 }
 
+# whole_mibs: the number of each MiB that the last run on a disk with READS=$work/reads read as a whole, in the order of the reads.
+whole_mibs() {
+    awk '$1 == 1048576 { print $2 / 1048576 }' "$work/reads"
+}
+
 # pages_of TYPE..: how many rows of the last run of `stat --all` have one of these types.
 pages_of() {
     local type count=0
@@ -244,14 +249,40 @@ END
 @test 'of a file on a disk each MiB is read as a whole, and then its pages' {
     needs python3
     row_of 300 65536 "$work/x.db"
-    counted_on_disk SLOW=1000
+    counted_on_disk SLOW=1000 "READS=$work/reads"
     for words in check explain mend; do
+        rm -f "$work/reads"
         counted "$words" "$work/x.db"
         [ "$status" = 0 ]
+        # 300 pages of 65536 bytes are 18 MiB and a part of one.
+        whole_mibs | cmp - <(seq 0 18)
         # All but the first MiB, by which it is known that the reads are slow, or nearly so.
         [ "$bytes" -gt $((2 * size - 2097152)) ] || fail "$words: $bytes bytes of $size"
         [ "$bytes" -lt $((2 * size + 2097152)) ] || fail "$words: $bytes bytes of $size"
     done
+}
+
+@test 'of a fast disk each MiB is read as a whole too, and of a file beyond 64 GiB' {
+    needs python3
+    row_of 300 65536 "$work/x.db"
+    on_disk SLOW=60 "READS=$work/reads"
+    exactly 0 $'ok\n' '' check "$work/x.db"
+    row 'a fast disk' cmp <(whole_mibs) <(seq 0 18)
+    rm "$work/reads"
+    sparse "$work/large.db" 78662860800
+    python3 tests/program/make.py beyond "$work/large.db"
+    on_disk SLOW=1000 "READS=$work/reads"
+    expect 1 'N01 page 3 *' '' check --limit 1 "$work/large.db"
+    row 'a large file' cmp <(whole_mibs) <(echo 0 && seq 75000 75018)
+}
+
+# A read of 65536 bytes may take some time from memory too, so only the first 4096 are timed.
+@test 'where the beginning of each page is read quickly no MiB is read as a whole, however long the rest takes' {
+    needs python3
+    row_of 300 65536 "$work/x.db"
+    counted_on_disk SLOW=100 QUICK=4096
+    reads_at_most $((size + size / 2)) check "$work/x.db"
+    [ "$status" = 0 ]
 }
 
 # On an SSD a read takes less than 2 ms, on a turning disk longer.
@@ -291,6 +322,16 @@ END
     [ "$bytes" -lt $((100 + 8 * 65536)) ] || fail "$bytes bytes of $size"
 }
 
+@test 'of a file with much after its last page a disk reads its pages, and no MiB as a whole' {
+    needs python3
+    row_of 2 65536 "$work/x.db"
+    truncate -s $((300 * 65536)) "$work/x.db"
+    counted_on_disk SLOW=1000
+    counted check "$work/x.db"
+    [ "$status" = 0 ]
+    [ "$bytes" -lt $((100 + 8 * 65536)) ] || fail "$bytes bytes"
+}
+
 # Page 1 is not read from the file then, so the share of pages in use is known by a read of its header alone.
 @test 'of a file that is mostly free a disk reads what is used, also where page 1 is in a log' {
     needs python3
@@ -316,17 +357,38 @@ END
     row "$bytes bytes beside a -wal of $log" [ "$bytes" -lt $((100 + 8 * 65536 + 2 * log)) ]
 }
 
+# The first slow read asks for it, and none after that does.
+@test 'the header of a file whose page 1 is in a log is asked for once, also where it cannot be read' {
+    needs python3
+    row_of 300 65536 "$work/x.db"
+    journal_of "$work/x.db" <<< 1
+    on_disk SLOW=1000 AT=0 NAME=/x.db "READS=$work/reads"
+    expect 0 $'ok\n' '*journal: 1 page is read from it; *' check --recovered "$work/x.db"
+    row 'reads of the header' [ "$(grep -cx '100 0' "$work/reads")" = 1 ]
+}
+
 # After three reads that go back a slow one takes 16 MiB, after six 256, and never more, here of 5.5 GiB.
 @test 'where a disk reads a file from its end on, it takes 256 MiB at once at most, and no memory for them' {
     needs python3
     python3 tests/program/make.py back 10 "$work/x.db"
-    counted_on_disk SLOW=1000
+    counted_on_disk SLOW=1000 "READS=$work/reads"
     counted check --limit 1 "$work/x.db"
     [ "$(cat "$work/out")" = $'N01 page 3 item 0 value 0: page is not in use\nmore 360434' ] # of 360448 pages 13 are in use
     # Four pages with their MiB, three with their 16 MiB, and four with 256.
+    whole_mibs | cmp - <(printf '%s\n' 0 5120 4608 4096 {3584..3599} {3072..3087} {2560..2575} {2048..2303} {1536..1791} {1024..1279} {512..767})
     [ "$bytes" -gt $((1024 * 1048576)) ] || fail "$bytes bytes"
     [ "$bytes" -lt $((1100 * 1048576)) ] || fail "$bytes bytes"
     [ "$memory" -lt 65536 ] || fail "$memory KiB"
+}
+
+# Every other read goes back.
+@test 'where a disk reads two parts of a file by turns, each from its end on, it takes 16 MiB at once' {
+    needs python3
+    python3 tests/program/make.py halves 10 "$work/x.db"
+    on_disk SLOW=1000 "READS=$work/reads"
+    expect 1 'N01 page 3 *' '' check --limit 1 "$work/x.db"
+    # Six pages with their MiB, and five with their 16 MiB.
+    whole_mibs | cmp - <(printf '%s\n' 0 5120 2560 4608 2048 4096 {1536..1551} {3584..3599} {1024..1039} {3072..3087} {512..527})
 }
 
 # The header states that a tenth is used, which of 256 MiB is 25 whole ones.

@@ -317,15 +317,17 @@ is_rolled_back() {
     done
 }
 
-@test 'nothing that a journal names is opened' {
+@test 'nothing that a journal names is opened, and a pipe or a folder is there as a file is' {
+    local make
     needs python3
     journaled
     name_super "$work/named"
-    mkfifo "$work/named"
     as=(timeout 60)
-    dbck check --recovered "$work/then.db"
-    [ "$status" = 0 ]
-    grep -q "then.db-journal: [0-9]* pages are read from it" "$work/err"
+    for make in mkfifo mkdir; do
+        "$make" "$work/named"
+        expect 0 $'ok\n' "dbck: note: $work/then.db-journal: +([0-9]) pages are read from it; *" check --recovered "$work/then.db"
+        rm -r "$work/named"
+    done
 }
 
 # recovering NOTES WORDS..: a check with --recovered and these words ends so; in NOTES @ is x.db.
@@ -355,13 +357,17 @@ recovering() {
 
 # SQLite takes such a file for a new database, and deletes the log.
 @test 'beside a file without bytes nothing of a log is read, and the note on the log says so' {
-    local note='@-wal holds nothing that SQLite would read'
+    local suffix note=' holds nothing that SQLite would read'
     needs python3 sqlite3
+    note+=$'\ndbck: note: @ is not checked\ndbck: note: @ has no bytes; to SQLite it is an empty database\ndbck: E1 file is shorter than 100 bytes'
     paired
-    cp "$work/pair.db-wal" "$work/x.db-wal"
-    : > "$work/x.db"
-    recovering "$note"$'\ndbck: note: @ is not checked\ndbck: note: @ has no bytes; to SQLite it is an empty database\ndbck: E1 file is shorter than 100 bytes'
-    row 'the tables that SQLite finds' [ "$(sqlite3 "$work/x.db" 'SELECT count(*) FROM sqlite_schema')" = 0 ]
+    journal_of "$work/pair.db" <<< '1 2'
+    for suffix in wal journal; do
+        : > "$work/x.db"
+        cp "$work/pair.db-$suffix" "$work/x.db-$suffix"
+        recovering "@-$suffix$note"
+        row "the tables that SQLite finds beside a -$suffix" [ "$(sqlite3 "$work/x.db" 'SELECT count(*) FROM sqlite_schema')" = 0 ]
+    done
 }
 
 @test 'no log is taken but those of the file by their names' {
@@ -616,14 +622,25 @@ END
 }
 
 @test 'a log that is written while the database is read has a note' {
-    local suffix
+    local database log note suffix
     large_database
     flags=(--recovered)
+    database=$(changed_note "$work/large.db")
     for suffix in journal wal; do
-        echo log > "$work/large.db-$suffix"
-        meanwhile "$work/large.db" dd if=/dev/zero of="$work/large.db-$suffix" bs=1 count=9 status=none
-        row "the note on a -$suffix" ended 0 '*' "dbck: note: $work/large.db-$suffix *"$'\n'"dbck: note: $work/large.db-$suffix was changed while it was read; the report may be of no state that it had"$'\n'
-        rm "$work/large.db-$suffix"
+        log=$work/large.db-$suffix
+        note=$(changed_note "$log")
+        echo log > "$log"
+        meanwhile "$work/large.db" dd if=/dev/zero of="$log" bs=1 count=9 status=none
+        row "the note on a -$suffix" ended 0 '*' "dbck: note: $log *"$'\n'"${note%.}"
+        meanwhile "$work/large.db" truncate -s 0 "$log"
+        row "the note on a -$suffix that is emptied" ended 0 '*' "dbck: note: $log *"$'\n'"${note%.}"
+        # Of a log without bytes there is no other note.
+        meanwhile "$work/large.db" truncate -s 9 "$log"
+        row "the note on a -$suffix that gets its first bytes" ended 0 '*' "${note%.}"
+        meanwhile "$work/large.db" touch -d '2001-01-01 00:00:00.1' "$work/large.db" "$log"
+        row "the notes on the database and on a -$suffix" ended 0 '*' "*${database%.}${note%.}"
+        touch "$work/large.db"
+        rm "$log"
     done
 }
 

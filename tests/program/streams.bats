@@ -168,6 +168,9 @@ END
     many_lines
     row 'writes of 6000 lines to a file' written $((bytes / 32768)) "'$DBCK' check --limit 6000 '$work/lines.db' > '$work/report'"
     row 'writes of 6000 faults to a file' written $((bytes / 32768 + 1)) "'$DBCK' stat '$work/lines.db' 2> '$work/report'"
+    large_database
+    dbck stat "$work/large.db"
+    row 'writes of rows to a file' written $(($(wc -c < "$work/out") / 32768 + 1)) "'$DBCK' stat '$work/large.db' > '$work/report'"
 }
 
 @test 'lines go to a terminal one by one, whatever the other output leads to' {
@@ -239,4 +242,13 @@ with subprocess.Popen([sys.argv[1], "stat", sys.argv[2]], stdout=subprocess.DEVN
 if run.wait() != 6 or first != b"dbck: note: standard error: Message too long\n":
     sys.exit(f"{run.returncode} {first}")
 END
+}
+
+@test 'what standard error did not take at first it gets at the end' {
+    local note=$'dbck: note: standard error: Resource temporarily unavailable\n'
+    # It does not take the fault, twice; and then not the note either.
+    on_disk UNTAKEN=2
+    expect 6 $'sqlite_schema\t*' "$note$twice$unwritten" stat "$data/two-owners.db"
+    on_disk UNTAKEN=3
+    expect 6 $'sqlite_schema\t*' "$twice$unwritten" stat "$data/two-owners.db"
 }

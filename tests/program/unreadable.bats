@@ -10,6 +10,15 @@ load common
     done
 }
 
+@test 'what comes to the path before it is opened, and is no regular file, is not read' {
+    cp "$data/whole.db" "$work/x.db"
+    on_disk OTHER=/dev/zero NAME=/x.db
+    for command in "${five[@]}"; do
+        exactly 4 '' "$unread" "$command" "$work/x.db"
+    done
+    [ "$rows" = 5 ]
+}
+
 @test 'a folder is not read' {
     for command in "${five[@]}"; do
         expect 4 '' "dbck: note: $work: a directory"$'\n'"$unread" "$command" "$work"
