@@ -93,6 +93,12 @@ before() {
     place_of "CREATE TABLE $1("
 }
 
+# reserving COUNT SQL: makes x.db, with so many reserved bytes at the end of each page of 512.
+reserving() {
+    rm -f "$work/x.db"
+    sqlite3 "$work/x.db" ".filectrl reserve_bytes $1" "PRAGMA page_size = 512; $2" > "$work/said"
+}
+
 # number_at OFFSET [SIZE]: the number of two bytes there in x.db, or of SIZE.
 number_at() {
     echo $((16#$(od -An -tx1 -N"${2:-2}" -j"$1" "$work/x.db" | tr -d ' ')))
@@ -145,6 +151,27 @@ root_at() {
         row "the index in the place of a table: $bytes" are_put_back "$(root_at 'CREATE INDEX i ')" "$bytes"
     done
     [ "$rows" = 12 ]
+}
+
+# The rows are on several pages of the schema. Each table has its own root again if the roots are in the order of the rows.
+@test 'mend finds which of two rows of the schema names the root page of the other' {
+    local table one other
+    needs sqlite3
+    made "$(printf 'CREATE TABLE t%d(a);' {10..40})"
+    row 'page 1 is an interior page' [ "$(type_of 1)" = 5 ]
+    for table in {10..39}; do
+        one=$(($(before "t$table") - 1)) other=$(($(before "t$((table + 1))") - 1))
+        row "t$table, the root of the next" is_put_back "$one" "\\0$(printf '%03o' "$(number_at "$other" 1)")"
+        row "the root of t$table in the next" is_put_back "$other" "\\0$(printf '%03o' "$(number_at "$one" 1)")"
+    done
+    # A view has no root page.
+    made "$(printf 'CREATE TABLE t%d(a); CREATE VIEW v%d AS SELECT 1;' {1..3}{,})"
+    for table in 1 2 3; do
+        for one in 2 3 4; do
+            [ "$one" = $((table + 1)) ] || row "t$table of three, page $one" are_put_back "$(root_at "CREATE TABLE t$table(")" "\\0$one"
+        done
+    done
+    [ "$rows" = 67 ]
 }
 
 # type_of PAGE: the type of a page of x.db; last_child: the last child of page 1.
@@ -647,6 +674,172 @@ END
     [ "$rows" = 91 ]
 }
 
+# Two rows name one chain, and another one is lost. Each row has its own again if the order of the chains is that of the rows.
+@test 'mend finds which of two rows names the overflow chain of the other' {
+    local one other
+    needs python3 sqlite3
+    made "CREATE TABLE t(a); $(up_to 14) INSERT INTO t SELECT zeroblob(1500) FROM k;"
+    while read -r one other; do
+        row "$one, the chain of $other" is_put_back "$one" "\\0\\0$(short "$(number_at "$other" 4)")"
+        row "$other, the chain of $one" is_put_back "$other" "\\0\\0$(short "$(number_at "$one" 4)")"
+    done < <(chains_of)
+    [ "$rows" = 182 ]
+}
+
+# others_of STEP: of each STEP-th pair of a reference of x.db and another page, or 0, where the reference is, and that page as put_at takes it.
+others_of() {
+    "$DBCK" stat --all "$work/x.db" > "$work/stat"
+    PYTHONPATH=tests python3 - "$work/x.db" "$work/stat" "$1" << 'END'
+import pathlib, sys
+import injuries, mend
+db = injuries.Patient(pathlib.Path(sys.argv[1]).read_bytes(), None, pathlib.Path(sys.argv[2]).read_text(), "x")
+places = [at for at, size in mend.references(db) if size == 4]
+pairs = [(at, page) for at in places for page in range(db.pages + 1) if page != db.number(at, 4)]
+for at, page in pairs[:: int(sys.argv[3])]:
+    print(at, "".join(f"\\0{byte:03o}" for byte in page.to_bytes(4, "big")))
+END
+}
+
+# others_are_put_back STEP COUNT: each of these, so many, is put back.
+others_are_put_back() {
+    local at page
+    rows=0
+    while read -r at page; do
+        row "at $at put $page" is_put_back "$at" "$page"
+    done < <(others_of "$1")
+    row "$2 references" [ "$rows" = "$2" ]
+}
+
+@test 'mend finds a page that another one was put for: children, also of the schema and of an index, and overflow pages' {
+    needs python3 sqlite3
+    made "$(printf 'CREATE TABLE t%d(a);' {10..40})"
+    others_are_put_back 5 21
+    made "CREATE TABLE t(a, b); CREATE INDEX i ON t(a); $(up_to 900) INSERT INTO t SELECT printf('%060d', n * 7919 % 900), n FROM k"
+    others_are_put_back 797 117
+    made "PRAGMA auto_vacuum = full; CREATE TABLE t(a, b); CREATE INDEX i ON t(b); $(up_to 60) INSERT INTO t SELECT n, 'row ' || (n * 37 % 60) FROM k;
+        CREATE TABLE u(a); INSERT INTO u SELECT zeroblob(300 + a * 20) FROM t WHERE a < 12"
+    others_are_put_back 5 80
+    made "CREATE TABLE t(a PRIMARY KEY, b) WITHOUT ROWID; $(up_to 80) INSERT INTO t SELECT printf('key%05d', n * 7919 % 1000), zeroblob(n % 40) FROM k"
+    others_are_put_back 1 48
+    made "CREATE TABLE t(a); $(up_to 14) INSERT INTO t SELECT zeroblob(1500) FROM k"
+    others_are_put_back 17 157
+}
+
+# The first and the last child of a page have a key on one side alone. The other one is in a page above it.
+@test 'mend finds children of an index by the keys of all pages above, and where they lead past two levels' {
+    local at bytes keys
+    needs sqlite3
+    keys='INSERT INTO t SELECT printf('\''%060d'\'', n * 7919 % '
+    made "CREATE TABLE t(a, b); CREATE INDEX i ON t(a); $(up_to 900) ${keys}907), n FROM k"
+    for at in 46088 75933 77320; do
+        for bytes in '\0105' '\0121' '\0125'; do
+            row "the child at $at, put $bytes" are_put_back $((at + 3)) "$bytes"
+        done
+    done
+    made "CREATE TABLE t(a, b); CREATE INDEX i ON t(a); $(up_to 500) ${keys}900), n FROM k"
+    row 'a child that leads past two levels' are_put_back 1469 '\042'
+    [ "$rows" = 10 ]
+}
+
+# Chains that are in no order, and a free page whose number is between two of them.
+@test 'mend finds the overflow chain of a row whose number is out of order, and the one of a trunk or a row that is in order' {
+    local n
+    needs sqlite3
+    made "CREATE TABLE t(k PRIMARY KEY, b) WITHOUT ROWID; $(up_to 40) INSERT INTO t SELECT printf('%03d', n * 37 % 101) || hex(zeroblob(300)), n FROM k"
+    row 'the chain of another row' are_put_back 20373 '\054'
+    made "CREATE TABLE v(a); CREATE TABLE t(a); INSERT INTO v VALUES (printf('%01200d', 5)); $(up_to 20) INSERT INTO t SELECT printf('%0900d', n) FROM k;
+        INSERT INTO v VALUES (printf('%01200d', 7)); $(for n in 1 2 3 {6..11} {14..20}; do echo "DELETE FROM t WHERE rowid = $n;"; done)"
+    row 'a leaf of the freelist' are_put_back 8703 '\040'
+    made "CREATE TABLE v(a); CREATE TABLE t(a); $(up_to 3) INSERT INTO t SELECT zeroblob(1499 + n) FROM k; INSERT INTO v VALUES (printf('%01500d', 7))"
+    for n in 4 7; do
+        row "the chain of the only row of a table, put $n" are_put_back 1023 "\\0$n"
+    done
+    [ "$rows" = 4 ]
+}
+
+# Rows that were deleted and added again stand out of order in their page.
+@test 'mend finds three cell pointers of a page where cells are out of order, and of a page of the schema' {
+    local table
+    needs sqlite3
+    made "CREATE TABLE t(id INTEGER PRIMARY KEY, a); $(up_to 12) INSERT INTO t SELECT n, printf('%01000d', n) FROM k;
+        DELETE FROM t WHERE id IN (2, 5, 6, 9); INSERT INTO t SELECT value, printf('%01500d', value) FROM json_each('[9, 2, 6, 5]')"
+    row 'three pointers' are_put_back 12298 '\0\0' 12304 '\0\010' 12307 '\0'
+    made "$(for table in {10..25}; do echo "CREATE TABLE t$table(a, b); INSERT INTO t$table VALUES ($table, 2 * $table);"; done)
+        DROP TABLE t11; DROP TABLE t14; CREATE TABLE u1(a); CREATE TABLE u2(a); CREATE INDEX i3 ON t20(a);
+        INSERT INTO u1 VALUES (7); INSERT INTO u2 VALUES (8)"
+    row 'three pointers of a page of the schema' are_put_back 7180 ' ' 7183 '\0270' 7189 '\0'
+    [ "$rows" = 2 ]
+}
+
+# Of each page some rows were deleted, and what they had is still there.
+@test 'mend finds the count of cells of a page with reserved bytes, with fragments, and with cells of three bytes' {
+    local bytes
+    needs sqlite3
+    reserving 8 "CREATE TABLE t(a); $(up_to 12) INSERT INTO t SELECT 'q' || n FROM k; DELETE FROM t WHERE rowid IN (3, 11, 12)"
+    for bytes in '\0\010' '\0\04' '\0\0'; do
+        row "a count of 9, put $bytes" are_put_back 515 "$bytes"
+    done
+    reserving 24 "CREATE TABLE t(a); $(up_to 25) INSERT INTO t SELECT n % 3 FROM k; DELETE FROM t WHERE rowid > 22"
+    for bytes in '\04' '\010'; do
+        row "no fragments, put $bytes" are_put_back 519 "$bytes"
+    done
+    made "CREATE TABLE t(id INTEGER PRIMARY KEY, a); $(up_to 20) INSERT INTO t SELECT n, 'row ' || n FROM k; DELETE FROM t WHERE id = 16;
+        INSERT INTO t VALUES (16, 'row '); DELETE FROM t WHERE id IN (18, 19, 20)"
+    for bytes in '\0\020' '\0\016'; do
+        row "a count of 17, put $bytes" are_put_back 515 "$bytes"
+    done
+    made "CREATE TABLE t(k PRIMARY KEY) WITHOUT ROWID; $(up_to 7) INSERT INTO t SELECT n - 1 FROM k; DELETE FROM t WHERE k > 4"
+    for bytes in '\0\04' '\0\03'; do
+        row "a count of 5, put $bytes" are_put_back 515 "$bytes"
+    done
+    [ "$rows" = 9 ]
+}
+
+# One bit of where the content area begins: then it begins with one of the cells, and with fewer of them the page would be sound too.
+@test 'mend leaves out no cell where the content area begins with a later one' {
+    local bytes
+    needs sqlite3
+    made "CREATE TABLE t(id INTEGER PRIMARY KEY, a); $(up_to 100) INSERT INTO t SELECT n, printf('%027d', n) FROM k" 4096
+    row 'a start of 896' [ "$(number_at 4101)" = 896 ]
+    for bytes in '\03\0240' '\03\0300' '\07\0200' '\013\0200'; do
+        row "a start of 896, put $bytes" are_put_back 4101 "$bytes"
+    done
+    [ "$rows" = 5 ]
+}
+
+# Both trees are sound with the leaf of t as the root of u, and the other way round.
+@test 'mend finds a child of a table that names the root of another one, and a root that names a child' {
+    local t u
+    needs sqlite3
+    t="CREATE TABLE t(id INTEGER PRIMARY KEY, a); $(up_to 60) INSERT INTO t SELECT n, 'row number ' || n || ' of table t' FROM k;"
+    u="CREATE TABLE u(id INTEGER PRIMARY KEY, a); INSERT INTO u VALUES (2, 'this is'), (3, 'a row of u'), (5, 'another');"
+    made "CREATE TABLE s(a); $t $u CREATE TABLE v(a)"
+    row 'a child that names the root of a later table' are_put_back 1531 '\0\0\0\010'
+    made "$t CREATE TABLE s(a); $u"
+    row 'a child that names the root of the last table' are_put_back 1019 '\0\0\0\010'
+    made "CREATE TABLE u(id INTEGER PRIMARY KEY, a); $t ${u#*;}"
+    row 'a root that names a child' are_put_back "$(root_at 'CREATE TABLE u(')" '\04'
+    made "CREATE TABLE s(a); CREATE TABLE t(id INTEGER PRIMARY KEY, a); $(up_to 12) INSERT INTO t SELECT n, zeroblob(700) FROM k"
+    row 'a root that names an overflow page of its table' are_put_back "$(root_at 'CREATE TABLE t(')" '\04'
+    [ "$rows" = 4 ]
+}
+
+@test 'mend finds children and roots by what is lost with them: pages of an index, overflow pages' {
+    local bytes
+    needs sqlite3
+    made "CREATE TABLE t(a); CREATE INDEX i ON t(a); $(up_to 400) INSERT INTO t SELECT printf('%060d', n * 7919 % 9973) FROM k"
+    row 'a child of an index of three levels' are_put_back 1032 '\0\0\0\0'
+    for bytes in '\0143' '\02'; do
+        row "its root, put $bytes" are_put_back "$(root_at 'CREATE INDEX i ')" "$bytes"
+    done
+    row 'the root of its table' are_put_back "$(root_at 'CREATE TABLE t(')" '\03'
+    made "CREATE TABLE s(a); CREATE TABLE t(id INTEGER PRIMARY KEY, a); $(up_to 12) INSERT INTO t SELECT n, zeroblob(700) FROM k"
+    row 'the root of a table whose rows have overflow pages' are_put_back "$(root_at 'CREATE TABLE t(')" '\0143'
+    made "CREATE TABLE t(a PRIMARY KEY, b) WITHOUT ROWID; $(up_to 40) INSERT INTO t SELECT printf('%03d', n * 7) || hex(zeroblob(100)), n FROM k"
+    row 'the overflow page of a row of an interior page' are_put_back 1020 '\0\0\0\0'
+    [ "$rows" = 6 ]
+}
+
 @test 'mend finds the numbers of the header and in the heads and pointers of page 1 and interior pages' {
     needs sqlite3
     while read -r what at bytes; do
@@ -885,6 +1078,22 @@ freed() {
         $(seq -f 'DELETE FROM t WHERE rowid = %.0f;' 20 -1 1)"
     row 'leaves before the trunk' [ "$(number_at 32 4)" -gt 12 ]
     row 'the first trunk' are_put_back 32 '\0\01\0\0'
+}
+
+# Then its leaves are lost with it. Where a leaf is named in its place, that is in use as a trunk.
+@test 'mend finds the next trunk where there is none, the one after it, or a leaf of it, and a leaf where a page in use is named' {
+    local first second third leaf page
+    needs sqlite3
+    freed 480
+    first=$(number_at 32 4) second=$(number_at $((512 * $(number_at 32 4) - 512)) 4)
+    third=$(number_at $((512 * second - 512)) 4) leaf=$(number_at $((512 * second - 504)) 4)
+    for page in 0 "$third" "$leaf"; do
+        row "page $page" are_put_back $((512 * first - 512)) "\\0\\0$(short "$page")"
+    done
+    row "the first trunk, page $leaf" are_put_back 32 "\\0\\0$(short "$leaf")"
+    page=$("$DBCK" stat --all "$work/x.db" | awk -F '\t' '$4 == "overflow" { print $3; exit }')
+    row "a leaf, page $page of a chain" are_put_back $((512 * first - 492)) "\\0\\0$(short "$page")"
+    [ "$rows" = 5 ]
 }
 
 @test 'mend finds how many leaves a trunk has, of one that is not full, of a full one, and of one without leaves' {

@@ -3,15 +3,17 @@ ghost use Rattle.dbmend.specs.Deeds.{HasDone};
 
 use crate::counting::Findings;
 use crate::edit::Edit;
+use crate::fit::Span;
 use crate::header_edits::{add_header, add_page_size};
 use crate::lost::{Lost, look_at_lost, look_at_roots};
 use crate::numbers::add_entry;
-use crate::places::add_places;
+use crate::places::{add_places, child};
 use crate::ranked::{Ranked, Tries};
 use crate::reading::{Paper, read_page};
-use crate::schema_rows::add_roots;
-use crate::wanted::wanted_of;
+use crate::schema_rows::{MOST_LEVELS, add_roots};
+use crate::wanted::{mark, wanted_of};
 use dbformat::FaultCode;
+use dbscan::{Desk, Mark};
 use dbsource::{RunError, Source};
 use std::alloc::Allocator;
 
@@ -24,6 +26,44 @@ fn add_numbers<A: Allocator>(tries: &mut Ranked, found: &Findings<A>, lost: &Los
             add_entry(tries, &found.desk, noted.fault.page);
         }
     }
+}
+
+// The keys beside the reference to a page, as far as they are known.
+fn keys_beside<A: Allocator>(paper: &Paper<A>, page: u32) -> Span {
+    let Some(view) = paper.view() else {
+        return Span::UNKNOWN;
+    };
+    for item in 0..view.cells().saturating_add(1) {
+        if child(&view, item) == page {
+            return Span::beside(&view, item);
+        }
+    }
+    Span::UNKNOWN
+}
+
+// The keys around a page of a tree, by the pages above it, which are read for it.
+fn keys_around<A: Allocator, S: Source>(
+    desk: &Desk<A>,
+    edits: &[Edit],
+    source: &mut S,
+    page: u32,
+    paper: &mut Paper<A>,
+) -> Result<Span, RunError>
+    ensures { HasDone S.Source result 0 0 (λ a deeds. Unit {0}) source.old source.new }
+{
+    let mut keys = Span::UNKNOWN;
+    let mut below = page;
+    for _ in 0..MOST_LEVELS {
+        match mark(desk, below) {
+            Mark::Child(above) => {
+                read_page(source, edits, above, paper)?;
+                keys = keys.or(&keys_beside(paper, below));
+                below = above;
+            }
+            _ => return Ok(keys),
+        }
+    }
+    Ok(keys)
 }
 
 /// The edits that are worth a trial after some others, by what a run over the file with these found. Pages are read for it: each lost page,
@@ -48,8 +88,9 @@ pub fn candidates<A: Allocator + Copy, S: Source>(
     add_numbers(&mut tries, found, &lost);
     let wanted = wanted_of(&found.desk, found.counter.noted(), lost.roots());
     for want in wanted.as_slice() {
+        let outer = keys_around(&found.desk, edits, source, want.page, &mut paper)?;
         read_page(source, edits, want.page, &mut paper)?;
-        add_places(&mut tries, &found.desk, &lost, want, &mut paper);
+        add_places(&mut tries, (&found.desk, &lost), want, &outer, &mut paper);
     }
     let kept = (found, &lost);
     add_roots(

@@ -38,6 +38,26 @@ impl Span {
         last: Key::Unknown,
     };
 
+    // These, or those of another one where a key is unknown.
+    pub(crate) fn or(&self, other: &Span) -> Span {
+        Span {
+            first: self.first.or(&other.first),
+            last: self.last.or(&other.last),
+        }
+    }
+
+    // The keys of the cells beside a child.
+    pub(crate) fn beside(view: &PageView<'_>, item: u32) -> Span {
+        let first = match item.checked_sub(1) {
+            Some(before) => Key::of(view, before),
+            None => Key::Unknown,
+        };
+        Span {
+            first,
+            last: Key::of(view, item),
+        }
+    }
+
     // The first and the last key of a page.
     pub(crate) fn of(view: &PageView<'_>) -> Span {
         Span {
@@ -54,8 +74,8 @@ pub(crate) struct Around {
     pub(crate) keys: Span,
     pub(crate) own: Span,
     pub(crate) near: [u32; 2],
-    // The first overflow pages of the rows before and after it. Rows that are added in their order have them in that order.
-    pub(crate) chains: Option<[u32; 2]>,
+    // Pages between which it is, if numbers go in order. Rows that are added in their order have their overflow chains in that order.
+    pub(crate) order: Option<[u32; 2]>,
 }
 
 impl Around {
@@ -66,28 +86,57 @@ impl Around {
             keys: Span::UNKNOWN,
             own: Span::UNKNOWN,
             near: [near, near],
-            chains: None,
+            order: None,
         }
     }
 
-    // How far a page is from the chain of the row before, if it is between this and that of the row after.
-    fn chain_distance(&self, page: u32) -> Option<u32> {
-        let [before, behind] = self.chains?;
-        if page < behind {
-            page.checked_sub(before)
-        } else {
-            None
+    // With the keys around its own page, where none beside it is known.
+    pub(crate) fn within(&self, outer: &Span) -> Around {
+        match self.kind {
+            Kind::Table | Kind::Index => Around {
+                keys: self.keys.or(outer),
+                ..*self
+            },
+            Kind::Other | Kind::Free => *self,
         }
     }
 
-    // Whether a page that is named fits as well as another one, where no key says it but their numbers: in an overflow chain or a trunk.
-    pub(crate) fn fits_as_well(&self, named: u32, other: u32) -> bool {
-        let has_keys = matches!(self.kind, Kind::Table | Kind::Index);
-        !has_keys && distance(named, &self.near) <= distance(other, &self.near)
+    // Between two pages, of which 0 or the greatest number is none.
+    pub(crate) fn between(kind: Kind, order: [u32; 2]) -> Around {
+        let [before, behind] = order;
+        let near = [
+            if before == 0 { behind } else { before },
+            if behind == u32::MAX { before } else { behind },
+        ];
+        Around {
+            near,
+            order: Some(order),
+            ..Around::beside(kind, 0)
+        }
+    }
+
+    // How far a page is from the one before it, if it is in order.
+    fn step(&self, page: u32) -> Option<u32> {
+        let [before, behind] = self.order?;
+        (before < page && page < behind).then_some(page.abs_diff(before))
+    }
+
+    // How many points fewer another page has than the one that is named, if that fits as well, and no key says it but their numbers: in an
+    // overflow chain or a trunk.
+    pub(crate) fn doubt(&self, named: u32, other: u32) -> u32 {
+        if matches!(self.kind, Kind::Table | Kind::Index) {
+            return 0;
+        }
+        match (self.step(named), self.step(other)) {
+            (Some(_), None) => 10,
+            (None, _) if self.order.is_some() => 0,
+            _ if distance(named, &self.near) <= distance(other, &self.near) => 9,
+            _ => 0,
+        }
     }
 }
 
-// A page that may have been named: what it looks like, its keys, and the page after it, if it is none of a tree.
+// A page that may have been named: what it looks like, its keys, and the page in use to which it leads, or 0.
 #[derive(Clone, Copy)]
 pub(crate) struct Root {
     pub(crate) page: u32,
@@ -138,14 +187,15 @@ fn is_tight(keys: &Span, root: &Span) -> bool {
 // How well a page fits a place.
 pub(crate) fn fit_of(around: &Around, root: &Root) -> Fit {
     let keys = keys_fit(around, root, false).max(keys_fit(around, root, true));
-    let mut points = if around.kind == root.kind { 8 } else { 0 };
+    let is_alike = around.kind == root.kind || around.kind == Kind::Free;
+    let mut points = if is_alike { 8 } else { 0 };
     if root.keys.first.is_like(&around.keys.first) || root.keys.first.is_like(&around.keys.last) {
         points += 2;
     }
     if is_tight(&around.keys, &root.keys) {
-        points += 1;
+        points += 3;
     }
-    let away = match around.chain_distance(root.page) {
+    let away = match around.step(root.page) {
         Some(away) => {
             points += 1;
             away

@@ -130,6 +130,14 @@ impl Record {
 }
 
 impl Key {
+    // This one, or another one if it is unknown.
+    pub(crate) fn or(&self, other: &Key) -> Key {
+        match self {
+            Key::Unknown => *other,
+            Key::Rowid(_) | Key::Record(_) => *self,
+        }
+    }
+
     // The key of a cell of a page.
     pub(crate) fn of(view: &PageView<'_>, cell: u32) -> Key {
         if cell >= view.cells() {

@@ -3,11 +3,15 @@ ghost use Rattle.dbmend.specs.Deeds.{HasDone};
 
 use crate::edit::Edit;
 use crate::fit::{Root, Span};
+use crate::places::child;
 use crate::reading::{Paper, read_page};
+use crate::schema_rows::root_of;
+use crate::trunks::stated;
+use crate::wanted::mark;
 use arrayvec::ArrayVec;
 use dbinjuries::PageBits;
 use dbpage::PageView;
-use dbscan::{Desk, PageKind};
+use dbscan::{Desk, Mark, PageKind};
 use dbsource::{NoMemory, RunError, Source};
 use std::alloc::Allocator;
 
@@ -26,13 +30,18 @@ pub(crate) enum Kind {
 // How many pages of one kind are kept that no other one names.
 const MOST_ALIKE: usize = 8;
 
-// Of each lost page whether another one names it, and what it looks like. Of the first that none names the keys.
+// How many pages of a lost list are followed.
+const MOST_FOLLOWED: u32 = 4096;
+
+// Of each lost page whether another one names it, and what it looks like. Of the first that none names the keys. And the last page in use
+// that a lost one names as its child, or 0.
 #[derive(Drop)]
 pub(crate) struct Lost<A: Allocator> {
     named: PageBits<A>,
     tables: PageBits<A>,
     indexes: PageBits<A>,
     roots: ArrayVec<Root, 24>,
+    used_child: u32,
 }
 
 impl<A: Allocator + Copy> Lost<A> {
@@ -46,6 +55,7 @@ impl<A: Allocator + Copy> Lost<A> {
             tables,
             indexes,
             roots: ArrayVec::new(),
+            used_child: 0,
         })
     }
 }
@@ -72,19 +82,19 @@ impl<A: Allocator> Lost<A> {
         alike.count() < MOST_ALIKE
     }
 
-    // Keeps a page that no other one names, with its keys.
-    fn keep(&mut self, paper: &Paper<A>) {
-        let (keys, next) = match paper.view() {
-            Some(view) => (Span::of(&view), 0),
-            None => (Span::UNKNOWN, paper.number_at(0).unwrap_or(0)),
-        };
-        let root = Root {
+    // A page that no other one names, with its keys.
+    fn root(&self, paper: &Paper<A>) -> Root {
+        Root {
             page: paper.page(),
             kind: self.kind(paper.page()),
-            keys,
-            next,
-        };
-        let _ = self.roots.try_push(root);
+            keys: paper.view().map_or(Span::UNKNOWN, |view| Span::of(&view)),
+            next: 0,
+        }
+    }
+
+    // Keeps it, and the page in use to which it leads.
+    fn keep(&mut self, root: Root, next: u32) {
+        let _ = self.roots.try_push(Root { next, ..root });
     }
 
     // Whether a lost page names this one.
@@ -105,7 +115,7 @@ impl<A: Allocator> Lost<A> {
                     PageKind::LeafTable | PageKind::InteriorTable => self.tables.set(paper.page()),
                     PageKind::LeafIndex | PageKind::InteriorIndex => self.indexes.set(paper.page()),
                 }
-                self.note_tree(&view);
+                self.note_tree(desk, &view);
             }
             None => {
                 self.note_next(paper);
@@ -114,16 +124,23 @@ impl<A: Allocator> Lost<A> {
         }
     }
 
-    // The pages that a page of a tree names.
-    fn note_tree(&mut self, view: &PageView<'_>) {
-        if let Some(page) = view.child(view.cells()) {
-            self.named.set(page);
-        }
+    // The pages that a page of a tree names, also in rows of the schema.
+    fn note_tree(&mut self, desk: &Desk<A>, view: &PageView<'_>) {
+        self.note_child(desk, child(view, view.cells()));
         for i in 0..view.cells() {
             if let Ok(cell) = view.cell(i) {
-                self.named.set(cell.left.unwrap_or(0));
+                self.note_child(desk, cell.left.unwrap_or(0));
                 self.named.set(cell.overflow.unwrap_or(0));
+                self.named.set(root_of(view, i).unwrap_or(0));
             }
+        }
+    }
+
+    // A page that is named as a child.
+    fn note_child(&mut self, desk: &Desk<A>, page: u32) {
+        self.named.set(page);
+        if let Mark::Child(_) = mark(desk, page) {
+            self.used_child = page;
         }
     }
 
@@ -132,15 +149,12 @@ impl<A: Allocator> Lost<A> {
         self.named.set(paper.number_at(0).unwrap_or(0));
     }
 
-    // The leaves of a trunk, if all of them are lost.
+    // The leaves of a trunk, if each of them is lost, or was taken for a trunk.
     fn note_leaves(&mut self, desk: &Desk<A>, paper: &Paper<A>) {
-        let leaves = paper.number_at(4).unwrap_or(0);
-        if leaves > paper.usable() / 4 {
-            return;
-        }
+        let leaves = stated(paper);
         for i in 0..leaves {
             match leaf_at(paper, i) {
-                Some(page) if desk.is_lost(page) => {}
+                Some(page) if desk.is_lost(page) || mark(desk, page) == Mark::Trunk => {}
                 _ => return,
             }
         }
@@ -153,6 +167,56 @@ impl<A: Allocator> Lost<A> {
 // A leaf of a trunk.
 pub(crate) fn leaf_at<A: Allocator>(paper: &Paper<A>, leaf: u32) -> Option<u32> {
     paper.number_at(leaf.checked_mul(4)?.checked_add(8)?)
+}
+
+// The page after a lost one in its list. Of a trunk it is a leaf that was taken for a trunk, if there is one.
+fn after<A: Allocator>(desk: &Desk<A>, paper: &Paper<A>) -> u32 {
+    for i in 0..stated(paper) {
+        match leaf_at(paper, i) {
+            Some(page) if mark(desk, page) == Mark::Trunk => return page,
+            _ => {}
+        }
+    }
+    paper.number_at(0).unwrap_or(0)
+}
+
+// The first child in use of a page of a tree, or 0.
+fn child_in_use<A: Allocator>(desk: &Desk<A>, view: &PageView<'_>) -> u32 {
+    for item in 0..view.cells().saturating_add(1) {
+        let page = child(view, item);
+        if let Mark::Child(_) = mark(desk, page) {
+            return page;
+        }
+    }
+    0
+}
+
+// The first page that is not lost below the lost one that was read, or after it. If all its children are lost, it is one that a lost page names.
+fn next_of<A: Allocator, S: Source>(
+    desk: &Desk<A>,
+    lost: &Lost<A>,
+    edits: &[Edit],
+    source: &mut S,
+    paper: &mut Paper<A>,
+) -> Result<u32, RunError>
+    ensures { HasDone S.Source result 0 0 (λ a deeds. Unit {0}) source.old source.new }
+{
+    if let Some(view) = paper.view() {
+        let page = match child_in_use(desk, &view) {
+            0 if view.kind().is_interior() => lost.used_child,
+            page => page,
+        };
+        return Ok(page);
+    }
+    let mut next = after(desk, paper);
+    for _ in 0..MOST_FOLLOWED {
+        if !desk.is_lost(next) {
+            return Ok(next);
+        }
+        read_page(source, edits, next, paper)?;
+        next = after(desk, paper);
+    }
+    Ok(0)
 }
 
 // Reads each lost page of the file with some edits, once, and notes what it names.
@@ -174,7 +238,7 @@ pub(crate) fn look_at_lost<A: Allocator, S: Source>(
     Ok(())
 }
 
-// Reads the first lost pages that no other one names again, and keeps their keys.
+// Reads the first lost pages that no other one names again, and keeps their keys, and where they lead.
 pub(crate) fn look_at_roots<A: Allocator, S: Source>(
     desk: &Desk<A>,
     edits: &[Edit],
@@ -187,7 +251,9 @@ pub(crate) fn look_at_roots<A: Allocator, S: Source>(
     for index in 0..desk.geometry().pages {
         if lost.is_wanted(desk, index + 1) {
             read_page(source, edits, index + 1, paper)?;
-            lost.keep(paper);
+            let root = lost.root(paper);
+            let next = next_of(desk, lost, edits, source, paper)?;
+            lost.keep(root, next);
         }
     }
     Ok(())

@@ -168,13 +168,15 @@ fn is_full_with<A: Allocator>(paper: &mut Paper<A>, at: u32, number: u32) -> boo
     longest <= MOST_FRAGMENT
 }
 
-// Adds where the content area may begin: where the first cell or freeblock does.
+// Adds where the content area may begin: where the first cell or freeblock does. If that is before where it is said to be, it goes before a
+// count with which cells are left out.
 pub(crate) fn add_start<A: Allocator>(tries: &mut Ranked, paper: &mut Paper<A>) {
     let at = head(paper) + 5;
     if let Some(least) = least_pointer(paper)
         && (least >= paper.start() || is_full_with(paper, at, least))
     {
-        add_short(tries, paper, at, least, 30);
+        let points = if least < paper.start() { 38 } else { 30 };
+        add_short(tries, paper, at, least, points);
     }
 }
 

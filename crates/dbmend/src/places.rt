@@ -1,14 +1,13 @@
 // Where a page names another one, and what may have been there.
 use crate::blocks::{add_block, add_block_over, add_longer};
 use crate::fit::{Around, Span, fit_of};
-use crate::key::Key;
 use crate::lost::{Kind, Lost};
 use crate::numbers::{add_count, add_fragments, add_leaf, add_start, add_types};
 use crate::pointers::{add_gaps, add_pointer};
 use crate::ranked::{Ranked, add_try};
 use crate::reading::Paper;
-use crate::schema_rows::add_root;
-use crate::trunks::{add_leaves, add_more, trunk_place, trunk_place_of};
+use crate::schema_rows::{RowAt, add_root};
+use crate::trunks::{add_leaves, add_more, add_next, trunk_place, trunk_place_of};
 use crate::wanted::{Number, Want, mark};
 use dbpage::PageView;
 use dbscan::{Desk, Mark, PageKind};
@@ -40,7 +39,7 @@ fn child_kind(view: &PageView<'_>) -> Kind {
 }
 
 // The page of a child, or 0.
-fn child(view: &PageView<'_>, item: u32) -> u32 {
+pub(crate) fn child(view: &PageView<'_>, item: u32) -> u32 {
     if item > view.cells() {
         return 0;
     }
@@ -49,24 +48,16 @@ fn child(view: &PageView<'_>, item: u32) -> u32 {
 
 // The reference to a child: the keys around this are those of the cells beside it.
 fn child_place(view: &PageView<'_>, at: u32, item: u32) -> Place {
-    let first = match item.checked_sub(1) {
-        Some(before) => Key::of(view, before),
-        None => Key::Unknown,
-    };
-    let keys = Span {
-        first,
-        last: Key::of(view, item),
-    };
     let before = child(view, item.saturating_sub(1));
     let behind = child(view, item.saturating_add(1));
     Place {
         at,
         around: Around {
             kind: child_kind(view),
-            keys,
+            keys: Span::beside(view, item),
             own: Span::of(view),
             near: [before, behind],
-            chains: None,
+            order: None,
         },
     }
 }
@@ -83,23 +74,19 @@ fn chain<A: Allocator>(desk: &Desk<A>, view: &PageView<'_>, number: u32, cell: u
     }
 }
 
-// The chains of the nearest rows before and after a cell that are not this one, where there is such a row.
+// The chains of the nearest rows before and after a cell, where there is such a row.
 fn chains<A: Allocator>(
     desk: &Desk<A>,
     view: &PageView<'_>,
     number: u32,
     cell: u32,
-    page: u32,
 ) -> Option<[u32; 2]> {
     let mut around = [0, u32::MAX];
-    if !matches!(view.kind(), PageKind::LeafTable) {
-        return None;
-    }
     for i in 0..view.cells() {
         match chain(desk, view, number, i) {
-            Some(other) if other != page && i < cell => around[0] = other,
-            Some(other) if other != page && i > cell => {
-                around[1] = other;
+            Some(page) if i < cell => around[0] = page,
+            Some(page) if i > cell => {
+                around[1] = page;
                 break;
             }
             _ => {}
@@ -131,8 +118,10 @@ fn tree_place<A: Allocator>(
         return None;
     }
     let at = cell.offset.checked_add(cell.len)?.checked_sub(4)?;
-    let mut around = Around::beside(Kind::Other, number);
-    around.chains = chains(desk, view, number, item, page);
+    let around = match chains(desk, view, number, item) {
+        Some(chains) => Around::between(Kind::Other, chains),
+        None => Around::beside(Kind::Other, number),
+    };
     Some(Place { at, around })
 }
 
@@ -194,9 +183,8 @@ fn add_values<A: Allocator>(
     let used = used_page(desk, paper, place);
     for root in lost.roots() {
         let fit = fit_of(&place.around, root);
-        let is_later = used.is_some_and(|page| place.around.fits_as_well(page, root.page));
-        let fit = if is_later { fit.less(9) } else { fit };
-        tries.add(offset, &root.page.to_be_bytes(), fit);
+        let doubt = used.map_or(0, |page| place.around.doubt(page, root.page));
+        tries.add(offset, &root.page.to_be_bytes(), fit.less(doubt));
     }
     if place.at == 0 {
         add_try(tries, offset, &[0, 0, 0, 0], 1);
@@ -214,25 +202,31 @@ fn add_before<A: Allocator>(
     if let Some(place) = place_of(desk, want, paper)
         && let Some(offset) = paper.begins().checked_add(u64::from(place.at))
     {
-        add_try(tries, offset, &lost.to_be_bytes(), 12);
+        add_try(tries, offset, &lost.to_be_bytes(), 16);
     }
 }
 
 // Adds what may have been the root page in a row of the schema.
 fn add_row<A: Allocator>(tries: &mut Ranked, lost: &Lost<A>, paper: &Paper<A>, item: u32) {
     if let Some(view) = paper.view() {
-        add_root(tries, lost, paper, &view, item, true);
+        let row = RowAt {
+            view: &view,
+            item,
+            last: 0,
+        };
+        add_root(tries, lost, paper, &row, true);
     }
 }
 
-// Adds what may have been at a place that is wanted of a page.
+// Adds what may have been at a place that is wanted of a page, around which these keys are.
 pub(crate) fn add_places<A: Allocator>(
     tries: &mut Ranked,
-    desk: &Desk<A>,
-    lost: &Lost<A>,
+    found: (&Desk<A>, &Lost<A>),
     want: &Want,
+    outer: &Span,
     paper: &mut Paper<A>,
 ) {
+    let (desk, lost) = found;
     match want.number {
         Number::Type => add_types(tries, paper),
         Number::Leaf => add_leaf(tries, paper),
@@ -250,13 +244,15 @@ pub(crate) fn add_places<A: Allocator>(
         }
         Number::Leaves(most) => add_leaves(tries, desk, paper, most),
         Number::More(missing) => add_more(tries, paper, missing),
+        Number::NextTrunk => add_next(tries, lost, paper),
         Number::End => add_try(tries, paper.begins(), &[0, 0, 0, 0], 40),
         Number::Row(item) => add_row(tries, lost, paper, item),
         Number::Root(_) => {}
         Number::Before(_, page) => add_before(tries, desk, want, paper, page),
         Number::Reference(_, _) | Number::Any(_) => {
             if let Some(place) = place_of(desk, want, paper) {
-                add_values(tries, desk, lost, paper, &place);
+                let around = place.around.within(outer);
+                add_values(tries, desk, lost, paper, &Place { around, ..place });
             }
         }
     }

@@ -17,7 +17,15 @@ use dbsource::{RunError, Source};
 use std::alloc::Allocator;
 
 // How deep a tree is at most.
-const MOST_LEVELS: u32 = 20;
+pub(crate) const MOST_LEVELS: u32 = 20;
+
+// A row of the schema: the cell of this number in its page, and the root page of the last row before the page, or 0.
+#[derive(Clone, Copy)]
+pub(crate) struct RowAt<'v, 'p> {
+    pub(crate) view: &'v PageView<'p>,
+    pub(crate) item: u32,
+    pub(crate) last: u32,
+}
 
 // Where a row has its root page: the offset in its page, the number of bytes, and the number; and what the row says to be there.
 #[derive(Clone, Copy)]
@@ -66,8 +74,21 @@ fn root_place(view: &PageView<'_>, item: u32) -> Option<RootPlace> {
 }
 
 // The root page of the row of a cell, if it has one.
-fn root_of(view: &PageView<'_>, item: u32) -> Option<u32> {
+pub(crate) fn root_of(view: &PageView<'_>, item: u32) -> Option<u32> {
     u32::try_from(root_place(view, item)?.root).ok()
+}
+
+// The root pages of the nearest rows before and after that of a cell in its page that have one.
+fn roots_beside(view: &PageView<'_>, item: u32) -> (Option<u32>, Option<u32>) {
+    let mut before = None;
+    for cell in 0..view.cells() {
+        match root_of(view, cell) {
+            Some(root) if cell < item => before = Some(root),
+            Some(root) if cell > item => return (before, Some(root)),
+            _ => {}
+        }
+    }
+    (before, None)
 }
 
 // Whether a number fits this many bytes, of which the first has a sign.
@@ -80,22 +101,25 @@ fn fits(page: u32, len: u64) -> bool {
     }
 }
 
-// How well a page fits a row: its kind, and whether it is between the root pages of the rows beside it. A table without rowids has pages
-// of an index.
-fn root_fit(view: &PageView<'_>, item: u32, place: &RootPlace, root: &Root) -> Fit {
+// How well a page fits a row: its kind, and whether it is between the root pages of the rows around it, first of those in the same page. A
+// table without rowids has pages of an index.
+fn root_fit(row: &RowAt<'_, '_>, place: &RootPlace, root: &Root) -> Fit {
     let points = match (place.kind, root.kind) {
         (Kind::Table, Kind::Table) | (Kind::Index, Kind::Index) => 12,
         (Kind::Table, Kind::Index) => 11,
         _ => 0,
     };
-    let before = item.checked_sub(1).and_then(|cell| root_of(view, cell));
-    let behind = root_of(view, item.saturating_add(1));
+    let (before, behind) = roots_beside(row.view, row.item);
     let page = root.page;
-    if before.unwrap_or(1) < page && page < behind.unwrap_or(u32::MAX) {
-        Fit::new(points + 2, 0)
-    } else {
-        Fit::new(points, 0)
+    if before.unwrap_or(1) >= page || page >= behind.unwrap_or(u32::MAX) {
+        return Fit::new(points, 0);
     }
+    let away = match (before, behind) {
+        (None, _) if row.last >= page => 2,
+        (_, None) => 1,
+        _ => 0,
+    };
+    Fit::new(points + 2, away)
 }
 
 // Adds what may have been the root page of the row of a cell: each lost page that no other one names. In a row that no fault names,
@@ -104,11 +128,10 @@ pub(crate) fn add_root<A: Allocator>(
     tries: &mut Ranked,
     lost: &Lost<A>,
     paper: &Paper<A>,
-    view: &PageView<'_>,
-    item: u32,
+    row: &RowAt<'_, '_>,
     is_named: bool,
 ) {
-    let Some(place) = root_place(view, item) else {
+    let Some(place) = root_place(row.view, row.item) else {
         return;
     };
     let Some(offset) = paper.begins().checked_add(u64::from(place.at)) else {
@@ -118,7 +141,7 @@ pub(crate) fn add_root<A: Allocator>(
         if fits(root.page, place.len) {
             let bytes = root.page.to_be_bytes();
             let first = 4u64.saturating_sub(place.len) as usize;
-            let fit = root_fit(view, item, &place, root);
+            let fit = root_fit(row, &place, root);
             if is_named {
                 tries.add(offset, &bytes[first..], fit);
             } else if fit.is_better(&Fit::new(12, 0)) {
@@ -148,27 +171,37 @@ fn is_overwritten<A: Allocator>(found: &Findings<A>, lost: &Lost<A>, page: u32) 
         && !lost.names(page)
 }
 
-// Adds what may have been the root page of each row of a page, unless that itself was overwritten.
+// Adds what may have been the root page of each row of a page, unless that itself was overwritten. Answers the last one of them, or
+// of those before.
 fn add_rows<A: Allocator>(
     tries: &mut Ranked,
-    found: &Findings<A>,
-    lost: &Lost<A>,
+    found: (&Findings<A>, &Lost<A>),
     wanted: &[Want],
     paper: &Paper<A>,
-) {
+    last: u32,
+) -> u32 {
+    let (known, lost) = found;
     let Some(view) = paper.view() else {
-        return;
+        return last;
     };
     if view.kind().is_interior() {
-        return;
+        return last;
     }
+    let mut behind = last;
     for item in 0..view.cells() {
         let root = root_of(&view, item).unwrap_or(0);
-        if !is_overwritten(found, lost, root) {
+        behind = if root > 0 { root } else { behind };
+        if !is_overwritten(known, lost, root) {
             let is_named = wanted.iter().any(|want| want.number == Number::Root(root));
-            add_root(tries, lost, paper, &view, item, is_named);
+            let row = RowAt {
+                view: &view,
+                item,
+                last,
+            };
+            add_root(tries, lost, paper, &row, is_named);
         }
     }
+    behind
 }
 
 // Whether a page is of the tree of the schema.
@@ -204,10 +237,11 @@ pub(crate) fn add_roots<A: Allocator, S: Source>(
     ensures { HasDone S.Source result 0 0 (λ a deeds. Unit {0}) source.old source.new }
 {
     let (known, lost) = found;
+    let mut last = 0;
     for index in 0..known.desk.geometry().pages {
         if is_wanted(&known.desk, lost, index + 1) {
             read_page(source, edits, index + 1, paper)?;
-            add_rows(tries, known, lost, wanted, paper);
+            last = add_rows(tries, found, wanted, paper, last);
         }
     }
     Ok(())

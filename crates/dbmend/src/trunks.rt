@@ -1,6 +1,6 @@
 // What may have been in a trunk of the freelist (Database File Format, 1.5).
 use crate::fit::Around;
-use crate::lost::{Kind, leaf_at};
+use crate::lost::{Kind, Lost, leaf_at};
 use crate::numbers::add_at;
 use crate::places::Place;
 use crate::ranked::Ranked;
@@ -17,7 +17,7 @@ fn room<A: Allocator>(paper: &Paper<A>) -> u32 {
 }
 
 // How many leaves it states, if it has room for them.
-fn stated<A: Allocator>(paper: &Paper<A>) -> u32 {
+pub(crate) fn stated<A: Allocator>(paper: &Paper<A>) -> u32 {
     match paper.number_at(LEAVES) {
         Some(leaves) if leaves <= room(paper) => leaves,
         _ => 0,
@@ -30,14 +30,16 @@ fn other_leaf<A: Allocator>(paper: &Paper<A>, leaf: Option<u32>, page: u32) -> O
     leaf_at(paper, other).filter(|other| *other != page)
 }
 
-// A leaf of it. The pages of the leaves beside it are often near.
+// A leaf of it. The pages of the leaves beside it are often near, and in order.
 fn leaf_place<A: Allocator>(paper: &Paper<A>, leaf: u32) -> Option<Place> {
     let at = leaf.checked_mul(4)?.checked_add(8)?;
     let page = leaf_at(paper, leaf)?;
     let before = other_leaf(paper, leaf.checked_sub(1), page);
     let behind = other_leaf(paper, leaf.checked_add(1), page);
-    let mut around = Around::beside(Kind::Free, before.or(behind).unwrap_or(paper.page()));
-    around.near[1] = behind.unwrap_or(around.near[0]);
+    let around = match (before, behind) {
+        (Some(one), Some(other)) => Around::between(Kind::Free, [one.min(other), one.max(other)]),
+        _ => Around::beside(Kind::Free, before.or(behind).unwrap_or(paper.page())),
+    };
     Some(Place { at, around })
 }
 
@@ -85,6 +87,16 @@ pub(crate) fn add_leaves<A: Allocator>(
         return;
     }
     add_at(tries, paper, LEAVES, &count.to_be_bytes(), 34);
+}
+
+// Adds the lost pages that may be the next trunk: where there is none, and those that lead to the one that is named.
+pub(crate) fn add_next<A: Allocator>(tries: &mut Ranked, lost: &Lost<A>, paper: &Paper<A>) {
+    let next = paper.number_at(0).unwrap_or(0);
+    for root in lost.roots() {
+        if next == 0 || root.next == next {
+            add_at(tries, paper, 0, &root.page.to_be_bytes(), 14);
+        }
+    }
 }
 
 // Adds the count of leaves that a trunk states, plus `missing`. (SQLite leaves old numbers after the last leaf, and they look like leaves.)

@@ -32,13 +32,15 @@ pub(crate) enum Number {
     Leaves(u32),
     // How many leaves a trunk has: as many as it states, plus this number of pages.
     More(i64),
+    // The trunk after a trunk, if pages are missing from the freelist.
+    NextTrunk,
     // The page after the last overflow page, which is 0.
     End,
     // The root page in the row of the schema at this cell.
     Row(u32),
     // The root page in each row of the schema that names this page.
     Root(u32),
-    // The reference of an overflow chain that names the first of these pages, where it may have named the second.
+    // The reference that names the first of these pages, where it may have named the second, which leads to it.
     Before(u32, u32),
 }
 
@@ -88,10 +90,10 @@ fn want_owner<A: Allocator>(desk: &Desk<A>, page: u32, wanted: &mut Wanted) {
     }
 }
 
-// Adds the reference to the page after a lost one, where that is in an overflow chain: the lost one may be missing before it.
+// Adds the reference to the page to which a lost one leads: the lost one may be missing before it.
 fn want_before<A: Allocator>(desk: &Desk<A>, lost: &Root, wanted: &mut Wanted) {
     match mark(desk, lost.next) {
-        Mark::FirstOverflow(from) | Mark::LaterOverflow(from) => {
+        Mark::Child(from) | Mark::FirstOverflow(from) | Mark::LaterOverflow(from) => {
             add_want(wanted, from, Number::Before(lost.next, lost.page));
         }
         _ => {}
@@ -116,7 +118,7 @@ fn missing<A: Allocator>(desk: &Desk<A>, faults: &[Noted]) -> i64 {
 // How many trunks are looked at, if pages are missing.
 const MOST_TRUNKS: u32 = 16;
 
-// Adds the counts of leaves of the first trunks, if pages are missing from the freelist, or are too many.
+// Adds the numbers of the first trunks, if pages are missing from the freelist, or are too many.
 fn want_trunks<A: Allocator>(desk: &Desk<A>, missing: i64, wanted: &mut Wanted) {
     if missing == 0 {
         return;
@@ -130,6 +132,7 @@ fn want_trunks<A: Allocator>(desk: &Desk<A>, missing: i64, wanted: &mut Wanted) 
             left -= 1;
             add_want(wanted, index + 1, Number::Leaves(u32::MAX));
             add_want(wanted, index + 1, Number::More(missing));
+            add_want(wanted, index + 1, Number::NextTrunk);
         }
     }
 }
@@ -221,12 +224,12 @@ fn add_wanted<A: Allocator>(desk: &Desk<A>, noted: &Noted, wanted: &mut Wanted) 
 // What may be wrong by some faults, and by some lost pages.
 pub(crate) fn wanted_of<A: Allocator>(desk: &Desk<A>, faults: &[Noted], lost: &[Root]) -> Wanted {
     let mut wanted = ArrayVec::new();
+    for root in lost {
+        want_before(desk, root, &mut wanted);
+    }
     for noted in faults {
         add_wanted(desk, noted, &mut wanted);
     }
     want_trunks(desk, missing(desk, faults), &mut wanted);
-    for root in lost {
-        want_before(desk, root, &mut wanted);
-    }
     wanted
 }
