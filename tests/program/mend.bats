@@ -772,7 +772,7 @@ others_are_put_back() {
 }
 
 # Of each page some rows were deleted, and what they had is still there.
-@test 'mend finds the count of cells of a page with reserved bytes, with fragments, and with cells of three bytes' {
+@test 'mend finds numbers of a page with reserved bytes, with fragments, with cells of three bytes, and of page 1 with a freeblock' {
     local bytes
     needs sqlite3
     reserving 8 "CREATE TABLE t(a); $(up_to 12) INSERT INTO t SELECT 'q' || n FROM k; DELETE FROM t WHERE rowid IN (3, 11, 12)"
@@ -792,7 +792,15 @@ others_are_put_back() {
     for bytes in '\0\04' '\0\03'; do
         row "a count of 5, put $bytes" are_put_back 515 "$bytes"
     done
-    [ "$rows" = 9 ]
+    made "CREATE TABLE t(k PRIMARY KEY) WITHOUT ROWID; INSERT INTO t VALUES (0), (1), (''), (x''), (2), (3), (1.5), (4), (5);
+        DELETE FROM t WHERE k > 3 AND k < 6"
+    row 'a pointer to a cell of three bytes' are_put_back 522 '\0\0'
+    made 'CREATE TABLE s(a); CREATE TABLE t(a); CREATE TABLE u(a); DROP TABLE t'
+    row 'a freeblock of page 1' [ "$(number_at 101)" -gt 0 ]
+    for bytes in '\0\0' '\0\04' '\01\0377'; do
+        row "its place, put $bytes" are_put_back 101 "$bytes"
+    done
+    [ "$rows" = 14 ]
 }
 
 # One bit of where the content area begins: then it begins with one of the cells, and with fewer of them the page would be sound too.
