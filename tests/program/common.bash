@@ -125,6 +125,12 @@ changed() {
     put_at "$work/$1.db" "$2" "$3"
 }
 
+# with_lost FILE PAGES: makes FILE, the empty database with so many pages, of which the first alone is in use.
+with_lost() {
+    cp "$data/empty.db" "$1"
+    truncate -s $((512 * $2)) "$1"
+}
+
 # sparse FILE BYTES: gives a file a length without taking the room for it; skips the test where the file system does not take it.
 sparse() {
     truncate -s "$2" "$1" 2> "$work/why" || skip "no file of $2 bytes here: $(cat "$work/why")"

@@ -63,8 +63,7 @@ END
 }
 
 @test 'a file that is written while it is read has a note, also where the second of its last change stays' {
-    cp "$data/empty.db" "$work/noted.db"
-    truncate -s 8192000 "$work/noted.db"
+    with_lost "$work/noted.db" 16000
     for time in '2001-01-01 00:00:00.1' '2001-01-01 00:00:00.2' '2001-01-01 00:00:00.200000001'; do
         meanwhile "$work/noted.db" touch -d "$time" "$work/noted.db"
         row "a file that is written meanwhile, at $time" ended 1 "$page*" \

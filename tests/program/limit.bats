@@ -4,8 +4,7 @@ load common
 
 # many_faults: makes unused.db, of 1000 pages of which all but the first are not in use; $all has the lines of its 999 faults.
 many_faults() {
-    cp "$data/empty.db" "$work/unused.db"
-    truncate -s 512000 "$work/unused.db"
+    with_lost "$work/unused.db" 1000
     all=$(seq -f 'N01 page %.0f item 0 value 0: page is not in use' 2 1000)
 }
 

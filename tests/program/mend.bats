@@ -160,7 +160,7 @@ root_at() {
     made "$(printf 'CREATE TABLE t%d(a);' {10..40})"
     row 'page 1 is an interior page' [ "$(type_of 1)" = 5 ]
     for table in {10..39}; do
-        one=$(($(before "t$table") - 1)) other=$(($(before "t$((table + 1))") - 1))
+        one=$(root_at "CREATE TABLE t$table(") other=$(root_at "CREATE TABLE t$((table + 1))(")
         row "t$table, the root of the next" is_put_back "$one" "\\0$(printf '%03o' "$(number_at "$other" 1)")"
         row "the root of t$table in the next" is_put_back "$other" "\\0$(printf '%03o' "$(number_at "$one" 1)")"
     done
@@ -1093,8 +1093,10 @@ freed() {
     local first second third leaf page
     needs sqlite3
     freed 480
-    first=$(number_at 32 4) second=$(number_at $((512 * $(number_at 32 4) - 512)) 4)
-    third=$(number_at $((512 * second - 512)) 4) leaf=$(number_at $((512 * second - 504)) 4)
+    first=$(number_at 32 4)
+    second=$(number_at $((512 * first - 512)) 4)
+    third=$(number_at $((512 * second - 512)) 4)
+    leaf=$(number_at $((512 * second - 504)) 4)
     for page in 0 "$third" "$leaf"; do
         row "page $page" are_put_back $((512 * first - 512)) "\\0\\0$(short "$page")"
     done

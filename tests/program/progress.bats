@@ -116,8 +116,7 @@ progress_of_large() {
 # It reads some pages of a damaged file twice, so there are 65536 reads.
 @test 'progress of mend counts no more pages than there are' {
     needs_terminal
-    cp "$data/empty.db" "$work/few.db"
-    truncate -s $((512 * 65530)) "$work/few.db"
+    with_lost "$work/few.db" 65530
     on_terminal "'$DBCK' mend '$work/few.db' > '$work/report'"
     row 'progress of 65530 pages' ended 1 $'dbck: 65530 of 65530 pages, 100%\r'"*" ''
 }
@@ -125,8 +124,7 @@ progress_of_large() {
 # `explain` reads each page that is not in use.
 @test 'progress is shown after each 65536 pages, also after the last' {
     needs_terminal
-    cp "$data/empty.db" "$work/twice.db"
-    truncate -s $((512 * 131072)) "$work/twice.db"
+    with_lost "$work/twice.db" 131072
     on_terminal "'$DBCK' explain --limit 1 '$work/twice.db' > '$work/report'"
     row 'progress twice' ended 1 $'dbck: 65536 of 131072 pages, 50%\rdbck: 131072 of 131072 pages, 100%\r'"$blank" ''
 }

@@ -120,8 +120,7 @@ to_closed_pipe() {
 
 @test 'of a pipe that nobody reads a note says so' {
     many_rows=$work/rows.db
-    cp "$data/empty.db" "$many_rows"
-    truncate -s $((512 * 6001)) "$many_rows"
+    with_lost "$many_rows" 6001
     to_closed_pipe check --limit 6000 "$many_rows"
     row 'a closed pipe' ended 6 '' $'dbck: note: standard output: Broken pipe\n'"$unwritten"
 }
@@ -157,8 +156,7 @@ eval "$2"
 writes
 echo $((writes - before)) > "$1"
 END
-    cp "$data/empty.db" "$work/lines.db"
-    truncate -s $((512 * 6001)) "$work/lines.db"
+    with_lost "$work/lines.db" 6001
     dbck check --limit 6000 "$work/lines.db"
     bytes=$(wc -c < "$work/out")
     [ "$bytes" -gt $((6000 * 40)) ]
@@ -183,8 +181,7 @@ END
 
 @test 'each write of a report ends with a line' {
     needs python3
-    cp "$data/empty.db" "$work/x.db"
-    truncate -s $((512 * 3001)) "$work/x.db"
+    with_lost "$work/x.db" 3001
     for words in 'check --limit 300' 'check --limit 1000' 'check --limit 3000' 'stat --all'; do
         # shellcheck disable=SC2086
         writes_of stdout $words "$work/x.db" > "$work/writes"
@@ -227,8 +224,7 @@ END
 # A packet may have some 8 KiB here, and faults come by at least 32.
 @test 'of standard error that takes no faults a note on it says so' {
     needs python3
-    cp "$data/empty.db" "$work/x.db"
-    truncate -s $((512 * 6001)) "$work/x.db"
+    with_lost "$work/x.db" 6001
     row 'the note on standard error' python3 - "$DBCK" "$work/x.db" << 'END'
 import socket, subprocess, sys
 
