@@ -2,14 +2,12 @@
 use crate::fit::{Around, fit_of};
 use crate::lost::{Kind, Lost};
 use crate::ranked::{Ranked, add_try};
-use crate::refused::{PAGE_SIZE, SIZES};
+use crate::refused::{PAGE_SIZE, RESERVED, SIZES};
 use dbformat::{FREELIST_START, Fault, FaultCode};
 use dbscan::Desk;
 use std::alloc::Allocator;
 
 // Where the numbers of the header are.
-const RESERVED: u64 = 20;
-
 const PAGES: u64 = 28;
 
 const FIRST_TRUNK: u64 = 32;
@@ -165,9 +163,9 @@ pub(crate) fn add_header<A: Allocator>(
             add_unmapped(tries, desk, fault.code);
             add_size(tries, desk, fault.value);
         }
-        FaultCode::P05 | FaultCode::P06 | FaultCode::P07 | FaultCode::P08 => add_reserved(
-            tries, desk,
-        ),
+        FaultCode::P03 | FaultCode::P05 | FaultCode::P06 | FaultCode::P07 | FaultCode::P08 => {
+            add_reserved(tries, desk);
+        }
         _ => {}
     }
 }

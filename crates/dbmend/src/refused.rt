@@ -6,9 +6,10 @@ use arrayvec::ArrayVec;
 // What a database begins with.
 const MAGIC: &[u8; 16] = b"SQLite format 3\0";
 
+// Where the header has the size of a page, and how many bytes are reserved at the end of each.
 pub(crate) const PAGE_SIZE: u64 = 16;
 
-const RESERVED: u64 = 20;
+pub(crate) const RESERVED: u64 = 20;
 
 // The sizes of a page, the usual one first, as the header has them: 1 is 65536.
 pub(crate) const SIZES: [u16; 8] = [4096, 1024, 512, 2048, 8192, 16384, 32768, 1];

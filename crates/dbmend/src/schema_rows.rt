@@ -101,21 +101,21 @@ fn fits(page: u32, len: u64) -> bool {
     }
 }
 
-// How well a page fits a row: its kind, and whether it is between the root pages of the rows around it, first of those in the same page. A
-// table without rowids has pages of an index.
-fn root_fit(row: &RowAt<'_, '_>, place: &RootPlace, root: &Root) -> Fit {
+// How well a page fits a row: its kind, and whether it is between the root pages of the rows beside it in its page, and after the last one
+// before that. A table without rowids has pages of an index.
+fn root_fit(last: u32, beside: (Option<u32>, Option<u32>), place: &RootPlace, root: &Root) -> Fit {
     let points = match (place.kind, root.kind) {
         (Kind::Table, Kind::Table) | (Kind::Index, Kind::Index) => 12,
         (Kind::Table, Kind::Index) => 11,
         _ => 0,
     };
-    let (before, behind) = roots_beside(row.view, row.item);
+    let (before, behind) = beside;
     let page = root.page;
     if before.unwrap_or(1) >= page || page >= behind.unwrap_or(u32::MAX) {
         return Fit::new(points, 0);
     }
     let away = match (before, behind) {
-        (None, _) if row.last >= page => 2,
+        (None, _) if last >= page => 2,
         (_, None) => 1,
         _ => 0,
     };
@@ -137,11 +137,12 @@ pub(crate) fn add_root<A: Allocator>(
     let Some(offset) = paper.begins().checked_add(u64::from(place.at)) else {
         return;
     };
+    let beside = roots_beside(row.view, row.item);
     for root in lost.roots() {
         if fits(root.page, place.len) {
             let bytes = root.page.to_be_bytes();
             let first = 4u64.saturating_sub(place.len) as usize;
-            let fit = root_fit(row, &place, root);
+            let fit = root_fit(row.last, beside, &place, root);
             if is_named {
                 tries.add(offset, &bytes[first..], fit);
             } else if fit.is_better(&Fit::new(12, 0)) {
