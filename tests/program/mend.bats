@@ -878,6 +878,8 @@ END
     done
     made "$(printf 'CREATE TABLE t%d(a);' {1..60})"
     row 'the right child of page 1' is_put_back 108 '\0\0\0\0'
+    made "$(printf 'CREATE TABLE t%d(a);' {1..14})"
+    row 'bytes reserved, where the one cell of page 1 is in them' is_put_back 20 '\010'
     rm "$work/x.db"
     sqlite3 "$work/x.db" 'PRAGMA page_size = 65536; CREATE TABLE t(a)'
     row 'the content start of an empty page of 65536 bytes' is_put_back 65541 '\0\03'
