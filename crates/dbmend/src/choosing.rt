@@ -4,7 +4,7 @@ ghost use Rattle.dbmend.specs.Deeds.{HasDone};
 use crate::counting::Findings;
 use crate::edit::Edit;
 use crate::fit::Span;
-use crate::header_edits::{add_header, add_page_size};
+use crate::header_edits::{add_header, add_map, add_page_size};
 use crate::lost::{Lost, look_at_lost, look_at_roots};
 use crate::numbers::add_entry;
 use crate::places::{add_places, child};
@@ -20,6 +20,7 @@ use std::alloc::Allocator;
 // Adds what may have been in the header, and in the pointer map.
 fn add_numbers<A: Allocator>(tries: &mut Ranked, found: &Findings<A>, lost: &Lost<A>) {
     add_page_size(tries, &found.desk);
+    add_map(tries, &found.desk);
     for noted in found.counter.noted() {
         add_header(tries, &found.desk, lost, &noted.fault);
         if let FaultCode::M01 = noted.fault.code {

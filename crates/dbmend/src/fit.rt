@@ -1,5 +1,5 @@
 // How well a page fits a place that may have named it.
-use crate::key::{Key, Order};
+use crate::key::{Key, Order, Step};
 use crate::lost::Kind;
 use dbpage::PageView;
 
@@ -161,19 +161,25 @@ fn distance(page: u32, near: &[u32; 2]) -> u32 {
     page.abs_diff(near[0]).min(page.abs_diff(near[1]))
 }
 
+// Whether of some keys two rise and two fall in one column. (Another column of an index may go the other way.)
+fn are_mixed(steps: &[Step; 4]) -> bool {
+    steps
+        .iter()
+        .any(|one| steps.iter().any(|other| one.is_against(other)))
+}
+
 // Whether the keys of a page and those around it go one way, and which of these are known.
 fn keys_fit(around: &Around, root: &Root, folded: bool) -> u32 {
-    let before = around.keys.first.order(&root.keys.first, folded);
-    let behind = root.keys.last.order(&around.keys.last, folded);
-    let within = root.keys.first.order(&root.keys.last, folded);
-    let own = around.own.first.order(&around.own.last, folded);
-    let orders = [before, behind, within, own];
-    let rises = orders.iter().any(|order| *order == Order::Rising) || around.kind == Kind::Table;
-    let falls = orders.iter().any(|order| *order == Order::Falling);
-    if rises && falls {
+    let before = around.keys.first.step(&root.keys.first, folded);
+    let behind = root.keys.last.step(&around.keys.last, folded);
+    let within = root.keys.first.step(&root.keys.last, folded);
+    let own = around.own.first.step(&around.own.last, folded);
+    let steps = [before, behind, within, own];
+    let falls = steps.iter().any(|step| step.order == Order::Falling);
+    if falls && around.kind == Kind::Table || are_mixed(&steps) {
         return 0;
     }
-    if before == Order::Unknown && behind == Order::Unknown {
+    if before.order == Order::Unknown && behind.order == Order::Unknown {
         return 2;
     }
     4

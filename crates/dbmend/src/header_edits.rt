@@ -106,6 +106,22 @@ fn add_reserved<A: Allocator>(tries: &mut Ranked, desk: &Desk<A>) {
     }
 }
 
+// Adds that the bytes that are in no cell at the end of each page are reserved.
+fn add_more_reserved<A: Allocator>(tries: &mut Ranked, desk: &Desk<A>, value: u32) {
+    let geometry = desk.geometry();
+    let reserved = geometry.page_size.saturating_sub(geometry.usable);
+    if let Ok(stored) = u8::try_from(reserved.saturating_add(value)) {
+        add_try(tries, RESERVED, &[stored], 24);
+    }
+}
+
+// Adds the greatest root page, if there is no pointer map, and the page of the first one is lost.
+pub(crate) fn add_map<A: Allocator>(tries: &mut Ranked, desk: &Desk<A>) {
+    if !desk.geometry().has_map && desk.is_lost(2) {
+        add_number(tries, GREATEST_ROOT, greatest_root(desk));
+    }
+}
+
 // Adds that there is no pointer map, if a page has the place of one that something refers to.
 fn add_unmapped<A: Allocator>(tries: &mut Ranked, desk: &Desk<A>, code: FaultCode) {
     if matches!(code, FaultCode::R02) && desk.geometry().has_map {
@@ -166,6 +182,8 @@ pub(crate) fn add_header<A: Allocator>(
         FaultCode::P03 | FaultCode::P05 | FaultCode::P06 | FaultCode::P07 | FaultCode::P08 => {
             add_reserved(tries, desk);
         }
+        FaultCode::P09 => add_more_reserved(tries, desk, value),
+        FaultCode::S03 => add_numbers(tries, ENCODING, &[1, 2, 3]),
         _ => {}
     }
 }

@@ -37,6 +37,26 @@ pub(crate) enum Order {
     Unknown,
 }
 
+// How one key follows another, and the column that says it: the first in which they differ.
+#[derive(Clone, Copy)]
+pub(crate) struct Step {
+    pub(crate) order: Order,
+    column: u32,
+}
+
+// That of keys of which no column is known to differ.
+const UNKNOWN: Step = Step {
+    order: Order::Unknown,
+    column: 0,
+};
+
+impl Step {
+    // Whether it rises in the column in which another one falls.
+    pub(crate) fn is_against(&self, other: &Step) -> bool {
+        self.order == Order::Rising && other.order == Order::Falling && self.column == other.column
+    }
+}
+
 // A column of a record: its serial type, where its bytes begin, how many it has, and as many of these as are kept.
 #[derive(Clone, Copy)]
 pub(crate) struct Column<'a> {
@@ -181,17 +201,25 @@ impl Key {
     }
 
     // How another key follows it. `folded`: capital letters count as small ones.
-    pub(crate) fn order(&self, other: &Key, folded: bool) -> Order {
+    pub(crate) fn step(&self, other: &Key, folded: bool) -> Step {
         match (self, other) {
-            (Key::Rowid(a), Key::Rowid(b)) => of_numbers(*a, *b),
+            (Key::Rowid(a), Key::Rowid(b)) => Step {
+                order: of_numbers(*a, *b),
+                column: 0,
+            },
             (Key::Record(a), Key::Record(b)) => of_records(a.bytes(), b.bytes(), folded),
-            _ => Order::Unknown,
+            _ => UNKNOWN,
         }
+    }
+
+    // The same, whatever column says it.
+    pub(crate) fn order(&self, other: &Key, folded: bool) -> Order {
+        self.step(other, folded).order
     }
 }
 
 // The bytes from an offset on.
-fn after(bytes: &[u8], at: u64) -> &[u8] {
+pub(crate) fn after(bytes: &[u8], at: u64) -> &[u8] {
     if at < bytes.len() as u64 {
         &bytes[at as usize..]
     } else {
@@ -317,15 +345,15 @@ fn of_columns(a: &Column<'_>, b: &Column<'_>, folded: bool) -> Order {
 }
 
 // By the first column in which they differ.
-fn of_records(a: &[u8], b: &[u8], folded: bool) -> Order {
-    for i in 0..MOST_COLUMNS {
-        let (Some(x), Some(y)) = (column_at(a, i), column_at(b, i)) else {
-            return Order::Unknown;
+fn of_records(a: &[u8], b: &[u8], folded: bool) -> Step {
+    for column in 0..MOST_COLUMNS {
+        let (Some(x), Some(y)) = (column_at(a, column), column_at(b, column)) else {
+            return UNKNOWN;
         };
         let order = of_columns(&x, &y, folded);
         if order != Order::Same {
-            return order;
+            return Step { order, column };
         }
     }
-    Order::Unknown
+    UNKNOWN
 }

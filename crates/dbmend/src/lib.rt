@@ -22,6 +22,7 @@ mod gaps;
 mod header_edits;
 mod key;
 mod known;
+mod lengths;
 mod lent;
 mod looking;
 mod lost;

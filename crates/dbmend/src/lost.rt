@@ -30,9 +30,6 @@ pub(crate) enum Kind {
 // How many pages of one kind are kept that no other one names.
 const MOST_ALIKE: usize = 8;
 
-// How many pages of a lost list are followed.
-const MOST_FOLLOWED: u32 = 4096;
-
 // Of each lost page whether another one names it, and what it looks like. Of the first that none names the keys. And the last page in use
 // that a lost one names as its child, or 0.
 #[derive(Drop)]
@@ -209,7 +206,7 @@ fn next_of<A: Allocator, S: Source>(
         return Ok(page);
     }
     let mut next = after(desk, paper);
-    for _ in 0..MOST_FOLLOWED {
+    for _ in 0..desk.geometry().pages {
         if !desk.is_lost(next) {
             return Ok(next);
         }

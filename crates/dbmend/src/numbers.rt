@@ -2,9 +2,10 @@
 ghost use Rattle.std.specs.Prelude.{◌≤◌};
 
 use crate::gaps::{MOST_FRAGMENT, longest_gap};
+use crate::lengths::whole_records;
 use crate::ranked::{Ranked, add_try};
 use crate::reading::Paper;
-use dbpage::type_byte;
+use dbpage::{PageView, type_byte};
 use dbscan::{Desk, Mark};
 use std::alloc::Allocator;
 
@@ -46,41 +47,59 @@ pub(crate) fn add_short<A: Allocator>(
 }
 
 // Whether each cell of the page can be read.
-fn is_whole<A: Allocator>(paper: &Paper<A>) -> bool {
-    let Some(view) = paper.view() else {
-        return false;
-    };
-    for i in 0..view.cells() {
-        if view.cell(i).is_err() {
+fn are_readable(view: &PageView<'_>) -> bool {
+    for cell in 0..view.cells() {
+        if view.cell(cell).is_err() {
             return false;
         }
     }
     true
 }
 
-// The longest run of bytes of the page that no item holds, if each cell can be read with this type.
-fn longest_gap_as<A: Allocator>(paper: &mut Paper<A>, kind: u8) -> Option<u32> {
+// How a page is filled: the longest run of bytes that no item holds, if each cell can be read, and how many cells have a whole record.
+#[derive(Clone, Copy)]
+struct Fill {
+    gap: Option<u32>,
+    whole: u32,
+}
+
+// How it is filled with this type.
+fn filled_as<A: Allocator>(paper: &mut Paper<A>, kind: u8) -> Option<Fill> {
     let at = head(paper);
     let other = u32::from(kind) * 256 + paper.short_at(at)? % 256;
     let stated = paper.replace_short(at, other)?;
-    let longest = is_whole(paper).then(|| longest_gap(paper));
+    let found = paper.view().map(|view| Fill {
+        gap: are_readable(&view).then(|| longest_gap(paper)),
+        whole: whole_records(&view),
+    });
     paper.put_short(at, stated);
-    longest
+    found
 }
 
-// Adds each other type of the page: first one with which its cells fill it. In place of one that is known only those with which each cell can
-// be read: other types may hide what is wrong with its cells.
+// How well another type fits the page, if it may be one of this type: with no byte left over it fits better. In place of a type that is known
+// only one with which each cell can be read, and no record is cut that was whole: another one may hide what is wrong with its cells.
+fn type_points<A: Allocator>(paper: &mut Paper<A>, kind: u8, stated: &Option<Fill>) -> Option<u32> {
+    let other = filled_as(paper, kind)?;
+    if let Some(stated) = stated
+        && (other.gap.is_none() || other.whole < stated.whole)
+    {
+        return None;
+    }
+    Some(if other.gap == Some(0) { 39 } else { 26 })
+}
+
+// Adds each other type of the page.
 pub(crate) fn add_types<A: Allocator>(tries: &mut Ranked, paper: &mut Paper<A>) {
     let bytes = paper.bytes();
     if bytes.len() < 480 {
         return;
     }
     let was = type_byte(bytes, paper.page());
-    let is_known = paper.view().is_some();
+    let stated = filled_as(paper, was);
     for kind in TYPES {
-        let gap = longest_gap_as(paper, kind);
-        if kind != was && (!is_known || gap.is_some()) {
-            let points = if gap == Some(0) { 39 } else { 26 };
+        if kind != was
+            && let Some(points) = type_points(paper, kind, &stated)
+        {
             add_at(tries, paper, head(paper), &[kind], points);
         }
     }
@@ -93,13 +112,20 @@ pub(crate) fn add_leaf<A: Allocator>(tries: &mut Ranked, paper: &mut Paper<A>) {
         return;
     }
     let other = type_byte(bytes, paper.page()) ^ 8;
-    if longest_gap_as(paper, other).is_some() {
+    if filled_as(paper, other).is_some_and(|other| other.gap.is_some()) {
         add_at(tries, paper, head(paper), &[other], 26);
     }
 }
 
-// Adds a count of fragmented bytes.
+// Adds a count of fragmented bytes, unless the record of some cell is cut: bytes of that may be counted.
 pub(crate) fn add_fragments<A: Allocator>(tries: &mut Ranked, paper: &Paper<A>, count: i64) {
+    let Some(view) = paper.view() else {
+        return;
+    };
+    let whole = whole_records(&view);
+    if whole > 0 && whole < view.cells() {
+        return;
+    }
     if let Ok(stored) = u8::try_from(count) {
         let is_full = longest_gap(paper) <= MOST_FRAGMENT;
         let points = if is_full { 38 } else { 20 };

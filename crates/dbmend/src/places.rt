@@ -1,6 +1,7 @@
 // Where a page names another one, and what may have been there.
 use crate::blocks::{add_block, add_block_over, add_longer};
 use crate::fit::{Around, Span, fit_of};
+use crate::lengths::add_lengths;
 use crate::lost::{Kind, Lost};
 use crate::numbers::{add_count, add_fragments, add_leaf, add_start, add_types};
 use crate::pointers::{add_gaps, add_pointer};
@@ -48,15 +49,18 @@ pub(crate) fn child(view: &PageView<'_>, item: u32) -> u32 {
 
 // The reference to a child: the keys around this are those of the cells beside it.
 fn child_place(view: &PageView<'_>, at: u32, item: u32) -> Place {
-    let before = child(view, item.saturating_sub(1));
     let behind = child(view, item.saturating_add(1));
+    let before = match item.checked_sub(1) {
+        Some(before) => child(view, before),
+        None => behind,
+    };
     Place {
         at,
         around: Around {
             kind: child_kind(view),
             keys: Span::beside(view, item),
             own: Span::of(view),
-            near: [before, behind],
+            near: [before, if behind == 0 { before } else { behind }],
             order: None,
         },
     }
@@ -242,6 +246,7 @@ pub(crate) fn add_places<A: Allocator>(
             add_pointer(tries, paper, item);
             add_block_over(tries, paper, item);
         }
+        Number::Lengths => add_lengths(tries, paper),
         Number::Leaves(most) => add_leaves(tries, desk, paper, most),
         Number::More(missing) => add_more(tries, paper, missing),
         Number::NextTrunk => add_next(tries, lost, paper),

@@ -2,6 +2,7 @@
 use crate::fit::Fit;
 use crate::gaps::{Gap, cell_after, cell_bytes, gaps, longest_gaps, most_fragmented};
 use crate::key::Key;
+use crate::lengths::is_whole;
 use crate::numbers::head;
 use crate::ordered::Rank;
 use crate::ranked::Ranked;
@@ -11,7 +12,7 @@ use dbpage::PageView;
 use std::alloc::Allocator;
 
 // Where a page has the pointer of a cell.
-fn pointer_place<A: Allocator>(paper: &Paper<A>, view: &PageView<'_>, cell: u32) -> u32 {
+pub(crate) fn pointer_place<A: Allocator>(paper: &Paper<A>, view: &PageView<'_>, cell: u32) -> u32 {
     let begins = head(paper) + if view.kind().is_interior() { 12 } else { 8 };
     cell.saturating_mul(2).saturating_add(begins)
 }
@@ -31,11 +32,12 @@ fn add_offset<A: Allocator>(tries: &mut Ranked, paper: &Paper<A>, cell: u32, to:
 // How many cells are looked for in a run of bytes.
 const MOST_IN_GAP: u32 = 16;
 
-// A cell that no pointer leads to: its bytes, and its key.
+// A cell that no pointer leads to: its bytes, its key, and whether its record is as long as it says.
 #[derive(Clone, Copy)]
 struct Found {
     bytes: Gap,
     key: Key,
+    is_whole: bool,
 }
 
 // What is in an unused place of a list.
@@ -44,6 +46,7 @@ impl Default for Found {
         Found {
             bytes: Gap { at: 0, len: 0 },
             key: Key::Unknown,
+            is_whole: false,
         }
     }
 }
@@ -55,7 +58,17 @@ impl Found {
     fn of(view: &PageView<'_>, cell: u32) -> Option<Found> {
         let bytes = cell_bytes(view, cell)?;
         let key = Key::of(view, cell);
-        Some(Found { bytes, key })
+        let is_whole = is_whole(view, cell);
+        Some(Found {
+            bytes,
+            key,
+            is_whole,
+        })
+    }
+
+    // With fewer points if its record is not whole.
+    fn less_if_cut(&self, fit: Fit) -> Fit {
+        if self.is_whole { fit } else { fit.less(8) }
     }
 }
 
@@ -81,6 +94,7 @@ fn next_found<A: Allocator>(
         let from = gap.at.saturating_add(skipped);
         if let Some(found) = cell_from(paper, cell, from)
             && found.bytes.len.saturating_add(skipped) <= gap.len
+            && found.is_whole
             && rank.accepts(&found.key)
         {
             return Some(found);
@@ -146,7 +160,7 @@ fn add_cell<A: Allocator>(tries: &mut Ranked, paper: &mut Paper<A>, cell: u32) {
     for one in found.as_slice() {
         if !rank.refuses(&one.key) {
             let fit = rank.fit(&one.key, number_before(&rank, found.as_slice(), &one.key));
-            add_offset(tries, paper, cell, one.bytes.at, fit);
+            add_offset(tries, paper, cell, one.bytes.at, one.less_if_cut(fit));
         }
     }
 }
@@ -204,16 +218,26 @@ pub(crate) fn add_pointer<A: Allocator>(tries: &mut Ranked, paper: &mut Paper<A>
 }
 
 // Adds of each long run of bytes that no item holds, that the cell after it begins with it.
-pub(crate) fn add_gaps<A: Allocator>(tries: &mut Ranked, paper: &Paper<A>) {
-    let Some(view) = paper.view() else {
-        return;
+pub(crate) fn add_gaps<A: Allocator>(tries: &mut Ranked, paper: &mut Paper<A>) {
+    let longest = match paper.view() {
+        Some(view) => longest_gaps(paper, &view),
+        None => return,
     };
-    for gap in longest_gaps(paper, &view) {
-        if gap.len == 0 {
-            continue;
-        }
-        if let Some(cell) = cell_after(&view, gap.at) {
-            add_offset(tries, paper, cell, gap.at, Fit::new(32, 0));
+    for gap in longest {
+        let cell = match paper.view() {
+            Some(view) if gap.len > 0 => cell_after(&view, gap.at),
+            _ => None,
+        };
+        if let Some(cell) = cell
+            && let Some(found) = cell_from(paper, cell, gap.at)
+        {
+            add_offset(
+                tries,
+                paper,
+                cell,
+                gap.at,
+                found.less_if_cut(Fit::new(32, 0)),
+            );
         }
     }
 }

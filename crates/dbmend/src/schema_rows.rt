@@ -123,7 +123,7 @@ fn root_fit(last: u32, beside: (Option<u32>, Option<u32>), place: &RootPlace, ro
 }
 
 // Adds what may have been the root page of the row of a cell: each lost page that no other one names. In a row that no fault names,
-// only those that fit well, and later.
+// only those that fit well, and later. (SQLite stores 0 in no byte: so that of a view is not looked at.)
 pub(crate) fn add_root<A: Allocator>(
     tries: &mut Ranked,
     lost: &Lost<A>,
@@ -143,7 +143,7 @@ pub(crate) fn add_root<A: Allocator>(
             let bytes = root.page.to_be_bytes();
             let first = 4u64.saturating_sub(place.len) as usize;
             let fit = root_fit(row.last, beside, &place, root);
-            if is_named {
+            if is_named || place.root == 0 {
                 tries.add(offset, &bytes[first..], fit);
             } else if fit.is_better(&Fit::new(12, 0)) {
                 tries.add(offset, &bytes[first..], fit.less(8));

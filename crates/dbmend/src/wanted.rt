@@ -28,6 +28,8 @@ pub(crate) enum Number {
     Pointer(u32),
     // The size of the freeblock of this number, or the link to it, and where that leads.
     Block(u32, u32),
+    // The lengths of payloads of a page.
+    Lengths,
     // How many leaves a trunk has: this many at most.
     Leaves(u32),
     // How many leaves a trunk has: as many as it states, plus this number of pages.
@@ -151,6 +153,19 @@ fn want_leaves(fault: &Fault, wanted: &mut Wanted) {
     }
 }
 
+// The page of the row that has an overflow page, or another page itself.
+fn page_of_row<A: Allocator>(desk: &Desk<A>, page: u32) -> u32 {
+    let mut at = page;
+    for _ in 0..desk.marks().pages() {
+        match mark(desk, at) {
+            Mark::FirstOverflow(from) => return from,
+            Mark::LaterOverflow(from) => at = from,
+            _ => return at,
+        }
+    }
+    at
+}
+
 // What may be wrong by a fault of a reference.
 fn add_reference<A: Allocator>(desk: &Desk<A>, fault: &Fault, wanted: &mut Wanted) {
     if fault.page == 0 {
@@ -160,6 +175,7 @@ fn add_reference<A: Allocator>(desk: &Desk<A>, fault: &Fault, wanted: &mut Wante
     } else {
         let number = Number::Reference(fault.item, named(fault));
         add_want(wanted, fault.page, number);
+        add_want(wanted, page_of_row(desk, fault.page), Number::Lengths);
     }
     if let Mark::Trunk = mark(desk, fault.page) {
         add_want(wanted, fault.page, Number::Any(named(fault)));
@@ -203,17 +219,22 @@ fn add_wanted<A: Allocator>(desk: &Desk<A>, noted: &Noted, wanted: &mut Wanted) 
         FaultCode::P01 | FaultCode::P02 => add_want(wanted, page, Number::Type),
         FaultCode::P03 => want_head(desk, page, wanted),
         FaultCode::P05 | FaultCode::P06 | FaultCode::P08 => {
+            add_want(wanted, page, Number::Lengths);
             add_want(wanted, page, Number::Pointer(fault.item));
             want_head(desk, page, wanted);
         }
         FaultCode::P07 => add_want(wanted, page, Number::Block(fault.item, named(fault))),
         FaultCode::P09 => {
+            add_want(wanted, page, Number::Lengths);
             add_want(wanted, page, Number::Fragments(fault.value));
             want_head(desk, page, wanted);
         }
         FaultCode::P10 => add_want(wanted, page, Number::Cells),
         FaultCode::T06 => add_keys(desk, noted, wanted),
-        FaultCode::O01 => add_want(wanted, page, Number::End),
+        FaultCode::O01 => {
+            add_want(wanted, page, Number::End);
+            add_want(wanted, page_of_row(desk, page), Number::Lengths);
+        }
         FaultCode::L01 => add_want(wanted, page, Number::Leaves(u32::MAX)),
         FaultCode::S03 => add_want(wanted, page, Number::Row(fault.item)),
         _ => {}
