@@ -20,7 +20,7 @@ use std::alloc::Allocator;
 // Adds what may have been in the header, and in the pointer map.
 fn add_numbers<A: Allocator>(tries: &mut Ranked, found: &Findings<A>, lost: &Lost<A>) {
     add_page_size(tries, &found.desk);
-    add_map(tries, &found.desk);
+    add_map(tries, &found.desk, lost);
     for noted in found.counter.noted() {
         add_header(tries, &found.desk, lost, &noted.fault);
         if let FaultCode::M01 = noted.fault.code {

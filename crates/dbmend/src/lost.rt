@@ -59,7 +59,7 @@ impl<A: Allocator + Copy> Lost<A> {
 
 impl<A: Allocator> Lost<A> {
     // What a lost page looks like.
-    fn kind(&self, page: u32) -> Kind {
+    pub(crate) fn kind(&self, page: u32) -> Kind {
         if self.tables.has(page) {
             Kind::Table
         } else if self.indexes.has(page) {
