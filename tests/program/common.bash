@@ -240,6 +240,9 @@ to_be_nobody() {
     "${as[@]}" "$DBCK" --version > /dev/null 3>&- || skip 'nobody cannot run the program here'
 }
 
+# The disks of tests of reads: all reads of the first take no time, as of a file in memory, and none of the second is fast.
+disks=(SLOW=0 SLOW=20)
+
 # on_disk SETTING..: lets `as` run the program with the files on a disk that is slow, or has a bad block: see disk.c.
 on_disk() {
     needs cc

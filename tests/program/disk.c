@@ -1,10 +1,11 @@
 // A disk and a standard error, for tests: they are loaded before the C library. These settings, each from the environment, say what they do:
-//   SLOW         how many microseconds each read takes
+//   SLOW         how many microseconds each read takes; no other time passes on the clock, so that without it each read is fast
 //   QUICK        how many bytes a read may ask for that takes no such time
 //   BAD, NAME    4096 bytes from this offset on of the file whose name ends so cannot be read: a read that begins there fails, and one that
 //                comes to them ends there
 //   ERROR        the number of the error of such a read, if not EIO
 //   AT, NAME     a read of that file that begins there fails, and no other read that comes to these bytes
+//   GOOD         how many of those that begin there do not fail before one does
 //   SHORT        how many bytes a read gives at most
 //   LONGEST      a read that asks for more bytes fails
 //   INTERRUPTED  every second read is interrupted
@@ -24,7 +25,11 @@
 #include <stdlib.h>
 #include <string.h>
 #include <sys/stat.h>
+#include <time.h>
 #include <unistd.h>
+
+// The time of the clock in microseconds.
+static long passed;
 
 static long number(const char *name, long otherwise) {
     const char *text = getenv(name);
@@ -61,11 +66,14 @@ static void tell(const char *variable, const char *line, ...) {
 ssize_t pread(int file, void *bytes, size_t count, off_t from) {
     static ssize_t (*real)(int, void *, size_t, off_t);
     static int reads;
+    static long begun;
     if (!real) real = (ssize_t (*)(int, void *, size_t, off_t))dlsym(RTLD_NEXT, "pread");
     off_t bad = number("BAD", -1);
     size_t most = number("SHORT", count);
     tell("READS", "%zu %ld\n", count, (long)from);
-    if (count > (size_t)number("QUICK", 0)) usleep(number("SLOW", 0));
+    long slow = count > (size_t)number("QUICK", 0) ? number("SLOW", 0) : 0;
+    passed += slow;
+    if (slow) usleep(slow);
     if (getenv("INTERRUPTED") && ++reads % 2) {
         errno = EINTR;
         return -1;
@@ -81,11 +89,18 @@ ssize_t pread(int file, void *bytes, size_t count, off_t from) {
         }
         count = bad - from;
     }
-    if (from == number("AT", -1) && is_named(file)) {
+    if (from == number("AT", -1) && is_named(file) && ++begun > number("GOOD", 0)) {
         errno = EIO;
         return -1;
     }
     return real(file, bytes, count < most ? count : most, from);
+}
+
+int clock_gettime(clockid_t clock, struct timespec *now) {
+    (void)clock;
+    now->tv_sec = passed / 1000000;
+    now->tv_nsec = passed % 1000000 * 1000;
+    return 0;
 }
 
 int statx(int folder, const char *path, int flags, unsigned mask, struct statx *known) {

@@ -60,16 +60,38 @@ load common
 }
 
 @test 'a read that gives a part of what is asked for, or is interrupted, is gone on with' {
-    local name setting
+    local disk name setting
     for name in tests/sqlite/*.db; do
         as=()
         dbck stat --all "$name"
         cp "$work/out" "$work/wanted"
-        for setting in SHORT=100 SHORT=1000 INTERRUPTED=1; do
-            on_disk "$setting"
-            dbck stat --all "$name"
-            row "$name where $setting" cmp "$work/out" "$work/wanted"
-            row "the end of $name where $setting" ended 0 '*' ''
+        for disk in "${disks[@]}"; do
+            for setting in SHORT=100 SHORT=1000 INTERRUPTED=1; do
+                on_disk "$disk" "$setting"
+                dbck stat --all "$name"
+                row "$name where $disk $setting" cmp "$work/out" "$work/wanted"
+                row "the end of $name where $disk $setting" ended 0 '*' ''
+            done
+        done
+    done
+}
+
+# table_of_rows: makes x.db, a sound table of 60000 rows in pages of 65536 bytes.
+table_of_rows() {
+    needs sqlite3
+    sqlite3 "$work/x.db" 'PRAGMA page_size = 65536; CREATE TABLE t (a INTEGER PRIMARY KEY, b);
+        WITH RECURSIVE k(n) AS (SELECT 1 UNION ALL SELECT n + 1 FROM k WHERE n < 60000) INSERT INTO t SELECT n, zeroblob(100) FROM k;'
+    exactly 0 $'ok\n' '' check "$work/x.db"
+}
+
+# Of the first page of a MiB the beginning is read, and then the rest.
+@test 'of a long page of which each read gives a part all is read' {
+    local disk setting
+    table_of_rows
+    for disk in "${disks[@]}"; do
+        for setting in SHORT=4095 SHORT=4096 SHORT=30000 SHORT=61439 INTERRUPTED=1; do
+            on_disk "$disk" "$setting"
+            exactly 0 $'ok\n' '' check "$work/x.db"
         done
     done
 }
@@ -86,81 +108,108 @@ load common
 }
 
 @test 'a bad block within a page is E8, with the bytes of the page' {
-    needs sqlite3
-    sqlite3 "$work/x.db" 'PRAGMA page_size = 65536; CREATE TABLE t (a INTEGER PRIMARY KEY, b);
-        WITH RECURSIVE k(n) AS (SELECT 1 UNION ALL SELECT n + 1 FROM k WHERE n < 60000) INSERT INTO t SELECT n, zeroblob(100) FROM k;'
-    exactly 0 $'ok\n' '' check "$work/x.db"
+    local bad disk page
+    table_of_rows
     # Page 33 is the first of a MiB, and page 35 is not.
     while read -r bad page; do
-        on_disk "BAD=$bad" NAME=/x.db
-        exactly 4 '' "dbck: note: $work/x.db: the 65536 bytes at $page cannot be read"$'\n'"$unread" check "$work/x.db"
+        for disk in "${disks[@]}"; do
+            on_disk "$disk" "BAD=$bad" NAME=/x.db
+            exactly 4 '' "dbck: note: $work/x.db: the 65536 bytes at $page cannot be read"$'\n'"$unread" check "$work/x.db"
+        done
     done << 'END'
 2129920 2097152
 2097152 2097152
+2101248 2097152
+2158592 2097152
 2260992 2228224
 END
+    [ "$rows" = 11 ]
+}
+
+# No number of an overflow page is in its bad block.
+@test 'a bad block in the bytes of a row is E8, with the bytes of its page' {
+    local disk
+    row_of 300 65536 "$work/x.db"
+    for disk in "${disks[@]}"; do
+        on_disk "$disk" BAD=2129920 NAME=/x.db
+        exactly 4 '' "dbck: note: $work/x.db: the 65536 bytes at 2097152 cannot be read"$'\n'"$unread" check "$work/x.db"
+    done
 }
 
 # Pages of 4096 bytes are read several at a time.
 @test 'a bad block within a read of several pages is E8, with the bytes of its page' {
+    local disk page
     row_of 2002 4096 "$work/x.db"
     exactly 0 $'ok\n' '' check "$work/x.db"
     for page in 4194304 4198400 4202496; do
-        on_disk "BAD=$page" NAME=/x.db
-        exactly 4 '' "dbck: note: $work/x.db: the 4096 bytes at $page cannot be read"$'\n'"$unread" check "$work/x.db"
+        for disk in "${disks[@]}"; do
+            on_disk "$disk" "BAD=$page" NAME=/x.db
+            exactly 4 '' "dbck: note: $work/x.db: the 4096 bytes at $page cannot be read"$'\n'"$unread" check "$work/x.db"
+        done
     done
 }
 
 # Here each page alone can be read.
 @test 'where a read of several pages fails, each of them is read alone' {
-    local longest
+    local disk longest
     row_of 2002 4096 "$work/x.db"
     for longest in 4096 16384 131072; do
-        on_disk "LONGEST=$longest"
-        exactly 0 $'ok\n' '' check "$work/x.db"
+        for disk in "${disks[@]}"; do
+            on_disk "$disk" "LONGEST=$longest"
+            exactly 0 $'ok\n' '' check "$work/x.db"
+        done
     done
 }
 
 # Page 33, the first of the third MiB, is in the freelist, and pages after it are used.
 @test 'a bad block of a page that is not read is passed over' {
+    local disk
     needs sqlite3
     sqlite3 "$work/x.db" 'PRAGMA page_size = 65536; CREATE TABLE t (b); CREATE TABLE u (b);
         INSERT INTO t VALUES (zeroblob(20 * 65532)); INSERT INTO u VALUES (zeroblob(16 * 65532)); INSERT INTO t VALUES (zeroblob(200 * 65532));
         DELETE FROM u;'
-    on_disk BAD=2097152 NAME=/x.db SLOW=1000
-    exactly 0 $'ok\n' '' check "$work/x.db"
+    for disk in "${disks[@]}"; do
+        on_disk "$disk" BAD=2097152 NAME=/x.db
+        exactly 0 $'ok\n' '' check "$work/x.db"
+    done
 }
 
 @test 'the bytes above 4 GiB that cannot be read are named' {
-    local first at
+    local first at disk
     needs python3
     first=$(python3 tests/program/make.py long 8 "$work/x.db" | sed -n 's/^first=//p')
     at=$((65536 * (first - 1)))
-    on_disk "BAD=$at" NAME=/x.db
-    exactly 4 '' "dbck: note: $work/x.db: the 65536 bytes at $at cannot be read"$'\n'"$unread" check "$work/x.db"
+    for disk in "${disks[@]}"; do
+        on_disk "$disk" "BAD=$at" NAME=/x.db
+        exactly 4 '' "dbck: note: $work/x.db: the 65536 bytes at $at cannot be read"$'\n'"$unread" check "$work/x.db"
+    done
 }
 
 # EIO, ENODATA, EBADMSG, ESTALE and EREMOTEIO.
 @test 'a read that fails for any reason is E8' {
-    local error
+    local disk error
     row_of 2002 4096 "$work/x.db"
     for error in 5 61 74 116 121; do
-        on_disk "ERROR=$error" BAD=4194304 NAME=/x.db
-        exactly 4 '' "dbck: note: $work/x.db: the 4096 bytes at 4194304 cannot be read"$'\n'"$unread" check "$work/x.db"
+        for disk in "${disks[@]}"; do
+            on_disk "$disk" "ERROR=$error" BAD=4194304 NAME=/x.db
+            exactly 4 '' "dbck: note: $work/x.db: the 4096 bytes at 4194304 cannot be read"$'\n'"$unread" check "$work/x.db"
+        done
     done
 }
 
 @test 'a bad block in a part of a log that is not needed is passed over' {
-    local name note
+    local disk name note
     with_zeros
     while read -r note; do
         name=${note%%[: ]*}
-        on_disk BAD=33554432 "NAME=/$name"
-        exactly 0 $'ok\n' "dbck: note: $work/$note"$'\n' check --recovered "$work/${name%-*}"
+        for disk in "${disks[@]}"; do
+            on_disk "$disk" BAD=33554432 "NAME=/$name"
+            exactly 0 $'ok\n' "dbck: note: $work/$note"$'\n' check --recovered "$work/${name%-*}"
+        done
     done << 'END'
 cold.db-journal begins with 0, and is not rolled back: SQLite does not need it
 hot.db-journal: 1 page is read from it; the database had 1 page
 wal.db-wal holds nothing that SQLite would read
 END
-    [ "$rows" = 3 ]
+    [ "$rows" = 6 ]
 }
