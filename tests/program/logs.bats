@@ -63,6 +63,17 @@ noted() {
     exactly 0 $'ok\n' "$wal$journal" check "$work/x.db"
 }
 
+@test 'a log that the caller may not look at has a note' {
+    cp "$data/whole.db" "$work/x.db"
+    log_notes "$work/x.db"
+    mkdir -m 000 "$work/closed"
+    ln -s closed/log "$work/x.db-wal"
+    to_be_nobody
+    exactly 0 $'ok\n' "$wal" check "$work/x.db"
+    mv "$work/x.db-wal" "$work/x.db-journal"
+    exactly 0 $'ok\n' "$journal" check "$work/x.db"
+}
+
 @test 'a log that the system cannot look at has a note' {
     cp "$data/whole.db" "$work/x.db"
     log_notes "$work/x.db"

@@ -317,6 +317,15 @@ is_rolled_back() {
     done
 }
 
+@test 'a super-journal in a folder that the caller may not look into is not here' {
+    local name=$work/closed/main.db-mj1
+    journaled_alone
+    name_super "$name"
+    mkdir -m 000 "$work/closed"
+    to_be_nobody
+    cold "names the super-journal $name, which is not here, and is not rolled back (see the manual)"
+}
+
 @test 'nothing that a journal names is opened, and a pipe or a folder is there as a file is' {
     local make
     needs python3
@@ -408,6 +417,19 @@ recovering() {
     exactly 4 '' "dbck: note: $work/link.db: whether a log is beside it is not known"$'\n'"$unread" check --recovered "$work/link.db"
 }
 
+# Its link leads to a name that is no more.
+@test 'of a file that is deleted while it is open no log is passed over' {
+    local file=/proc/self/fd/7
+    [ -e /proc/self/fd/0 ] || skip 'there is no /proc/self/fd'
+    cp "$data/whole.db" "$work/x.db"
+    exec 7< "$work/x.db"
+    exactly 0 $'ok\n' '' check --recovered "$file"
+    rm "$work/x.db"
+    exactly 4 '' "dbck: note: $file: whether a log is beside it is not known"$'\n'"$unread" check --recovered "$file"
+    exactly 0 $'ok\n' "dbck: note: $file: whether a log is beside it is not known"$'\n' check "$file"
+    exec 7<&-
+}
+
 @test 'a log of 4 GiB or more is not passed over' {
     local size
     paired
@@ -456,10 +478,12 @@ recovering() {
 
 # unread_at NOTE: for each line with the name of a file, an offset and a length, that read of that file fails. A note says so after this one.
 unread_at() {
-    local name at read
+    local at disk name read
     while read -r name at read; do
-        on_disk "AT=$at" "NAME=/$name"
-        exactly 4 '' "$1"$'\n'"dbck: note: $work/$name: the $read bytes at $at cannot be read"$'\n'"$unread" check --recovered "$work/x.db"
+        for disk in "${disks[@]}"; do
+            on_disk "$disk" "AT=$at" "NAME=/$name"
+            exactly 4 '' "$1"$'\n'"dbck: note: $work/$name: the $read bytes at $at cannot be read"$'\n'"$unread" check --recovered "$work/x.db"
+        done
     done
 }
 
@@ -502,14 +526,40 @@ END
 }
 
 @test 'of a link the note on a read of a log that fails names the log that is read' {
-    local log
+    local disk log notes
     row_of 12 32768 "$work/x.db"
     journal_of "$work/x.db" <<< '1 5 7 12'
     ln -s x.db "$work/link.db"
     log=$(realpath "$work")/x.db-journal
-    on_disk AT=33292 NAME=/x.db-journal
-    exactly 4 '' "dbck: note: $log: 4 pages are read from it; the database had 12 pages"$'\n'"dbck: note: $log: the 32768 bytes at 33292 cannot be read"$'\n'"$unread" \
-        check --recovered "$work/link.db"
+    notes="dbck: note: $log: 4 pages are read from it; the database had 12 pages"$'\n'"dbck: note: $log: the 32768 bytes at 33292 cannot be read"
+    for disk in "${disks[@]}"; do
+        on_disk "$disk" AT=33292 NAME=/x.db-journal
+        exactly 4 '' "$notes"$'\n'"$unread" check --recovered "$work/link.db"
+    done
+}
+
+# It is read once to see whether the log fits the file, and then by the run.
+@test 'where a header that is in a log cannot be read the second time the note on it names the log' {
+    local at disk name note notes link real
+    real=$(realpath "$work")
+    logged w 65536 <<< 'CREATE TABLE u(a)'
+    row_of 12 32768 "$work/j.db"
+    journal_of "$work/j.db" <<< '1 5 7 12'
+    while read -r name at notes; do
+        link=$work/link-${name%-*}
+        ln -s "${name%-*}" "$link"
+        note="dbck: note: $work/$name: $notes"$'\n'"dbck: note: $work/$name: the 100 bytes at $at cannot be read"$'\n'"$unread"
+        for disk in "${disks[@]}"; do
+            on_disk "$disk" "AT=$at" GOOD=1 "NAME=/$name"
+            exactly 4 '' "$note" check --recovered "$work/${name%-*}"
+            exactly 4 '' "${note//"$work"/"$real"}" check --recovered "$link"
+        done
+        as=()
+    done << 'END'
+w.db-wal 56 2 pages of 1 transaction are read from it
+j.db-journal 516 4 pages are read from it; the database had 12 pages
+END
+    [ "$rows" = 8 ]
 }
 
 # long_name COUNT: a name of so many letters.
