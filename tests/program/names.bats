@@ -47,6 +47,26 @@ noted() {
     each_name here
 }
 
+# A control character is shown by four.
+@test 'a path that is shown by four times its bytes is shown as a whole' {
+    local command count deep file name notes shown
+    name=$(printf '%200s' '' | tr ' ' '\001')
+    for count in 6 18; do
+        deep=
+        while [ "${#deep}" -lt $((201 * count)) ]; do deep+=/$name; done
+        file=$work$deep shown=$work${deep//$'\001'/\\x01}
+        for command in "${five[@]}"; do
+            exactly 4 '' "dbck: note: $shown: No such file or directory"$'\n'"$unread" "$command" "$file"
+        done
+        mkdir -p "$file" 2> "$work/why" || skip "no such path here: $(cat "$work/why")"
+        : > "$file/x.db"
+        notes="dbck: note: $shown/x.db is not checked"$'\n'"dbck: note: $shown/x.db has no bytes; to SQLite it is an empty database"
+        exactly 3 '' "$notes"$'\ndbck: E1 file is shorter than 100 bytes\n' check "$file/x.db"
+        rm -r "${work:?}/$name"
+    done
+    [ "$rows" = 12 ]
+}
+
 @test 'the name of a refused file is shown in each note' {
     refused() {
         : > "$file"

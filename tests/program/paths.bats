@@ -9,6 +9,23 @@ load common
     expect 4 '' "dbck: note: $work/ blank.db: No such file or directory"$'\n'"$unread" check "$work/ blank.db"
 }
 
+@test 'a line feed or another blank at the end of a name belongs to it' {
+    local end name
+    for end in $'\n' $'\n\n' $'\r\n' $'\t' ' '; do
+        name=$work/x.db$end
+        cp "$data/whole.db" "$work/x.db"
+        cp "$data/two-owners.db" "$name"
+        exactly 1 "$twice$unused" '' check "$name"
+        exactly 0 $'ok\n' '' check "$work/x.db"
+        rm "$name"
+        expect 4 '' "dbck: note: $work/x.db*: No such file or directory"$'\n'"$unread" check "$name"
+        cp "$data/two-owners.db" "$name"
+        rm "$work/x.db"
+        expect 4 '' "dbck: note: $work/x.db: No such file or directory"$'\n'"$unread" check "$work/x.db"
+        rm "$name"
+    done
+}
+
 # of_path NAME STATUS OUT ERR WORDS..: a row whose name says how long the path is.
 of_path() {
     dbck "${@:5}"
