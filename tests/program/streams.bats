@@ -41,6 +41,30 @@ dbck_rows() {
     row 'the row of a tree after its faults' ended 1 $'P01 page 2 item 0 value 0: unknown page type\nsqlite_schema\t-\t2\t-\t0\t0\t400\t0\t-\t1024\n' ''
 }
 
+# The last page of an overflow chain names a next one, and the freelist is read after it.
+@test 'in one log the rows of the pages in no tree come after the faults in trees' {
+    row_of 8 512 "$work/x.db"
+    sqlite3 "$work/x.db" 'CREATE TABLE u (b); INSERT INTO u VALUES (zeroblob(3000)); DROP TABLE u;'
+    put_at "$work/x.db" 3584 '\0\0\0\01'
+    dbck stat --all "$work/x.db"
+    row 'the fault' ended 1 $'*\n-\t-\t9\tfreeleaf\t*' $'O01 page 8 item 0 value 1: last overflow page names a next page\n'
+    { grep -v $'^-\t-\t' "$work/out" && cat "$work/err" && grep $'^-\t-\t' "$work/out"; } > "$work/wanted"
+    "$DBCK" stat --all "$work/x.db" > "$work/log" 2>&1 < /dev/null 3>&- || status=$?
+    row 'the rows and the fault' cmp "$work/log" "$work/wanted"
+}
+
+@test 'in one log the faults of a tree come after the rows of the trees before it' {
+    needs sqlite3
+    sqlite3 "$work/x.db" 'PRAGMA page_size = 512; CREATE TABLE a (x); CREATE TABLE b (x); CREATE TABLE c (x);'
+    # Page 3, the root of b, is an interior page without a child.
+    put_at "$work/x.db" 1024 '\05'
+    dbck stat --aggregate "$work/x.db"
+    row 'the fault' ended 1 $'sqlite_schema\t*\na\t*\nb\t*\nc\t*\n' $'R01 page 3 item 0 value 0: page number out of range\n'
+    { head -n 2 "$work/out" && cat "$work/err" && tail -n 2 "$work/out"; } > "$work/wanted"
+    "$DBCK" stat --aggregate "$work/x.db" > "$work/log" 2>&1 < /dev/null 3>&- || status=$?
+    row 'the rows and the fault' cmp "$work/log" "$work/wanted"
+}
+
 @test 'in one log the notes come after the report' {
     cp "$data/two-owners.db" "$work/x.db"
     printf sevenby >> "$work/x.db"
@@ -182,11 +206,22 @@ END
 @test 'each write of a report ends with a line' {
     needs python3
     with_lost "$work/x.db" 3001
-    for words in 'check --limit 300' 'check --limit 1000' 'check --limit 3000' 'stat --all'; do
+    for words in 'check --limit 300' 'check --limit 1000' 'check --limit 3000' 'explain --limit 3000' map mend 'stat --all'; do
         # shellcheck disable=SC2086
         writes_of stdout $words "$work/x.db" > "$work/writes"
         row "writes of $words" [ -s "$work/writes" ]
         row "whole lines of $words" [ "$(grep -c cut "$work/writes")" = 0 ]
+    done
+}
+
+@test 'a report of fewer than 32 KiB is one write' {
+    local command name
+    needs python3
+    for name in two-tables two-owners whole; do
+        for command in check explain map mend; do
+            writes_of stdout "$command" "$data/$name.db" > "$work/writes"
+            row "writes of $command of $name" [ "$(cut -d ' ' -f 2 "$work/writes")" = whole ]
+        done
     done
 }
 
