@@ -6,14 +6,18 @@ Makes the database NEW (new.db) of the rows of DAMAGED, and beside NEW:
     replaced.db    what .recover finds, with the last of several rows of one key; NEW has the first
     dumped.db      what .dump reads
     both-ways.log  the messages of sqlite3, most of which are harmless
-None of the four may be there before. DAMAGED, and DAMAGED-wal or DAMAGED-journal, are only copied: SQLite opens the
-copies, in a folder beside NEW, which takes about six times the size of DAMAGED until the end. Then it prints what the
-tables of NEW have, and which tables could not be read to their end.
+None of the four may be there before, and only their owner may read them. DAMAGED, and DAMAGED-wal or DAMAGED-journal,
+are only copied: SQLite opens the copies, in a folder beside NEW, which takes about six times the size of DAMAGED until
+the end. Then it prints what the tables of NEW have, and which tables could not be read to their end. The exit status
+is 2 if it made none of the four, or says that they are not whole: the disk is full, or a write failed.
 
 It needs a sqlite3 of 3.37 or later with .recover: the one in PATH, or the program that the variable SQLITE3 names.'
 
 set -u
+umask 077
 unset CDPATH
+# A file that comes to the limit of its size is an error of the program that writes it, as a full disk is.
+trap '' XFSZ
 die() {
     printf 'both-ways.sh: %s\n' "$1" >&2
     exit 2
@@ -54,7 +58,11 @@ for end in '' -wal -journal; do
 done
 before=$PWD
 cd "$work" || exit 2
-exec 3>&2 2> both-ways.log
+# All files are there from the beginning, and room for a journal. all-written is removed if something could not be written.
+touch new.db replaced.db dumped.db report.db recover.sql recover.log run.out all-written both-ways.log new.db-journal 2> /dev/null ||
+    die "$beside takes no more files"
+rm new.db-journal
+exec 3>&2 2>> both-ways.log
 
 # SQLite takes two databases together only if their encoding is the same.
 encoding=$(sql damaged.db 'PRAGMA writable_schema = ON; PRAGMA encoding')
@@ -65,7 +73,18 @@ if [ -z "$encoding" ]; then
         *) encoding=UTF-8 ;;
     esac
 fi
-sql report.db << SQL
+
+# pass: passes messages on to the log. Most of sqlite3 are of the damaged file; these tell that something was not written.
+pass() {
+    awk '/: (database or disk is full|disk I\/O error)( \([0-9]+\))?$|^sqlite3 was killed/ { lost = 1 }
+        { print }
+        END { exit lost }' >&2 || rm -f all-written
+}
+# into FILE: runs the statements of standard input, which write into FILE.db.
+into() {
+    { sql "$1.db" || [ $? -lt 128 ] || echo "sqlite3 was killed: $1.db" >&2; } 2>&1 > run.out | pass
+}
+into report << SQL
 PRAGMA encoding = '$encoding';
 CREATE TABLE plain(id INT, place TEXT, name TEXT, before TEXT, those TEXT, definition TEXT);
 CREATE TABLE recovered(name TEXT, count INT);
@@ -85,7 +104,7 @@ run() {
         printf "PRAGMA foreign_keys = OFF; PRAGMA writable_schema = ON; ATTACH '%s.db' AS other; ATTACH 'report.db' AS report;\n" "$2"
         printf 'PRAGMA %s.synchronous = OFF;\n' main report
         cat
-    } | sql "$1.db" > run.out
+    } | into "$1"
 }
 
 # The tables of a database, but for SQLite's own.
@@ -108,7 +127,7 @@ values="(SELECT group_concat(printf('quote(\"%w\")', name), ' || '','' || ') FRO
 same="(s.name = l.name OR instr(s.sql, l.name) IN (14, 15) AND s.name NOT IN (SELECT name FROM pragma_table_list)
     AND l.name NOT IN (SELECT name FROM main.sqlite_schema))"
 echo 'Before .recover:' >&2
-sql scratch.db << SQL
+into scratch << SQL
 PRAGMA writable_schema = ON;
 ATTACH 'report.db' AS report;
 PRAGMA main.synchronous = OFF;
@@ -135,7 +154,8 @@ UPDATE main.sqlite_schema AS s SET name = p.place, tbl_name = p.place, sql = p.d
 SQL
 
 # 2. What .recover finds goes into new.db and replaced.db: of several rows of one key the first, and the last.
-sql scratch.db .recover 2> recover.log | sed '1,10{/^PRAGMA encoding = /d;}' > recover.sql
+sql scratch.db .recover 2> recover.log | sed '1,10{/^PRAGMA encoding = /d;}' > recover.sql || rm -f all-written
+pass < recover.log
 for file in new replaced; do
     echo "$file.db, from .recover:" >&2
     {
@@ -146,17 +166,16 @@ for file in new replaced; do
         esac
         # If .recover ended with an error.
         [ "$(tail -n 1 recover.sql)" = 'COMMIT;' ] || echo 'COMMIT;'
-    } | sql "$file.db"
-    : >> "$file.db"
+    } | into "$file"
 done
+rm recover.sql
 
 # 3. What .dump reads goes into dumped.db: of each table the rows before the first page that cannot be read, and those behind the last.
 echo 'dumped.db, from .dump:' >&2
 {
     printf "PRAGMA synchronous = OFF; PRAGMA encoding = '%s';\n" "$encoding"
     sql damaged.db '.dump --preserve-rowids' | sed 's/^ROLLBACK; -- due to errors.*/COMMIT;/'
-} | sql dumped.db
-: >> dumped.db
+} | into dumped
 
 # 4. new.db gets what only .dump gives, and what only SQLite itself can read.
 echo 'new.db, from the others:' >&2
@@ -284,9 +303,10 @@ SQL
 sql damaged.db 'PRAGMA writable_schema = ON; SELECT count(*) FROM sqlite_schema' > run.out 2>&1 ||
     echo 'SQLite cannot read the schema, so that .dump gave nothing'
 [ ! -s recover.log ] || printf '.recover came to no end: %s\n' "$(cat recover.log)"
-cat recover.log >> both-ways.log
+[ -e all-written ] || lost=yes
 cd "$before" || exit 2
 mv "$work/new.db" "$new" || exit 2
 for file in replaced.db dumped.db both-ways.log; do
     mv "$work/$file" "$beside/$file" || exit 2
 done
+[ -z "${lost-}" ] || die "not all of $new, replaced.db and dumped.db could be written or counted: $beside/both-ways.log says why"

@@ -1,0 +1,350 @@
+#!/usr/bin/env bats
+# `docs/both-ways.sh`, which saves the rows of a damaged database: what it refuses, what it leaves alone, and what it says if it cannot write.
+load common
+
+# with_sqlite: makes $SQLITE3, of which .recover gives what .dump gives: the sqlite3 of a system may have no .recover. It says so in the file
+# `reached`, and waits if there is a file `wait`; and it ends with the message $FAILING, if that is set.
+with_sqlite() {
+    needs sqlite3 awk realpath
+    mkdir "$work/files"
+    export SQLITE3=$work/sqlite WORK=$work
+    cat > "$SQLITE3" << 'END'
+#!/bin/bash
+case ${*: -1} in
+    'SELECT count(*) FROM sqlite_dbpage') exit ;;
+    .recover) ;;
+    *) exec sqlite3 "$@" ;;
+esac
+[ ! -e "$WORK/wait" ] || : > "$WORK/reached"
+while [ -e "$WORK/wait" ]; do sleep 0.01; done
+sqlite3 "${@:1:$#-1}" .dump | sed 's/^INSERT INTO/INSERT OR IGNORE INTO/'
+[ -z "${FAILING:-}" ] || { echo "$FAILING" >&2 && exit 1; }
+END
+    chmod 755 "$SQLITE3"
+}
+
+# database FILE ROWS: makes a database with a table t of so many rows of 1000 bytes.
+database() {
+    sqlite3 "$1" "CREATE TABLE t(a INTEGER PRIMARY KEY, b);
+        WITH n(i) AS (SELECT 1 UNION ALL SELECT i + 1 FROM n WHERE i < $2) INSERT INTO t SELECT i, randomblob(1000) FROM n"
+}
+
+# both_ways WORDS..: runs the script in the folder $work/files, as `dbck` runs the program.
+both_ways() {
+    status=0
+    (cd "$work/files" && exec "${as[@]}" timeout "$most" sh "$root/docs/both-ways.sh" "$@") > "$work/out" 2> "$work/err" < /dev/null 3>&- || status=$?
+}
+
+# there: the files of the folder $work/files, and their bytes.
+there() {
+    (cd "$work/files" && find . -type d && find . -type f -exec sha256sum {} +) | sort
+}
+
+# refuses TEXT WORDS..: the script says why it does nothing, and leaves the folder as it is.
+refuses() {
+    there > "$work/before"
+    both_ways "${@:2}"
+    row "both-ways.sh ${*:2}" ended 2 '' "$1"
+    row "the folder after ${*:2}" diff "$work/before" <(there)
+}
+
+# makes OUT WORDS..: the script makes its four files, and says what tables there are.
+makes() {
+    both_ways "${@:2}"
+    row "both-ways.sh ${*:2}" ended 0 "$1" ''
+}
+
+# count FILE: how many rows the table t of a database has.
+count() {
+    [ -s "$1" ] && sqlite3 "$1" 'SELECT count(*) FROM t' 2>&1
+}
+
+@test 'both-ways.sh prints its usage, and refuses other words' {
+    with_sqlite
+    database "$work/files/x.db" 1
+    for word in --help -h; do
+        both_ways "$word"
+        row "$word" ended 0 $'usage: both-ways.sh DAMAGED \[NEW\]\n\nMakes *' ''
+    done
+    refuses $'usage: *'
+    refuses $'usage: *' -x.db
+    refuses $'usage: *' x.db new.db other.db
+    refuses $'usage: *' ''
+    refuses $'both-ways.sh: NEW must not begin with -: ./-new.db\n' x.db -new.db
+}
+
+@test 'both-ways.sh wants a file, and a folder for NEW' {
+    with_sqlite
+    mkdir "$work/files/folder.db"
+    database "$work/files/x.db" 1
+    refuses $'both-ways.sh: y.db is not a file\n' y.db
+    refuses $'both-ways.sh: folder.db is not a file\n' folder.db
+    refuses 'mktemp: *' x.db none/new.db
+}
+
+@test 'both-ways.sh writes over none of the four files' {
+    with_sqlite
+    database "$work/files/x.db" 1
+    for name in new.db replaced.db dumped.db both-ways.log; do
+        echo mine > "$work/files/$name"
+        if [ "$name" = new.db ]; then refuses $'both-ways.sh: new.db is there already\n' x.db; fi
+        refuses "both-ways.sh: ./$name is there already"$'\n' x.db ./new.db
+        rm "$work/files/$name"
+    done
+    makes $'t: 1 row\n' x.db
+    row 'what is there' [ "$(cd "$work/files" && echo *)" = 'both-ways.log dumped.db new.db replaced.db x.db' ]
+    refuses $'both-ways.sh: new.db is there already\n' x.db
+    refuses $'both-ways.sh: ./replaced.db is there already\n' x.db other.db
+}
+
+@test 'both-ways.sh says which sqlite3 it needs' {
+    with_sqlite
+    database "$work/files/x.db" 1
+    SQLITE3=$work/none refuses $'both-ways.sh: there is no sqlite3, or it is older than 3.37\n' x.db
+    # Such as these have no pragma_table_list, and no sqlite_dbpage.
+    printf '#!/bin/sh\ncase "$*" in *pragma_table_list*) exit 1 ;; esac\n' > "$work/old"
+    printf '#!/bin/sh\ncase "$*" in *sqlite_dbpage*) exit 1 ;; esac\n' > "$work/plain"
+    chmod 755 "$work/old" "$work/plain"
+    SQLITE3=$work/old refuses $'both-ways.sh: there is no sqlite3, or it is older than 3.37\n' x.db
+    SQLITE3=$work/plain refuses $'both-ways.sh: this sqlite3 has no .recover; REPAIR.md says how to build one (A sqlite3 with .recover)\n' x.db
+}
+
+@test 'both-ways.sh does nothing if a file cannot be copied whole' {
+    with_sqlite
+    database "$work/files/x.db" 1
+    echo log > "$work/files/x.db-wal"
+    there > "$work/before"
+    chmod 777 "$work/files"
+    to_be_nobody
+    for name in x.db x.db-wal; do
+        chmod 000 "$work/files/$name"
+        both_ways x.db
+        row "$name cannot be read" ended 2 '' "cp: *"$'\n'"both-ways.sh: $work/files/$name cannot be copied"$'\n'
+        chmod 644 "$work/files/$name"
+        row "the folder, after $name" diff "$work/before" <(there)
+    done
+    as=()
+    database "$work/files/large.db" 100
+    there > "$work/before"
+    (ulimit -f 40 && both_ways large.db && ended 2 '' "cp: *"$'\n'"both-ways.sh: $work/files/large.db cannot be copied"$'\n') ||
+        fail 'a copy that is cut off'
+    row 'the folder, after a copy that is cut off' diff "$work/before" <(there)
+}
+
+@test 'both-ways.sh takes its folder away if it is interrupted, and lets nobody else read it before' {
+    local signal pid
+    with_sqlite
+    database "$work/files/x.db" 1
+    there > "$work/before"
+    umask 022
+    for signal in INT TERM HUP; do
+        : > "$work/wait"
+        (cd "$work/files" && exec env --default-signal=INT sh "$root/docs/both-ways.sh" x.db) > "$work/out" 2> "$work/err" < /dev/null 3>&- &
+        pid=$!
+        for _ in {1..1000}; do
+            [ ! -e "$work/reached" ] || break
+            sleep 0.01
+        done
+        row "$signal: it has come to .recover" rm "$work/reached"
+        row "$signal: its folder" [ -n "$(find "$work/files" -name scratch.db)" ]
+        row "$signal: what others may read" [ -z "$(find "$work/files" -mindepth 1 ! -name x.db -perm /077)" ]
+        kill "-$signal" "$pid"
+        rm "$work/wait"
+        status=0
+        wait "$pid" || status=$?
+        row "$signal" ended 130 '' ''
+        row "$signal: the folder" diff "$work/before" <(there)
+    done
+}
+
+@test 'only the owner may read what both-ways.sh makes' {
+    with_sqlite
+    database "$work/files/x.db" 1
+    chmod 600 "$work/files/x.db"
+    umask 022
+    makes $'t: 1 row\n' x.db
+    row 'the modes' [ "$(stat -c %a "$work/files"/{new,replaced,dumped}.db "$work/files/both-ways.log" | tr '\n' ' ')" = '600 600 600 600 ' ]
+}
+
+@test 'both-ways.sh reads the logs beside a database, and writes to none of the files' {
+    with_sqlite
+    logged log <<< 'INSERT INTO t VALUES (1), (2), (3)'
+    mv "$work/log.db" "$work/log.db-wal" "$work/files"
+    # The journal has the pages as they were before the rows of `after`.
+    sqlite3 "$work/files/hot.db" "PRAGMA page_size = 512; CREATE TABLE t(a); INSERT INTO t VALUES ('before')"
+    cp "$work/files/hot.db" "$work/after.db"
+    journal_of "$work/files/hot.db" <<< '1 2'
+    sqlite3 "$work/after.db" "UPDATE t SET a = 'after'; INSERT INTO t VALUES ('after')"
+    cp "$work/after.db" "$work/files/hot.db"
+    database "$work/files/alone.db" 4
+    for name in log hot alone; do
+        there > "$work/before"
+        case $name in
+            log) makes $'t: 3 rows\n' log.db ;;
+            hot) makes $'t: 1 row\n' hot.db && row 'the row' [ "$(sqlite3 "$work/files/new.db" 'SELECT a FROM t')" = before ] ;;
+            alone) makes $'t: 4 rows\n' alone.db ;;
+        esac
+        rm "$work/files"/{new,replaced,dumped}.db "$work/files/both-ways.log"
+        row "$name: the folder" diff "$work/before" <(there)
+    done
+}
+
+@test 'both-ways.sh takes the logs beside what a link leads to' {
+    with_sqlite
+    logged x <<< 'INSERT INTO t VALUES (1), (2), (3)'
+    mkdir "$work/far"
+    mv "$work/x.db" "$work/x.db-wal" "$work/far"
+    ln -s ../far/x.db "$work/files/link.db"
+    echo other > "$work/files/link.db-wal"
+    sha256sum "$work/far"/* > "$work/sums"
+    makes $'t: 3 rows\n' link.db
+    row 'the files' [ "$(cd "$work/far" && echo *)" = 'x.db x.db-wal' ]
+    row 'their bytes' sha256sum --quiet -c "$work/sums"
+}
+
+@test 'both-ways.sh takes any name of a file' {
+    local name
+    with_sqlite
+    # shellcheck disable=SC2016
+    for name in 'two words' "it's \"one\"" $'two\nlines' '$(echo x)' 'a;b' '*' "x', 'y" ' x ' '\x'; do
+        mkdir "$work/files/$name"
+        database "$work/files/$name/$name.db" 2
+        makes $'t: 2 rows\n' "$name/$name.db" "$name/new $name.db"
+        row "$name: what is there" [ "$(cd "$work/files/$name" && find . -printf x)" = xxxxxx ]
+        row "$name: the rows" [ "$(count "$work/files/$name/new $name.db")" = 2 ]
+    done
+    mkdir "$work/files/-f"
+    database "$work/files/-f/-x.db" 2
+    makes $'t: 2 rows\n' ./-f/-x.db ./-f/-new.db
+    row 'the rows' [ "$(count "$work/files/-f/-new.db")" = 2 ]
+    # With CDPATH `cd` prints where it went.
+    mkdir "$work/files/here"
+    CDPATH=. makes $'t: 2 rows\n' ./-f/-x.db here/new.db
+    row 'the rows with CDPATH' [ "$(count "$work/files/here/new.db")" = 2 ]
+}
+
+# whole_or_said FOLDER ROWS: status 0 if and only if each of three databases has its rows; otherwise the last line says what is not whole.
+whole_or_said() {
+    local name lacking=
+    for name in new replaced dumped; do
+        [ "$(count "$work/files/$1/$name.db")" = "$2" ] || lacking+=$name
+    done
+    if [ -z "$lacking" ] && [ "$status" = 0 ]; then
+        ended 0 "t: $2 rows"$'\n' ''
+    else
+        ended 2 '*' "both-ways.sh: not all of $1/new.db, replaced.db and dumped.db could be written or counted: $1/both-ways.log says why"$'\n' &&
+            grep -qE 'database or disk is full|disk I/O error|File too large' "$work/files/$1/both-ways.log"
+    fi
+}
+
+teardown() {
+    [ -z "${disk:-}" ] || umount "$disk"
+    ends_test
+}
+
+# with_disk OPTIONS: an empty disk at $work/files/disk, in place of the one before; skips the test where none can be mounted.
+with_disk() {
+    [ -z "${disk:-}" ] || umount "$disk"
+    disk=
+    mkdir -p "$work/files/disk"
+    mount -t tmpfs -o "$1" tmpfs "$work/files/disk" 2> "$work/why" || skip "no disk can be mounted: $(head -n 1 "$work/why")"
+    disk=$work/files/disk
+}
+
+# The copies fit onto each of these disks, and the next file, or one after it, does not; the last one, of some six times the size of the
+# database, has room for all.
+@test 'both-ways.sh says so if the disk is full' {
+    local size said=0
+    with_sqlite
+    database "$work/files/x.db" 500
+    for size in 1400 1700 2100 2500 2800 3100 3300 3500 3700 $(($(wc -c < "$work/files/x.db") * 66 / 10240)); do
+        with_disk "size=${size}k"
+        both_ways x.db disk/new.db
+        row "a disk of $size kB" whole_or_said disk 500
+        [ "$status" = 0 ] || said=$((said + 1))
+        row 'what is left' [ "$(cd "$disk" && echo *)" = 'both-ways.log dumped.db new.db replaced.db' ]
+    done
+    row 'disks that were full, and one that was not' [ "$said" -gt 4 -a "$said" -lt 10 -a "$status" = 0 ]
+}
+
+@test 'both-ways.sh does nothing if the disk takes too few files' {
+    local files
+    with_sqlite
+    database "$work/files/x.db" 20
+    for files in 1 2 4 5 8 10 11 12 13 14 15; do
+        with_disk "size=9m,nr_inodes=$files"
+        both_ways x.db disk/new.db
+        if [ "$status" = 0 ]; then
+            row "a disk of $files files" whole_or_said disk 20
+        else
+            row "a disk of $files files" ended 2 '' '*'$'\n'
+            row "$files: what is left" [ -z "$(ls -A "$disk")" ]
+        fi
+    done
+    row 'the last one' [ "$status" = 0 ]
+}
+
+@test 'both-ways.sh says so if a file may not be as long as it would be' {
+    with_sqlite
+    # The text of .recover is much longer than these rows.
+    mkdir "$work/files/short"
+    sqlite3 "$work/files/x.db" "CREATE TABLE t(a INTEGER PRIMARY KEY, b);
+        WITH n(i) AS (SELECT 1 UNION ALL SELECT i + 1 FROM n WHERE i < 20000) INSERT INTO t SELECT i, 0 FROM n"
+    (ulimit -f 700 && both_ways x.db short/new.db && echo "$status" > "$work/status")
+    status=$(cat "$work/status")
+    row 'the text' whole_or_said short 20000
+    row 'the text: the status' [ "$status" = 2 ]
+    # Of pages of 4096 bytes, which the new databases have, each of these rows takes one; in the old one, and in the text, they take half as much.
+    mkdir "$work/files/wide"
+    sqlite3 "$work/files/y.db" "PRAGMA page_size = 65536; CREATE TABLE t(a INTEGER PRIMARY KEY, b);
+        WITH n(i) AS (SELECT 1 UNION ALL SELECT i + 1 FROM n WHERE i < 300) INSERT INTO t SELECT i, printf('%02100d', i) FROM n"
+    (ulimit -f 900 && both_ways y.db wide/new.db && echo "$status" > "$work/status")
+    status=$(cat "$work/status")
+    row 'the databases' whole_or_said wide 300
+    row 'the databases: the status' [ "$status" = 2 ]
+}
+
+@test 'both-ways.sh says so if a sqlite3 that writes is killed' {
+    local name
+    with_sqlite
+    database "$work/files/x.db" 5
+    mv "$SQLITE3" "$work/recover"
+    # It ends by a signal once the statements for one database have come.
+    # shellcheck disable=SC2016
+    printf '#!/bin/bash\n%s\nexec "%s" "$@"\n' 'case ${*: -1} in "$KILLED") cat > /dev/null && kill -9 $$ ;; esac' "$work/recover" > "$SQLITE3"
+    chmod 755 "$SQLITE3"
+    for name in new replaced dumped; do
+        KILLED=$name.db both_ways x.db
+        row "$name.db" ended 2 '*' $'*both-ways.sh: not all of new.db, replaced.db and dumped.db could be written *\n'
+        row "$name.db: the log" grep -qx "sqlite3 was killed: $name.db" "$work/files/both-ways.log"
+        rm "$work/files"/{new,replaced,dumped}.db "$work/files/both-ways.log"
+    done
+}
+
+@test 'both-ways.sh goes on after an error that the damaged file is the reason for, and says so if .recover could not write' {
+    local said damaged='sql error: database disk image is malformed (11)'
+    with_sqlite
+    database "$work/files/x.db" 100
+    FAILING=$damaged both_ways x.db
+    row "$damaged" ended_exactly 0 $'t: 100 rows\n.recover came to no end: '"$damaged"$'\n' ''
+    for said in 'sql error: database or disk is full (13)' 'Error: near line 2: disk I/O error'; do
+        rm "$work/files"/{new,replaced,dumped}.db "$work/files/both-ways.log"
+        FAILING=$said both_ways x.db
+        row "$said" ended 2 $'t: 100 rows\n.recover came to no end: *\n' 'both-ways.sh: not all of new.db, *'
+        row "$said: the log" grep -qxF "$said" "$work/files/both-ways.log"
+    done
+    rm "$work/files"/{new,replaced,dumped}.db "$work/files/both-ways.log"
+    # The end is cut off; and a word in the text of a message is none of SQLite.
+    truncate -s -20480 "$work/files/x.db"
+    FAILING='UNIQUE constraint failed: database or disk is full.a (19)' both_ways x.db
+    row 'a file that is cut off' ended 0 $'t: [1-9]* row*; SQLite cannot read this table to its end\n*' ''
+}
+
+@test 'both-ways.sh prints of two-tables.db what docs/REPAIR.md says' {
+    with_sqlite
+    SQLITE3=${SQLITE_RECOVER:-sqlite3}
+    "$SQLITE3" :memory: 'SELECT count(*) FROM sqlite_dbpage' > "$work/why" 2>&1 || skip 'this sqlite3 has no .recover'
+    cp "$data/two-tables.db" "$work/files/copy.db"
+    both_ways copy.db new.db
+    row 'what it prints' ended_exactly 0 "$(sed -n '/two-tables.db. of README it prints$/,/^`/s/^    //p' docs/REPAIR.md)"$'\n' ''
+}
