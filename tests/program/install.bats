@@ -60,6 +60,25 @@ END
     row 'those of others' diff <(files) <(printf '644 usr/%s/other\n' bin share/bash-completion/completions)
 }
 
+# says_nothing COMMAND..: the command ends with 0, and writes nothing.
+says_nothing() {
+    "$@" > "$work/out" 2>&1 && [ ! -s "$work/out" ]
+}
+
+@test 'make uninstall says nothing of what is not there' {
+    local lines
+    needs make install
+    # The commands themselves are shown, but for -s.
+    row 'no folder' says_nothing makes uninstall PREFIX=/none
+    mkdir -p "$work/root/opt/share/man"
+    row 'no files' says_nothing makes uninstall PREFIX=/opt
+    row 'a folder of others' [ -d "$work/root/opt/share/man" ]
+    row 'make install' makes install PREFIX=/opt
+    row 'make uninstall' says_nothing makes uninstall PREFIX=/opt
+    row 'what is left' [ "$(cd "$work/root" && find . | sort | tr '\n' ' ')" = '. ./opt ' ]
+    row 'once more' says_nothing makes uninstall PREFIX=/opt
+}
+
 @test 'make uninstall leaves the folders of every system, also where PREFIX ends with a slash' {
     needs make install
     row 'make install' makes install PREFIX=/usr/local/
@@ -87,6 +106,8 @@ END
     for target in install deb; do
         row "make $target" grep -q 'crates/dbck && rt run' <(make -n "$target")
     done
+    row 'the version of the package' grep -qx "packaging/make-deb crates/dbck/out/dbck $(make -s version)" <(make -n deb)
+    row 'make static' grep -q -- ' -static ' <(make -n static 2> "$work/why")
 }
 
 @test 'the package has the same files, examples, and the sums of all' {
@@ -118,6 +139,7 @@ END
     row 'what they have' are_of usr
     row 'the manual' cmp docs/dbck.1 <(gzip -dc "$work/root/usr/share/man/man1/dbck.1.gz")
     row 'what zsh gets' cmp completions/_dbck "$work/root/usr/share/zsh/vendor-completions/_dbck"
+    row 'the copyright' cmp packaging/copyright "$work/root/usr/share/doc/dbck/copyright"
     row 'the version' grep -qx 'Version: 1.2.3' "$work/control/control"
     row 'the processor' grep -qx 'Architecture: amd64' "$work/control/control"
     row 'the C library' grep -qx 'Depends: libc6 (>= 2.34)' "$work/control/control"
@@ -128,12 +150,24 @@ END
     row 'an example' [ "$("$work/root/usr/bin/dbck" check "$work/root/usr/share/doc/dbck/examples/whole.db")" = ok ]
 }
 
-@test 'a package that is made again from the same commit has the same bytes' {
+# words_of FILE FIRST LAST: the words between two lines of a text, without the signs of a list.
+words_of() {
+    sed -n "/^$2/,/^$3/{/^$2/d;/^$3/d;s/^ *[-*] //;p}" "$1" | tr -s ' \n' '\n'
+}
+
+@test 'a package that is made again from the same commit has the same bytes, and the changes of its version' {
+    local version
     needs make install dpkg-deb strip gzip
+    version=$(make -s version)
     mkdir "$work/one" "$work/other"
-    (cd "$work/one" && "$root/packaging/make-deb" "$DBCK" 1.2.3 > "$work/said")
-    (cd "$work/other" && TZ=Asia/Tokyo "$root/packaging/make-deb" "$DBCK" 1.2.3 > "$work/said")
-    row 'two packages' cmp "$work/one/dbck_1.2.3_amd64.deb" "$work/other/dbck_1.2.3_amd64.deb"
+    (cd "$work/one" && "$root/packaging/make-deb" "$DBCK" "$version" > "$work/said")
+    (cd "$work/other" && TZ=Asia/Tokyo "$root/packaging/make-deb" "$DBCK" "$version" > "$work/said")
+    row 'two packages' cmp "$work/one/dbck_${version}_amd64.deb" "$work/other/dbck_${version}_amd64.deb"
+    dpkg-deb -x "$work/one/dbck_${version}_amd64.deb" "$work/root"
+    gzip -dc "$work/root/usr/share/doc/dbck/changelog.gz" > "$work/changelog"
+    row 'the changelog begins' [ "$(head -n 1 "$work/changelog")" = "dbck ($version) unstable; urgency=medium" ]
+    row 'its entries' [ "$(grep -c '^  \* ' "$work/changelog")" -gt 3 ]
+    row 'its words' diff <(words_of CHANGELOG.md "## $version" '## ') <(words_of "$work/changelog" 'dbck ' ' -- ')
 }
 
 @test 'the version of the package is that of the program' {
