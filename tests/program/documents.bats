@@ -1,0 +1,194 @@
+#!/usr/bin/env bats
+# Commands, sessions and numbers of README and the manual: they are taken out of the text, and run as a reader would.
+load common
+
+# displays: the displays of the manual, as a terminal shows them; a line that begins with a point is none of theirs.
+displays() {
+    sed -n '/^\.Bd -literal/,/^\.Ed/{s/\\(dq/"/g;s/\\e/\\/g;p}' docs/dbck.1
+}
+
+# of_manual TEXT: the one command of the manual that has this text.
+of_manual() {
+    displays | grep -F -- "$1" > "$work/command"
+    [ "$(wc -l < "$work/command")" = 1 ] || fail "the manual has not one command with $1"
+    cat "$work/command"
+}
+
+# runs COMMAND: runs it as a reader does, in the folder $work/files; the program is in its path.
+runs() {
+    mkdir -p "$work/bin"
+    ln -sf "$DBCK" "$work/bin/dbck"
+    status=0
+    (cd "$work/files" && PATH=$work/bin:$PATH exec timeout "$most" sh -c "$1") > "$work/out" 2> "$work/err" < /dev/null 3>&- || status=$?
+}
+
+# plain: the text of the manual without its macros, on one line.
+plain() {
+    sed -E 's/^\.[A-Z][a-z] ?//; s/\\e/\\/g' docs/dbck.1 | tr '\n' ' '
+}
+
+@test 'the change that mend prints is made in a copy as the manual says, and as docs/REPAIR.md does' {
+    local line from
+    mkdir "$work/files"
+    for from in docs/dbck.1 docs/REPAIR.md; do
+        cp "$data/two-tables.db" "$work/files/copy.db"
+        case $from in
+            *.1) line=$(of_manual 'seek=1526') ;;
+            *) line=$(grep -m 1 '^    printf .*seek=1526 ' "$from") ;;
+        esac
+        runs "$line"
+        row "$from: the command" [ "$status" = 0 ]
+        row "$from: the length" [ "$(wc -c < "$work/files/copy.db")" = "$(wc -c < "$data/two-tables.db")" ]
+        row "$from: bytes that differ" [ "$(cmp -l "$data/two-tables.db" "$work/files/copy.db")" = '1530   5   7' ]
+        exactly 0 $'ok\n' '' check "$work/files/copy.db"
+    done
+}
+
+@test 'a file that was copied as text is told and undone as the manual says' {
+    needs perl
+    mkdir "$work/files"
+    perl -pe 's/\n/\r\n/g' "$data/two-tables.db" > "$work/files/damaged.db"
+    row 'the file differs' eval "! cmp -s '$data/two-tables.db' '$work/files/damaged.db'"
+    runs "$(of_manual 'wc -c')"
+    row 'the line feeds' ended 0 $'[1-9]*\n' ''
+    mv "$work/out" "$work/feeds"
+    runs "$(of_manual 'grep -ac')"
+    row 'the same number' cmp "$work/feeds" "$work/out"
+    runs "$(of_manual 'perl ')"
+    row 'the command' ended 0 '' ''
+    row 'the file' cmp "$data/two-tables.db" "$work/files/copy.db"
+    # Of a file that was not, the numbers differ.
+    cp "$data/two-tables.db" "$work/files/damaged.db"
+    runs "$(of_manual 'grep -ac')"
+    row 'another number' eval "! cmp -s '$work/feeds' '$work/out'"
+}
+
+@test 'a file that was converted as text is told and undone as the manual says' {
+    needs iconv
+    mkdir "$work/files"
+    iconv -f latin1 -t utf8 "$data/whole.db" > "$work/files/damaged.db"
+    row 'the file differs' eval "! cmp -s '$data/whole.db' '$work/files/damaged.db'"
+    runs "$(of_manual 'iconv -f utf8 -t utf8')"
+    row 'no error' ended 0 '' ''
+    runs "$(displays | grep '^iconv .*copy.db')"
+    row 'the command' ended 0 '' ''
+    row 'the file' cmp "$data/whole.db" "$work/files/copy.db"
+    cp "$data/whole.db" "$work/files/damaged.db"
+    runs "$(of_manual 'iconv -f utf8 -t utf8')"
+    row 'an error' ended 1 '' 'iconv: *'
+}
+
+@test 'the commands of README for a database in use check a copy that has what is in the -wal' {
+    needs sqlite3
+    mkdir "$work/files"
+    logged live <<< 'INSERT INTO t VALUES (1), (2), (3)'
+    mv "$work/live.db" "$work/live.db-wal" "$work/files"
+    runs "$(sed -n '/^## A database in use/,/^## A damaged/s/^    //p' README.md)"
+    row 'the commands' ended 0 $'ok\n' ''
+    row 'the rows' [ "$(sqlite3 "$work/files/copy.db" 'SELECT count(*) FROM t')" = 3 ]
+}
+
+@test 'the command of README over many databases names those that are not ok, and ends with 123' {
+    local line blank=' '
+    needs xargs
+    mkdir -p "$work/files/srv/a folder"
+    line=$(sed -n '/^## Many databases/,/^## Why/s/^    //p' README.md | sed "s|/srv|'$work/files/srv'|")
+    cp "$data/whole.db" "$work/files/srv/sound.db"
+    printf 'SQLite format 4\0' > "$work/files/srv/other.db"
+    : > "$work/files/srv/empty.db"
+    runs "$line"
+    row 'all are ok' ended 0 '' ''
+    cp "$data/empty.db" "$work/files/srv/a folder/noted.db"
+    echo log > "$work/files/srv/a folder/noted.db-wal"
+    log_notes "$work/files/srv/a folder/noted.db"
+    runs "$line"
+    row 'a note' ended_exactly 0 "0 $work/files/srv/a folder/noted.db $wal" ''
+    rm "$work/files/srv/a folder"/*
+    cp "$data/two-tables.db" "$work/files/srv/a folder/it's two.db"
+    runs "$line"
+    row 'one has faults' ended_exactly 123 "1 $work/files/srv/a folder/it's two.db "$'\n' ''
+    head -c 90 "$data/whole.db" > "$work/files/srv/cut.db"
+    runs "$line"
+    sort -o "$work/out" "$work/out"
+    row 'one is refused' diff "$work/out" - << END
+1 $work/files/srv/a folder/it's two.db$blank
+3 $work/files/srv/cut.db dbck: note: $work/files/srv/cut.db is not checked
+dbck: E1 file is shorter than 100 bytes
+END
+    row 'the status' [ "$status" = 123 ]
+}
+
+# session COMMAND WANTED: the command prints what stands below it. One of a file that is not of the repository is not run.
+session() {
+    [ -f "$work/files/${1##* }" ] || return 0
+    runs "$1 2>&1"
+    row "$1" diff <(printf %s "$2") "$work/out"
+    sessions=$((sessions + 1))
+}
+
+@test 'the sessions of README and the manual are what the program prints' {
+    local line words='' wanted=''
+    sessions=0
+    mkdir "$work/files"
+    cp "$data"/*.db "$work/files"
+    while IFS= read -r line; do
+        case $line in
+            '$ '*) session "$words" "$wanted" && words=${line#'$ '} wanted= ;;
+            '' | .Ed) session "$words" "$wanted" && words= ;;
+            *) wanted+=$line$'\n' ;;
+        esac
+    done < <(sed -n 's/^    //p;/^$/p' README.md && displays)
+    row 'how many were run' [ "$sessions" = 9 ]
+}
+
+# takes YES|NO WORDS..: whether a command line is taken.
+takes() {
+    dbck "${@:2}"
+    case $1 in
+        yes) row "dbck ${*:2}" [ "$status" = 0 ] ;;
+        no) row "dbck ${*:2}" [ "$status" = 2 ] ;;
+    esac
+}
+
+@test 'the numbers that the manual gives of options are those that the program takes' {
+    local command least most_taken words=() k
+    plain > "$work/plain"
+    while read -r command least most_taken; do
+        takes yes "$command" --limit "$least" "$data/whole.db"
+        takes yes "$command" --limit "$most_taken" "$data/whole.db"
+        takes no "$command" --limit "$((least - 1))" "$data/whole.db"
+        takes no "$command" --limit "$((most_taken + 1))" "$data/whole.db"
+    done < <(grep -oE '[a-z]+ , No from [0-9]+ to [0-9]+' "$work/plain" | sed 's/ , No from / /; s/ to / /')
+    row 'three commands' [ "$rows" = 12 ]
+    # How many bytes one option has, and how many options there may be.
+    read -r least most_taken < <(grep -oE '[0-9]+ to [0-9]+ bytes of two hexadecimal digits each' "$work/plain" | sed 's/ to / /; s/ bytes.*//')
+    takes yes stat --with "300=$(printf '00%.0s' $(seq "$least"))" "$data/empty.db"
+    takes yes stat --with "300=$(printf '00%.0s' $(seq "$most_taken"))" "$data/empty.db"
+    takes no stat --with "300=$(printf '00%.0s' $(seq "$((most_taken + 1))"))" "$data/empty.db"
+    takes no stat --with 300= "$data/empty.db"
+    most_taken=$(grep -oE 'may be given up to [0-9]+ times' "$work/plain" | tr -cd 0-9)
+    for k in $(seq "$most_taken"); do words+=(--with "$((300 + k))=00"); done
+    takes yes stat "${words[@]}" "$data/empty.db"
+    takes no stat "${words[@]}" --with 400=00 "$data/empty.db"
+}
+
+@test 'without --limit there are as many faults and changes as the manual says' {
+    local faults changes
+    faults=$(plain | sed -nE 's/.*without this option ([0-9]+), and ([0-9]+) for .*/\1 \2/p')
+    read -r faults changes <<< "$faults"
+    row 'the numbers of the README' grep -q "(default $faults, at most .*" README.md
+    row 'and that of mend' grep -q "(default $changes, at most .*" README.md
+    with_lost "$work/lost.db" $((faults + 3))
+    put_at "$work/lost.db" 28 "\\0\\0\\0\\$(printf %o $((faults + 3)))"
+    put_at "$work/lost.db" 24 '\0\0\0\01'
+    put_at "$work/lost.db" 92 '\0\0\0\01'
+    dbck check "$work/lost.db"
+    row 'the faults' [ "$(grep -c '^N01 ' "$work/out")" = "$faults" ]
+    row 'the faults that are left out' [ "$(tail -n 1 "$work/out")" = 'more 2' ]
+}
+
+@test 'the manual has no fault of its macros' {
+    needs groff
+    groff -mandoc -ww -z docs/dbck.1 > "$work/out" 2>&1
+    row 'groff' [ ! -s "$work/out" ]
+}
