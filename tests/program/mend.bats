@@ -150,7 +150,12 @@ root_at() {
     for bytes in '\0' '\0377' '\0143'; do
         row "the index in the place of a table: $bytes" are_put_back "$(root_at 'CREATE INDEX i ')" "$bytes"
     done
-    [ "$rows" = 12 ]
+    # Either root may be that of a table without rowids. Only one of them is a page of a table.
+    made "CREATE TABLE s(x); CREATE TABLE t(a, b); DROP TABLE s; CREATE TABLE u(k PRIMARY KEY, v) WITHOUT ROWID;
+        INSERT INTO u VALUES (1, 2), (3, 4); INSERT INTO t VALUES ('x', 'y')"
+    row 'the table without rowids in the place of a table, and the table' are_put_back \
+        "$(root_at 'CREATE TABLE u(')" '\0143' "$(root_at 'CREATE TABLE t(')" '\0143'
+    [ "$rows" = 13 ]
 }
 
 # The rows are on several pages of the schema. Each table has its own root again if the roots are in the order of the rows.
@@ -329,8 +334,10 @@ pointer() {
 
 # Cells of rows that were added one after another are adjacent: so two lost ones are in one run of bytes, or each in its own. No fault says which
 # of them is which, but their keys and those around.
-# The indexes have texts that are alike, one with a second column: only that says which leaf is of which.
-@test 'mend finds which leaf is of which index by the number of columns' {
+# The first indexes have texts that are alike, one with a second column: only that says which leaf is of which. Texts come after integers, so a leaf
+# of texts could be the last one of an index of integers by the order of its keys. Of the indexes of one column the last leaf of i is put for that
+# of j, so each could have the lost one: but its keys fall.
+@test 'mend finds which leaf is of which index by the number of columns, the type of the first one, and whether keys rise or fall' {
     local here there
     needs python3 sqlite3
     made "CREATE TABLE t(a, b); CREATE INDEX i ON t(a); CREATE INDEX j ON t(a, b); WITH RECURSIVE k(n) AS (SELECT 150 UNION ALL SELECT n - 1 FROM k WHERE n > 1)
@@ -339,6 +346,11 @@ pointer() {
         row "the children at $here and $there" are_put_back "$here" '\0\0\0\0' "$there" '\0\0\0\0'
     done < <(paste <(children_of i) <(children_of j) | awk 'NF == 2')
     [ "$rows" -gt 4 ]
+    made "CREATE TABLE t(a INT, b TEXT); CREATE INDEX i ON t(a); CREATE INDEX j ON t(b);
+        WITH RECURSIVE k(n) AS (SELECT 120 UNION ALL SELECT n - 1 FROM k WHERE n > 1) INSERT INTO t SELECT n, printf('t%03d', n) FROM k"
+    row 'integers and texts' are_put_back 1032 '\0\0\0\0' 2022 '\0\0\0\0'
+    made "CREATE TABLE t(a); CREATE INDEX i ON t(a); CREATE INDEX j ON t(a DESC); $(up_to 150) INSERT INTO t SELECT n * 7919 % 1009 FROM k"
+    row 'keys that rise and keys that fall' are_put_back 1544 '\0\0\0\014'
 }
 
 @test 'mend finds which leaf of an index is where by texts and blobs, empty ones, zero and numbers below it' {
@@ -381,6 +393,17 @@ texts in capital and small letters;char(n % 2 * 32 + 64 + n) || (n * 7919 % 211)
 doubles;n * 7919 % 211 * 1.3 - 90;a
 END
     [ "$rows" = 28 ]
+}
+
+# To SQLite a capital letter comes before each small one. Without the lost key the five others are in order both with their letters as they are and
+# without regard to case. One key alone is in no order.
+@test 'mend finds the pointer of a key of an index that is before the others, by its letters or as the only other one' {
+    needs sqlite3
+    made "CREATE TABLE t(a); CREATE INDEX i ON t(a); INSERT INTO t VALUES ('Zed'), ('apple'), ('bat'), ('cat'), ('dog'), ('eel')"
+    row 'one capital letter' are_put_back "$(pointer i 0)" '\0\0'
+    made 'CREATE TABLE t(a); CREATE INDEX i ON t(a DESC); INSERT INTO t VALUES (5), (9)'
+    row 'the greater one of two that fall' are_put_back "$(pointer i 0)" '\0\0'
+    [ "$rows" = 2 ]
 }
 
 # One lower count of cells would leave one fault, and each pointer leaves one fewer. Pages 2 and 3 are the leaves of t and i.
@@ -725,6 +748,23 @@ others_are_put_back() {
     others_are_put_back 17 157
 }
 
+# To SQLite capital letters come before small ones, unless the column says NOCASE.
+@test 'mend finds which place had a child of an index where only letters as they are say so' {
+    needs sqlite3
+    made "CREATE TABLE t(a); CREATE INDEX i ON t(a); $(up_to 150)
+        INSERT INTO t SELECT CASE n % 2 WHEN 0 THEN 'B' ELSE 'a' END || printf('%03d', n * 7919 % 211) || 'xxxxxxxxxxxx' FROM k"
+    row 'the child at 1411' are_put_back 1411 '\0\0\0\020'
+}
+
+# The chain goes from page 4 on. The pages that are left out are lost: nothing else says where the list of them ends.
+@test 'mend finds the next overflow page where many are left out' {
+    needs sqlite3
+    made "CREATE TABLE t(a); INSERT INTO t VALUES (printf('%040000d', 7)), (zeroblob(700))"
+    row '21 pages' are_put_back 2048 '\0\0\0\033'
+    made "CREATE TABLE t(a); INSERT INTO t VALUES (printf('%03000000d', 7)), ('x')"
+    row '4194 pages' are_put_back 2048 '\0\0\020\0150'
+}
+
 # The first and the last child of a page have a key on one side alone. The other one is in a page above it.
 @test 'mend finds children of an index by the keys of all pages above, and where they lead past two levels' {
     local at bytes keys
@@ -747,6 +787,8 @@ others_are_put_back() {
     needs sqlite3
     made "CREATE TABLE t(k PRIMARY KEY, b) WITHOUT ROWID; $(up_to 40) INSERT INTO t SELECT printf('%03d', n * 37 % 101) || hex(zeroblob(300)), n FROM k"
     row 'the chain of another row' are_put_back 20373 '\054'
+    made "CREATE TABLE t(k PRIMARY KEY, b) WITHOUT ROWID; $(up_to 40) INSERT INTO t SELECT printf('%03d', n * 7) || hex(zeroblob(300)), n FROM k"
+    row 'the chain of another row, of one in an interior page' are_put_back 17586 '\0\0\0\062'
     made "CREATE TABLE v(a); CREATE TABLE t(a); INSERT INTO v VALUES (printf('%01200d', 5)); $(up_to 20) INSERT INTO t SELECT printf('%0900d', n) FROM k;
         INSERT INTO v VALUES (printf('%01200d', 7)); $(for n in 1 2 3 {6..11} {14..20}; do echo "DELETE FROM t WHERE rowid = $n;"; done)"
     row 'a leaf of the freelist' are_put_back 8703 '\040'
@@ -754,7 +796,7 @@ others_are_put_back() {
     for n in 4 7; do
         row "the chain of the only row of a table, put $n" are_put_back 1023 "\\0$n"
     done
-    [ "$rows" = 4 ]
+    [ "$rows" = 5 ]
 }
 
 # Rows that were deleted and added again stand out of order in their page.
@@ -783,6 +825,8 @@ others_are_put_back() {
     for bytes in '\04' '\010'; do
         row "no fragments, put $bytes" are_put_back 519 "$bytes"
     done
+    reserving 16 "CREATE TABLE t(a); $(up_to 20) INSERT INTO t SELECT 'row number ' || n FROM k; DELETE FROM t WHERE rowid = 1"
+    row 'the size of a freeblock that ends before the reserved bytes' are_put_back 994 '\0\0377'
     made "CREATE TABLE t(id INTEGER PRIMARY KEY, a); $(up_to 20) INSERT INTO t SELECT n, 'row ' || n FROM k; DELETE FROM t WHERE id = 16;
         INSERT INTO t VALUES (16, 'row '); DELETE FROM t WHERE id IN (18, 19, 20)"
     for bytes in '\0\020' '\0\016'; do
@@ -800,7 +844,7 @@ others_are_put_back() {
     for bytes in '\0\0' '\0\04' '\01\0377'; do
         row "its place, put $bytes" are_put_back 101 "$bytes"
     done
-    [ "$rows" = 14 ]
+    [ "$rows" = 15 ]
 }
 
 # One bit of where the content area begins: then it begins with one of the cells, and with fewer of them the page would be sound too.
@@ -880,6 +924,8 @@ END
     row 'the right child of page 1' is_put_back 108 '\0\0\0\0'
     made "$(printf 'CREATE TABLE t%d(a);' {1..14})"
     row 'bytes reserved, where the one cell of page 1 is in them' is_put_back 20 '\010'
+    reserving 16 "CREATE TABLE t(a); $(up_to 400) INSERT INTO t SELECT zeroblob(300) FROM k"
+    row 'a size that is too small, of a file with reserved bytes' is_put_back 28 '\0\0\0\024'
     rm "$work/x.db"
     sqlite3 "$work/x.db" 'PRAGMA page_size = 65536; CREATE TABLE t(a)'
     row 'the content start of an empty page of 65536 bytes' is_put_back 65541 '\0\03'
@@ -1134,7 +1180,7 @@ freed() {
 }
 
 # The pages from 3 on are the leaves of t, of four rows each. One of them is left between the lost ones and the one that is found.
-@test 'beside three to seven pages that are lost for good mend finds the type of one more' {
+@test 'beside three to seven pages that are lost for good mend finds the type of one more, and beside 35 a pointer of the last page' {
     local lost at left
     needs sqlite3
     for lost in 3 4 5 6 7; do
@@ -1145,6 +1191,11 @@ freed() {
         exactly 1 "$((lost + 1)) faults"$'\n'"at byte $at put 0d for 00"$'\n'"    page $((lost + 4)) at byte $at"$'\n'"    $left"$'\n'"$left"$'\n' \
             '' mend "$work/x.db"
     done
+    made "CREATE TABLE t(a); $(up_to 160) INSERT INTO t SELECT zeroblob(100) FROM k; CREATE TABLE u(a); INSERT INTO u VALUES (1), (2), (3)"
+    dd if=/dev/zero of="$work/x.db" bs=512 seek=2 count=35 conv=notrunc status=none
+    at=$((512 * 42 + 8)) left='35 faults are left'
+    put_at "$work/x.db" "$at" '\0\0'
+    exactly 1 $'36 faults\n'"at byte $at put 01fc for 0000"$'\n'"    page 43 at byte 21504"$'\n'"    $left"$'\n'"$left"$'\n' '' mend "$work/x.db"
 }
 
 # refused NAME OFFSET BYTES TEXT [WORDS..]: NAME.db of tests with these bytes at an offset is refused, and mend writes this, and the notes and
