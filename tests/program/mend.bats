@@ -209,6 +209,29 @@ last_child() {
     row "a child, at $at" is_put_back "$at" '\0\0\0\0'
 }
 
+# The root of the table is page 71681, and its leaves are pages 81919 and 76801. Below each of them by 4 GiB is a page of zeros.
+@test 'mend finds numbers of pages above 4 GiB' {
+    local page at right wrong
+    needs python3
+    python3 tests/program/make.py long 5 "$work/x.db" > "$work/numbers" 2> "$work/why" || skip "no such file here: $(tail -n 1 "$work/why")"
+    while read -r page at right wrong; do
+        at=$((65536 * (page - 1) + at))
+        put_at "$work/x.db" "$at" "${wrong//00/\\0}"
+        dbck mend "$work/x.db"
+        row "page $page, put $right" ended 1 "*at byte $at put $right for $wrong"$'\n'"    page $page at byte $((65536 * (page - 1)))"$'\nok\n' ''
+        # shellcheck disable=SC2001
+        put_at "$work/x.db" "$at" "$(sed 's/../\\x&/g' <<< "$right")"
+    done << 'END'
+71681 8 00012c01 00000000
+81919 8 dff1 0000
+76801 3 0001 0000
+81919 0 0d 00
+END
+    dbck check "$work/x.db"
+    row 'each is put back' ended 0 $'ok\n' ''
+    [ "$rows" = 5 ]
+}
+
 @test 'mend finds the encoding, and roots of each' {
     local at encoding
     needs sqlite3
@@ -298,6 +321,20 @@ END
         [ "$number" -gt 9 ] || row "child $number of both" are_put_back "$here" '\0\0\0\0' "$there" '\0\0\0\0'
     done < <(paste <(children_of t) <(children_of u))
     [ "$rows" = 9 ]
+}
+
+# Where a leaf is named twice, the keys of the other place are out of order.
+@test 'mend finds two children of a table of which one names the leaf of the other, and three children of an index' {
+    local one other
+    needs python3 sqlite3
+    made "CREATE TABLE t(a); $(up_to 20) INSERT INTO t SELECT zeroblob(100) FROM k"
+    while read -r one other; do
+        row "$one, and the leaf of $one at $other" are_put_back "$one" '\0\0\0\0' "$other" "\\0\\0$(short "$(number_at "$one" 4)")"
+        row "$other, and the leaf of $other at $one" are_put_back "$other" '\0\0\0\0' "$one" "\\0\\0$(short "$(number_at "$other" 4)")"
+    done < <(pairs_of t)
+    made "CREATE TABLE t(id INTEGER PRIMARY KEY, a); CREATE INDEX i ON t(a); $(up_to 120) INSERT INTO t SELECT n, 'cust ' || n FROM k"
+    row 'three children of an index' are_put_back 1520 '\0\0\0\0' 1504 '\0\0\0\0' 1032 '\0\0\0\0'
+    [ "$rows" = 21 ]
 }
 
 # The pages below a child of the root come before it in the file, and are lost with it.
@@ -392,7 +429,9 @@ texts;'text ' || (n * 7919 % 211);a
 texts in capital and small letters;char(n % 2 * 32 + 64 + n) || (n * 7919 % 211);a COLLATE NOCASE
 doubles;n * 7919 % 211 * 1.3 - 90;a
 END
-    [ "$rows" = 28 ]
+    made "CREATE TABLE t(a, b); CREATE INDEX i ON t(a, b); $(up_to 9) INSERT INTO t SELECT printf('%0200d', 1) || (n * 37 % 97), n FROM k"
+    row 'texts that differ in overflow pages' are_put_back "$(pointer i 3)" '\0\070' "$(pointer i 6)" '\0176\0305'
+    [ "$rows" = 29 ]
 }
 
 # To SQLite a capital letter comes before each small one. Without the lost key the five others are in order both with their letters as they are and
@@ -482,7 +521,11 @@ END
         link=$block
     done
     row 'the end of the list' are_put_back $link '\01\0220'
-    [ "$rows" = 28 ]
+    made "CREATE TABLE t(a); CREATE INDEX i ON t(a); $(up_to 45) INSERT INTO t SELECT n * 37 % 101 FROM k; DELETE FROM t WHERE rowid IN (3, 9, 15)"
+    for value in '\0\0377' '\01\0252'; do
+        row "the first link of an index, put $value" are_put_back 1025 "$value"
+    done
+    [ "$rows" = 30 ]
 }
 
 # fragmented IDS: makes x.db, whose rows 3 and 6 are one and two bytes shorter than those that they took the place of: a fragment comes after
@@ -555,7 +598,7 @@ fragmented() {
     [ "$rows" = 12 ]
 }
 
-@test 'mend finds the count of cells of a page with freeblocks' {
+@test 'mend finds the count of cells of a page with freeblocks, and of one with six fragmented bytes' {
     local count
     needs sqlite3
     made "CREATE TABLE t(a); $(up_to 20)
@@ -563,7 +606,13 @@ fragmented() {
     for count in 1 12 17 20 22 377; do
         row "a count of octal $count" are_put_back 515 "\\0\\0$count"
     done
-    [ "$rows" = 6 ]
+    made "CREATE TABLE t(id INTEGER PRIMARY KEY, a); $(up_to 12) INSERT INTO t SELECT n, printf('row number %02d', n) FROM k;
+        $(for id in 3 6 9; do echo "DELETE FROM t WHERE id = $id; INSERT INTO t VALUES ($id, 'row number ');"; done)"
+    row 'six fragmented bytes' [ "$(number_at 519 1)" = 6 ]
+    for count in 1 11 12 13; do
+        row "a count of octal $count of 12" are_put_back 515 "\\0\\0$count"
+    done
+    [ "$rows" = 11 ]
 }
 
 # A child without cells has P10.
@@ -590,7 +639,11 @@ fragmented() {
         pointer=$(number_at "$place")
         row "cell $cell" are_put_back "$place" "$(short $((pointer + 1)))"
     done
-    [ "$rows" = 5 ]
+    # Each change is looked for in the page as those before it leave it.
+    pointer=$(number_at "$(pointer i 2)")
+    row 'cell 2, and two past the end' are_put_back \
+        "$(pointer i 18)" '\0201' "$(pointer i 2)" "$(short $((pointer ^ 8)))" "$(pointer i 7)" '\0167\0167'
+    [ "$rows" = 6 ]
 }
 
 # The cells do not fill the content area, as the page states it: so their count is that of the pointers.
@@ -799,6 +852,16 @@ others_are_put_back() {
     [ "$rows" = 5 ]
 }
 
+# The first pointer leads into the zeros of a row, where a cell would have no bytes and rowid 0.
+@test 'mend finds two cell pointers of a page, of which one leads to where a rowid would be out of order' {
+    needs sqlite3
+    made "CREATE TABLE t(a); $(up_to 4) INSERT INTO t SELECT zeroblob(100) FROM k"
+    row 'cells 1 and 2 of four' are_put_back 522 '\01\0223' 524 '\040\0100'
+    made "CREATE TABLE t(a, b); $(up_to 60) INSERT INTO t SELECT n, zeroblob(n % 60) FROM k"
+    row 'a cell in a row after it, and a later one' are_put_back 1544 '\0\0155' 1566 '\0\0'
+    [ "$rows" = 2 ]
+}
+
 # Rows that were deleted and added again stand out of order in their page.
 @test 'mend finds three cell pointers of a page where cells are out of order, and of a page of the schema' {
     local table
@@ -827,6 +890,8 @@ others_are_put_back() {
     done
     reserving 16 "CREATE TABLE t(a); $(up_to 20) INSERT INTO t SELECT 'row number ' || n FROM k; DELETE FROM t WHERE rowid = 1"
     row 'the size of a freeblock that ends before the reserved bytes' are_put_back 994 '\0\0377'
+    reserving 32 "CREATE TABLE t(a); $(up_to 5) INSERT INTO t SELECT zeroblob(420) FROM k"
+    row 'the count of a leaf of one cell, and its fragments' are_put_back 2051 '\0\0' 2055 '\045'
     made "CREATE TABLE t(id INTEGER PRIMARY KEY, a); $(up_to 20) INSERT INTO t SELECT n, 'row ' || n FROM k; DELETE FROM t WHERE id = 16;
         INSERT INTO t VALUES (16, 'row '); DELETE FROM t WHERE id IN (18, 19, 20)"
     for bytes in '\0\020' '\0\016'; do
@@ -844,7 +909,7 @@ others_are_put_back() {
     for bytes in '\0\0' '\0\04' '\01\0377'; do
         row "its place, put $bytes" are_put_back 101 "$bytes"
     done
-    [ "$rows" = 15 ]
+    [ "$rows" = 16 ]
 }
 
 # One bit of where the content area begins: then it begins with one of the cells, and with fewer of them the page would be sound too.
@@ -873,7 +938,10 @@ others_are_put_back() {
     row 'a root that names a child' are_put_back "$(root_at 'CREATE TABLE u(')" '\04'
     made "CREATE TABLE s(a); CREATE TABLE t(id INTEGER PRIMARY KEY, a); $(up_to 12) INSERT INTO t SELECT n, zeroblob(700) FROM k"
     row 'a root that names an overflow page of its table' are_put_back "$(root_at 'CREATE TABLE t(')" '\04'
-    [ "$rows" = 4 ]
+    made "CREATE TABLE t(id INTEGER PRIMARY KEY, a REAL); CREATE INDEX i ON t(a); $(up_to 200)
+        INSERT INTO t SELECT n * 5 - 700, (n * 7919 % 1009 - 500) * 0.37 FROM k"
+    row 'a child that names the root of an index of many pages, and another child' are_put_back 520 '\0\0\0\03' 935 '\0\0\0\0'
+    [ "$rows" = 5 ]
 }
 
 @test 'mend finds children and roots by what is lost with them: pages of an index, overflow pages' {
@@ -1137,7 +1205,7 @@ freed() {
 }
 
 # Then its leaves are lost with it. Where a leaf is named in its place, that is in use as a trunk.
-@test 'mend finds the next trunk where there is none, the one after it, or a leaf of it, and a leaf where a page in use is named' {
+@test 'mend finds the next trunk where there is none, the one after it, or a leaf of it, a leaf where a page in use is named, and a root' {
     local first second third leaf page
     needs sqlite3
     freed 480
@@ -1151,7 +1219,11 @@ freed() {
     row "the first trunk, page $leaf" are_put_back 32 "\\0\\0$(short "$leaf")"
     page=$("$DBCK" stat --all "$work/x.db" | awk -F '\t' '$4 == "overflow" { print $3; exit }')
     row "a leaf, page $page of a chain" are_put_back $((512 * first - 492)) "\\0\\0$(short "$page")"
-    [ "$rows" = 5 ]
+    # The last trunk is taken for a root page, and its leaves are lost.
+    made "CREATE TABLE t(a); CREATE TABLE u(a); $(up_to 760) INSERT INTO t SELECT zeroblob(450) FROM k; DELETE FROM t WHERE rowid > 20;
+        INSERT INTO u VALUES (zeroblob(12000)); CREATE TABLE v(a); INSERT INTO v VALUES (1)"
+    row 'a root that names the last of seven trunks' are_put_back "$(root_at 'CREATE TABLE v(')" '\031'
+    [ "$rows" = 6 ]
 }
 
 @test 'mend finds how many leaves a trunk has, of one that is not full, of a full one, and of one without leaves' {
