@@ -155,7 +155,15 @@ root_at() {
         INSERT INTO u VALUES (1, 2), (3, 4); INSERT INTO t VALUES ('x', 'y')"
     row 'the table without rowids in the place of a table, and the table' are_put_back \
         "$(root_at 'CREATE TABLE u(')" '\0143' "$(root_at 'CREATE TABLE t(')" '\0143'
-    [ "$rows" = 13 ]
+    # Later rows have the pages of tables that are gone. A view and a trigger have the root page 0.
+    made 'CREATE TABLE s(a); CREATE TABLE t(a); CREATE TABLE u(a); CREATE TABLE v(a); DROP TABLE s; DROP TABLE u; CREATE VIEW w AS SELECT 1;
+        CREATE INDEX i ON t(a); CREATE TRIGGER r AFTER INSERT ON v BEGIN SELECT 1; END; CREATE TABLE x(k PRIMARY KEY, b) WITHOUT ROWID;
+        INSERT INTO t VALUES (1), (2); INSERT INTO v VALUES (3); INSERT INTO x VALUES (4, 5)'
+    row 'roots in no order' [ "$(sqlite3 "$work/x.db" 'SELECT group_concat(rootpage) FROM sqlite_schema')" = 3,5,0,4,0,2 ]
+    for statement in 'CREATE TABLE t(' 'CREATE TABLE v(' 'CREATE INDEX i ' 'CREATE TABLE x('; do
+        row "$statement of roots in no order" are_put_back "$(root_at "$statement")" '\0'
+    done
+    [ "$rows" = 18 ]
 }
 
 # The rows are on several pages of the schema. Each table has its own root again if the roots are in the order of the rows.
@@ -484,6 +492,20 @@ END
     row 'pointers to bytes 18, 20 and 30' are_put_back $((512 + 12)) '\0\022' $((512 + 20)) '\0\024' $((512 + 36)) '\0\036'
 }
 
+@test 'mend finds three cell pointers that lead into the head of their page' {
+    local place numbers
+    needs sqlite3
+    made "CREATE TABLE t(a); CREATE INDEX i ON t(a); $(up_to 20) INSERT INTO t SELECT 'row ' || n FROM k;"
+    for place in 520 530 554 1032 1042 1066; do
+        for numbers in '2 5 1' '0 1 2' '4 30 3' '20 8 2'; do
+            # shellcheck disable=SC2086
+            set -- $numbers
+            row "from $place on, put $numbers" are_put_back "$place" "$(short "$1")" $((place + 2)) "$(short "$2")" $((place + 4)) "$(short "$3")"
+        done
+    done
+    [ "$rows" = 24 ]
+}
+
 # The five pointers are those of the last five cells. Were the leaf one of an index, all its faults would be one, P02.
 # A cell of zeros has 4 bytes. Were the content area to begin there, the page would have one fault: P09.
 @test 'mend does not let the content area begin in the free bytes before it' {
@@ -626,6 +648,82 @@ fragmented() {
         row "page $page" are_put_back $((512 * page - 512 + 3)) '\0\0'
     done
     [ "$rows" = 12 ]
+}
+
+# length_at PAGE CELL: where the length of the payload of a cell is in x.db, in a page of any tree but an interior page of a table.
+length_at() {
+    local begin=$((512 * $1 - 512))
+    case $(type_of "$1") in
+        2) echo $((begin + $(number_at $((begin + 12 + 2 * $2))) + 4)) ;;
+        *) echo $((begin + $(number_at $((begin + 8 + 2 * $2))))) ;;
+    esac
+}
+
+# varint NUMBER: its bytes in a record, as put_at takes them.
+varint() {
+    local rest=$1 bytes
+    bytes=$(printf '\\0%03o' $((rest % 128)))
+    while [ $((rest /= 128)) -gt 0 ]; do
+        bytes=$(printf '\\0%03o' $((128 + rest % 128)))$bytes
+    done
+    echo "$bytes"
+}
+
+# is_length_put_back CODE AT BYTES: are_put_back, and a fault of this code is what tells.
+is_length_put_back() {
+    are_put_back "${@:2}" || return
+    dbck check --limit 100 "$work/wrong.db"
+    grep -q "^$1 " "$work/out" || differs "$1"
+}
+
+# A length that is too small leaves bytes over (P09), and one that is too great reaches into the cell after it (P08) or past the page (P06). Where the
+# row has a chain of overflow pages, that has more of them (O01) or fewer (R01) than the length says. From 478 bytes on a row of a table has one
+# here, and from 103 bytes on one of an index.
+@test 'mend finds the length of a payload, which its record says too' {
+    local what sql page cell lengths pair
+    needs sqlite3
+    while IFS='|' read -r what sql page cell lengths; do
+        made "$sql"
+        for pair in $lengths; do
+            row "$what, put ${pair#*:}" is_length_put_back "${pair%:*}" "$(length_at "$page" "$cell")" "$(varint "${pair#*:}")"
+        done
+    done << END
+a row of a table|CREATE TABLE t(a); $(up_to 20) INSERT INTO t SELECT printf('row number %d', n) FROM k|2|5|P09:0 P09:13 P08:15 P08:40 P06:100
+the first row of a page|CREATE TABLE t(a); $(up_to 20) INSERT INTO t SELECT printf('row number %d', n) FROM k|2|0|P09:3 P06:15 P06:127
+a key of an index|CREATE TABLE t(a); CREATE INDEX i ON t(a); $(up_to 20) INSERT INTO t SELECT printf('row %d', n) FROM k|3|5|P09:9 P08:11 P08:100
+the first key of a page|CREATE TABLE t(a); CREATE INDEX i ON t(a); $(up_to 20) INSERT INTO t SELECT printf('row %d', n) FROM k|3|0|P09:5 P06:10 P06:127
+a key of an interior page|CREATE TABLE t(a); CREATE INDEX i ON t(a); $(up_to 150) INSERT INTO t SELECT printf('%020d', n) FROM k|3|2|P09:0 P09:20 P08:30
+the first key of it|CREATE TABLE t(a); CREATE INDEX i ON t(a); $(up_to 150) INSERT INTO t SELECT printf('%020d', n) FROM k|3|0|P09:5 P06:30
+a row without rowid|CREATE TABLE t(a PRIMARY KEY, b) WITHOUT ROWID; $(up_to 15) INSERT INTO t SELECT printf('key %d', n), n FROM k|2|5|P09:3 P08:11
+a row of 153 bytes|CREATE TABLE t(a); $(up_to 3) INSERT INTO t SELECT printf('%0150d', n) FROM k|2|1|P09:128 P08:154 P08:300
+the first of these|CREATE TABLE t(a); $(up_to 3) INSERT INTO t SELECT printf('%0150d', n) FROM k|2|0|P09:140 P06:300 R01:500
+a row of 473 bytes|CREATE TABLE t(a); $(up_to 2) INSERT INTO t SELECT printf('%0470d', n) FROM k|3|0|P09:460 R01:478 R01:1000
+a row of 493 bytes|CREATE TABLE t(a); $(up_to 2) INSERT INTO t SELECT printf('%0490d', n) FROM k|2|0|P06:300 P06:477 R01:1001
+a row of 2003 bytes|CREATE TABLE t(a); $(up_to 3) INSERT INTO t SELECT printf('%02000d', n) FROM k|2|1|O01:1495 O01:987 R01:2511 P06:1903 P08:2103
+a row of 20004 bytes|CREATE TABLE t(a); $(up_to 2) INSERT INTO t SELECT printf('%020000d', n) FROM k|2|1|O01:19496 R01:20512 N01:16384 N01:40000
+a key of 95 bytes|CREATE TABLE t(a); CREATE INDEX i ON t(a); $(up_to 3) INSERT INTO t SELECT printf('%090d', n) FROM k|3|1|P09:80 R01:103
+a key of 1005 bytes|CREATE TABLE t(a); CREATE INDEX i ON t(a); $(up_to 4) INSERT INTO t SELECT printf('%01000d', n) FROM k|3|1|O01:497 R01:1513
+a key above leaves, with a chain|CREATE TABLE t(a PRIMARY KEY, b) WITHOUT ROWID; $(up_to 30) INSERT INTO t SELECT printf('%0600d', n), n FROM k|2|0|N01:200
+END
+    # One bit of a byte, so that a length of one byte has two, and one of more bytes has fewer: then the rowid is the rest of it.
+    made "CREATE TABLE t(a); $(up_to 20) INSERT INTO t SELECT printf('row number %d', n) FROM k"
+    for cell in 0 5 19; do
+        row "cell $cell, of two bytes" are_put_back "$(length_at 2 "$cell")" '\0216'
+    done
+    made "CREATE TABLE t(a); $(up_to 3) INSERT INTO t SELECT printf('%0150d', n) FROM k"
+    for cell in 0 1 2; do
+        row "cell $cell, of one byte" are_put_back "$(length_at 2 "$cell")" '\01'
+    done
+    made "CREATE TABLE t(a PRIMARY KEY, b) WITHOUT ROWID; $(up_to 6) INSERT INTO t SELECT printf('%090d', n), zeroblob(40) FROM k"
+    for cell in 0 1 2; do
+        row "cell $cell without rowid, of one byte" are_put_back "$(length_at 2 "$cell")" '\01'
+    done
+    made "CREATE TABLE t(a); $(up_to 2) INSERT INTO t SELECT printf('%020000d', n) FROM k"
+    for cell in 0 1; do
+        row "cell $cell of 20003 bytes, of one byte" are_put_back "$(length_at 2 "$cell")" '\01'
+        row "cell $cell of 20003 bytes, of two bytes" are_put_back $(($(length_at 2 "$cell") + 1)) '\034'
+    done
+    [ "$rows" = 60 ]
 }
 
 # One byte later a cell of an index begins with the length of its header, so it is a short one, and no fault but P09 says so.
