@@ -1086,6 +1086,7 @@ END
         made 'CREATE TABLE t(a); CREATE TABLE u(a)'
         row "the head of page 1, at $at" is_put_back "$at" '\07'
     done
+    row 'the count of cells of page 1' is_put_back 104 '\0202'
     made "$(printf 'CREATE TABLE t%d(a);' {1..60})"
     row 'the right child of page 1' is_put_back 108 '\0\0\0\0'
     made "$(printf 'CREATE TABLE t%d(a);' {1..14})"
