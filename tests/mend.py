@@ -70,6 +70,17 @@ def cell_pointers(count):
     return places_of
 
 
+def payload_lengths(db):
+    """Those of the cells that have one, each of as many bytes as it takes."""
+    places = []
+    for page in db.tree_pages():
+        kind = db.number(db.head(page), 1)
+        if kind != 5:
+            begins = [cell + (4 if kind == 2 else 0) for cell in db.cells(page)]
+            places += [(at, db.varint(at)[1] - at) for at in begins]
+    return places
+
+
 def freeblock_numbers(db):
     """The links to the freeblocks of each page, their sizes, and the end of the list if it has some."""
     places = []
@@ -102,6 +113,7 @@ KINDS = {
     "the count of fragments": overwrite_head(7, 1),
     "a cell pointer": overwrite_some(1, cell_pointers(1)),
     "three cell pointers of a page": overwrite_some(3, cell_pointers(3)),
+    "the length of a payload": overwrite_some(1, payload_lengths),
     "a number of a freeblock": overwrite_some(1, freeblock_numbers),
     "a root page in the schema": overwrite_root,
     "a number of the header": overwrite_header,
