@@ -115,9 +115,9 @@ fn add_more_reserved<A: Allocator>(tries: &mut Ranked, desk: &Desk<A>, value: u3
     }
 }
 
-// Adds the greatest root page, if there is no pointer map, and the page of the first one is lost, and is none of a tree.
+// Adds the greatest root page, if there is no pointer map, and a lost page looks like the first one of it.
 pub(crate) fn add_map<A: Allocator>(tries: &mut Ranked, desk: &Desk<A>, lost: &Lost<A>) {
-    if !desk.geometry().has_map && desk.is_lost(2) && lost.kind(2) == Kind::Other {
+    if !desk.geometry().has_map && lost.has_map() {
         add_number(tries, GREATEST_ROOT, greatest_root(desk));
     }
 }

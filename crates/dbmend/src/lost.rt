@@ -31,7 +31,7 @@ pub(crate) enum Kind {
 const MOST_ALIKE: usize = 8;
 
 // Of each lost page whether another one names it, and what it looks like. Of the first that none names the keys. And the last page in use
-// that a lost one names as its child, or 0.
+// that a lost one names as its child, or 0, and whether page 2 looks like one of the pointer map.
 #[derive(Drop)]
 pub(crate) struct Lost<A: Allocator> {
     named: PageBits<A>,
@@ -39,6 +39,7 @@ pub(crate) struct Lost<A: Allocator> {
     indexes: PageBits<A>,
     roots: ArrayVec<Root, 24>,
     used_child: u32,
+    has_map: bool,
 }
 
 impl<A: Allocator + Copy> Lost<A> {
@@ -53,13 +54,14 @@ impl<A: Allocator + Copy> Lost<A> {
             indexes,
             roots: ArrayVec::new(),
             used_child: 0,
+            has_map: false,
         })
     }
 }
 
 impl<A: Allocator> Lost<A> {
     // What a lost page looks like.
-    pub(crate) fn kind(&self, page: u32) -> Kind {
+    fn kind(&self, page: u32) -> Kind {
         if self.tables.has(page) {
             Kind::Table
         } else if self.indexes.has(page) {
@@ -94,6 +96,11 @@ impl<A: Allocator> Lost<A> {
         let _ = self.roots.try_push(Root { next, ..root });
     }
 
+    // Whether page 2 is lost, and looks like one of the pointer map.
+    pub(crate) fn has_map(&self) -> bool {
+        self.has_map
+    }
+
     // Whether a lost page names this one.
     pub(crate) fn names(&self, page: u32) -> bool {
         self.named.has(page)
@@ -117,6 +124,7 @@ impl<A: Allocator> Lost<A> {
             None => {
                 self.note_next(paper);
                 self.note_leaves(desk, paper);
+                self.note_map(paper);
             }
         }
     }
@@ -144,6 +152,14 @@ impl<A: Allocator> Lost<A> {
     // The page after an overflow page, or the next trunk.
     fn note_next(&mut self, paper: &Paper<A>) {
         self.named.set(paper.number_at(0).unwrap_or(0));
+    }
+
+    // Page 2, if it begins with one of the five types of an entry of the pointer map.
+    fn note_map(&mut self, paper: &Paper<A>) {
+        let kind = paper.short_at(0).unwrap_or(0) / 256;
+        if paper.page() == 2 && kind >= 1 && kind <= 5 {
+            self.has_map = true;
+        }
     }
 
     // The leaves of a trunk, if each of them is lost, or was taken for a trunk.
