@@ -396,6 +396,10 @@ pointer() {
     row 'integers and texts' are_put_back 1032 '\0\0\0\0' 2022 '\0\0\0\0'
     made "CREATE TABLE t(a); CREATE INDEX i ON t(a); CREATE INDEX j ON t(a DESC); $(up_to 150) INSERT INTO t SELECT n * 7919 % 1009 FROM k"
     row 'keys that rise and keys that fall' are_put_back 1544 '\0\0\0\014'
+    # The second column falls where the first one is the same.
+    made "CREATE TABLE t(a, b); CREATE INDEX i ON t(a, b DESC); $(up_to 60)
+        INSERT INTO t SELECT printf('r%02d', n / 9), printf('row number %05d', n * 53 % 60) FROM k; CREATE INDEX j ON t(a, b DESC)"
+    row 'children of two indexes whose columns go different ways' are_put_back 1032 '\0\0\0\0' 6057 '\0\0\0\0'
 }
 
 @test 'mend finds which leaf of an index is where by texts and blobs, empty ones, zero and numbers below it' {
@@ -724,6 +728,76 @@ END
         row "cell $cell of 20003 bytes, of two bytes" are_put_back $(($(length_at 2 "$cell") + 1)) '\034'
     done
     [ "$rows" = 60 ]
+}
+
+# Eight pages of a table are kept, and then still those of an index.
+@test 'beside 9 leaves of a table that are lost for good mend finds the child of an index' {
+    needs sqlite3
+    made "CREATE TABLE t(a); CREATE TABLE u(a); CREATE INDEX i ON u(a); $(up_to 200) INSERT INTO t SELECT printf('row number %d', n) FROM k;
+        $(up_to 100) INSERT INTO u SELECT printf('row number %03d', n) FROM k"
+    row 'the child' [ "$(number_at 2002 4)" = 14 ]
+    printf '%512s' '' | tr ' ' x | dd of="$work/x.db" bs=512 seek=1 conv=notrunc status=none
+    put_at "$work/x.db" 2002 '\0\0\0\0'
+    dbck mend "$work/x.db"
+    row 'it is found' ended 1 $'*at byte 2002 put 0000000e for 00000000\n    page 4 at byte 1536\n    9 faults are left\n9 faults are left\n' ''
+}
+
+# The rows of the schema are looked at as the changes before leave them.
+@test 'mend finds three roots of tables and indexes, one after another' {
+    local number
+    needs sqlite3
+    made "$(for number in 0 1 2 3 4; do echo "CREATE TABLE a$number(x, y); CREATE INDEX i$number ON a$number(x);"; done)
+        CREATE TABLE w(k PRIMARY KEY, v) WITHOUT ROWID; INSERT INTO a1 VALUES (1, 2)" 4096
+    row 'three roots' are_put_back "$(root_at 'CREATE TABLE a1(')" '\06' "$(root_at 'CREATE TABLE a4(')" '\010' "$(root_at 'CREATE INDEX i4 ')" '\02'
+}
+
+# A rowid of four bytes; a length that was made longer than three; more columns than one byte of a header is for; page 1; a key with fragments
+# beside it; and of many cells the last.
+@test 'mend finds lengths after long rowids, of many columns, of page 1 and of many cells, and beside them the numbers that are wrong' {
+    local at bytes columns
+    needs sqlite3
+    made "CREATE TABLE t(id INTEGER PRIMARY KEY, a); $(up_to 12) INSERT INTO t SELECT n + 3000000, printf('row number %d', n) FROM k"
+    for bytes in 13 18; do
+        row "a length before a rowid of four bytes, put $bytes" are_put_back "$(length_at 2 5)" "$(varint "$bytes")"
+    done
+    made "CREATE TABLE t(a); $(up_to 2) INSERT INTO t SELECT printf('%020000d', n) FROM k"
+    row 'a length of three bytes, put one of more' are_put_back $(($(length_at 2 0) + 2)) '\0244'
+    columns=$(printf 'c%d,' {0..59})
+    made "CREATE TABLE t(${columns%,}); $(up_to 3) INSERT INTO t SELECT $(printf 'n,%.0s' {1..59})n FROM k"
+    for bytes in 118 124; do
+        row "the length of a row of 60 columns, put $bytes" are_put_back "$(length_at 2 1)" "$(varint "$bytes")"
+    done
+    made 'CREATE TABLE t(a); CREATE TABLE u(b); CREATE TABLE v(c)'
+    for at in 446 413; do
+        for bytes in '\034' '\042'; do
+            row "the length of a row of the schema at $at, put $bytes" are_put_back "$at" "$bytes"
+        done
+    done
+    made "CREATE TABLE t(a); $(up_to 150) INSERT INTO t SELECT printf('row number %d', n) FROM k" 4096
+    row 'the fragments of a page of 150 cells' are_put_back 4103 '\05'
+    made "CREATE TABLE t(a); $(up_to 20) INSERT INTO t SELECT printf('row number %d', n) FROM k; DELETE FROM t WHERE rowid = 7"
+    row 'the type of a page with a freeblock' are_put_back 512 '\012'
+    made "$(printf 'CREATE TABLE table_with_name_%d(aaaaaaaaaaaaaaaaaaaaaaaaaaaa, b);' {1..30})"
+    for at in 112 114 116; do
+        row "a pointer of page 1 above others, at $at" are_put_back "$at" '\0\0'
+    done
+    [ "$rows" = 14 ]
+}
+
+# Of the pages that say how many bytes are reserved, none may be read with another number.
+@test 'mend finds how many bytes are reserved, and entries of the pointer map of pages with reserved bytes' {
+    local bytes
+    needs sqlite3
+    reserving 12 "CREATE TABLE t(a); CREATE INDEX i ON t(a); $(up_to 60) INSERT INTO t SELECT printf('row number %d', n) FROM k"
+    for bytes in '\0' '\04' '\010' '\013'; do
+        row "reserved bytes, put $bytes" are_put_back 20 "$bytes"
+    done
+    rm -f "$work/x.db"
+    sqlite3 "$work/x.db" '.filectrl reserve_bytes 8' "PRAGMA page_size = 512; PRAGMA auto_vacuum = 1; CREATE TABLE t(a); CREATE INDEX i ON t(a);
+        $(up_to 20) INSERT INTO t SELECT printf('row number %d', n) FROM k" > "$work/said"
+    row 'the type of the first entry' are_put_back 512 '\05'
+    row 'the type of the second entry' are_put_back 517 '\02'
+    [ "$rows" = 6 ]
 }
 
 # One byte later a cell of an index begins with the length of its header, so it is a short one, and no fault but P09 says so.
