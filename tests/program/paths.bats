@@ -45,3 +45,20 @@ of_path() {
         of_path 'no path' 4 '' "dbck: note: ${path%.db}: No such file or directory"$'\n'"$unread" check "${path%.db}"
     done
 }
+
+# A path is what it is: no suffix, scheme or end of it is guessed, and an empty word is a word.
+@test 'no other file is opened than the one of the path, and no word is left out' {
+    local command
+    cp "$data/whole.db" "$work/x.db"
+    cp "$data/whole.db" "$work/--"
+    cd "$work" || return
+    for command in "${five[@]}"; do
+        exactly 4 '' $'dbck: note: x: No such file or directory\n'"$unread" "$command" x
+        exactly 4 '' $'dbck: note: file:x.db: No such file or directory\n'"$unread" "$command" file:x.db
+        exactly 4 '' $'dbck: note: x.db/: Not a directory\n'"$unread" "$command" x.db/
+        dbck "$command" '' x.db
+        row "dbck $command, an empty word and a path" ended 2 '' "dbck: unexpected argument 'x.db' found*"
+    done
+    exactly 0 $'ok\n' '' check -- --
+    [ "$rows" = 21 ]
+}

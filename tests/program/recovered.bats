@@ -892,3 +892,32 @@ END
     needs python3 cc
     python3 tests/failing.py "$DBCK" "$work/failing"
 }
+
+# The calls are made in the folder of the files, as by a user there.
+@test 'the logs of a name without a folder lie beside it, and a log may be a link' {
+    local words name option
+    paired
+    mkdir "$work/linked"
+    cp "$work/pair.db" "$work/linked"
+    cp "$work/pair.db-wal" "$work/linked/log"
+    ln -s log "$work/linked/pair.db-wal"
+    cd "$work" || return
+    for words in check explain map 'stat --all' 'stat --aggregate'; do
+        for option in '' --recovered; do
+            # shellcheck disable=SC2086
+            dbck $words $option "$work/pair.db"
+            cp "$work/out" "$work/wanted"
+            sed "s|$work/||g" "$work/err" > "$work/notes"
+            row "a note of $words $option" grep -q '^dbck: note: pair.db-wal[: ]' "$work/notes"
+            for name in pair.db ./pair.db linked/pair.db "$work/linked/pair.db"; do
+                # shellcheck disable=SC2086
+                dbck $words $option "$name"
+                sed -i "s|${name%pair.db}pair.db|pair.db|g" "$work/out" "$work/err"
+                sed "s|$work/||g" "$work/wanted" > "$work/named"
+                row "$words $option $name" cmp "$work/named" "$work/out"
+                row "the notes of $words $option $name" cmp "$work/notes" "$work/err"
+            done
+        done
+    done
+    [ "$rows" = 90 ]
+}

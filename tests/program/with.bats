@@ -125,6 +125,10 @@ x=00|the offset is not a number from 0 to 18446744073709551615
 5=0000000000000000000000000000000000|there are more than 16 bytes
 ROWS
     # A control character reaches no terminal.
+    # Of more than one it is the wrong one that is named, and why it is wrong. A long word is named as a whole.
+    refuses 6=0g 'a byte is not two digits of 0 to 9 and a to f' --with 5=00 --with 6=0g
+    refuses x=00 'the offset is not a number from 0 to 18446744073709551615' --with 5=00 --with x=00 --with 7=0g
+    refuses "5=$(printf '0%.0s' {1..100})" 'there are more than 16 bytes' --with "5=$(printf '0%.0s' {1..100})"
     refuses '5=\x1b[2J' 'a byte is not two digits of 0 to 9 and a to f' --with $'5=\e[2J'
     exactly 2 '' $'dbck: a value is required for \'--with <OFFSET=HEX>\' but none was supplied\n\nFor more information, try \'--help\'.\n' check --with
 }
@@ -140,6 +144,13 @@ ROWS
     noted "$data/empty.db" 16
     exactly 0 $'ok\n' "$note" check "${words[@]}" "$data/empty.db"
     refuses '416=00' 'it comes after 16 others, and no more are taken' "${words[@]}" --with 416=00
+    # All 256 bytes that there may be.
+    words=()
+    for at in {100..355..16}; do
+        words+=(--with "$at=$(od -An -tx1 -j"$at" -N16 "$data/whole.db" | tr -d ' \n')")
+    done
+    noted "$data/whole.db" 256
+    exactly 0 $'ok\n' "$note" check "${words[@]}" "$data/whole.db"
 }
 
 # beside FILE CHANGES..: each command writes of the file with changes what it writes of a copy in which they are written.
