@@ -1,5 +1,6 @@
 #!/usr/bin/env python3
-"""Makes large databases: make.py tables COUNT LENGTH FILE, long GIB FILE, far FILE, beyond FILE, back COUNT FILE, halves COUNT FILE.
+"""Makes large databases: make.py tables COUNT LENGTH FILE, long GIB FILE, far FILE, high SIZE FILE, beyond FILE,
+back COUNT FILE, halves COUNT FILE.
 
 The first two are sound. A `tables` file has as many tables as COUNT, each with a name of LENGTH bytes and an empty page of 512 bytes. First
 comes its schema, a tree in levels, and then the roots, in the order of their rows.
@@ -9,6 +10,9 @@ of the freelist, whose trunks lie all over the file.
 
 A `far` file has pages of 4096 bytes, and little more than 4 GiB. A row's overflow pages follow one another up to page 40; the others do from
 2^32 bytes after page 36 on, to the end of the file. No other page above 2 is in use.
+
+A `high` file has pages of SIZE bytes, 4096 at least, of which a table's 400 leaves are the last; they follow one another from 2^32 bytes on. No
+other page above 2 is in use.
 
 A `beyond` file has pages of 65536 bytes, and more than 73 GiB. A row's overflow chain is in its last 300 pages.
 
@@ -141,6 +145,16 @@ def far(path):
     chained(path, 4096, 489, beyond + 64, [*range(3, 41), *range(beyond + 36, beyond + 65)])
 
 
+def high(size, path):
+    below, count = (1 << 32) // size, 400
+    db = Sparse(path, below + count, size)
+    db.tree_page(1, LEAF_TABLE, [row(1, "t", 2)])
+    db.interior(2, below + count, *((below + k, k) for k in range(1, count)))
+    for k in range(1, count + 1):
+        db.leaf(below + k, k)
+    db.file.close()
+
+
 def beyond(path):
     first = 1200001
     chained(path, 65536, 8199, first + 299, range(first, first + 300))
@@ -164,6 +178,8 @@ if __name__ == "__main__":
         tables(int(sys.argv[2]), int(sys.argv[3]), sys.argv[4])
     elif sys.argv[1] == "far":
         far(sys.argv[2])
+    elif sys.argv[1] == "high":
+        high(int(sys.argv[2]), sys.argv[3])
     elif sys.argv[1] == "beyond":
         beyond(sys.argv[2])
     elif sys.argv[1] == "back":

@@ -288,6 +288,19 @@ in_room() {
     exactly 1 $'N01 page 41 item 0 value 0: page is not in use\nmore 1048569\n' '' check --limit 1 "$work/x.db"
 }
 
+# high SIZE: of a file whose last 400 pages alone are above 4 GiB, these and the first two are in use. One of the others is the lock-byte page.
+high() {
+    made high "$1" "$work/x.db"
+    dbck check --limit 1 "$work/x.db"
+    ended_exactly 1 $'N01 page 3 item 0 value 0: page is not in use\nmore '$(((1 << 32) / $1 - 4))$'\n' ''
+}
+
+# Those of 4096 bytes are read in longer and longer reads, and of longer ones some in two parts.
+@test 'leaves that follow one another above 4 GiB are read from where they are' {
+    local size
+    for size in 4096 8192 16384 32768 65536; do row "leaves of $size bytes" high "$size"; done
+}
+
 # Where the file system has such lengths.
 @test 'a file of a PiB takes no memory for its length' {
     local folder memory
