@@ -297,6 +297,23 @@ is_rolled_back() {
     is_rolled_back
 }
 
+@test 'a journal that names a super-journal is rolled back where its name is not ASCII' {
+    local name=$work/$'m\u00e4in.db-mj1'
+    journaled_alone
+    name_super "$name"
+    cold "names the super-journal $name, which is not here, and is not rolled back (see the manual)"
+    echo then.db-journal > "$name"
+    is_rolled_back
+}
+
+# It has the name of each database that the transaction wrote.
+@test 'a journal that names a super-journal is rolled back where that is long' {
+    journaled_alone
+    name_super "$work/main.db-mj1"
+    { echo then.db-journal && head -c 100000 /dev/zero; } > "$work/main.db-mj1"
+    is_rolled_back
+}
+
 @test 'of a super-journal whose name is not UTF-8 it is not known whether it is here' {
     local name=$work/$'main\xff.db-mj1'
     journaled_alone
