@@ -124,6 +124,22 @@ counted() {
     is_report 1 "$work/wanted"
 }
 
+# Page 2097153 is the lock-byte page, which is not lost.
+@test 'more than three million rows and as many lines of faults, of more than 128 MiB each' {
+    cp "$data/empty.db" "$work/x.db"
+    sparse "$work/x.db" $((512 * 3200000))
+    within 60 stat --all "$work/x.db"
+    [ "$status" = 1 ]
+    printf %s "$page" > "$work/rows"
+    seq 2 3200000 | awk -v rows="$work/rows" -v faults="$work/faults" '{
+        printf "-\t-\t%d\t%s\t0\t0\t0\t0\t%d\t512\n", $1, $1 == 2097153 ? "lock" : "unowned", 512 * ($1 - 1) >> rows
+        if ($1 != 2097153) print "N01 page " $1 " item 0 value 0: page is not in use" > faults }'
+    cmp "$work/out" "$work/rows"
+    cmp "$work/err" "$work/faults"
+    [ "$(wc -c < "$work/rows")" -gt 134217728 ]
+    [ "$(wc -c < "$work/faults")" -gt 134217728 ]
+}
+
 # long_file GIB: makes a file of so many GiB whose pages are all in use, and whose last byte can be reached.
 long_file() {
     sparse "$work/none" $(($1 << 30))
@@ -299,6 +315,13 @@ high() {
 @test 'leaves that follow one another above 4 GiB are read from where they are' {
     local size
     for size in 4096 8192 16384 32768 65536; do row "leaves of $size bytes" high "$size"; done
+}
+
+# 2^32 bytes after the page and 265 more.
+@test 'bytes after the last page are counted one by one in a file of more than 4 GiB' {
+    changed x 28 '\0\0\0\01'
+    sparse "$work/x.db" $(((1 << 32) + 777))
+    exactly 0 $'ok\n' $'dbck: note: 4294967561 bytes after page 1 are not read, 8388608 whole pages among them\n' check "$work/x.db"
 }
 
 # Where the file system has such lengths.
