@@ -105,6 +105,36 @@ END
     [ $((many - few)) -lt $((12 * 983040 / 1024)) ]
 }
 
+# ends_in_all_room SETTING..: in each address space, from one that is too small for the program to begin up to 1600 KiB beyond the first in which
+# it says of x.db that it is sound, it says so or that it has no memory.
+ends_in_all_room() {
+    local kib began='' beyond=0
+    for ((kib = 3000; beyond < 32; kib += 50)); do
+        [ "$kib" -lt 65536 ] || fail "no end in $kib KiB" || return
+        status=0
+        # shellcheck disable=SC2163
+        (export "$@" && ulimit -v "$kib" && exec "$DBCK" check "$work/x.db" > "$work/out" 2> "$work/err" < /dev/null 3>&-) || status=$?
+        case $status in
+            0) ended 0 $'ok\n' '?(ERROR: ld.so: *)' ;;
+            5) ended 5 '' $'?(ERROR: ld.so: *)dbck: E9 out of memory\n' ;;
+            *) [[ -z $began && $status != [134] ]] || differs 'ok or E9' ;;
+        esac || fail "in $kib KiB" || return
+        [[ $status != [05] ]] || began=1
+        if [ "$status" = 0 ] || [ "$beyond" -gt 0 ]; then beyond=$((beyond + 1)); fi
+    done
+}
+
+# The pages follow one another, so that there are buffers for many: one of 256 KiB, and where a read takes long also one of a MiB.
+@test 'without the memory for what is read at once pages are read one by one' {
+    local setting
+    needs cc
+    row_of 4000 4096 "$work/x.db"
+    for setting in "${disks[@]}"; do
+        on_disk "$setting"
+        row "$setting" ends_in_all_room "${as[@]:1}"
+    done
+}
+
 # There is no room in 40 MB for this file.
 @test 'a file on a disk takes no memory for its length' {
     row_of 1200 65536 "$work/x.db"
