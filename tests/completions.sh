@@ -63,10 +63,12 @@ compare '_dbck: help'
 sed -n "/seen_subcommand_from help'/s/.* -a '\([a-z ]*\)'.*/\1/p" dbck.fish | tr ' ' '\n' | LC_ALL=C sort > "$work/words"
 compare 'dbck.fish: help'
 
-# After -- only files are offered: also one whose name begins with a dash. Before it that one is offered with its folder.
+# After -- only files are offered: also one whose name begins with a dash. Before it that one is offered with its folder. A name may end in
+# any way, and comes after options and their values, too: bash splits those at each =.
 mkdir "$work/files"
 : > "$work/files/--limit.db"
 : > "$work/files/x-y.db"
+: > "$work/files/x.sqlite"
 words=$(
     . ./dbck.bash
     cd "$work/files" || exit
@@ -77,10 +79,14 @@ words=$(
         COMP_WORDS=(dbck "$command" '') COMP_CWORD=2
         _dbck
         printf '%s\n' "$command:" "${COMPREPLY[@]}" | LC_ALL=C sort
+        COMP_WORDS=(dbck "$command" --with 5 '=' 00 '') COMP_CWORD=6
+        _dbck
+        printf '%s\n' "$command:" "${COMPREPLY[@]}" | LC_ALL=C sort
     done
 )
 for command in check explain map mend stat; do
-    printf '%s\n' "$command: --limit.db" ./--limit.db "$command:" x-y.db
+    printf '%s\n' "$command: --limit.db"
+    printf '%s\n' ./--limit.db "$command:" x-y.db x.sqlite ./--limit.db "$command:" x-y.db x.sqlite
 done > "$work/help"
 echo "$words" > "$work/words"
 compare 'dbck.bash: files'
