@@ -74,7 +74,7 @@ if [ -z "$encoding" ]; then
     esac
 fi
 
-# pass: passes messages on to the log. Most of sqlite3 are of the damaged file; these tell that something was not written.
+# pass: passes messages on to the log. Most of those of sqlite3 are about the damaged file; these say that a write failed.
 pass() {
     awk '/: (database or disk is full|disk I\/O error)( \([0-9]+\))?$|^sqlite3 was killed/ { lost = 1 }
         { print }
@@ -303,10 +303,9 @@ SQL
 sql damaged.db 'PRAGMA writable_schema = ON; SELECT count(*) FROM sqlite_schema' > run.out 2>&1 ||
     echo 'SQLite cannot read the schema, so that .dump gave nothing'
 [ ! -s recover.log ] || printf '.recover came to no end: %s\n' "$(cat recover.log)"
-[ -e all-written ] || lost=yes
 cd "$before" || exit 2
 mv "$work/new.db" "$new" || exit 2
 for file in replaced.db dumped.db both-ways.log; do
     mv "$work/$file" "$beside/$file" || exit 2
 done
-[ -z "${lost-}" ] || die "not all of $new, replaced.db and dumped.db could be written or counted: $beside/both-ways.log says why"
+[ -e "$work/all-written" ] || die "not all of $new, replaced.db and dumped.db could be written or counted: $beside/both-ways.log says why"
