@@ -44,13 +44,13 @@ pub(crate) struct Step {
     column: u32,
 }
 
-// That of keys of which no column is known to differ.
-const UNKNOWN: Step = Step {
-    order: Order::Unknown,
-    column: 0,
-};
-
 impl Step {
+    // That of keys of which no column is known to differ.
+    const UNKNOWN: Step = Step {
+        order: Order::Unknown,
+        column: 0,
+    };
+
     // Whether it rises in the column in which another one falls.
     pub(crate) fn is_against(&self, other: &Step) -> bool {
         self.order == Order::Rising && other.order == Order::Falling && self.column == other.column
@@ -208,7 +208,7 @@ impl Key {
                 column: 0,
             },
             (Key::Record(a), Key::Record(b)) => of_records(a.bytes(), b.bytes(), folded),
-            _ => UNKNOWN,
+            _ => Step::UNKNOWN,
         }
     }
 
@@ -348,12 +348,12 @@ fn of_columns(a: &Column<'_>, b: &Column<'_>, folded: bool) -> Order {
 fn of_records(a: &[u8], b: &[u8], folded: bool) -> Step {
     for column in 0..MOST_COLUMNS {
         let (Some(x), Some(y)) = (column_at(a, column), column_at(b, column)) else {
-            return UNKNOWN;
+            return Step::UNKNOWN;
         };
         let order = of_columns(&x, &y, folded);
         if order != Order::Same {
             return Step { order, column };
         }
     }
-    UNKNOWN
+    Step::UNKNOWN
 }

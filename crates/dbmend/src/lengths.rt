@@ -1,7 +1,6 @@
 // The length of a payload, which its record says too (Database File Format, 1.6 and 2.1).
 use crate::key::after;
 use crate::numbers::add_at;
-use crate::pointers::pointer_place;
 use crate::ranked::Ranked;
 use crate::reading::Paper;
 use arrayvec::ArrayVec;
@@ -9,9 +8,6 @@ use dbbytes::{serial_len, varint};
 use dbpage::PageView;
 use dbscan::PageKind;
 use std::alloc::Allocator;
-
-// How many columns a record has at most.
-const MOST_COLUMNS: u32 = 32767;
 
 // How many bytes a length takes at most that is tried, and what it is at most.
 const MOST_BYTES: usize = 3;
@@ -29,7 +25,7 @@ fn record_len(bytes: &[u8]) -> Option<u64> {
     }
     let mut at = first as u64;
     let mut len = size;
-    for _ in 0..MOST_COLUMNS {
+    for _ in 0..bytes.len() {
         if at >= size {
             break;
         }
@@ -82,7 +78,7 @@ fn stored(number: u64) -> ArrayVec<u8, 3> {
     bytes
 }
 
-// How long the record is that comes after a length of so many bytes, and after a rowid if there is one.
+// The length of the record after a payload length of `taken` bytes, and after the rowid if the cell has one.
 fn len_after(bytes: &[u8], taken: usize, has_rowid: bool) -> Option<u64> {
     let rest = after(bytes, taken as u64);
     let skipped = if has_rowid { varint(rest)?.1 } else { 0 };
@@ -132,13 +128,13 @@ pub(crate) fn add_lengths<A: Allocator>(tries: &mut Ranked, paper: &Paper<A>) {
     let points = if is_one { 40 } else { 31 };
     let mut left = MOST_CUT;
     for cell in 0..view.cells() {
+        let offset = view.item_offset(cell);
         if left > 0
-            && let Some(pointer) = paper.short_at(pointer_place(paper, &view, cell))
-            && pointer >= paper.start()
+            && offset >= paper.start()
             && add_length(
                 tries,
                 paper,
-                pointer.saturating_add(before),
+                offset.saturating_add(before),
                 has_rowid,
                 points,
             )

@@ -156,9 +156,8 @@ impl<A: Allocator> Lost<A> {
 
     // Page 2, if it begins with one of the five types of an entry of the pointer map.
     fn note_map(&mut self, paper: &Paper<A>) {
-        let kind = paper.short_at(0).unwrap_or(0) / 256;
-        if paper.page() == 2 && kind >= 1 && kind <= 5 {
-            self.has_map = true;
+        if paper.page() == 2 {
+            self.has_map = matches!(paper.short_at(0).unwrap_or(0) / 256, 1..=5);
         }
     }
 

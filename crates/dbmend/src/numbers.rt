@@ -78,10 +78,10 @@ fn filled_as<A: Allocator>(paper: &mut Paper<A>, kind: u8) -> Option<Fill> {
 
 // How well another type fits the page, if it may be one of this type: with no byte left over it fits better. In place of a type that is known
 // only one with which each cell can be read, and no record is cut that was whole: another one may hide what is wrong with its cells.
-fn type_points<A: Allocator>(paper: &mut Paper<A>, kind: u8, stated: &Option<Fill>) -> Option<u32> {
+fn type_points<A: Allocator>(paper: &mut Paper<A>, kind: u8, whole: Option<u32>) -> Option<u32> {
     let other = filled_as(paper, kind)?;
-    if let Some(stated) = stated
-        && (other.gap.is_none() || other.whole < stated.whole)
+    if let Some(whole) = whole
+        && (other.gap.is_none() || other.whole < whole)
     {
         return None;
     }
@@ -95,10 +95,10 @@ pub(crate) fn add_types<A: Allocator>(tries: &mut Ranked, paper: &mut Paper<A>) 
         return;
     }
     let was = type_byte(bytes, paper.page());
-    let stated = filled_as(paper, was);
+    let whole = paper.view().map(|view| whole_records(&view));
     for kind in TYPES {
         if kind != was
-            && let Some(points) = type_points(paper, kind, &stated)
+            && let Some(points) = type_points(paper, kind, whole)
         {
             add_at(tries, paper, head(paper), &[kind], points);
         }

@@ -12,7 +12,7 @@ use dbpage::PageView;
 use std::alloc::Allocator;
 
 // Where a page has the pointer of a cell.
-pub(crate) fn pointer_place<A: Allocator>(paper: &Paper<A>, view: &PageView<'_>, cell: u32) -> u32 {
+fn pointer_place<A: Allocator>(paper: &Paper<A>, view: &PageView<'_>, cell: u32) -> u32 {
     let begins = head(paper) + if view.kind().is_interior() { 12 } else { 8 };
     cell.saturating_mul(2).saturating_add(begins)
 }
