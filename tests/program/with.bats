@@ -121,6 +121,7 @@ x=00|the offset is not a number from 0 to 18446744073709551615
 5=000|the last byte has one digit and not two
 5=0g|a byte is not two digits of 0 to 9 and a to f
 5=0x00|a byte is not two digits of 0 to 9 and a to f
+5=00,6=00|a byte is not two digits of 0 to 9 and a to f
 5=00=0|a byte is not two digits of 0 to 9 and a to f
 5=0000000000000000000000000000000000|there are more than 16 bytes
 ROWS

@@ -71,9 +71,6 @@ fn bytes_of(digits: &[u8]) -> Result<ArrayVec<u8, 16>, SpellingError>
     ensures refused { IfErr result (λ error. (bytes : List ℕ) → length bytes ≤ 16 → SpellsBytes digits.now bytes → ⊥) }
 {
     let count = digits.len() / 2;
-    if count * 2 != digits.len() {
-        return Err(SpellingError::OneDigit);
-    }
     if count > 16 {
         return Err(SpellingError::TooLong);
     }
@@ -83,6 +80,9 @@ fn bytes_of(digits: &[u8]) -> Result<ArrayVec<u8, 16>, SpellingError>
             Some(byte) => bytes.push(byte),
             None => return Err(SpellingError::NoDigits),
         }
+    }
+    if count * 2 != digits.len() {
+        return Err(SpellingError::OneDigit);
     }
     Ok(bytes)
 }
