@@ -446,6 +446,21 @@ END
     [ "$rows" = 29 ]
 }
 
+# The columns of a key go different ways, so in the order of the cells each rises as often as it falls.
+@test 'mend finds a cell pointer of an index of columns that go different ways, where it leads to another cell' {
+    local sql cell other
+    needs sqlite3
+    for sql in 'CREATE TABLE w(a INT, b INT, PRIMARY KEY(a DESC, b)) WITHOUT ROWID' 'CREATE TABLE t(a INT, b INT); CREATE INDEX w ON t(a, b DESC)'; do
+        made "$sql; $(up_to 24) INSERT INTO $([[ $sql == *INDEX* ]] && echo t || echo w) SELECT n % 3, n + 10 FROM k"
+        for cell in {0..23}; do
+            for other in $(((cell + 1) % 24)) $(((cell + 9) % 24)); do
+                row "$sql: $other for $cell" are_put_back "$(pointer w "$cell")" "$(short "$(number_at "$(pointer w "$other")")")"
+            done
+        done
+    done
+    [ "$rows" = 96 ]
+}
+
 # To SQLite a capital letter comes before each small one. Without the lost key the five others are in order both with their letters as they are and
 # without regard to case. One key alone is in no order.
 @test 'mend finds the pointer of a key of an index that is before the others, by its letters or as the only other one' {

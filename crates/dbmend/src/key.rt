@@ -41,7 +41,7 @@ pub(crate) enum Order {
 #[derive(Clone, Copy)]
 pub(crate) struct Step {
     pub(crate) order: Order,
-    column: u32,
+    pub(crate) column: u32,
 }
 
 impl Step {

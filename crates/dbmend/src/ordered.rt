@@ -1,6 +1,8 @@
 // Where a key belongs among the cells of a page.
+ghost use Rattle.std.specs.Prelude.{◌<◌};
+
 use crate::fit::{Fit, Span};
-use crate::key::{Key, Order};
+use crate::key::{Key, Order, Step};
 use dbpage::PageView;
 
 // How many cells are looked at to see how the keys of a page go.
@@ -9,24 +11,26 @@ const MOST_STEPS: u32 = 64;
 // How many cells are looked at on each side of one.
 const MOST_LOST: u32 = 16;
 
-// How often a key of a page is above the one before it, and how often below.
+// Of how many columns it is told how their values go. Those after them go with the last of these.
+const MOST_COLUMNS: usize = 4;
+
+// How often a key of a page is above the one before it, and how often below, by the column in which they differ.
 #[derive(Clone, Copy)]
 struct Steps {
-    rises: u32,
-    falls: u32,
+    rises: [u32; 4],
+    falls: [u32; 4],
 }
 
 impl Steps {
     fn of(view: &PageView<'_>, folded: bool) -> Steps {
-        let mut steps = Steps { rises: 0, falls: 0 };
+        let mut steps = Steps {
+            rises: [0; MOST_COLUMNS],
+            falls: [0; MOST_COLUMNS],
+        };
         let mut last = Key::Unknown;
         for i in 0..view.cells().min(MOST_STEPS) {
             let key = Key::of(view, i);
-            match last.order(&key, folded) {
-                Order::Rising => steps.rises = steps.rises.saturating_add(1),
-                Order::Falling => steps.falls = steps.falls.saturating_add(1),
-                Order::Same | Order::Unknown => {}
-            }
+            steps.count(&last.step(&key, folded));
             if key.is_known() {
                 last = key;
             }
@@ -34,23 +38,46 @@ impl Steps {
         steps
     }
 
-    // How many of them go the other way than most.
-    fn against(&self) -> u32 {
-        self.rises.min(self.falls)
+    fn count(&mut self, step: &Step) {
+        let column = place_of(step);
+        match step.order {
+            Order::Rising => self.rises[column] = self.rises[column].saturating_add(1),
+            Order::Falling => self.falls[column] = self.falls[column].saturating_add(1),
+            Order::Same | Order::Unknown => {}
+        }
     }
 
-    // Whether nearly all go one way.
+    // How many of them go the other way than most of their column.
+    fn against(&self) -> u32 {
+        let mut count = 0u32;
+        for (rises, falls) in self.rises.iter().zip(&self.falls) {
+            count = count.saturating_add((*rises).min(*falls));
+        }
+        count
+    }
+
+    // Whether nearly all go the way of their column.
     fn are_clear(&self) -> bool {
-        self.against().saturating_mul(4) < self.rises.max(self.falls)
+        let mut most = 0u32;
+        for (rises, falls) in self.rises.iter().zip(&self.falls) {
+            most = most.saturating_add((*rises).max(*falls));
+        }
+        self.against().saturating_mul(4) < most
     }
 }
 
-// How the keys of a page go: whether capital letters count as small ones, whether they fall, and whether that is clear.
+// Where the steps of a column are counted.
+fn place_of(step: &Step) -> usize
+    ensures { result < 4 }
+{
+    (step.column as usize).min(MOST_COLUMNS - 1)
+}
+
+// How the keys of a page go: whether capital letters count as small ones, in which columns they fall, and whether that is clear.
 #[derive(Clone, Copy)]
 struct Way {
     folded: bool,
-    falls: bool,
-    is_clear: bool,
+    steps: Steps,
 }
 
 impl Way {
@@ -58,21 +85,20 @@ impl Way {
         let plain = Steps::of(view, false);
         let small = Steps::of(view, true);
         let folded = small.against() < plain.against();
-        let steps = if folded { small } else { plain };
         Way {
             folded,
-            falls: steps.falls > steps.rises,
-            is_clear: steps.are_clear(),
+            steps: if folded { small } else { plain },
         }
     }
 
     // Whether one key comes before another.
     fn leads(&self, one: &Key, other: &Key) -> bool {
-        let order = one.order(other, self.folded);
-        if self.falls {
-            order == Order::Falling
+        let step = one.step(other, self.folded);
+        let column = place_of(&step);
+        if self.steps.falls[column] > self.steps.rises[column] {
+            step.order == Order::Falling
         } else {
-            order == Order::Rising
+            step.order == Order::Rising
         }
     }
 }
@@ -137,7 +163,7 @@ impl Rank {
 
     // Whether a key is out of order there, and no fault would say it: that of a record, as no index is checked for its order.
     pub(crate) fn refuses(&self, key: &Key) -> bool {
-        self.way.is_clear && matches!(key, Key::Record(_)) && !self.has_room_for(key)
+        self.way.steps.are_clear() && matches!(key, Key::Record(_)) && !self.has_room_for(key)
     }
 
     // How well a key fits there, of which this number of others come before it.
