@@ -461,6 +461,16 @@ END
     [ "$rows" = 96 ]
 }
 
+# A byte after its start the cell is an index cell too, of one column, and three bytes less. So with three fragmented bytes the page has no fault.
+@test 'mend finds a cell pointer of an index that leads into the cell, to what is a record too' {
+    local cell
+    needs sqlite3
+    made "CREATE TABLE t(a INT); CREATE INDEX i ON t(a); $(up_to 20) INSERT INTO t SELECT n + 200 FROM k"
+    for cell in {0..19}; do
+        row "cell $cell" are_put_back "$(pointer i "$cell")" "$(short $(($(number_at "$(pointer i "$cell")") + 1)))"
+    done
+}
+
 # To SQLite a capital letter comes before each small one. Without the lost key the five others are in order both with their letters as they are and
 # without regard to case. One key alone is in no order.
 @test 'mend finds the pointer of a key of an index that is before the others, by its letters or as the only other one' {

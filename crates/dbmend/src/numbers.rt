@@ -2,6 +2,7 @@
 ghost use Rattle.std.specs.Prelude.{◌≤◌};
 
 use crate::gaps::{MOST_FRAGMENT, longest_gap};
+use crate::key::Key;
 use crate::lengths::whole_records;
 use crate::ranked::{Ranked, add_try};
 use crate::reading::Paper;
@@ -117,6 +118,17 @@ pub(crate) fn add_leaf<A: Allocator>(tries: &mut Ranked, paper: &mut Paper<A>) {
     }
 }
 
+// Whether the records of a page have as many columns as its first one. A pointer may lead into a cell, to what is a record too.
+fn are_as_wide(view: &PageView<'_>) -> bool {
+    let first = Key::of(view, 0);
+    for cell in 1..view.cells() {
+        if !Key::of(view, cell).is_as_wide_as(&first) {
+            return false;
+        }
+    }
+    true
+}
+
 // Adds a count of fragmented bytes, unless the record of some cell is cut: bytes of that may be counted.
 pub(crate) fn add_fragments<A: Allocator>(tries: &mut Ranked, paper: &Paper<A>, count: i64) {
     let Some(view) = paper.view() else {
@@ -127,7 +139,7 @@ pub(crate) fn add_fragments<A: Allocator>(tries: &mut Ranked, paper: &Paper<A>, 
         return;
     }
     if let Ok(stored) = u8::try_from(count) {
-        let is_full = longest_gap(paper) <= MOST_FRAGMENT;
+        let is_full = longest_gap(paper) <= MOST_FRAGMENT && are_as_wide(&view);
         let points = if is_full { 38 } else { 20 };
         add_at(tries, paper, head(paper) + 7, &[stored], points);
     }
