@@ -184,7 +184,12 @@ root_at() {
             [ "$one" = $((table + 1)) ] || row "t$table of three, page $one" are_put_back "$(root_at "CREATE TABLE t$table(")" "\\0$one"
         done
     done
-    [ "$rows" = 67 ]
+    # Each row has a page of the schema to itself.
+    made "CREATE TABLE t($(printf 'c%02d, ' {1..60}) z); CREATE TABLE u($(printf 'c%02d, ' {1..60}) z); INSERT INTO t(z) VALUES (1); INSERT INTO u(z) VALUES (2)"
+    one=$(root_at 'CREATE TABLE t(') other=$(root_at 'CREATE TABLE u(')
+    row 'rows on pages of their own' [ $((one / 512)) != $((other / 512)) ]
+    row 'the root of the row on the page before' are_put_back "$other" "\\0$(number_at "$one" 1)"
+    [ "$rows" = 69 ]
 }
 
 # type_of PAGE: the type of a page of x.db; last_child: the last child of page 1.

@@ -102,7 +102,7 @@ fn fits(page: u32, len: u64) -> bool {
 }
 
 // How well a page fits a row: its kind, and whether it is between the root pages of the rows beside it in its page, and after the last one
-// before that. A table without rowids has pages of an index.
+// before that. The more of these are known, the better. A table without rowids has pages of an index.
 fn root_fit(last: u32, beside: (Option<u32>, Option<u32>), place: &RootPlace, root: &Root) -> Fit {
     let points = match (place.kind, root.kind) {
         (Kind::Table, Kind::Table) | (Kind::Index, Kind::Index) => 12,
@@ -114,10 +114,12 @@ fn root_fit(last: u32, beside: (Option<u32>, Option<u32>), place: &RootPlace, ro
     if before.unwrap_or(1) >= page || page >= behind.unwrap_or(u32::MAX) {
         return Fit::new(points, 0);
     }
-    let away = match (before, behind) {
-        (None, _) if last >= page => 2,
-        (_, None) => 1,
-        _ => 0,
+    let is_after = before.is_some() || last > 0;
+    let away = match (is_after, behind) {
+        (true, _) if before.is_none() && last >= page => 3,
+        (false, None) => 2,
+        (true, Some(_)) => 0,
+        _ => 1,
     };
     Fit::new(points + 2, away)
 }
