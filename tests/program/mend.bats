@@ -1162,6 +1162,127 @@ others_are_put_back() {
     [ "$rows" = 6 ]
 }
 
+# named_twice WHAT KEY VALUES [SIZE]: of an index with this key, of 20 rows with such values, each child is put back that names the page of the
+# next one. Which of the two is wrong only the keys say.
+named_twice() {
+    local one other
+    made "CREATE TABLE t(a, b DEFAULT 0); CREATE INDEX i ON t($2); $(up_to 20) INSERT INTO t(a) SELECT $3 FROM k" "${4:-512}"
+    children_of i > "$work/children"
+    while read -r one other; do
+        row "$1: $one, the page of $other" is_put_back "$one" "\\0\\0$(short "$(number_at "$other" 4)")"
+    done < <(tail -n +2 "$work/children" | paste "$work/children" - | awk 'NF == 2')
+}
+
+# With NOCASE _ comes before each letter, and bytes above 127 come after those below. The header of a record of 132 columns has a size of two
+# bytes. Of blobs that go on in overflow pages the first bytes alone are looked at: how many those are says nothing of their order.
+@test 'mend finds which of two children of an index names the page of the other, by letters, prefixes and records of 132 columns' {
+    local places child
+    needs python3 sqlite3
+    named_twice 'letters in any case, and _' 'a COLLATE NOCASE' "substr('_aB', 1 + n % 3, 1) || printf('%060d', n)"
+    named_twice 'letters that are not of ASCII' a "substr('zé', 1 + n % 2, 1) || printf('%060d', n)"
+    named_twice 'texts of which each begins with the one before' a "printf('%0*d', 40 + n * 37 % 41, 0)"
+    named_twice '132 columns' "a$(printf ', b%.0s' {1..130})" 'n * 7919 % 997 - 500' 1024
+    [ "$rows" -gt 7 ]
+    made "CREATE TABLE t(a); CREATE INDEX i ON t(zeroblob(a)); $(up_to 40) INSERT INTO t SELECT n * 7 % 61 * 10 FROM k"
+    mapfile -t places < <(children_of i)
+    for child in 3 4; do
+        row "blobs: the first child, the page of child $child" is_put_back "${places[0]}" "\\0\\0$(short "$(number_at "${places[child]}" 4)")"
+    done
+}
+
+# With the child its own children are lost, of which no other page names the last one.
+@test 'mend finds a child of an index that has many children of its own' {
+    local at
+    needs python3 sqlite3
+    made "CREATE TABLE t(a PRIMARY KEY) WITHOUT ROWID; WITH RECURSIVE k(n) AS (SELECT 300 UNION ALL SELECT n - 1 FROM k WHERE n > 1)
+        INSERT INTO t SELECT printf('%04d%088d', n, 0) FROM k"
+    for at in $(children_of t); do
+        row "the child at $at" are_put_back "$at" '\0\0\0\0'
+    done
+    [ "$rows" -gt 1 ]
+}
+
+# A view has no root page. Where it is the last row of a page of the schema, the root pages go on after that of the table before it.
+@test 'mend finds which table names the root page of the next one, also on the next page of the schema' {
+    local table
+    needs sqlite3
+    made "$(printf 'CREATE TABLE t%d(a); CREATE VIEW v%d AS SELECT 1;' {10..19}{,})"
+    row 'page 1 is an interior page' [ "$(type_of 1)" = 5 ]
+    for table in {10..18}; do
+        row "t$table, the root of the next" is_put_back "$(root_at "CREATE TABLE t$table(")" \
+            "\\0$(printf '%03o' "$(number_at "$(root_at "CREATE TABLE t$((table + 1))(")" 1)")"
+    done
+    [ "$rows" = 10 ]
+}
+
+# later OFFSET BYTES: the pointer there in x.db, if it led so many bytes later, as put_at takes it.
+later() {
+    short $(($(number_at "$1") + $2))
+}
+
+# The bytes that such a pointer leaves out are no fragments. Of two pointers one is 0, and a later one leads into the cell after that: the cell
+# of the later one is not put for the other, where its key would be out of order.
+@test 'mend finds pointers of cells of an index that lead a byte or two late, or into another cell' {
+    local cell bytes pair one other at
+    needs sqlite3
+    made "CREATE TABLE t(a); CREATE INDEX i ON t(a); $(up_to 20) INSERT INTO t SELECT n FROM k"
+    for cell in 1 12 19; do
+        for bytes in 1 2; do
+            at=$(pointer i "$cell")
+            row "cell $cell, $bytes late" is_put_back "$at" "$(later "$at" "$bytes")"
+        done
+    done
+    made "CREATE TABLE t(a); CREATE INDEX i ON t(a); $(up_to 10) INSERT INTO t SELECT 'text ' || (n * 7919 % 211) FROM k"
+    for pair in '0 3' '3 9' '6 8'; do
+        read -r one other <<< "$pair"
+        row "no cell $one, and $other leads into the one after" are_put_back "$(pointer i "$one")" '\0\0' "$(pointer i "$other")" \
+            "$(later "$(pointer i $((one + 1)))" 2)"
+    done
+    [ "$rows" = 9 ]
+}
+
+# A byte late in a row of 70 columns, most of them NULL, is what looks like a cell, but its record has another length than it says. So it is
+# where two pointers lead a byte late or early: then the pointers are wrong, and no length.
+@test 'mend finds two pointers of a table of which one names the cell of the other, or both lead a byte late or early' {
+    local first at cell cells values bytes
+    needs sqlite3
+    made "CREATE TABLE t(a, b$(printf ', c%d' {1..68})); $(up_to 6) INSERT INTO t(a, c68) SELECT n, 'z' || n FROM k"
+    first=$(pointer t 0)
+    for cell in 3 4 5; do
+        at=$(pointer t "$cell")
+        row "the first leads to cell $cell, and that of cell $cell a byte late" are_put_back "$first" "$(later "$at" 0)" "$at" "$(later "$at" 1)"
+    done
+    while read -r values bytes cells; do
+        made "CREATE TABLE t(a); $(up_to 7) INSERT INTO t SELECT $values FROM k"
+        read -r first at <<< "$(pointer t "${cells% *}") $(pointer t "${cells#* }")"
+        row "$values: cells $cells, $bytes later" are_put_back "$first" "$(later "$first" "$bytes")" "$at" "$(later "$at" "$bytes")"
+    done << 'END'
+n%2 1 2 3
+n%2 1 3 4
+-n -1 1 2
+n*10 -1 1 2
+END
+    [ "$rows" = 7 ]
+}
+
+# The bytes of the row in page 3 are those of a trunk of two leaves, itself and the schema, which is in use. And a trunk of a page with 24
+# reserved bytes has room for 120 leaves.
+@test 'mend finds an overflow page that looks like a trunk, and how many leaves a trunk of a page with reserved bytes has' {
+    local bytes
+    needs sqlite3
+    made 'CREATE TABLE t(a); INSERT INTO t VALUES (zeroblob(1200))'
+    row 'the chain begins with page 3' [ "$(number_at 1020 4) $(number_at 1024 4)" = '3 4' ]
+    put_at "$work/x.db" 1028 '\0\0\0\02\0\0\0\03\0\0\0\01'
+    row 'the chain of the row' are_put_back 1020 '\0\0\0\0143'
+    reserving 24 "CREATE TABLE t(a); CREATE TABLE u(a); $(up_to 60) INSERT INTO t SELECT zeroblob(430) FROM k; DELETE FROM t;
+        INSERT INTO u VALUES (zeroblob(2000))"
+    for bytes in '\0170' '\0171' '\0176'; do
+        row "a trunk of $(number_at $((512 * $(number_at 32 4) - 508)) 4) leaves, put $bytes" \
+            are_put_back $((512 * $(number_at 32 4) - 508)) "\\0\\0\\0$bytes"
+    done
+    [ "$rows" = 5 ]
+}
+
 @test 'mend finds the numbers of the header and in the heads and pointers of page 1 and interior pages' {
     needs sqlite3
     while read -r what at bytes; do
