@@ -11,6 +11,7 @@
 //   INTERRUPTED  every second read is interrupted
 //   HIDDEN       what is at a path that ends so cannot be looked at
 //   HIDDEN_LINK  nor whether that path is a link
+//   HIDDEN_ERROR the number of the error of that, if not EIO
 //   OTHER, NAME  the file that is opened where that one is named
 //   UNTAKEN      how many writes to standard error fail before it takes one
 //   OPENED       a file that gets a line for each file that is opened: how, and its path
@@ -107,7 +108,7 @@ int statx(int folder, const char *path, int flags, unsigned mask, struct statx *
     static int (*real)(int, const char *, int, unsigned, struct statx *);
     if (!real) real = (int (*)(int, const char *, int, unsigned, struct statx *))dlsym(RTLD_NEXT, "statx");
     if (ends_with(path, flags & AT_SYMLINK_NOFOLLOW ? "HIDDEN_LINK" : "HIDDEN")) {
-        errno = EIO;
+        errno = number("HIDDEN_ERROR", EIO);
         return -1;
     }
     return real(folder, path, flags, mask, known);

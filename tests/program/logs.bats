@@ -39,6 +39,21 @@ noted() {
     expect 0 $'ok\n' "$wal$journal" check "$work/links/link.db"
 }
 
+# A name may begin with its own folder.
+@test 'the logs of a link in the folder of the caller lie beside what it leads to' {
+    local name
+    mkdir "$work/far"
+    cp "$data/whole.db" "$work/far/x.db"
+    echo log > "$work/far/x.db-wal"
+    ln -s far/x.db "$work/link.db"
+    log_notes "$(realpath "$work")/far/x.db"
+    cd "$work"
+    for name in link.db ./link.db .//link.db far/../link.db; do
+        exactly 0 $'ok\n' "$wal" check "$name"
+        exactly 0 $'ok\n' "${wal/ is not*/ holds nothing that SQLite would read}"$'\n' check --recovered "$name"
+    done
+}
+
 @test 'a note shows control characters of a name, and what turns text around, by codes' {
     local name=$'two\nlines\xc2\x9b\xe2\x80\xae.db'
     noted
@@ -74,13 +89,27 @@ noted() {
     exactly 0 $'ok\n' "$journal" check "$work/x.db"
 }
 
-@test 'a log that the system cannot look at has a note' {
+@test 'a log that leads to itself has a note' {
     cp "$data/whole.db" "$work/x.db"
     log_notes "$work/x.db"
-    on_disk HIDDEN=x.db-wal
+    ln -s x.db-wal "$work/x.db-wal"
     exactly 0 $'ok\n' "$wal" check "$work/x.db"
-    on_disk HIDDEN=x.db-journal
+    rm "$work/x.db-wal"
+    ln -s x.db-journal "$work/x.db-journal"
     exactly 0 $'ok\n' "$journal" check "$work/x.db"
+}
+
+@test 'a log that the system cannot look at has a note' {
+    local error
+    cp "$data/whole.db" "$work/x.db"
+    log_notes "$work/x.db"
+    # EIO, ENXIO, ETIMEDOUT and ESTALE.
+    for error in 5 6 110 116; do
+        on_disk HIDDEN=x.db-wal "HIDDEN_ERROR=$error"
+        exactly 0 $'ok\n' "$wal" check "$work/x.db"
+        on_disk HIDDEN=x.db-journal "HIDDEN_ERROR=$error"
+        exactly 0 $'ok\n' "$journal" check "$work/x.db"
+    done
     on_disk HIDDEN_LINK=x.db
     exactly 0 $'ok\n' "dbck: note: $work/x.db: whether a log is beside it is not known"$'\n' check "$work/x.db"
 }

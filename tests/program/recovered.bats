@@ -418,12 +418,20 @@ recovering() {
 }
 
 @test 'a log that the system cannot look at is E8, and is not passed over' {
-    local suffix
+    local suffix error said
     cp "$data/whole.db" "$work/x.db"
-    for suffix in journal wal; do
-        on_disk "HIDDEN=x.db-$suffix"
-        exactly 4 '' "dbck: note: $work/x.db-$suffix: Input/output error"$'\n'"$unread" check --recovered "$work/x.db"
-    done
+    while read -r error said; do
+        for suffix in journal wal; do
+            on_disk "HIDDEN=x.db-$suffix" "HIDDEN_ERROR=$error"
+            exactly 4 '' "dbck: note: $work/x.db-$suffix: $said"$'\n'"$unread" check --recovered "$work/x.db"
+        done
+    done << 'END'
+5 Input/output error
+6 No such device or address
+110 Connection timed out
+116 Stale file handle
+END
+    [ "$rows" = 8 ]
 }
 
 @test 'a link that the system cannot look at is E8, and its logs are not passed over' {
@@ -722,12 +730,16 @@ END
         note=$(changed_note "$work/$name")
         at_first_note "$change '$work/$name'" check --recovered "$work/x.db"
         row "$name that is written" ended_exactly 0 $'ok\n' "$notes${note%.}"
+        touch "$work/x.db" "$work/x.db-journal"
+        at_first_note "$change '$work/$name'" check --recovered --with 92=0000 "$work/x.db"
+        row "$name that is written, of a file with other bytes" \
+            ended_exactly 0 $'ok\n' "${notes}dbck: note: $work/x.db with 2 other bytes"$'\n'"${note%.}"
     done << 'END'
 x.db touch -d '2001-01-01 00:00:00.1'
 x.db-journal touch -d '2001-01-01 00:00:00.1'
 x.db-wal echo more >>
 END
-    [ "$rows" = 3 ]
+    [ "$rows" = 6 ]
 }
 
 @test 'the note on a log that is written while a link is read names the one that is read' {
@@ -842,6 +854,19 @@ END
     touch -d '2001-01-01' "$work/pair.db-wal"
     dbck stat --all --recovered "$work/pair.db"
     row 'what is reported beside an old log' cmp "$work/out" "$work/wanted"
+}
+
+# Page 1 is whole in the journal alone.
+@test 'a log of another owner is read' {
+    needs python3
+    [ "$(id -u)" = 0 ] || skip 'only root may give files away'
+    paired
+    cp "$data/empty.db" "$work/x.db"
+    journal_of "$work/x.db" <<< 1
+    put_at "$work/x.db" 18 '\011'
+    chown 12345 "$work/x.db-journal" "$work/pair.db-wal" 2> "$work/why" || skip "no other owner here: $(cat "$work/why")"
+    exactly 0 $'ok\n' "dbck: note: $work/x.db-journal: 1 page is read from it; the database had 1 page"$'\n' check --recovered "$work/x.db"
+    exactly 0 $'ok\n' "dbck: note: $work/pair.db-wal: 1 page of 1 transaction is read from it"$'\n' check --recovered "$work/pair.db"
 }
 
 @test 'the logs of a link to a link are those beside the file itself' {
