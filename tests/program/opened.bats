@@ -26,6 +26,15 @@ load common
     done
 }
 
+@test 'the name of a log, or of a resource, is no other name of the database' {
+    local name
+    cp "$data/whole.db" "$work/x.db"
+    for name in "$work/x.db-wal" "$work/x.db-journal" "file://$work/x.db" "file:$work/x.db" "file://localhost$work/x.db"; do
+        exactly 4 '' "dbck: note: $name: No such file or directory"$'\n'"$unread" check "$name"
+        exactly 4 '' "dbck: note: $name: No such file or directory"$'\n'"$unread" check --recovered "$name"
+    done
+}
+
 @test 'a file of which another is a part of the name is no other' {
     cp "$data/empty.db" "$work/sound"
     cp "$data/two-owners.db" "$work/soundx"

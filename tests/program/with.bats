@@ -44,6 +44,29 @@ past() {
     ended_exactly 3 '' "${wal}dbck: note: $work/x.db has 512 bytes"$'\n'"${note%.}"$'dbck: E11 a byte of --with is past the end of the file\n'
 }
 
+@test 'a file that is written while it is read with other bytes has a note' {
+    local command changed
+    cp "$data/whole.db" "$work/x.db"
+    log_notes "$work/x.db"
+    noted "$work/x.db" 2
+    changed=$(changed_note "$work/x.db")
+    for command in check explain map stat; do
+        at_first_note "touch -d '2001-01-01 00:00:00.1' '$work/x.db'" "$command" --with 92=0000 "$work/x.db"
+        row "$command" ended 0 '*' "$wal$note${changed%.}"
+        touch "$work/x.db"
+    done
+}
+
+@test 'bytes after the last page have their note beside other bytes' {
+    local command
+    cp "$data/whole.db" "$work/x.db"
+    truncate -s +700 "$work/x.db"
+    noted "$work/x.db" 2
+    for command in check explain map stat; do
+        expect 0 '*' "${note}dbck: note: 700 bytes after page 13 are not read, 1 whole page among them"$'\n' "$command" --with 92=0000 "$work/x.db"
+    done
+}
+
 @test 'a table whose root names a wrong page is sound with the right one' {
     cp "$data/two-tables.db" "$work/x.db"
     noted "$work/x.db" 4
