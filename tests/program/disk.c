@@ -6,6 +6,7 @@
 //   ERROR        the number of the error of such a read, if not EIO
 //   AT, NAME     a read of that file that begins there fails, and no other read that comes to these bytes
 //   GOOD         how many of those that begin there do not fail before one does
+//   END, NAME    that file ends at this offset for each read, whatever its length is
 //   SHORT        how many bytes a read gives at most
 //   LONGEST      a read that asks for more bytes fails
 //   INTERRUPTED  every second read is interrupted
@@ -14,6 +15,8 @@
 //   HIDDEN_ERROR the number of the error of that, if not EIO
 //   OTHER, NAME  the file that is opened where that one is named
 //   UNTAKEN      how many writes to standard error fail before it takes one
+//   OUT_ERROR    each write to standard output fails with the error of this number
+//   OUT_MOST     how many bytes such a write takes at most
 //   OPENED       a file that gets a line for each file that is opened: how, and its path
 //   READS        a file that gets a line for each read: how many bytes it asks for, and where it begins
 #define _GNU_SOURCE
@@ -90,6 +93,8 @@ ssize_t pread(int file, void *bytes, size_t count, off_t from) {
         }
         count = bad - from;
     }
+    long end = number("END", LONG_MAX);
+    if (from + (off_t)count > end && is_named(file)) count = from < end ? end - from : 0;
     if (from == number("AT", -1) && is_named(file) && ++begun > number("GOOD", 0)) {
         errno = EIO;
         return -1;
@@ -134,5 +139,10 @@ ssize_t write(int file, const void *bytes, size_t count) {
         errno = EAGAIN;
         return -1;
     }
-    return real(file, bytes, count);
+    if (file == STDOUT_FILENO && getenv("OUT_ERROR")) {
+        errno = number("OUT_ERROR", 0);
+        return -1;
+    }
+    size_t most = file == STDOUT_FILENO ? number("OUT_MOST", LONG_MAX) : LONG_MAX;
+    return real(file, bytes, count < most ? count : most);
 }

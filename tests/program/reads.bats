@@ -212,28 +212,30 @@ END
 # first one does. Of a slow disk the MiB around it is read before. A longer read of pages of 4096 bytes ends there too, the next one fails,
 # and then one of the page alone.
 @test 'of a block that cannot be read no read is made again' {
-    local bad disk fast page_size slow
-    while read -r page_size bad fast slow; do
+    local bad disk error fast page_size slow
+    while read -r page_size bad fast slow error; do
         rm -f "$work/x.db"
         row_of $((20000000 / page_size)) "$page_size" "$work/x.db"
         for disk in "${disks[@]}"; do
             rm -f "$work/reads"
-            on_disk "$disk" "BAD=$bad" NAME=/x.db "READS=$work/reads"
+            on_disk "$disk" "BAD=$bad" "ERROR=$error" NAME=/x.db "READS=$work/reads"
             dbck check "$work/x.db"
             row "the run where $disk" ended 4 '' "*$unread"
             [ "$disk" = SLOW=0 ] || fast=$slow
-            row "reads of a page of $page_size bytes with a bad block at $bad where $disk" \
+            row "reads of a page of $page_size bytes with a bad block at $bad, error $error, where $disk" \
                 [ "$(awk -v bad="$bad" '$2 < bad + 4096 && $1 + $2 > bad' "$work/reads" | wc -l)" = "$fast" ]
         done
         as=()
     done << 'END'
-65536 2129920 2 3
-65536 2097152 1 1
-65536 2260992 2 3
-4096 4194304 3 3
-4096 4202496 3 3
+65536 2129920 2 3 5
+65536 2129920 2 3 61
+65536 2097152 1 1 5
+65536 2260992 2 3 5
+4096 4194304 3 3 5
+4096 4194304 3 3 61
+4096 4202496 3 3 5
 END
-    [ "$rows" = 20 ]
+    [ "$rows" = 28 ]
 }
 
 @test 'nothing is read after a read that failed' {

@@ -97,6 +97,52 @@ to_full_disk() {
     done
 }
 
+# EIO, EFBIG, EROFS and EDQUOT.
+@test 'a report that cannot be written for any reason ends with 6' {
+    local error said words
+    while read -r error said; do
+        on_disk "OUT_ERROR=$error"
+        for words in check explain map mend 'stat --all'; do
+            # shellcheck disable=SC2086
+            exactly 6 '' "dbck: note: standard output: $said"$'\n'"$unwritten" $words "$data/whole.db"
+        done
+    done << 'END'
+5 Input/output error
+27 File too large
+30 Read-only file system
+122 Disk quota exceeded
+END
+    [ "$rows" = 20 ]
+}
+
+@test 'a report of a database and its log that cannot be written ends with 6' {
+    paired
+    for words in check explain map 'stat --all'; do
+        # shellcheck disable=SC2086
+        to_full_disk $words --recovered "$work/pair.db"
+        row "$words to a full disk" ended 6 '' "dbck: note: $work/pair.db-wal: 1 page of 1 transaction is read from it"$'\n'"$full$unwritten"
+    done
+}
+
+@test 'of a report of which each write takes a part all is written' {
+    local bytes words
+    with_lost "$work/x.db" 3001
+    for words in 'check --limit 3000' 'explain --limit 3000' map 'stat --all'; do
+        as=()
+        # shellcheck disable=SC2086
+        dbck $words "$work/x.db"
+        cp "$work/out" "$work/wanted"
+        for bytes in 100 4096 5000 30000; do
+            on_disk "OUT_MOST=$bytes"
+            # shellcheck disable=SC2086
+            dbck $words "$work/x.db"
+            row "$words by at most $bytes bytes" cmp "$work/out" "$work/wanted"
+            row "the end of $words by at most $bytes bytes" ended 1 '*' '*'
+        done
+    done
+    [ "$rows" = 32 ]
+}
+
 # A file may have 2048 bytes here, and the picture has more.
 @test 'a report whose end does not fit ends with 6' {
     status=0

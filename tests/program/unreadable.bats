@@ -175,13 +175,16 @@ END
 }
 
 @test 'the bytes above 4 GiB that cannot be read are named' {
-    local first at disk
+    local first at disk setting
     needs python3
     first=$(python3 tests/program/make.py long 8 "$work/x.db" | sed -n 's/^first=//p')
     at=$((65536 * (first - 1)))
-    for disk in "${disks[@]}"; do
-        on_disk "$disk" "BAD=$at" NAME=/x.db
-        exactly 4 '' "dbck: note: $work/x.db: the 65536 bytes at $at cannot be read"$'\n'"$unread" check "$work/x.db"
+    # A block that is bad, and a file that ends before or within the page.
+    for setting in "BAD=$at" "END=$at" "END=$((at + 4096))"; do
+        for disk in "${disks[@]}"; do
+            on_disk "$disk" "$setting" NAME=/x.db
+            exactly 4 '' "dbck: note: $work/x.db: the 65536 bytes at $at cannot be read"$'\n'"$unread" check "$work/x.db"
+        done
     done
 }
 
