@@ -212,6 +212,9 @@ END
         done
         # With another page size `mend` reads the page, and all of that is looked at.
         expect 3 $'at byte 16 put 0200 for 0300\n*' "dbck: note: $work/refused.db is not checked"$'\n*dbck: E3 page size is not valid\n' mend "$work/refused.db"
+        # With a byte behind the header that is of no letter it was not copied as text.
+        put_at "$work/refused.db" 300 '\0377'
+        expect 3 $'at byte 16 put 0200 for 0300\n*' "dbck: note: $work/refused.db is not checked"$'\ndbck: E3 page size is not valid\n' mend "$work/refused.db"
     done
     # Eight bytes above 127, and no fewer.
     put_at "$work/refused.db" 80 'aa\0303\0251\0303\0251\0303\0251'
