@@ -56,8 +56,9 @@ END
     row 'make install once more' makes install PREFIX=/usr
     : > "$work/root/usr/bin/other"
     : > "$work/root/usr/share/bash-completion/completions/other"
+    : > "$work/root/usr/share/doc/dbck/other"
     row 'make uninstall beside others' makes uninstall PREFIX=/usr
-    row 'those of others' diff <(files) <(printf '644 usr/%s/other\n' bin share/bash-completion/completions)
+    row 'those of others' diff <(files) <(printf '644 usr/%s/other\n' bin share/bash-completion/completions share/doc/dbck)
 }
 
 # says_nothing COMMAND..: the command ends with 0, and writes nothing.
@@ -100,14 +101,15 @@ says_nothing() {
     row 'the folder' [ -z "$(ls "$work/my root")" ]
 }
 
-@test 'make install and make deb build the program first' {
+@test 'make install, make deb and make static build the program first' {
     local target
     needs make
-    for target in install deb; do
+    for target in install deb static; do
         row "make $target" grep -q 'crates/dbck && rt run' <(make -n "$target")
     done
     row 'the version of the package' grep -qx "packaging/make-deb crates/dbck/out/dbck $(make -s version)" <(make -n deb)
-    row 'make static' grep -q -- ' -static ' <(make -n static 2> "$work/why")
+    # It is another file than the program.
+    row 'make static' grep -q -- ' -static -o crates/dbck/out/dbck-static ' <(make -n static 2> "$work/why")
 }
 
 @test 'the package has the same files, examples, and the sums of all' {
@@ -148,6 +150,33 @@ END
     row 'all are those of root' [ "$(dpkg-deb -c "$work/dbck_1.2.3_amd64.deb" | awk '{ print $2 }' | sort -u)" = root/root ]
     # The program of the package answers of the examples what the manual says.
     row 'an example' [ "$("$work/root/usr/bin/dbck" check "$work/root/usr/share/doc/dbck/examples/whole.db")" = ok ]
+}
+
+# make_deb: makes a package in the folder $work/made, with its own folder for temporary files.
+make_deb() {
+    mkdir -p "$work/made" "$work/temporary"
+    (cd "$work/made" && TMPDIR=$work/temporary "$root/packaging/make-deb" "$DBCK" 1.2.3) > "$work/said" 2>&1
+}
+
+# fails COMMAND..: the command ends with another status than 0.
+fails() {
+    ! "$@"
+}
+
+@test 'make-deb leaves nothing but the package, and nothing at all where a tool fails' {
+    local tool
+    needs make install dpkg-deb strip gzip md5sum
+    row 'the package' make_deb
+    row 'what is there' [ "$(cd "$work" && find made temporary -mindepth 1)" = made/dbck_1.2.3_amd64.deb ]
+    rm "$work/made"/*
+    mkdir "$work/bin"
+    for tool in install strip gzip dpkg-deb; do
+        printf '#!/bin/sh\nexit 1\n' > "$work/bin/$tool"
+        chmod 755 "$work/bin/$tool"
+        PATH=$work/bin:$PATH row "$tool fails" fails make_deb
+        row "what is there where $tool fails" [ -z "$(cd "$work" && find made temporary -mindepth 1)" ]
+        rm "$work/bin/$tool"
+    done
 }
 
 # words_of FILE FIRST LAST: the words between two lines of a text, without the signs of a list.
