@@ -187,6 +187,14 @@ takes() {
     row 'the faults that are left out' [ "$(tail -n 1 "$work/out")" = 'more 2' ]
 }
 
+@test 'the statuses are those of the help, in its words' {
+    dbck --help
+    sed -n '/^Exit status:/,$s/^  //p' "$work/out" | grep -oE '[^ ]+' > "$work/wanted"
+    row 'seven statuses' [ "$(grep -cx '[0-6]' "$work/wanted")" = 7 ]
+    row 'the manual' diff "$work/wanted" \
+        <(sed -n '/^\.Sh EXIT STATUS/,/^\.El/{s/^\.It //;s/^\.Nm/dbck/;/^\./!p}' docs/dbck.1 | grep -oE '[^ ]+')
+}
+
 @test 'the manual has no fault of its macros' {
     needs groff
     groff -mandoc -ww -z docs/dbck.1 > "$work/out" 2>&1
