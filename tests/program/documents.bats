@@ -193,6 +193,7 @@ takes() {
     row 'seven statuses' [ "$(grep -cx '[0-6]' "$work/wanted")" = 7 ]
     row 'the manual' diff "$work/wanted" \
         <(sed -n '/^\.Sh EXIT STATUS/,/^\.El/{s/^\.It //;s/^\.Nm/dbck/;/^\./!p}' docs/dbck.1 | grep -oE '[^ ]+')
+    row 'README' diff "$work/wanted" <(sed -n '/^| Exit status/,/^$/s/^| \([0-6]\) | \(.*\) |$/\1 \2/p' README.md | grep -oE '[^ ]+')
 }
 
 @test 'the manual has no fault of its macros' {

@@ -3,7 +3,7 @@
 load common
 
 # with_sqlite: makes $SQLITE3, of which .recover gives what .dump gives: the sqlite3 of a system may have no .recover. It says so in the file
-# `reached`, and waits if there is a file `wait`; and it ends with the message $FAILING, if that is set.
+# `reached`, and waits if there is a file `wait`; it gives no rows if $ROWLESS is set; and it ends with the message $FAILING, if that is set.
 with_sqlite() {
     needs sqlite3 awk realpath
     mkdir "$work/files"
@@ -17,7 +17,7 @@ case ${*: -1} in
 esac
 [ ! -e "$WORK/wait" ] || : > "$WORK/reached"
 while [ -e "$WORK/wait" ]; do sleep 0.01; done
-sqlite3 "${@:1:$#-1}" .dump | sed 's/^INSERT INTO/INSERT OR IGNORE INTO/'
+sqlite3 "${@:1:$#-1}" '.dump --preserve-rowids' | sed "s/^INSERT INTO/INSERT OR IGNORE INTO/;${ROWLESS:+/^INSERT /d}"
 [ -z "${FAILING:-}" ] || { echo "$FAILING" >&2 && exit 1; }
 END
     chmod 755 "$SQLITE3"
@@ -221,6 +221,54 @@ count() {
     mkdir "$work/files/here"
     CDPATH=. makes $'t: 2 rows\n' ./-f/-x.db here/new.db
     row 'the rows with CDPATH' [ "$(count "$work/files/here/new.db")" = 2 ]
+}
+
+@test 'both-ways.sh keeps the rowids, and lets no trigger fire' {
+    local said
+    with_sqlite
+    sqlite3 "$work/files/x.db" "CREATE TABLE t(a); INSERT INTO t(rowid, a) VALUES (1, 'a'), (5, 'b'), (9, 'c'); CREATE TABLE log(n);
+        CREATE TRIGGER g AFTER INSERT ON t BEGIN INSERT INTO log VALUES (new.rowid); END"
+    # The second time all rows come from .dump.
+    for said in '' ', 3 more than .recover found'; do
+        ROWLESS=${said:+1} makes $'log: 0 rows\nt: 3 rows'"$said"$'\n' x.db
+        row "rows and trigger$said" diff - <(sqlite3 "$work/files/new.db" 'SELECT rowid, a FROM t; SELECT name, tbl_name FROM sqlite_schema') << 'END'
+1|a
+5|b
+9|c
+t|t
+log|log
+g|t
+END
+        rm "$work/files"/{new,replaced,dumped}.db "$work/files/both-ways.log"
+    done
+}
+
+# SQLite rolls the journal back in the copy, and writes that.
+@test 'both-ways.sh saves the rows of a file and a journal that may only be read' {
+    with_sqlite
+    needs python3
+    sqlite3 "$work/after.db" "PRAGMA page_size = 512; CREATE TABLE t(a); INSERT INTO t VALUES ('before')"
+    cp "$work/after.db" "$work/files/x.db"
+    journal_of "$work/files/x.db" <<< '1 2'
+    sqlite3 "$work/after.db" "UPDATE t SET a = 'after'"
+    cp "$work/after.db" "$work/files/x.db"
+    chmod 444 "$work/files"/*
+    chmod 777 "$work/files"
+    to_be_nobody
+    makes $'t: 1 row\n' x.db
+    row 'the row' [ "$(sqlite3 "$work/files/new.db" 'SELECT a FROM t')" = before ]
+    row 'the modes' [ "$(stat -c %a "$work/files"/x.db*)" = $'444\n444' ]
+}
+
+@test 'both-ways.sh takes any name of a sqlite3, and none of the settings that the caller has for it' {
+    with_sqlite
+    database "$work/files/x.db" 2
+    # It keeps the words of each run that does not leave the settings out.
+    # shellcheck disable=SC2016
+    printf '#!/bin/bash\n[[ " $* " = *" -init /dev/null "* ]] || echo "$*" >> "$WORK/set"\nexec "$WORK/sqlite" "$@"\n' > "$work/my sqlite"
+    chmod 755 "$work/my sqlite"
+    SQLITE3="$work/my sqlite" makes $'t: 2 rows\n' x.db
+    row 'runs with the settings' [ ! -e "$work/set" ]
 }
 
 # whole_or_said FOLDER ROWS: status 0 if and only if each of three databases has its rows; otherwise the last line says what is not whole.
