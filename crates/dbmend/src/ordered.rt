@@ -14,7 +14,7 @@ const MOST_LOST: u32 = 16;
 // Of how many columns it is told how their values go. Those after them go with the last of these.
 const MOST_COLUMNS: usize = 4;
 
-// How often a key of a page is above the one before it, and how often below, by the column in which they differ.
+// How often a key of a page is above the one before it, and how often below, by the column in which they differ. One cell is left out.
 #[derive(Clone, Copy)]
 struct Steps {
     rises: [u32; 4],
@@ -22,14 +22,18 @@ struct Steps {
 }
 
 impl Steps {
-    fn of(view: &PageView<'_>, folded: bool) -> Steps {
+    fn without(view: &PageView<'_>, cell: u32, folded: bool) -> Steps {
         let mut steps = Steps {
             rises: [0; MOST_COLUMNS],
             falls: [0; MOST_COLUMNS],
         };
         let mut last = Key::Unknown;
         for i in 0..view.cells().min(MOST_STEPS) {
-            let key = Key::of(view, i);
+            let key = if i == cell {
+                Key::Unknown
+            } else {
+                Key::of(view, i)
+            };
             steps.count(&last.step(&key, folded));
             if key.is_known() {
                 last = key;
@@ -81,9 +85,10 @@ struct Way {
 }
 
 impl Way {
-    fn of(view: &PageView<'_>) -> Way {
-        let plain = Steps::of(view, false);
-        let small = Steps::of(view, true);
+    // By the keys of all cells but one: where that is may be wrong.
+    fn without(view: &PageView<'_>, cell: u32) -> Way {
+        let plain = Steps::without(view, cell, false);
+        let small = Steps::without(view, cell, true);
         let folded = small.against() < plain.against();
         Way {
             folded,
@@ -142,7 +147,7 @@ impl Rank {
         let (first, lost) = before(view, cell);
         let last = behind(view, cell);
         Rank {
-            way: Way::of(view),
+            way: Way::without(view, cell),
             keys: Span { first, last },
             lost,
         }
