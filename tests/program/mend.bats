@@ -185,7 +185,7 @@ root_at() {
         done
     done
     # Each row has a page of the schema to itself.
-    made "CREATE TABLE t($(printf 'c%02d, ' {1..60}) z); CREATE TABLE u($(printf 'c%02d, ' {1..60}) z); INSERT INTO t(z) VALUES (1); INSERT INTO u(z) VALUES (2)"
+    made "$(printf 'CREATE TABLE %s(c0'"$(printf ', c%d' {10..69})"'); INSERT INTO %s(c0) VALUES (1);' t t u u)"
     one=$(root_at 'CREATE TABLE t(') other=$(root_at 'CREATE TABLE u(')
     row 'rows on pages of their own' [ $((one / 512)) != $((other / 512)) ]
     row 'the root of the row on the page before' are_put_back "$other" "\\0$(number_at "$one" 1)"
@@ -1645,6 +1645,11 @@ refused() {
 @test 'of databases of which numbers were overwritten, what mend calls ok is sound, and it is most of each kind' {
     needs python3 sqlite3
     row 'numbers overwritten' tests/mend.py --copies 3 --shape rowid-512 --shape full-vacuum-512 --shape freelist-1024 "$DBCK" "$work/numbers"
+}
+
+@test 'mend finds each number of tests/overwritten.py' {
+    needs python3 sqlite3
+    row 'numbers' tests/overwritten.py "$DBCK" "$work/numbers"
 }
 
 @test 'with --with the changes are of the file with these bytes' {

@@ -1,0 +1,230 @@
+#!/usr/bin/env python3
+"""Overwrites a number of a database, and looks whether `dbck mend` puts it back: overwritten.py DBCK FOLDER.
+
+The databases are made in FOLDER. Each line of NUMBERS is a number of one: the offset, its bytes, the number, and the one that is put over it.
+With the changes that `mend` prints the copy has to be as it was, byte for byte, and the last line has to be `ok`, or the status is 1.
+
+The numbers were chosen among thousands that were overwritten by chance. Each condition and each number in the code of `mend` was changed, one at a
+time: of the changes that any of those thousands tells, these few tell nearly all.
+"""
+
+import functools
+import pathlib
+import re
+import subprocess
+import sys
+
+
+def up_to(count):
+    """The beginning of a statement that takes the numbers n from 1 to count from k."""
+    return f"WITH RECURSIVE k(n) AS (SELECT 1 UNION ALL SELECT n + 1 FROM k WHERE n < {count})"
+
+
+LETTERS = "abcdefghijklmnopqrstuvwxyz"
+
+# The page size, how many bytes are reserved at the end of each page, and the statements.
+DATABASES = {
+    # Columns of an index that go different ways, in ordinary tables and in one without rowids.
+    "ways": (512, 0, f"""
+        CREATE TABLE t(a INT, b INT, c TEXT);
+        INSERT INTO t {up_to(150)} SELECT n % 7, n * 37 % 101, 'v' || n FROM k;
+        CREATE INDEX i ON t(a, b DESC);
+        CREATE INDEX j ON t(c DESC, a);"""),
+    "without-rowid": (512, 0, f"""
+        CREATE TABLE w(a INT, b TEXT, c INT, PRIMARY KEY(a DESC, b)) WITHOUT ROWID;
+        INSERT INTO w {up_to(140)} SELECT n % 9, 'k' || (n * 53 % 140), n FROM k;
+        CREATE TABLE z(a INT);
+        INSERT INTO z SELECT c FROM w;
+        CREATE INDEX zi ON z(a);"""),
+    # Texts: capital and small letters and the signs between them, and letters that are not of ASCII.
+    "nocase": (512, 0, f"""
+        CREATE TABLE t(a TEXT COLLATE NOCASE);
+        CREATE INDEX i ON t(a);
+        INSERT INTO t {up_to(160)} SELECT substr('Ab_cD^eF`gHiJ_k', n * 7 % 13 + 1, 3) ||
+            CASE n % 3 WHEN 0 THEN '_' WHEN 1 THEN 'Z' ELSE 'a' END || n FROM k;"""),
+    "utf-16": (512, 0, f"""
+        PRAGMA encoding = 'UTF-16be';
+        CREATE TABLE t(a TEXT);
+        CREATE INDEX i ON t(a);
+        INSERT INTO t {up_to(90)} SELECT CASE n % 3 WHEN 0 THEN 'é' WHEN 1 THEN 'z' ELSE 'Ω' END || n FROM k;
+        CREATE TABLE w(a TEXT PRIMARY KEY, b) WITHOUT ROWID;
+        INSERT INTO w SELECT a, rowid FROM t;"""),
+    # Keys with overflow pages, also such that are alike as far as they are on their page.
+    "long-keys": (4096, 0, f"""
+        CREATE TABLE t(a);
+        CREATE INDEX i ON t(a);
+        INSERT INTO t {up_to(30)} SELECT substr('{'b' * 6000}', 1, 900 + n * 40) || n FROM k;"""),
+    "chains-of-keys": (512, 0, f"""
+        CREATE TABLE w(a TEXT PRIMARY KEY, b) WITHOUT ROWID;
+        INSERT INTO w {up_to(40)} SELECT printf('%03d', n * 17 % 41) || substr('{'p' * 700}', 1, n * 23 % 600), n FROM k;"""),
+    # Values of several types, and numbers below 0.
+    "types": (512, 0, f"""
+        CREATE TABLE t(a);
+        CREATE INDEX i ON t(a);
+        INSERT INTO t {up_to(160)} SELECT CASE n % 5 WHEN 0 THEN NULL WHEN 1 THEN n WHEN 2 THEN 'x' || n WHEN 3 THEN CAST('x' || n AS BLOB)
+            ELSE -n END FROM k;"""),
+    "negative": (512, 0, f"""
+        CREATE TABLE t(a);
+        CREATE INDEX i ON t(a);
+        INSERT INTO t {up_to(200)} SELECT CASE n % 4 WHEN 0 THEN -n * 1000 WHEN 1 THEN -n * 1.5 WHEN 2 THEN n * 100000000000 ELSE n * 2.25 END FROM k;
+        INSERT INTO t VALUES (NULL), (NULL), (0), (1), (-1), (1e300), (-1e300);"""),
+    # Records with more columns than one byte can say.
+    "columns": (512, 0, f"""
+        CREATE TABLE t({','.join(f'c{column}' for column in range(70))});
+        INSERT INTO t(c0, c1, c69) {up_to(60)} SELECT n, n * 3, 'z' || n FROM k;
+        CREATE TABLE w({','.join(f'c{column} INT NOT NULL DEFAULT 0' for column in range(140))}, PRIMARY KEY(c0, c1)) WITHOUT ROWID;
+        INSERT INTO w(c0, c1, c139) {up_to(60)} SELECT n % 5, n, -n FROM k;"""),
+    # Pages of 65536 bytes, with 32 reserved bytes, of a freelist, with short rows, with freeblocks and fragments.
+    "large-pages": (65536, 0, f"""
+        CREATE TABLE t(a);
+        INSERT INTO t {up_to(30)} SELECT zeroblob(n * 997) FROM k;
+        CREATE TABLE e(a);
+        CREATE TABLE x(a);
+        CREATE INDEX i ON x(a);
+        INSERT INTO x {up_to(50)} SELECT 'q' || n FROM k;
+        DELETE FROM x WHERE rowid % 4 = 1;"""),
+    "reserved": (512, 32, f"""
+        CREATE TABLE t(a, b);
+        INSERT INTO t {up_to(90)} SELECT n, 'text' || n FROM k;
+        CREATE INDEX i ON t(b DESC);
+        DELETE FROM t WHERE rowid % 7 = 3;
+        CREATE TABLE o(x);
+        INSERT INTO o {up_to(9)} SELECT zeroblob(700 * n) FROM k;"""),
+    "vacuum": (512, 8, f"""
+        PRAGMA auto_vacuum = 2;
+        CREATE TABLE t(a);
+        INSERT INTO t {up_to(300)} SELECT zeroblob(n * 31 % 900) FROM k;
+        DELETE FROM t WHERE rowid % 3 = 0;
+        CREATE TABLE u(x INTEGER PRIMARY KEY, y);
+        INSERT INTO u {up_to(120)} SELECT n * 3, 'val' || n FROM k;"""),
+    "freelist": (512, 0, f"""
+        CREATE TABLE t(a);
+        INSERT INTO t {up_to(330)} SELECT zeroblob(450) FROM k;
+        CREATE TABLE u(a);
+        INSERT INTO u {up_to(40)} SELECT 'x' || n FROM k;
+        DELETE FROM t WHERE rowid > 20;"""),
+    "short-rows": (512, 0, f"""
+        CREATE TABLE t(a);
+        INSERT INTO t {up_to(300)} SELECT NULL FROM k;
+        CREATE INDEX i ON t(a);
+        CREATE TABLE v(a);
+        INSERT INTO v {up_to(60)} SELECT 1 FROM k;
+        DELETE FROM v WHERE rowid % 6 = 1;"""),
+    "fragments": (1024, 0, f"""
+        CREATE TABLE t(a INTEGER PRIMARY KEY, b);
+        INSERT INTO t {up_to(150)} SELECT n, substr('{LETTERS}', 1, n * 7 % 26) FROM k;
+        DELETE FROM t WHERE a % 5 = 2;
+        INSERT INTO t {up_to(150)} SELECT n, substr('{LETTERS.upper()}', 1, n * 11 % 17) FROM k WHERE n % 10 = 2;"""),
+    # Schemas of one page, and of several: with rows without root pages, and with root pages in no order.
+    "page-1": (512, 0, """
+        CREATE TABLE aa(x); CREATE TABLE bb(x, y, z); CREATE TABLE c(x);
+        DROP TABLE bb;
+        CREATE TABLE dddd(x, y);
+        INSERT INTO c VALUES (1);"""),
+    "schema": (512, 0, f"""
+        {' '.join(f"CREATE TABLE t{n}(a, b); CREATE INDEX i{n} ON t{n}({'ab'[n % 2]});" for n in range(1, 28))}
+        CREATE VIEW vv AS SELECT 1;
+        CREATE TABLE last(q);
+        CREATE TRIGGER tr AFTER INSERT ON t1 BEGIN SELECT 1; END;
+        {' '.join(f"INSERT INTO t{n} VALUES ({n}, 'x');" for n in range(1, 28))}"""),
+    "dropped": (512, 0, f"""
+        {' '.join(f"CREATE TABLE t{n}(a PRIMARY KEY, b) {'WITHOUT ROWID' if n % 2 else ''};" for n in range(1, 20))}
+        DROP TABLE t3; DROP TABLE t8;
+        CREATE TABLE y(a); CREATE TABLE z(a);
+        INSERT INTO t1 VALUES (1, 2);
+        INSERT INTO t2 VALUES ('a', 4);"""),
+}
+
+NUMBERS = """
+ways 475 1 2 3
+ways 3084 2 500 487
+ways 3084 2 500 501
+ways 3572 4 8 9
+ways 3678 2 199 49190
+ways 5134 2 486 472
+without-rowid 437 1 2 5
+without-rowid 1058 2 381 380
+without-rowid 2232 2 284 254
+nocase 1038 2 433 450
+nocase 1040 2 450 470
+nocase 1491 4 12 10
+nocase 2062 2 257 107
+utf-16 18 1 1 9
+utf-16 275 1 10 3
+utf-16 275 1 10 11
+long-keys 8162 4 24 12
+long-keys 102400 1 10 9
+chains-of-keys 105 2 445 0
+chains-of-keys 4016 4 17 16
+chains-of-keys 4559 4 6 13
+types 3075 2 64 26
+types 3500 1 3 0
+negative 1958 1 8 7
+columns 507 4 21 34
+columns 6152 4 79 47
+columns 6156 2 463 267
+columns 10466 1 2 13
+columns 10955 1 13 2
+columns 16916 2 107 152
+columns 17781 4 23 33
+large-pages 65518 1 2 3
+large-pages 65518 1 2 12
+large-pages 852016 2 65274 65275
+reserved 383 1 10 31
+reserved 2572 2 465 464
+reserved 28672 4 58 59
+vacuum 56157 2 0 250
+freelist 12072 4 99 207
+short-rows 6558 2 4 3
+short-rows 6580 2 460 459
+fragments 56 4 1 2
+fragments 2049 2 291 0
+fragments 2058 2 211 433
+page-1 377 1 3 19
+schema 492 4 39 12
+schema 502 4 15 16
+schema 16379 1 4 0
+dropped 2048 4 0 36
+dropped 16808 1 29 3
+"""
+
+
+@functools.lru_cache(maxsize=None)
+def made(folder, name):
+    """The bytes of a database."""
+    file = folder / f"{name}.db"
+    file.unlink(missing_ok=True)
+    page_size, reserved, statements = DATABASES[name]
+    words = ["sqlite3", file, f".filectrl reserve_bytes {reserved}", f"PRAGMA page_size = {page_size}; {statements}"]
+    subprocess.run(words, check=True, stdout=subprocess.DEVNULL)
+    return file.read_bytes()
+
+
+def complaint(dbck, file, before, at, size, was, put):
+    """What is wrong with what `mend` says of a database with another number, or nothing."""
+    if int.from_bytes(before[at : at + size], "big") != was:
+        return f"there is no {was}"
+    data = bytearray(before)
+    data[at : at + size] = put.to_bytes(size, "big")
+    file.write_bytes(data)
+    said = subprocess.run([dbck, "mend", file], capture_output=True, text=True).stdout
+    for offset, new in re.findall(r"^at byte (\d+) put ([0-9a-f]+) for", said, re.M):
+        new, offset = bytes.fromhex(new), int(offset)
+        data[offset : offset + len(new)] = new
+    return "" if said.endswith("\nok\n") and data == before else said
+
+
+def main():
+    dbck, folder = map(pathlib.Path, sys.argv[1:])
+    folder.mkdir(parents=True, exist_ok=True)
+    complaints = []
+    for line in NUMBERS.strip().split("\n"):
+        name, *numbers = line.split()
+        wrong = complaint(dbck.resolve(), folder / "wrong.db", made(folder, name), *map(int, numbers))
+        complaints += [f"{line}: {wrong}"] if wrong else []
+    print("\n".join(complaints))
+    sys.exit(bool(complaints))
+
+
+if __name__ == "__main__":
+    main()
