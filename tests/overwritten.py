@@ -42,6 +42,12 @@ DATABASES = {
         CREATE INDEX i ON t(a);
         INSERT INTO t {up_to(160)} SELECT substr('Ab_cD^eF`gHiJ_k', n * 7 % 13 + 1, 3) ||
             CASE n % 3 WHEN 0 THEN '_' WHEN 1 THEN 'Z' ELSE 'a' END || n FROM k;"""),
+    "signs": (512, 0, f"""
+        CREATE TABLE t(a TEXT COLLATE NOCASE);
+        INSERT INTO t {up_to(200)} SELECT substr('_a^B[c`D_E^f', 1 + n * 7 % 11, 1) || CASE n % 3 WHEN 0 THEN '_' WHEN 1 THEN 'q' ELSE 'Q' END ||
+            (n * 37 % 211) FROM k;
+        CREATE INDEX i ON t(a);
+        CREATE INDEX j ON t(a DESC);"""),
     "utf-16": (512, 0, f"""
         PRAGMA encoding = 'UTF-16be';
         CREATE TABLE t(a TEXT);
@@ -57,17 +63,35 @@ DATABASES = {
     "chains-of-keys": (512, 0, f"""
         CREATE TABLE w(a TEXT PRIMARY KEY, b) WITHOUT ROWID;
         INSERT INTO w {up_to(40)} SELECT printf('%03d', n * 17 % 41) || substr('{'p' * 700}', 1, n * 23 % 600), n FROM k;"""),
+    "widths": (1024, 0, f"""
+        CREATE TABLE t(a TEXT);
+        INSERT INTO t {up_to(120)} SELECT printf('%03d', n * 37 % 127) || substr('{'q' * 160}', 1, n * 31 % 150) FROM k;
+        CREATE INDEX i ON t(a);
+        CREATE TABLE w(k TEXT PRIMARY KEY, v BLOB) WITHOUT ROWID;
+        INSERT INTO w {up_to(90)} SELECT printf('%03d', n * 37 % 91), zeroblob(n * 29 % 140) FROM k;"""),
     # Values of several types, and numbers below 0.
     "types": (512, 0, f"""
         CREATE TABLE t(a);
         CREATE INDEX i ON t(a);
         INSERT INTO t {up_to(160)} SELECT CASE n % 5 WHEN 0 THEN NULL WHEN 1 THEN n WHEN 2 THEN 'x' || n WHEN 3 THEN CAST('x' || n AS BLOB)
             ELSE -n END FROM k;"""),
+    "blobs": (512, 0, f"""
+        CREATE TABLE t(a);
+        INSERT INTO t {up_to(90)} SELECT printf('%03d', n) || 'abcd' FROM k;
+        INSERT INTO t {up_to(90)} SELECT CAST(printf('%03d', n) || 'abcd' AS BLOB) FROM k;
+        CREATE INDEX i ON t(a);
+        CREATE INDEX j ON t(a DESC);"""),
     "negative": (512, 0, f"""
         CREATE TABLE t(a);
         CREATE INDEX i ON t(a);
         INSERT INTO t {up_to(200)} SELECT CASE n % 4 WHEN 0 THEN -n * 1000 WHEN 1 THEN -n * 1.5 WHEN 2 THEN n * 100000000000 ELSE n * 2.25 END FROM k;
         INSERT INTO t VALUES (NULL), (NULL), (0), (1), (-1), (1e300), (-1e300);"""),
+    "lengths-of-integers": (512, 0, f"""
+        CREATE TABLE t(a INT, b INT);
+        INSERT INTO t {up_to(300)} SELECT CASE n % 4 WHEN 0 THEN -40000 - n * 50 WHEN 1 THEN 40000 + n * 50
+            WHEN 2 THEN -20000000000 - n * 10000 ELSE 20000000000 + n * 10000 END, n FROM k;
+        CREATE INDEX i ON t(a);
+        CREATE INDEX j ON t(b % 3, a DESC);"""),
     # Records with more columns than one byte can say.
     "columns": (512, 0, f"""
         CREATE TABLE t({','.join(f'c{column}' for column in range(70))});
@@ -103,6 +127,12 @@ DATABASES = {
         CREATE TABLE u(a);
         INSERT INTO u {up_to(40)} SELECT 'x' || n FROM k;
         DELETE FROM t WHERE rowid > 20;"""),
+    "reserved-freelist": (512, 24, f"""
+        CREATE TABLE t(a);
+        INSERT INTO t {up_to(330)} SELECT zeroblob(430) FROM k;
+        CREATE TABLE u(a);
+        INSERT INTO u {up_to(40)} SELECT 'x' || n FROM k;
+        DELETE FROM t WHERE rowid > 20 AND rowid % 5 <> 0;"""),
     "short-rows": (512, 0, f"""
         CREATE TABLE t(a);
         INSERT INTO t {up_to(300)} SELECT NULL FROM k;
@@ -149,6 +179,7 @@ nocase 1038 2 433 450
 nocase 1040 2 450 470
 nocase 1491 4 12 10
 nocase 2062 2 257 107
+signs 4664 2 273 17
 utf-16 18 1 1 9
 utf-16 275 1 10 3
 utf-16 275 1 10 11
@@ -157,9 +188,12 @@ long-keys 102400 1 10 9
 chains-of-keys 105 2 445 0
 chains-of-keys 4016 4 17 16
 chains-of-keys 4559 4 6 13
+widths 24577 2 393 0
 types 3075 2 64 26
 types 3500 1 3 0
+blobs 3598 2 480 430
 negative 1958 1 8 7
+lengths-of-integers 6115 4 14 15
 columns 507 4 21 34
 columns 6152 4 79 47
 columns 6156 2 463 267
@@ -175,6 +209,7 @@ reserved 2572 2 465 464
 reserved 28672 4 58 59
 vacuum 56157 2 0 250
 freelist 12072 4 99 207
+reserved-freelist 32 4 313 312
 short-rows 6558 2 4 3
 short-rows 6580 2 460 459
 fragments 56 4 1 2

@@ -405,6 +405,10 @@ pointer() {
     made "CREATE TABLE t(a, b); CREATE INDEX i ON t(a, b DESC); $(up_to 60)
         INSERT INTO t SELECT printf('r%02d', n / 9), printf('row number %05d', n * 53 % 60) FROM k; CREATE INDEX j ON t(a, b DESC)"
     row 'children of two indexes whose columns go different ways' are_put_back 1032 '\0\0\0\0' 6057 '\0\0\0\0'
+    # Three children are lost. Where the keys beside one are of one kind those of its page are of that kind too: the number of columns, the first type.
+    made "CREATE TABLE t(a INT, b INT); CREATE INDEX i ON t(a); CREATE INDEX j ON t(a, b); CREATE INDEX l ON t('x' || substr(1000 + a, 2));
+        CREATE INDEX m ON t(a DESC); $(up_to 150) INSERT INTO t SELECT n * 37 % 263, n FROM k"
+    row 'children of three of four indexes' are_put_back 1544 '\0\0\0\0' 2056 '\0\0\0\0' 2568 '\0\0\0\0'
 }
 
 @test 'mend finds which leaf of an index is where by texts and blobs, empty ones, zero and numbers below it' {
