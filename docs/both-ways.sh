@@ -6,9 +6,9 @@ Makes the database NEW (new.db) of the rows of DAMAGED, and beside NEW:
     replaced.db    what .recover finds, with the last of several rows of one key; NEW has the first
     dumped.db      what .dump reads
     both-ways.log  the messages of sqlite3, most of which are harmless
-None of the four may be there before, and only their owner may read them. DAMAGED, and DAMAGED-wal or DAMAGED-journal,
-are only copied: SQLite opens the copies, in a folder beside NEW, which takes about six times the size of DAMAGED until
-the end. Then it prints what the tables of NEW have, and which tables could not be read to their end. The exit status
+None of the four may be there before, nor a -wal or -journal of one, and only their owner may read them. DAMAGED, and
+DAMAGED-wal or DAMAGED-journal, are only copied: SQLite opens the copies, in a folder beside NEW, which takes about six
+times the size of DAMAGED until the end. Then it prints what the tables of NEW have, and which tables could not be read to their end. The exit status
 is 2 if it made none of the four, or says that they are not whole: the disk is full, or a write failed.
 
 It needs a sqlite3 of 3.37 or later with .recover: the one in PATH, or the program that the variable SQLITE3 names.'
@@ -38,8 +38,14 @@ beside=$(dirname -- "$new")
 [ -f "$damaged" ] || die "$damaged is not a file"
 # The logs are beside what a link leads to.
 damaged=$(realpath -- "$damaged") || exit 2
+case $(basename -- "$new") in
+    replaced.db | dumped.db | both-ways.log) die "NEW must have another name than the files beside it: $new" ;;
+esac
+# A log that is there already SQLite would read as that of the new file.
 for file in "$new" "$beside/replaced.db" "$beside/dumped.db" "$beside/both-ways.log"; do
-    [ ! -e "$file" ] || die "$file is there already"
+    for end in '' -wal -journal; do
+        [ ! -e "$file$end" ] || die "$file$end is there already"
+    done
 done
 sql :memory: 'SELECT count(*) FROM pragma_table_list' > /dev/null 2>&1 || die 'there is no sqlite3, or it is older than 3.37'
 sql :memory: 'SELECT count(*) FROM sqlite_dbpage' > /dev/null 2>&1 ||

@@ -95,6 +95,25 @@ count() {
     row 'what is there' [ "$(cd "$work/files" && echo *)" = 'both-ways.log dumped.db new.db replaced.db x.db' ]
     refuses $'both-ways.sh: new.db is there already\n' x.db
     refuses $'both-ways.sh: ./replaced.db is there already\n' x.db other.db
+    rm "$work/files"/{new,replaced,dumped}.db "$work/files/both-ways.log"
+    for name in replaced.db dumped.db both-ways.log; do
+        refuses "both-ways.sh: NEW must have another name than the files beside it: ./$name"$'\n' x.db "./$name"
+    done
+}
+
+# SQLite would take it for the log of the new file.
+@test 'both-ways.sh makes no file beside whose name a log is already' {
+    local end name
+    with_sqlite
+    database "$work/files/x.db" 1
+    for name in new.db replaced.db dumped.db; do
+        for end in -wal -journal; do
+            echo log > "$work/files/$name$end"
+            refuses "both-ways.sh: ./$name$end is there already"$'\n' x.db ./new.db
+            rm "$work/files/$name$end"
+        done
+    done
+    row 'what is there' [ "$(cd "$work/files" && echo *)" = x.db ]
 }
 
 @test 'both-ways.sh says which sqlite3 it needs' {
