@@ -8,8 +8,9 @@ Makes the database NEW (new.db) of the rows of DAMAGED, and beside NEW:
     both-ways.log  the messages of sqlite3, most of which are harmless
 None of the four may be there before, nor a -wal or -journal of one, and only their owner may read them. DAMAGED, and
 DAMAGED-wal or DAMAGED-journal, are only copied: SQLite opens the copies, in a folder beside NEW, which takes about six
-times the size of DAMAGED until the end. Then it prints what the tables of NEW have, and which tables could not be read to their end. The exit status
-is 2 if it made none of the four, or says that they are not whole: the disk is full, or a write failed.
+times the size of DAMAGED until the end. Then it prints what the tables of NEW have, and which tables could not be read
+to their end. The exit status is 2 if it made none of the four, or says that they are not whole: the disk is full, or a
+write failed.
 
 It needs a sqlite3 of 3.37 or later with .recover: the one in PATH, or the program that the variable SQLITE3 names.'
 

@@ -118,6 +118,22 @@ END
     row 'the status' [ "$status" = 123 ]
 }
 
+@test 'the command of README over many databases tells a file that cannot be read, and shows no control character of a name' {
+    local line
+    needs xargs
+    mkdir -p "$work/files/srv"
+    line=$(sed -n '/^## Many databases/,/^## Why/s/^    //p' README.md | sed "s|/srv|'$work/files/srv'|")
+    cp "$data/two-tables.db" "$work/files/srv/a\\cb"$'\e[2J\t.db'
+    runs "$line"
+    row 'a name' ended_exactly 123 "1 $work/files/srv/a\\cb?[2J?.db "$'\n' ''
+    rm "$work/files/srv"/*
+    cp "$data/whole.db" "$work/files/srv/x.db"
+    printf '#!/bin/sh\necho "head: cannot open x.db" >&2\nexit 1\n' > "$work/bin/head"
+    chmod 755 "$work/bin/head"
+    runs "$line"
+    row 'a file that cannot be read' ended 123 '' $'head: cannot open x.db\n'
+}
+
 # session COMMAND WANTED: the command prints what stands below it. One of a file that is not of the repository is not run.
 session() {
     [ -f "$work/files/${1##* }" ] || return 0
