@@ -1651,6 +1651,21 @@ refused() {
     row 'numbers overwritten' tests/mend.py --copies 3 --shape rowid-512 --shape full-vacuum-512 --shape freelist-1024 "$DBCK" "$work/numbers"
 }
 
+# The headers of these records end on overflow pages. What is after such a cell on its page is no end of it.
+@test 'mend puts no length by what is after a cell' {
+    local at cell
+    needs sqlite3
+    made "CREATE TABLE w(a INT, b INT$(printf ', c%d DEFAULT 0' {1..129}), PRIMARY KEY(a, b)) WITHOUT ROWID;
+        $(up_to 9) INSERT INTO w(a, b, c129) SELECT n, n, -n FROM k"
+    for cell in 0 2 7; do
+        at=$((512 + $(number_at "$(pointer w "$cell")")))
+        cp "$work/x.db" "$work/wrong.db"
+        put_at "$work/wrong.db" "$at" '\0\0'
+        dbck mend "$work/wrong.db"
+        row "cell $cell, at byte $at" ended 1 '* left'$'\n' ''
+    done
+}
+
 @test 'mend finds each number of tests/overwritten.py' {
     needs python3 sqlite3
     row 'numbers' tests/overwritten.py "$DBCK" "$work/numbers"

@@ -4,7 +4,8 @@ use crate::numbers::add_at;
 use crate::ranked::Ranked;
 use crate::reading::Paper;
 use arrayvec::ArrayVec;
-use dbbytes::{serial_len, varint};
+use dbbytes::{local_len, serial_len, varint};
+use dbformat::PayloadKind;
 use dbpage::PageView;
 use dbscan::PageKind;
 use std::alloc::Allocator;
@@ -78,11 +79,25 @@ fn stored(number: u64) -> ArrayVec<u8, 3> {
     bytes
 }
 
-// The length of the record after a payload length of `taken` bytes, and after the rowid if the cell has one.
-fn len_after(bytes: &[u8], taken: usize, has_rowid: bool) -> Option<u64> {
+// Whether so many bytes at the beginning of a payload are in its cell.
+#[tactic(auto, unfolding(dbformat::specs::Payload::most_payload))]
+fn is_local(kind: PayloadKind, usable: u32, count: u64, len: u64) -> bool {
+    if usable < 480 || usable > 65536 || len > MOST_LEN {
+        return false;
+    }
+    count <= u64::from(local_len(kind, usable, len as u32))
+}
+
+// The length of the record after a payload length of `taken` bytes, and after the rowid if the cell has one. Its header has to be in the cell.
+fn len_after(bytes: &[u8], taken: usize, kind: PayloadKind, usable: u32) -> Option<u64> {
     let rest = after(bytes, taken as u64);
-    let skipped = if has_rowid { varint(rest)?.1 } else { 0 };
-    record_len(after(rest, skipped as u64))
+    let skipped = match kind {
+        PayloadKind::TableLeaf => varint(rest)?.1,
+        PayloadKind::Index => 0,
+    };
+    let record = after(rest, skipped as u64);
+    let len = record_len(record)?;
+    is_local(kind, usable, varint(record)?.0, len).then_some(len)
 }
 
 // Adds the length that belongs at an offset of the page, where the record there says another one. Whether it does so.
@@ -90,18 +105,19 @@ fn add_length<A: Allocator>(
     tries: &mut Ranked,
     paper: &Paper<A>,
     at: u32,
-    has_rowid: bool,
+    kind: PayloadKind,
     points: u32,
 ) -> bool {
     let rest = after(paper.bytes(), u64::from(at));
     let Some((stated, taken)) = varint(rest) else {
         return false;
     };
-    if len_after(rest, taken, has_rowid) == Some(stated) {
+    let usable = paper.usable();
+    if len_after(rest, taken, kind, usable) == Some(stated) {
         return false;
     }
     for count in 1..MOST_BYTES + 1 {
-        let bytes = match len_after(rest, count, has_rowid) {
+        let bytes = match len_after(rest, count, kind, usable) {
             Some(len) => stored(len),
             None => continue,
         };
@@ -118,10 +134,10 @@ pub(crate) fn add_lengths<A: Allocator>(tries: &mut Ranked, paper: &Paper<A>) {
     let Some(view) = paper.view() else {
         return;
     };
-    let (before, has_rowid) = match view.kind() {
-        PageKind::LeafTable => (0, true),
-        PageKind::LeafIndex => (0, false),
-        PageKind::InteriorIndex => (4, false),
+    let (before, kind) = match view.kind() {
+        PageKind::LeafTable => (0, PayloadKind::TableLeaf),
+        PageKind::LeafIndex => (0, PayloadKind::Index),
+        PageKind::InteriorIndex => (4, PayloadKind::Index),
         PageKind::InteriorTable => return,
     };
     let is_one = whole_records(&view).saturating_add(1) == view.cells();
@@ -131,13 +147,7 @@ pub(crate) fn add_lengths<A: Allocator>(tries: &mut Ranked, paper: &Paper<A>) {
         let offset = view.item_offset(cell);
         if left > 0
             && offset >= paper.start()
-            && add_length(
-                tries,
-                paper,
-                offset.saturating_add(before),
-                has_rowid,
-                points,
-            )
+            && add_length(tries, paper, offset.saturating_add(before), kind, points)
         {
             left -= 1;
         }
