@@ -75,6 +75,16 @@ noted() {
         "frame 3 is not valid, at byte 1104; 1 frame after it has the log's salts, and is left out"
 }
 
+@test 'of a log in which no transaction was committed a note counts the frames that are left out' {
+    local notes="dbck: note: $work/x.db-wal holds nothing that SQLite would read"$'\n'
+    notes+="dbck: note: $work/x.db-wal: 2 frames of a transaction that was not committed are left out"$'\n'
+    logged x <<< 'INSERT INTO t VALUES (zeroblob(4000))'
+    truncate -s $((32 + 536 * 2)) "$work/x.db-wal"
+    exactly 0 $'ok\n' "$notes" check --recovered "$work/x.db"
+    : > "$work/x.db"
+    expect 3 '' "${notes}dbck: note: $work/x.db is not checked*"$'\ndbck: E1 *' check --recovered "$work/x.db"
+}
+
 @test 'the note on a log counts the pages that the database has left' {
     logged t << 'END'
 INSERT INTO t VALUES (zeroblob(5000))
@@ -180,6 +190,12 @@ END
     cp "$data/empty.db" "$work/x.db"
     journal_of "$work/x.db" <<< '1 2'
     note="dbck: note: $work/x.db-journal: 1 page is read from it; the database had 1 page"$'\n'
+    exactly 0 $'ok\n' "$note" check --recovered "$work/x.db"
+    # One without a record: the transaction changed the length alone.
+    cp "$data/whole.db" "$work/x.db"
+    journal_of "$work/x.db" <<< ''
+    truncate -s +1024 "$work/x.db"
+    note="dbck: note: $work/x.db-journal: 0 pages are read from it; the database had 13 pages"$'\n'
     exactly 0 $'ok\n' "$note" check --recovered "$work/x.db"
 }
 
