@@ -3,7 +3,8 @@
 load common
 
 # with_sqlite: makes $SQLITE3, of which .recover gives what .dump gives: the sqlite3 of a system may have no .recover. It says so in the file
-# `reached`, and waits if there is a file `wait`; it gives no rows if $ROWLESS is set; and it ends with the message $FAILING, if that is set.
+# `reached`, and waits if there is a file `wait`; it gives no rows if $ROWLESS is set, and no table if $BARE is; and it ends with the message
+# $FAILING, if that is set.
 with_sqlite() {
     needs sqlite3 awk realpath
     mkdir "$work/files"
@@ -17,7 +18,7 @@ case ${*: -1} in
 esac
 [ ! -e "$WORK/wait" ] || : > "$WORK/reached"
 while [ -e "$WORK/wait" ]; do sleep 0.01; done
-sqlite3 "${@:1:$#-1}" '.dump --preserve-rowids' | sed "s/^INSERT INTO/INSERT OR IGNORE INTO/;${ROWLESS:+/^INSERT /d}"
+sqlite3 "${@:1:$#-1}" '.dump --preserve-rowids' | sed "s/^INSERT INTO/INSERT OR IGNORE INTO/;${ROWLESS:+/^INSERT /d};${BARE:+3,\$d}"
 [ -z "${FAILING:-}" ] || { echo "$FAILING" >&2 && exit 1; }
 END
     chmod 755 "$SQLITE3"
@@ -258,6 +259,28 @@ t|t
 log|log
 g|t
 END
+        rm "$work/files"/{new,replaced,dumped}.db "$work/files/both-ways.log"
+    done
+}
+
+# Row 100 of s was deleted; f has its rows in shadow tables; and `oid` is the one name of the rowid that no column of o has.
+@test 'both-ways.sh saves the numbers of AUTOINCREMENT, indexes, views, full-text search, and rowids by their third name' {
+    local bare fts='' found=()
+    with_sqlite
+    sqlite3 "$work/files/x.db" "CREATE TABLE s(i INTEGER PRIMARY KEY AUTOINCREMENT, a); INSERT INTO s VALUES (1, 'a'), (100, 'z');
+        DELETE FROM s WHERE i = 100; CREATE INDEX si ON s(a); CREATE VIEW v AS SELECT * FROM s;
+        CREATE TABLE o(_rowid_, rowid, b); INSERT INTO o(oid, b) VALUES (5, 'x'), (9, 'y')"
+    if sqlite3 "$work/files/x.db" "CREATE VIRTUAL TABLE f USING fts5(t); INSERT INTO f VALUES ('hello'), ('world')" 2> "$work/why"; then
+        fts="SELECT count(*) FROM f; SELECT count(*) FROM f WHERE f MATCH 'hello';"
+        found=(2 1)
+    fi
+    # The second time .recover gives no table, and ends with an error.
+    for bare in '' 'sql error: database disk image is malformed (11)'; do
+        ROWLESS=1 BARE=$bare FAILING=$bare both_ways x.db
+        row "the status${bare:+ after an error}" [ "$status" = 0 ]
+        sqlite3 "$work/files/new.db" "SELECT * FROM sqlite_sequence; SELECT name FROM sqlite_schema WHERE name IN ('si', 'v') ORDER BY name;
+            SELECT oid FROM o; $fts" > "$work/has" 2>&1 || true
+        row "what new.db has${bare:+ after an error}" diff <(printf '%s\n' 's|100' si v 5 9 "${found[@]}") "$work/has"
         rm "$work/files"/{new,replaced,dumped}.db "$work/files/both-ways.log"
     done
 }
