@@ -42,6 +42,19 @@ plain() {
         row "$from: bytes that differ" [ "$(cmp -l "$data/two-tables.db" "$work/files/copy.db")" = '1530   5   7' ]
         exactly 0 $'ok\n' '' check "$work/files/copy.db"
     done
+    # The commands of docs/REPAIR.md for all changes, which make none if mend does not end with ok.
+    line=$(sed -n '/^### mend/,/^This/s/^    //p' docs/REPAIR.md)
+    cp "$data/two-tables.db" "$work/files/copy.db"
+    runs "$line"
+    row 'all changes' ended 0 '' ''
+    exactly 0 $'ok\n' '' check "$work/files/copy.db"
+    cp "$data/whole.db" "$work/files/copy.db"
+    head -c 2048 /dev/zero >> "$work/files/copy.db"
+    put_at "$work/files/copy.db" 28 '\0\0\0\3'
+    cp "$work/files/copy.db" "$work/kept.db"
+    runs "$line"
+    row 'changes that were found' grep -q '^at byte ' "$work/files/mend.txt"
+    row 'no change' cmp "$work/kept.db" "$work/files/copy.db"
 }
 
 @test 'a file that was copied as text is told and undone as the manual says' {
