@@ -31,6 +31,9 @@ load common
     exactly 2 '' $'dbck: the following required arguments were not provided:\n  <FILE>\n\nUsage: dbck check <FILE>'"$more" check
     exactly 2 '' $'dbck: unexpected argument \'--limt\' found\n\n  tip: a similar argument exists: \'--limit\'\n\nUsage: dbck check --limit <N> <FILE>'"$more" check --limt 3 x
     exactly 2 '' $'dbck: unrecognized subcommand \'chek\'\n\n  tip: a similar subcommand exists: \'check\'\n\nUsage: dbck <COMMAND>'"$more" chek x
+    # Also of a word that has no letter, or very many.
+    expect 2 '' $'dbck: unexpected argument \'\' found\n*' check "$data/whole.db" ''
+    expect 2 '' "dbck: unrecognized subcommand '$(printf '%05000d' 0)'"$'\n*' "$(printf '%05000d' 0)"
 }
 
 @test 'a word that is refused is shown without control characters' {
