@@ -178,13 +178,13 @@ to_closed() {
 
 # to_closed_pipe WORDS..: runs the program with a pipe that nobody reads, where the signal of that is ignored.
 to_closed_pipe() {
+    rm -f "$work/pipe"
+    mkfifo "$work/pipe"
+    exec 7<> "$work/pipe"
+    exec 8> "$work/pipe" 7>&-
     status=0
-    (
-        trap '' PIPE
-        "$DBCK" "$@" 2> "$work/err" < /dev/null 3>&- || status=$?
-        echo "$status" > "$work/status"
-    ) | :
-    status=$(< "$work/status")
+    (trap '' PIPE && exec "$DBCK" "$@" >&8 2> "$work/err" < /dev/null 3>&- 8>&-) || status=$?
+    exec 8>&-
     : > "$work/out"
 }
 
@@ -193,6 +193,10 @@ to_closed_pipe() {
     with_lost "$many_rows" 6001
     to_closed_pipe check --limit 6000 "$many_rows"
     row 'a closed pipe' ended 6 '' $'dbck: note: standard output: Broken pipe\n'"$unwritten"
+    for words in --help --version; do
+        to_closed_pipe "$words"
+        row "$words to a closed pipe" ended 6 '' $'dbck: note: standard output: Broken pipe\n'"$unwritten"
+    done
 }
 
 @test 'notes that cannot be written change no status' {
