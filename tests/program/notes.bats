@@ -236,6 +236,7 @@ no_returns() {
 }
 
 @test 'a page without carriage returns was copied as text if it begins with a line feed' {
+    needs python3
     no_returns
     for command in check explain map stat; do
         expect 1 '*' "*$taken" "$command" "$work/x.db"
@@ -245,7 +246,11 @@ no_returns() {
     expect 1 '*' "$taken$rest" check "$work/x.db"
     put_at "$work/x.db" 300 '\0303\0251\0303\0251\0303\0251\0303\0251'
     expect 1 '*' "$letters$rest" check "$work/x.db"
+    # Also where the page comes from a log.
     no_returns
+    journal_of "$work/x.db" <<< 1
+    expect 1 '*' "dbck: note: $work/x.db-journal: 1 page is read from it; the database had 1 page"$'\n'"$taken" check --recovered "$work/x.db"
+    rm "$work/x.db-journal"
     # A carriage return anywhere on the page, or another type, and it was not.
     put_at "$work/x.db" 511 '\r'
     expect 1 '*' '' check "$work/x.db"
