@@ -32,6 +32,8 @@ progress_of_large() {
         on_terminal "'$DBCK' $command --no-progress '$work/large.db' > '$work/report'"
         row "$command --no-progress" ended 0 '' ''
     done
+    on_terminal "'$DBCK' check --no-progress --recovered '$work/large.db'"
+    row '--no-progress --recovered' ended 0 $'ok\r\n' ''
 }
 
 @test 'there is no progress where standard error is no terminal' {
