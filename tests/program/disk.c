@@ -16,6 +16,7 @@
 //   OTHER, NAME  the file that is opened where that one is named
 //   UNTAKEN      how many writes to standard error fail before it takes one
 //   OUT_ERROR    each write to standard output fails with the error of this number
+//   OUT_LATER    the number of the error of each such write but the first, if not that
 //   OUT_MOST     how many bytes such a write takes at most
 //   OPENED       a file that gets a line for each file that is opened: how, and its path
 //   READS        a file that gets a line for each read: how many bytes it asks for, and where it begins
@@ -133,14 +134,14 @@ int open(const char *path, int flags, ...) {
 
 ssize_t write(int file, const void *bytes, size_t count) {
     static ssize_t (*real)(int, const void *, size_t);
-    static long writes;
+    static long writes, failures;
     if (!real) real = (ssize_t (*)(int, const void *, size_t))dlsym(RTLD_NEXT, "write");
     if (file == STDERR_FILENO && ++writes <= number("UNTAKEN", 0)) {
         errno = EAGAIN;
         return -1;
     }
     if (file == STDOUT_FILENO && getenv("OUT_ERROR")) {
-        errno = number("OUT_ERROR", 0);
+        errno = number(failures++ ? "OUT_LATER" : "OUT_ERROR", number("OUT_ERROR", 0));
         return -1;
     }
     size_t most = file == STDOUT_FILENO ? number("OUT_MOST", LONG_MAX) : LONG_MAX;

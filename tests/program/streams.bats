@@ -113,6 +113,9 @@ to_full_disk() {
 122 Disk quota exceeded
 END
     [ "$rows" = 20 ]
+    # The rows that were not taken before a fault are tried once more. The first reason is named.
+    on_disk OUT_ERROR=28 OUT_LATER=5
+    exactly 6 '' "$full$unwritten" stat "$data/two-owners.db"
 }
 
 @test 'a report of a database and its log that cannot be written ends with 6' {
