@@ -129,6 +129,12 @@ plain() {
 dbck: E1 file is shorter than 100 bytes
 END
     row 'the status' [ "$status" = 123 ]
+    # Whatever its length.
+    rm "$work/files/srv/a folder"/* "$work/files/srv/cut.db"
+    cp "$data/whole.db" "$work/files/srv/long.db"
+    sparse "$work/files/srv/long.db" 2147483648
+    runs "$line"
+    row 'one is long' ended 0 "0 $work/files/srv/long.db dbck: note: 2147476992 bytes after page 13 are not read, *"$'\n' ''
 }
 
 @test 'the command of README over many databases tells a file that cannot be read, and shows no control character of a name' {
