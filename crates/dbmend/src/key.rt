@@ -211,11 +211,6 @@ impl Key {
             _ => Step::UNKNOWN,
         }
     }
-
-    // The same, whatever column says it.
-    pub(crate) fn order(&self, other: &Key, folded: bool) -> Order {
-        self.step(other, folded).order
-    }
 }
 
 // The bytes from an offset on.
