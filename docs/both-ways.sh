@@ -42,7 +42,7 @@ damaged=$(realpath -- "$damaged") || exit 2
 case $(basename -- "$new") in
     replaced.db | dumped.db | both-ways.log) die "NEW must have another name than the files beside it: $new" ;;
 esac
-# A log that is there already SQLite would read as that of the new file.
+# SQLite would read a log that is there already as that of the new file.
 for file in "$new" "$beside/replaced.db" "$beside/dumped.db" "$beside/both-ways.log"; do
     for end in '' -wal -journal; do
         [ ! -e "$file$end" ] || die "$file$end is there already"

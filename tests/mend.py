@@ -131,6 +131,12 @@ def run(*words):
     return subprocess.run(words, capture_output=True, text=True)
 
 
+def changes(said):
+    """The changes that `mend` prints: where each is, the bytes to put there, and those that are there."""
+    lines = re.findall(r"^at byte (\d+) put ([0-9a-f]+) for ([0-9a-f]+)$", said, re.M)
+    return [(int(at), bytes.fromhex(new), bytes.fromhex(old)) for at, new, old in lines]
+
+
 def tried(dbck, file, kind, before, complaints):
     """What `mend` says of a file: None where it has no fault, else whether it was made sound, and whether it is as before."""
     checked = run(dbck, "check", file)
@@ -140,8 +146,7 @@ def tried(dbck, file, kind, before, complaints):
     if checked.returncode == 0:
         return None
     data = bytearray(file.read_bytes())
-    for at, new, old in re.findall(r"^at byte (\d+) put ([0-9a-f]+) for ([0-9a-f]+)$", mended.stdout, re.M):
-        new, old, at = bytes.fromhex(new), bytes.fromhex(old), int(at)
+    for at, new, old in changes(mended.stdout):
         if data[at : at + len(old)] != old:
             complaints.append(f"{file}: the bytes at {at} are not {old.hex()}")
         data[at : at + len(new)] = new

@@ -10,9 +10,10 @@ time: of the changes that any of those thousands tells, these few tell nearly al
 
 import functools
 import pathlib
-import re
 import subprocess
 import sys
+
+import mend
 
 
 def up_to(count):
@@ -55,7 +56,7 @@ DATABASES = {
         INSERT INTO t {up_to(90)} SELECT CASE n % 3 WHEN 0 THEN 'é' WHEN 1 THEN 'z' ELSE 'Ω' END || n FROM k;
         CREATE TABLE w(a TEXT PRIMARY KEY, b) WITHOUT ROWID;
         INSERT INTO w SELECT a, rowid FROM t;"""),
-    # Keys with overflow pages, also such that are alike as far as they are on their page.
+    # Keys with overflow pages. Some are alike as far as they are on their page.
     "long-keys": (4096, 0, f"""
         CREATE TABLE t(a);
         CREATE INDEX i ON t(a);
@@ -92,7 +93,7 @@ DATABASES = {
             WHEN 2 THEN -20000000000 - n * 10000 ELSE 20000000000 + n * 10000 END, n FROM k;
         CREATE INDEX i ON t(a);
         CREATE INDEX j ON t(b % 3, a DESC);"""),
-    # Records with more columns than one byte can say.
+    # Records whose header has a size of two bytes.
     "columns": (512, 0, f"""
         CREATE TABLE t({','.join(f'c{column}' for column in range(70))});
         INSERT INTO t(c0, c1, c69) {up_to(60)} SELECT n, n * 3, 'z' || n FROM k;
@@ -242,9 +243,8 @@ def complaint(dbck, file, before, at, size, was, put):
     data = bytearray(before)
     data[at : at + size] = put.to_bytes(size, "big")
     file.write_bytes(data)
-    said = subprocess.run([dbck, "mend", file], capture_output=True, text=True).stdout
-    for offset, new in re.findall(r"^at byte (\d+) put ([0-9a-f]+) for", said, re.M):
-        new, offset = bytes.fromhex(new), int(offset)
+    said = mend.run(dbck, "mend", file).stdout
+    for offset, new, _ in mend.changes(said):
         data[offset : offset + len(new)] = new
     return "" if said.endswith("\nok\n") and data == before else said
 

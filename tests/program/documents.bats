@@ -101,27 +101,31 @@ plain() {
     row 'the rows' [ "$(sqlite3 "$work/files/copy.db" 'SELECT count(*) FROM t')" = 3 ]
 }
 
+# over_many: runs the command of README over many databases, those of the folder $work/files/srv.
+over_many() {
+    runs "$(sed -n '/^## Many databases/,/^## Why/s/^    //p' README.md | sed "s|/srv|'$work/files/srv'|")"
+}
+
 @test 'the command of README over many databases names those that are not ok, and ends with 123' {
-    local line blank=' '
+    local blank=' '
     needs xargs
     mkdir -p "$work/files/srv/a folder"
-    line=$(sed -n '/^## Many databases/,/^## Why/s/^    //p' README.md | sed "s|/srv|'$work/files/srv'|")
     cp "$data/whole.db" "$work/files/srv/sound.db"
     printf 'SQLite format 4\0' > "$work/files/srv/other.db"
     : > "$work/files/srv/empty.db"
-    runs "$line"
+    over_many
     row 'all are ok' ended 0 '' ''
     cp "$data/empty.db" "$work/files/srv/a folder/noted.db"
     echo log > "$work/files/srv/a folder/noted.db-wal"
     log_notes "$work/files/srv/a folder/noted.db"
-    runs "$line"
+    over_many
     row 'a note' ended_exactly 0 "0 $work/files/srv/a folder/noted.db $wal" ''
     rm "$work/files/srv/a folder"/*
     cp "$data/two-tables.db" "$work/files/srv/a folder/it's two.db"
-    runs "$line"
+    over_many
     row 'one has faults' ended_exactly 123 "1 $work/files/srv/a folder/it's two.db "$'\n' ''
     head -c 90 "$data/whole.db" > "$work/files/srv/cut.db"
-    runs "$line"
+    over_many
     sort -o "$work/out" "$work/out"
     row 'one is refused' diff "$work/out" - << END
 1 $work/files/srv/a folder/it's two.db$blank
@@ -133,23 +137,21 @@ END
     rm "$work/files/srv/a folder"/* "$work/files/srv/cut.db"
     cp "$data/whole.db" "$work/files/srv/long.db"
     sparse "$work/files/srv/long.db" 2147483648
-    runs "$line"
+    over_many
     row 'one is long' ended 0 "0 $work/files/srv/long.db dbck: note: 2147476992 bytes after page 13 are not read, *"$'\n' ''
 }
 
 @test 'the command of README over many databases tells a file that cannot be read, and shows no control character of a name' {
-    local line
     needs xargs
     mkdir -p "$work/files/srv"
-    line=$(sed -n '/^## Many databases/,/^## Why/s/^    //p' README.md | sed "s|/srv|'$work/files/srv'|")
     cp "$data/two-tables.db" "$work/files/srv/a\\cb"$'\e[2J\t.db'
-    runs "$line"
+    over_many
     row 'a name' ended_exactly 123 "1 $work/files/srv/a\\cb?[2J?.db "$'\n' ''
     rm "$work/files/srv"/*
     cp "$data/whole.db" "$work/files/srv/x.db"
     printf '#!/bin/sh\necho "head: cannot open x.db" >&2\nexit 1\n' > "$work/bin/head"
     chmod 755 "$work/bin/head"
-    runs "$line"
+    over_many
     row 'a file that cannot be read' ended 123 '' $'head: cannot open x.db\n'
 }
 

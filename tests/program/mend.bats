@@ -109,6 +109,21 @@ short() {
     printf '\\0%03o\\0%03o' $(($1 / 256)) $(($1 % 256))
 }
 
+# As put_at takes them: later OFFSET BYTES: the pointer there in x.db, if it led so many bytes later; page_at OFFSET: the number of a page there;
+# byte_at OFFSET: the byte there.
+later() {
+    short $(($(number_at "$1") + $2))
+}
+
+page_at() {
+    printf '\\0\\0'
+    short "$(number_at "$1" 4)"
+}
+
+byte_at() {
+    printf '\\0%03o' "$(number_at "$1" 1)"
+}
+
 @test 'mend finds the roots of tables, of one byte and of two, between those of the rows beside them' {
     needs sqlite3
     made 'CREATE TABLE s(a); INSERT INTO s VALUES (zeroblob(200000)); CREATE TABLE t(a)'
@@ -174,8 +189,8 @@ root_at() {
     row 'page 1 is an interior page' [ "$(type_of 1)" = 5 ]
     for table in {10..39}; do
         one=$(root_at "CREATE TABLE t$table(") other=$(root_at "CREATE TABLE t$((table + 1))(")
-        row "t$table, the root of the next" is_put_back "$one" "\\0$(printf '%03o' "$(number_at "$other" 1)")"
-        row "the root of t$table in the next" is_put_back "$other" "\\0$(printf '%03o' "$(number_at "$one" 1)")"
+        row "t$table, the root of the next" is_put_back "$one" "$(byte_at "$other")"
+        row "the root of t$table in the next" is_put_back "$other" "$(byte_at "$one")"
     done
     # A view has no root page.
     made "$(printf 'CREATE TABLE t%d(a); CREATE VIEW v%d AS SELECT 1;' {1..3}{,})"
@@ -188,7 +203,7 @@ root_at() {
     made "$(printf 'CREATE TABLE %s(c0'"$(printf ', c%d' {10..69})"'); INSERT INTO %s(c0) VALUES (1);' t t u u)"
     one=$(root_at 'CREATE TABLE t(') other=$(root_at 'CREATE TABLE u(')
     row 'rows on pages of their own' [ $((one / 512)) != $((other / 512)) ]
-    row 'the root of the row on the page before' are_put_back "$other" "\\0$(number_at "$one" 1)"
+    row 'the root of the row on the page before' are_put_back "$other" "$(byte_at "$one")"
     [ "$rows" = 69 ]
 }
 
@@ -342,8 +357,8 @@ END
     needs python3 sqlite3
     made "CREATE TABLE t(a); $(up_to 20) INSERT INTO t SELECT zeroblob(100) FROM k"
     while read -r one other; do
-        row "$one, and the leaf of $one at $other" are_put_back "$one" '\0\0\0\0' "$other" "\\0\\0$(short "$(number_at "$one" 4)")"
-        row "$other, and the leaf of $other at $one" are_put_back "$other" '\0\0\0\0' "$one" "\\0\\0$(short "$(number_at "$other" 4)")"
+        row "$one, and the leaf of $one at $other" are_put_back "$one" '\0\0\0\0' "$other" "$(page_at "$one")"
+        row "$other, and the leaf of $other at $one" are_put_back "$other" '\0\0\0\0' "$one" "$(page_at "$other")"
     done < <(pairs_of t)
     made "CREATE TABLE t(id INTEGER PRIMARY KEY, a); CREATE INDEX i ON t(a); $(up_to 120) INSERT INTO t SELECT n, 'cust ' || n FROM k"
     row 'three children of an index' are_put_back 1520 '\0\0\0\0' 1504 '\0\0\0\0' 1032 '\0\0\0\0'
@@ -463,7 +478,7 @@ END
         made "$sql; $(up_to 24) INSERT INTO $([[ $sql == *INDEX* ]] && echo t || echo w) SELECT n % 3, n + 10 FROM k"
         for cell in {0..23}; do
             for other in $(((cell + 1) % 24)) $(((cell + 9) % 24)); do
-                row "$sql: $other for $cell" are_put_back "$(pointer w "$cell")" "$(short "$(number_at "$(pointer w "$other")")")"
+                row "$sql: $other for $cell" are_put_back "$(pointer w "$cell")" "$(later "$(pointer w "$other")" 0)"
             done
         done
     done
@@ -476,7 +491,7 @@ END
     needs sqlite3
     made "CREATE TABLE t(a INT); CREATE INDEX i ON t(a); $(up_to 20) INSERT INTO t SELECT n + 200 FROM k"
     for cell in {0..19}; do
-        row "cell $cell" are_put_back "$(pointer i "$cell")" "$(short $(($(number_at "$(pointer i "$cell")") + 1)))"
+        row "cell $cell" are_put_back "$(pointer i "$cell")" "$(later "$(pointer i "$cell")" 1)"
     done
 }
 
@@ -962,8 +977,8 @@ END
     needs python3 sqlite3
     made "CREATE TABLE t(a); $(up_to 14) INSERT INTO t SELECT zeroblob(1500) FROM k;"
     while read -r one other; do
-        row "$one, the chain of $other" is_put_back "$one" "\\0\\0$(short "$(number_at "$other" 4)")"
-        row "$other, the chain of $one" is_put_back "$other" "\\0\\0$(short "$(number_at "$one" 4)")"
+        row "$one, the chain of $other" is_put_back "$one" "$(page_at "$other")"
+        row "$other, the chain of $one" is_put_back "$other" "$(page_at "$one")"
     done < <(chains_of)
     [ "$rows" = 182 ]
 }
@@ -1173,7 +1188,7 @@ named_twice() {
     made "CREATE TABLE t(a, b DEFAULT 0); CREATE INDEX i ON t($2); $(up_to 20) INSERT INTO t(a) SELECT $3 FROM k" "${4:-512}"
     children_of i > "$work/children"
     while read -r one other; do
-        row "$1: $one, the page of $other" is_put_back "$one" "\\0\\0$(short "$(number_at "$other" 4)")"
+        row "$1: $one, the page of $other" is_put_back "$one" "$(page_at "$other")"
     done < <(tail -n +2 "$work/children" | paste "$work/children" - | awk 'NF == 2')
 }
 
@@ -1190,7 +1205,7 @@ named_twice() {
     made "CREATE TABLE t(a); CREATE INDEX i ON t(zeroblob(a)); $(up_to 40) INSERT INTO t SELECT n * 7 % 61 * 10 FROM k"
     mapfile -t places < <(children_of i)
     for child in 3 4; do
-        row "blobs: the first child, the page of child $child" is_put_back "${places[0]}" "\\0\\0$(short "$(number_at "${places[child]}" 4)")"
+        row "blobs: the first child, the page of child $child" is_put_back "${places[0]}" "$(page_at "${places[child]}")"
     done
 }
 
@@ -1214,14 +1229,9 @@ named_twice() {
     row 'page 1 is an interior page' [ "$(type_of 1)" = 5 ]
     for table in {10..18}; do
         row "t$table, the root of the next" is_put_back "$(root_at "CREATE TABLE t$table(")" \
-            "\\0$(printf '%03o' "$(number_at "$(root_at "CREATE TABLE t$((table + 1))(")" 1)")"
+            "$(byte_at "$(root_at "CREATE TABLE t$((table + 1))(")")"
     done
     [ "$rows" = 10 ]
-}
-
-# later OFFSET BYTES: the pointer there in x.db, if it led so many bytes later, as put_at takes it.
-later() {
-    short $(($(number_at "$1") + $2))
 }
 
 # The bytes that such a pointer leaves out are no fragments. Of two pointers one is 0, and a later one leads into the cell after that: the cell
@@ -1651,7 +1661,7 @@ refused() {
     row 'numbers overwritten' tests/mend.py --copies 3 --shape rowid-512 --shape full-vacuum-512 --shape freelist-1024 "$DBCK" "$work/numbers"
 }
 
-# The headers of these records end on overflow pages. What is after such a cell on its page is no end of it.
+# The headers of these records end on overflow pages. The bytes after such a cell on its page are not the rest of it.
 @test 'mend puts no length by what is after a cell' {
     local at cell
     needs sqlite3

@@ -55,6 +55,11 @@ makes() {
     row "both-ways.sh ${*:2}" ended 0 "$1" ''
 }
 
+# clear_made: takes these files away again.
+clear_made() {
+    rm "$work/files"/{new,replaced,dumped}.db "$work/files/both-ways.log"
+}
+
 # count FILE: how many rows the table t of a database has.
 count() {
     [ -s "$1" ] && sqlite3 "$1" 'SELECT count(*) FROM t' 2>&1
@@ -96,14 +101,14 @@ count() {
     row 'what is there' [ "$(cd "$work/files" && echo *)" = 'both-ways.log dumped.db new.db replaced.db x.db' ]
     refuses $'both-ways.sh: new.db is there already\n' x.db
     refuses $'both-ways.sh: ./replaced.db is there already\n' x.db other.db
-    rm "$work/files"/{new,replaced,dumped}.db "$work/files/both-ways.log"
+    clear_made
     for name in replaced.db dumped.db both-ways.log; do
         refuses "both-ways.sh: NEW must have another name than the files beside it: ./$name"$'\n' x.db "./$name"
     done
 }
 
 # SQLite would take it for the log of the new file.
-@test 'both-ways.sh makes no file beside whose name a log is already' {
+@test 'both-ways.sh makes no file whose -wal or -journal is there already' {
     local end name
     with_sqlite
     database "$work/files/x.db" 1
@@ -204,7 +209,7 @@ count() {
             hot) makes $'t: 1 row\n' hot.db && row 'the row' [ "$(sqlite3 "$work/files/new.db" 'SELECT a FROM t')" = before ] ;;
             alone) makes $'t: 4 rows\n' alone.db ;;
         esac
-        rm "$work/files"/{new,replaced,dumped}.db "$work/files/both-ways.log"
+        clear_made
         row "$name: the folder" diff "$work/before" <(there)
     done
 }
@@ -259,7 +264,7 @@ t|t
 log|log
 g|t
 END
-        rm "$work/files"/{new,replaced,dumped}.db "$work/files/both-ways.log"
+        clear_made
     done
 }
 
@@ -281,7 +286,7 @@ END
         sqlite3 "$work/files/new.db" "SELECT * FROM sqlite_sequence; SELECT name FROM sqlite_schema WHERE name IN ('si', 'v') ORDER BY name;
             SELECT oid FROM o; $fts" > "$work/has" 2>&1 || true
         row "what new.db has${bare:+ after an error}" diff <(printf '%s\n' 's|100' si v 5 9 "${found[@]}") "$work/has"
-        rm "$work/files"/{new,replaced,dumped}.db "$work/files/both-ways.log"
+        clear_made
     done
 }
 
@@ -407,7 +412,7 @@ with_disk() {
         KILLED=$name.db both_ways x.db
         row "$name.db" ended 2 '*' $'*both-ways.sh: not all of new.db, replaced.db and dumped.db could be written *\n'
         row "$name.db: the log" grep -qx "sqlite3 was killed: $name.db" "$work/files/both-ways.log"
-        rm "$work/files"/{new,replaced,dumped}.db "$work/files/both-ways.log"
+        clear_made
     done
 }
 
@@ -418,12 +423,12 @@ with_disk() {
     FAILING=$damaged both_ways x.db
     row "$damaged" ended_exactly 0 $'t: 100 rows\n.recover came to no end: '"$damaged"$'\n' ''
     for said in 'sql error: database or disk is full (13)' 'Error: near line 2: disk I/O error'; do
-        rm "$work/files"/{new,replaced,dumped}.db "$work/files/both-ways.log"
+        clear_made
         FAILING=$said both_ways x.db
         row "$said" ended 2 $'t: 100 rows\n.recover came to no end: *\n' 'both-ways.sh: not all of new.db, *'
         row "$said: the log" grep -qxF "$said" "$work/files/both-ways.log"
     done
-    rm "$work/files"/{new,replaced,dumped}.db "$work/files/both-ways.log"
+    clear_made
     # The end is cut off; and a word in the text of a message is none of SQLite.
     truncate -s -20480 "$work/files/x.db"
     FAILING='UNIQUE constraint failed: database or disk is full.a (19)' both_ways x.db

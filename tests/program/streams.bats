@@ -119,6 +119,7 @@ END
 }
 
 @test 'a report of a database and its log that cannot be written ends with 6' {
+    local words
     paired
     for words in check explain map 'stat --all'; do
         # shellcheck disable=SC2086
