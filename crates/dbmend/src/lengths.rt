@@ -79,7 +79,7 @@ fn stored(number: u64) -> ArrayVec<u8, 3> {
     bytes
 }
 
-// Whether so many bytes at the beginning of a payload are in its cell.
+// Whether the first `count` bytes of a payload are in its cell.
 #[tactic(auto, unfolding(dbformat::specs::Payload::most_payload))]
 fn is_local(kind: PayloadKind, usable: u32, count: u64, len: u64) -> bool {
     if usable < 480 || usable > 65536 || len > MOST_LEN {

@@ -11,7 +11,7 @@ const MOST_STEPS: u32 = 64;
 // How many cells are looked at on each side of one.
 const MOST_LOST: u32 = 16;
 
-// Of how many columns it is told how their values go. Those after them go with the last of these.
+// How many columns of a key are counted apart. Those after them count as the last of these.
 const MOST_COLUMNS: usize = 4;
 
 // How often a key of a page is above the one before it, and how often below, by the column in which they differ. One cell is left out.
@@ -51,22 +51,26 @@ impl Steps {
         }
     }
 
+    // How many of them go the way of most of their column, and how many the other way.
+    fn sides(&self) -> (u32, u32) {
+        let mut most = 0u32;
+        let mut others = 0u32;
+        for (rises, falls) in self.rises.iter().zip(&self.falls) {
+            most = most.saturating_add((*rises).max(*falls));
+            others = others.saturating_add((*rises).min(*falls));
+        }
+        (most, others)
+    }
+
     // How many of them go the other way than most of their column.
     fn against(&self) -> u32 {
-        let mut count = 0u32;
-        for (rises, falls) in self.rises.iter().zip(&self.falls) {
-            count = count.saturating_add((*rises).min(*falls));
-        }
-        count
+        self.sides().1
     }
 
     // Whether nearly all go the way of their column.
     fn are_clear(&self) -> bool {
-        let mut most = 0u32;
-        for (rises, falls) in self.rises.iter().zip(&self.falls) {
-            most = most.saturating_add((*rises).max(*falls));
-        }
-        self.against().saturating_mul(4) < most
+        let (most, against) = self.sides();
+        against.saturating_mul(4) < most
     }
 }
 

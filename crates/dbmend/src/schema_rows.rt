@@ -114,12 +114,12 @@ fn root_fit(last: u32, beside: (Option<u32>, Option<u32>), place: &RootPlace, ro
     if before.unwrap_or(1) >= page || page >= behind.unwrap_or(u32::MAX) {
         return Fit::new(points, 0);
     }
-    let is_after = before.is_some() || last > 0;
-    let away = match (is_after, behind) {
-        (true, _) if before.is_none() && last >= page => 3,
-        (false, None) => 2,
-        (true, Some(_)) => 0,
-        _ => 1,
+    let away = match (before, behind) {
+        (None, _) if last >= page => 3,
+        (None, None) if last == 0 => 2,
+        (_, None) => 1,
+        (None, _) if last == 0 => 1,
+        _ => 0,
     };
     Fit::new(points + 2, away)
 }
