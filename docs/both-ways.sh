@@ -23,9 +23,8 @@ die() {
     printf 'both-ways.sh: %s\n' "$1" >&2
     exit 2
 }
-# Two of them may open one database at once, and one waits for the other.
 sql() {
-    "${SQLITE3:-sqlite3}" -batch -init /dev/null -cmd '.timeout 60000' -list -noheader "$@"
+    "${SQLITE3:-sqlite3}" -batch -init /dev/null -list -noheader "$@"
 }
 
 case $#:${1-} in
@@ -66,7 +65,7 @@ done
 before=$PWD
 cd "$work" || exit 2
 # All files are there from the beginning, and room for a journal. all-written is removed if something could not be written.
-touch new.db replaced.db dumped.db report.db recover.sql recover.log run.out all-written both-ways.log new.db-journal 2> /dev/null ||
+touch new.db replaced.db dumped.db report.db recover.sql recover.log run.sql run.out all-written both-ways.log new.db-journal 2> /dev/null ||
     die "$beside takes no more files"
 rm new.db-journal
 exec 3>&2 2>> both-ways.log
@@ -100,18 +99,23 @@ CREATE TABLE others(name TEXT, file TEXT, count INT);
 CREATE TABLE whole(name TEXT);
 SQL
 
-# write FILE OTHER < QUERY: the statements that a query over FILE.db gives, with OTHER.db as `other`.
-write() {
-    { printf "PRAGMA writable_schema = ON; ATTACH '%s.db' AS other; ATTACH 'report.db' AS report;\n" "$2"; cat; } | sql "$1.db"
+# with OTHER: what comes before statements that have OTHER.db as `other`. A database that is still empty has no encoding of its own.
+with() {
+    printf "PRAGMA encoding = '%s'; PRAGMA writable_schema = ON; ATTACH '%s.db' AS other; ATTACH 'report.db' AS report;\n" "$encoding" "$1"
 }
-# run FILE OTHER < STATEMENTS: runs them. No trigger fires.
+# run FILE OTHER < STATEMENTS: runs them in FILE.db. No trigger fires.
 run() {
     {
         printf '.dbconfig %s off\n' defensive enable_trigger
-        printf "PRAGMA foreign_keys = OFF; PRAGMA writable_schema = ON; ATTACH '%s.db' AS other; ATTACH 'report.db' AS report;\n" "$2"
-        printf 'PRAGMA %s.synchronous = OFF;\n' main report
+        with "$2"
+        printf 'PRAGMA foreign_keys = OFF; PRAGMA %s.synchronous = OFF;\n' main report
         cat
     } | into "$1"
+}
+# derive FILE OTHER < QUERY: runs the statements that a query over FILE.db gives, once all are there: it reads FILE.db until then.
+derive() {
+    { with "$2"; cat; echo "SELECT '-- all';"; } | sql "$1.db" > run.sql
+    if [ "$(tail -n 1 run.sql)" = '-- all' ]; then run "$1" "$2" < run.sql; else rm -f all-written; fi
 }
 
 # The tables of a database, but for SQLite's own.
@@ -189,7 +193,7 @@ echo 'new.db, from the others:' >&2
 
 # lacking FILE KIND: makes what FILE.db lacks and dumped.db has.
 lacking() {
-    write "$1" dumped << SQL | run "$1" dumped
+    derive "$1" dumped << SQL
 SELECT CASE WHEN sql LIKE 'CREATE VIRTUAL %'
         THEN printf('INSERT INTO main.sqlite_schema SELECT * FROM other.sqlite_schema WHERE type = ''table'' AND name = %Q;', name)
         ELSE sql || iif(instr(sql, '--'), char(10), '') || ';' END
@@ -202,7 +206,7 @@ SQL
 # of its columns and its rowid there, or NULL if they are the same. A row is known by its rowid or key. In a table that has neither, equal
 # rows are counted.
 add() {
-    write "$1" "$2" << SQL | run "$1" "$2"
+    derive "$1" "$2" << SQL
 WITH source(name, place, those, id) AS ($4)
 SELECT CASE
     WHEN l.wr THEN printf('INSERT OR $3 INTO main."%w"(%s) SELECT %s FROM %s;', l.name, $columns, coalesce(those, $columns), place)
@@ -221,13 +225,13 @@ others="(SELECT name FROM pragma_table_list WHERE schema = 'other' AND type <> '
 other="SELECT name, printf('other.\"%w\"', name), NULL, NULL FROM main.sqlite_schema WHERE name IN $others"
 plain="SELECT m.name, printf('main.\"%w\"', place), those, '_rowid_' FROM report.plain AS p JOIN main.sqlite_schema AS m ON m.sql = p.before"
 
-write new new << SQL | run new new
+derive new new << SQL
 SELECT printf('INSERT INTO report.recovered SELECT %Q, count(*) FROM main."%w";', coalesce(p.name, l.name), l.name)
     FROM (SELECT l.name FROM $tables) AS l LEFT JOIN report.plain AS p ON p.place = l.name;
 SQL
 for file in replaced new; do
     # A root page that leads into the schema makes its rows those of a table. The plain definitions are not in the damaged file.
-    write "$file" dumped << SQL | run "$file" dumped
+    derive "$file" dumped << SQL
 SELECT printf('DELETE FROM main."%w" WHERE %s;', l.name,
         (SELECT group_concat(printf('"%w" IN (SELECT definition FROM report.plain)', name), ' OR ') FROM pragma_table_info(l.name)))
     FROM $tables AND EXISTS (SELECT 1 FROM report.plain);
@@ -243,7 +247,7 @@ add new replaced IGNORE "$other"
 # Tables that SQLite can read to their end come from there too: .dump gives nothing if it cannot read the schema to its end, and both
 # cut a text at its first zero byte.
 add new damaged IGNORE "$other"
-write new damaged << SQL | run new damaged
+derive new damaged << SQL
 SELECT printf('REPLACE INTO main."%w"(%s) SELECT %s FROM other."%w" NOT INDEXED WHERE %s;', name, all_columns, all_columns, name, cut)
     FROM (SELECT l.name, coalesce($rowid || ', ', '') || $columns AS all_columns,
         (SELECT group_concat(printf('typeof("%w") = ''text'' AND instr("%w", char(0))', name, name), ' OR ') FROM pragma_table_info(l.name)) AS cut
@@ -252,7 +256,7 @@ SELECT printf('REPLACE INTO main."%w"(%s) SELECT %s FROM other."%w" NOT INDEXED 
 SQL
 
 # The numbers of AUTOINCREMENT: the greatest that was found.
-write new dumped << 'SQL' | run new dumped
+derive new dumped << 'SQL'
 SELECT 'UPDATE main.sqlite_sequence AS s SET seq = max(seq, o.most)
         FROM (SELECT name, max(seq) AS most FROM other.sqlite_sequence GROUP BY name) AS o WHERE o.name = s.name;
     INSERT INTO main.sqlite_sequence(name, seq) SELECT name, max(seq) FROM other.sqlite_sequence
@@ -260,7 +264,7 @@ SELECT 'UPDATE main.sqlite_sequence AS s SET seq = max(seq, o.most)
     FROM main.sqlite_schema JOIN other.sqlite_schema USING (name) WHERE name = 'sqlite_sequence';
 SQL
 for file in replaced new; do
-    write "$file" dumped << 'SQL' | run "$file" dumped
+    derive "$file" dumped << 'SQL'
 SELECT printf('DROP TABLE main."%w";', place) FROM report.plain WHERE before IN (SELECT sql FROM main.sqlite_schema)
     AND place IN (SELECT name FROM main.sqlite_schema);
 SQL
@@ -279,18 +283,18 @@ done
 
 # 5. What each table has.
 echo 'What could not be counted:' >&2
-write damaged new << SQL | run damaged new
+derive damaged new << SQL
 SELECT printf('INSERT INTO report.whole SELECT %Q WHERE (SELECT %s FROM main."%w" NOT INDEXED) >= 0;', l.name,
         (SELECT group_concat(printf('count("%w" || '''')', name), ' + ') FROM pragma_table_info(l.name)), l.name)
     FROM $tables;
 SQL
-write new dumped << SQL | run new dumped
+derive new dumped << SQL
 SELECT printf('INSERT INTO report.rows SELECT %Q, count(*), %d FROM main."%w";', l.name,
         l.name GLOB 'lost_and_found*' AND l.name NOT IN $others, l.name)
     FROM $tables;
 SQL
 for file in replaced dumped; do
-    write new "$file" << SQL | run new "$file"
+    derive new "$file" << SQL
 SELECT printf('INSERT INTO report.others SELECT %Q, ''$file.db'', count(*) FROM (SELECT %s FROM other."%w" EXCEPT SELECT %s FROM main."%w");',
         l.name, key, l.name, key, l.name)
     FROM (SELECT l.name, $values || coalesce(', ' || $rowid, '') AS key FROM $tables) AS l

@@ -3,8 +3,8 @@
 load common
 
 # with_sqlite: makes $SQLITE3, of which .recover gives what .dump gives: the sqlite3 of a system may have no .recover. It says so in the file
-# `reached`, and waits if there is a file `wait`; it gives no rows if $ROWLESS is set, and no table if $BARE is; and it ends with the message
-# $FAILING, if that is set.
+# `reached`, and waits if there is a file `wait`; it gives no rows if $ROWLESS is set, and no table if $BARE is; $EDITED is done with what it
+# gives, by sed; and it ends with the message $FAILING, if that is set.
 with_sqlite() {
     needs sqlite3 awk realpath
     mkdir "$work/files"
@@ -18,7 +18,7 @@ case ${*: -1} in
 esac
 [ ! -e "$WORK/wait" ] || : > "$WORK/reached"
 while [ -e "$WORK/wait" ]; do sleep 0.01; done
-sqlite3 "${@:1:$#-1}" '.dump --preserve-rowids' | sed "s/^INSERT INTO/INSERT OR IGNORE INTO/;${ROWLESS:+/^INSERT /d};${BARE:+3,\$d}"
+sqlite3 "${@:1:$#-1}" '.dump --preserve-rowids' | sed "s/^INSERT INTO/INSERT OR IGNORE INTO/;${ROWLESS:+/^INSERT /d};${BARE:+3,\$d};${EDITED:-}"
 [ -z "${FAILING:-}" ] || { echo "$FAILING" >&2 && exit 1; }
 END
     chmod 755 "$SQLITE3"
@@ -288,6 +288,70 @@ END
         row "what new.db has${bare:+ after an error}" diff <(printf '%s\n' 's|100' si v 5 9 "${found[@]}") "$work/has"
         clear_made
     done
+}
+
+# has ROWS QUERY: what a query over new.db gives.
+has() {
+    row "$2" diff <(printf '%s' "$1") <(sqlite3 "$work/files/new.db" "$2" 2>&1)
+}
+
+# The definitions and the queries over them are longer than what a pipe holds.
+@test 'both-ways.sh takes any number of tables' {
+    local columns table tables=({100..339})
+    with_sqlite
+    columns=$(printf 'column_%d TEXT, ' {1..6})
+    {
+        echo 'BEGIN;'
+        for table in "${tables[@]}"; do
+            echo "CREATE TABLE t$table($columns z); INSERT INTO t$table(z) VALUES (1);"
+        done
+        echo 'COMMIT;'
+    } | sqlite3 "$work/files/x.db"
+    makes "$(printf 't%d: 1 row\n' "${tables[@]}")"$'\n' x.db
+    row 'the log' [ "$(grep -c locked "$work/files/both-ways.log")" = 0 ]
+}
+
+@test 'both-ways.sh keeps the encoding, also if .recover gives no table' {
+    local bare encoding
+    with_sqlite
+    for encoding in UTF-8 UTF-16le UTF-16be; do
+        rm -f "$work/files/x.db"
+        sqlite3 "$work/files/x.db" "PRAGMA encoding = '$encoding'; CREATE TABLE t(a INTEGER PRIMARY KEY, b); INSERT INTO t VALUES (1, 'é'), (2, 'b')"
+        for bare in '' 1; do
+            ROWLESS=1 BARE=$bare makes $'t: 2 rows, 2 more than .recover found\n' x.db
+            has "$encoding"$'\n1|é\n2|b\n' 'PRAGMA encoding; SELECT * FROM t'
+            clear_made
+        done
+    done
+}
+
+@test 'both-ways.sh saves texts with a zero byte, and tables with generated columns' {
+    with_sqlite
+    sqlite3 "$work/files/x.db" "CREATE TABLE t(a INTEGER PRIMARY KEY, b); INSERT INTO t VALUES (1, 'ab' || char(0) || 'cd'), (2, char(0) || 'e');
+        CREATE TABLE g(a INTEGER PRIMARY KEY, b, c AS (b + 1), d AS (b + 2) STORED); INSERT INTO g VALUES (1, 10), (2, 20)"
+    ROWLESS=1 makes $'g: 2 rows, 2 more than .recover found\nt: 2 rows, 2 more than .recover found*' x.db
+    has $'1|6162006364\n2|0065\n1|10|11|12\n2|20|21|22\n' 'SELECT a, hex(b) FROM t; SELECT * FROM g'
+}
+
+@test 'both-ways.sh saves what comes after a definition that ends with a comment' {
+    with_sqlite
+    sqlite3 "$work/files/x.db" $'CREATE TABLE t(a); CREATE VIEW v AS SELECT a FROM t -- of t\n; CREATE INDEX i ON t(a); CREATE VIEW w AS SELECT 2'
+    ROWLESS=1 BARE=1 makes $'t: 0 rows\n' x.db
+    has $'i\nt\nv\nw\n' 'SELECT name FROM sqlite_schema ORDER BY 1'
+}
+
+# .recover and .dump give another row of one key.
+@test 'both-ways.sh takes the row of .recover, and says which rows of .dump are not among them' {
+    with_sqlite
+    sqlite3 "$work/files/x.db" "CREATE TABLE t(a INTEGER PRIMARY KEY, b); INSERT INTO t VALUES (1, 'dump')"
+    EDITED="s/'dump'/'recover'/" makes $'t: 1 row; not among them: 1 of dumped.db\n' x.db
+    has $'1|recover\n' 'SELECT * FROM t'
+    clear_made
+    # Without the index .recover may give two rows of one key of it.
+    rm "$work/files/x.db"
+    sqlite3 "$work/files/x.db" "CREATE TABLE t(a INTEGER PRIMARY KEY, b); CREATE UNIQUE INDEX u ON t(b); INSERT INTO t VALUES (1, 'x'), (2, 'y')"
+    EDITED="s/(2,'y')/(3,'y')/;/INDEX/d" makes $'t: 2 rows*' x.db
+    has $'1|x\n3|y\nt\nu\n' 'SELECT * FROM t; SELECT name FROM sqlite_schema ORDER BY 1'
 }
 
 # SQLite rolls the journal back in the copy, and writes that.
