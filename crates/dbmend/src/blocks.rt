@@ -1,5 +1,5 @@
 // What the numbers of a freeblock may have been: its size, and the link to it (Database File Format, 1.6).
-use crate::gaps::{cell_after, first_gap, longest_gaps, most_fragmented};
+use crate::gaps::{block_before, cell_after, each_gap, first_gap, longest_gaps, most_fragmented};
 use crate::numbers::{add_short, head};
 use crate::ranked::Ranked;
 use crate::reading::Paper;
@@ -52,13 +52,18 @@ fn add_sizes<A: Allocator>(
     }
 }
 
-// Adds where a freeblock may begin: with the first run of bytes that no item holds, after at most a fragment. Or there is none.
+// Adds where a freeblock may begin: with the first run of bytes that no item holds, after at most a fragment, or with the longest one, if the
+// first are fragments side by side. Or there is none.
 fn add_link<A: Allocator>(tries: &mut Ranked, paper: &Paper<A>, view: &PageView<'_>, link: Link) {
     if let Some(gap) = first_gap(paper, view, link.number, link.from) {
         for fragment in 0..most_fragmented(view) + 1 {
             let at = gap.at.saturating_add(fragment);
             add_short(tries, paper, link.place, at, 28 - fragment);
         }
+    }
+    let longest = longest_gaps(paper, view)[0];
+    if longest.at >= link.from && longest.len >= 4 {
+        add_short(tries, paper, link.place, longest.at, 24);
     }
     add_short(tries, paper, link.place, 0, 22);
 }
@@ -107,15 +112,13 @@ pub(crate) fn add_longer<A: Allocator>(tries: &mut Ranked, paper: &Paper<A>) {
     let Some(view) = paper.view() else {
         return;
     };
-    let longest = longest_gaps(paper, &view);
-    for block in view.freeblocks() {
-        let end = block.offset.saturating_add(block.size);
-        for gap in longest {
-            if gap.at == end {
-                let end = end.saturating_add(gap.len);
-                add_sizes(tries, paper, &view, block.offset, end);
-            }
+    each_gap(paper, &view, |gap| {
+        if gap.len > 0
+            && let Some(block) = block_before(&view, gap.at)
+        {
+            let end = gap.at.saturating_add(gap.len);
+            add_sizes(tries, paper, &view, block, end);
         }
-    }
+    });
     add_link(tries, paper, &view, Link::of(paper, &view, u32::MAX));
 }

@@ -138,6 +138,37 @@ pub(crate) fn longest_gap<A: Allocator>(paper: &Paper<A>) -> u32 {
     }
 }
 
+// Gives each run of bytes that no item holds.
+pub(crate) fn each_gap<A: Allocator, F: FnMut(Gap)>(paper: &Paper<A>, view: &PageView<'_>, give: F)
+    requires { F.IsAlwaysCallable give }
+{
+    let mut begun = [0u16; 65537];
+    add_items(&mut begun, view, NO_CELL, u32::MAX);
+    each_run(&begun, paper.start(), paper.usable(), give);
+}
+
+// Where the freeblock begins that ends at an offset.
+pub(crate) fn block_before(view: &PageView<'_>, end: u32) -> Option<u32> {
+    for block in view.freeblocks() {
+        if block.offset.saturating_add(block.size) == end {
+            return Some(block.offset);
+        }
+    }
+    None
+}
+
+// Whether such a run is beside free bytes: those before the content area, or a freeblock. SQLite leaves fragments there seldom, so the area may
+// begin with the next cell, or the freeblock be longer.
+pub(crate) fn is_beside_free<A: Allocator>(paper: &Paper<A>, view: &PageView<'_>) -> bool {
+    let mut is_found = false;
+    each_gap(paper, view, |gap| {
+        if gap.len > 0 && (gap.at == paper.start() || block_before(view, gap.at).is_some()) {
+            is_found = true;
+        }
+    });
+    is_found
+}
+
 // The first run of four bytes or more, from an offset on, that no cell and none of the first freeblocks holds.
 pub(crate) fn first_gap<A: Allocator>(
     paper: &Paper<A>,

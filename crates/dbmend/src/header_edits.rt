@@ -10,7 +10,7 @@ use std::alloc::Allocator;
 // Where the numbers of the header are.
 const PAGES: u64 = 28;
 
-const FIRST_TRUNK: u64 = 32;
+pub(crate) const FIRST_TRUNK: u64 = 32;
 
 pub(crate) const FREE_PAGES: u64 = 36;
 

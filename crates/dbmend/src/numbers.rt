@@ -1,7 +1,7 @@
 // What may have been in the head of a page of a tree, in its cell pointers, and in an entry of the pointer map.
 ghost use Rattle.std.specs.Prelude.{◌≤◌};
 
-use crate::gaps::{MOST_FRAGMENT, longest_gap};
+use crate::gaps::{MOST_FRAGMENT, is_beside_free, longest_gap};
 use crate::key::Key;
 use crate::lengths::whole_records;
 use crate::ranked::{Ranked, add_try};
@@ -139,7 +139,9 @@ pub(crate) fn add_fragments<A: Allocator>(tries: &mut Ranked, paper: &Paper<A>, 
         return;
     }
     if let Ok(stored) = u8::try_from(count) {
-        let is_full = longest_gap(paper) <= MOST_FRAGMENT && are_as_wide(&view);
+        let is_full = longest_gap(paper) <= MOST_FRAGMENT
+            && !is_beside_free(paper, &view)
+            && are_as_wide(&view);
         let points = if is_full { 38 } else { 20 };
         add_at(tries, paper, head(paper) + 7, &[stored], points);
     }
@@ -195,29 +197,6 @@ fn least_pointer<A: Allocator>(paper: &Paper<A>) -> Option<u32> {
     }
 }
 
-// Whether the content area has no run of bytes longer than a fragment without an item, if a number of two bytes is another one. A longer run
-// may be cells that are left out, or none of the area.
-fn is_full_with<A: Allocator>(paper: &mut Paper<A>, at: u32, number: u32) -> bool {
-    let Some(stated) = paper.replace_short(at, number) else {
-        return false;
-    };
-    let longest = longest_gap(paper);
-    paper.put_short(at, stated);
-    longest <= MOST_FRAGMENT
-}
-
-// Adds where the content area may begin: where the first cell or freeblock does. If that is before where it is said to be, it goes before a
-// count with which cells are left out.
-pub(crate) fn add_start<A: Allocator>(tries: &mut Ranked, paper: &mut Paper<A>) {
-    let at = head(paper) + 5;
-    if let Some(least) = least_pointer(paper)
-        && (least >= paper.start() || is_full_with(paper, at, least))
-    {
-        let points = if least < paper.start() { 38 } else { 30 };
-        add_short(tries, paper, at, least, points);
-    }
-}
-
 // With how many cells the page has as many fragmented bytes as it states, of those that it has room for.
 fn fitting_count<A: Allocator>(paper: &Paper<A>) -> Option<u32> {
     let view = paper.view()?;
@@ -243,6 +222,33 @@ fn count_by_area<A: Allocator>(paper: &mut Paper<A>) -> Option<u32> {
     let count = fitting_count(paper);
     paper.put_short(at, stated);
     count
+}
+
+// Whether the content area has as many fragmented bytes as the page states, or no run of bytes longer than a fragment without an item, if a
+// number of two bytes is another one. A longer run may be cells that are left out, or none of the area.
+fn is_full_with<A: Allocator>(paper: &mut Paper<A>, at: u32, number: u32) -> bool {
+    let Some(stated) = paper.replace_short(at, number) else {
+        return false;
+    };
+    let is_counted = paper
+        .view()
+        .is_some_and(|view| fitting_count(paper) == Some(view.cells()));
+    let is_full = is_counted || longest_gap(paper) <= MOST_FRAGMENT;
+    paper.put_short(at, stated);
+    is_full
+}
+
+// Adds where the content area may begin: where the first cell or freeblock does. If that is before where it is said to be, it goes before a
+// count with which cells are left out; if it is just behind, before a length of what is there. A pointer that is wrong leaves more bytes.
+pub(crate) fn add_start<A: Allocator>(tries: &mut Ranked, paper: &mut Paper<A>) {
+    let at = head(paper) + 5;
+    let start = paper.start();
+    if let Some(least) = least_pointer(paper)
+        && (least >= start || is_full_with(paper, at, least))
+    {
+        let is_near = least <= start.saturating_add(MOST_FRAGMENT);
+        add_short(tries, paper, at, least, if is_near { 38 } else { 30 });
+    }
 }
 
 // Adds how many cells there may be: as many as fill the content area, and as many as there are pointers, if no cells are left out then.

@@ -1,7 +1,7 @@
 // The pages that may have a wrong number, by the faults that were noted.
 use crate::counter::Noted;
 use crate::fit::Root;
-use crate::header_edits::FREE_PAGES;
+use crate::header_edits::{FIRST_TRUNK, FREE_PAGES};
 use arrayvec::ArrayVec;
 use dbformat::{FREELIST_START, Fault, FaultCode, u32_at};
 use dbscan::{Desk, Mark};
@@ -102,13 +102,18 @@ fn want_before<A: Allocator>(desk: &Desk<A>, lost: &Root, wanted: &mut Wanted) {
     }
 }
 
-// How many free pages the header states beyond those that were reached, by H10.
-fn missing<A: Allocator>(desk: &Desk<A>, faults: &[Noted]) -> i64 {
+// A number of four bytes of the header.
+fn header_number<A: Allocator>(desk: &Desk<A>, at: u64) -> u32 {
     let header = desk.header().bytes();
-    if header.len() < 40 {
+    if header.len() < 100 || at > 96 {
         return 0;
     }
-    let stated = i64::from(u32_at(header, FREE_PAGES as u32));
+    u32_at(header, at as u32)
+}
+
+// How many free pages the header states beyond those that were reached, by H10.
+fn missing<A: Allocator>(desk: &Desk<A>, faults: &[Noted]) -> i64 {
+    let stated = i64::from(header_number(desk, FREE_PAGES));
     for noted in faults {
         if let FaultCode::H10 = noted.fault.code {
             return stated.saturating_sub(noted.fault.value);
@@ -120,21 +125,31 @@ fn missing<A: Allocator>(desk: &Desk<A>, faults: &[Noted]) -> i64 {
 // How many trunks are looked at, if pages are missing.
 const MOST_TRUNKS: u32 = 16;
 
-// Adds the numbers of the first trunks, if pages are missing from the freelist, or are too many.
+// Adds the numbers of a page, if it is a trunk.
+fn want_trunk<A: Allocator>(desk: &Desk<A>, page: u32, missing: i64, wanted: &mut Wanted) -> bool {
+    let is_trunk = matches!(mark(desk, page), Mark::Trunk);
+    if is_trunk {
+        add_want(wanted, page, Number::Leaves(u32::MAX));
+        add_want(wanted, page, Number::More(missing));
+        add_want(wanted, page, Number::NextTrunk);
+    }
+    is_trunk
+}
+
+// Adds the numbers of some trunks, if pages are missing from the freelist, or are too many. The first of the list goes first: SQLite fills
+// each one before it makes the next.
 fn want_trunks<A: Allocator>(desk: &Desk<A>, missing: i64, wanted: &mut Wanted) {
     if missing == 0 {
         return;
     }
+    want_trunk(desk, header_number(desk, FIRST_TRUNK), missing, wanted);
     let mut left = MOST_TRUNKS;
     for index in 0..desk.marks().pages() {
         if left == 0 {
             return;
         }
-        if let Mark::Trunk = mark(desk, index + 1) {
+        if want_trunk(desk, index + 1, missing, wanted) {
             left -= 1;
-            add_want(wanted, index + 1, Number::Leaves(u32::MAX));
-            add_want(wanted, index + 1, Number::More(missing));
-            add_want(wanted, index + 1, Number::NextTrunk);
         }
     }
 }
