@@ -51,7 +51,7 @@ uninstall:
 	rm -f $(BIN)/dbck $(SHARE)/man/man1/dbck.1 $(SHARE)/bash-completion/completions/dbck \
 	    $(SHARE)/zsh/site-functions/_dbck $(SHARE)/fish/vendor_completions.d/dbck.fish
 	rm -f $(DOCUMENTS:%=$(SHARE)/doc/dbck/%.md) $(SHARE)/doc/dbck/both-ways.sh
-	cd $(DESTDIR)$(PREFIX) 2> /dev/null || exit 0; for folder in $(EMPTIED); do \
+	cd $(DESTDIR)$(PREFIX)/ 2> /dev/null || exit 0; for folder in $(EMPTIED); do \
 	    [ ! -d $$folder ] || rmdir -p --ignore-fail-on-non-empty $$folder || exit; done
 
 deb: all

@@ -50,10 +50,12 @@ END
 
 @test 'make uninstall takes all of it away, and nothing of others' {
     needs make install
-    row 'make install' makes install PREFIX=/opt/dbck
-    row 'make uninstall' makes uninstall PREFIX=/opt/dbck
-    row 'nothing is left' [ "$(cd "$work/root" && find . | sort | tr '\n' ' ')" = '. ./opt ./opt/dbck ' ]
-    row 'make install once more' makes install PREFIX=/usr
+    row 'make install' makes install PREFIX=/usr
+    files > "$work/kept"
+    row 'make install elsewhere' makes install PREFIX=/opt/dbck
+    row 'make uninstall there' makes uninstall PREFIX=/opt/dbck
+    row 'nothing is left there' [ "$(cd "$work/root" && find opt | sort | tr '\n' ' ')" = 'opt opt/dbck ' ]
+    row 'what was installed before' diff <(files) "$work/kept"
     : > "$work/root/usr/bin/other"
     : > "$work/root/usr/share/bash-completion/completions/other"
     : > "$work/root/usr/share/doc/dbck/other"
@@ -87,18 +89,31 @@ says_nothing() {
     row 'what is left' [ "$(cd "$work/root/usr/local" && find . | sort | tr '\n' ' ')" = '. ./bin ./share ./share/man ./share/man/man1 ' ]
 }
 
+# Of the tools that remove something, rm does nothing here, and rmdir only says where it would.
+@test 'make uninstall with empty DESTDIR and PREFIX removes nothing of the caller' {
+    needs make
+    mkdir -p "$work/bin" "$work/home/bin" "$work/home/share/man/man1"
+    ln -s "$(type -P true)" "$work/bin/rm"
+    # shellcheck disable=SC2016
+    printf '#!/bin/sh\npwd -P >> "$HOME/said"\n' > "$work/bin/rmdir"
+    chmod 755 "$work/bin/rmdir"
+    HOME=$work/home PATH=$work/bin:$PATH row 'make uninstall' makes uninstall DESTDIR= PREFIX=
+    row 'where folders are removed' [ "$(sort -u "$work/home/said")" = / ]
+}
+
 # In a shell such a name is two, and the first of them may be a file of somebody.
 @test 'make install and make uninstall refuse a folder whose name has a blank' {
-    local target
+    local target folder
     needs make install
-    mkdir "$work/my root"
-    : > "$work/my"
+    mkdir -p "$work/root/my root"
+    : > "$work/root/my"
     for target in install uninstall; do
-        row "make $target" [ "$(make -s -o all PROGRAM="$DBCK" DESTDIR="$work/my root" "$target" 2>&1 | sed 's/.*\*\*\* //')" = \
-            'DESTDIR and PREFIX must not have blanks.  Stop.' ]
+        for folder in "DESTDIR=$work/root/my root" 'PREFIX=/my root'; do
+            row "make $target $folder" [ "$(makes "$target" "$folder" 2>&1 | sed 's/.*\*\*\* //')" = 'DESTDIR and PREFIX must not have blanks.  Stop.' ]
+        done
     done
-    row 'the file' [ -f "$work/my" ]
-    row 'the folder' [ -z "$(ls "$work/my root")" ]
+    row 'the file' [ -f "$work/root/my" ]
+    row 'the folder' [ -z "$(ls "$work/root/my root")" ]
 }
 
 @test 'make install, make deb and make static build the program first' {
