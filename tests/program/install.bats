@@ -127,14 +127,21 @@ says_nothing() {
     row 'make static' grep -q -- ' -static -o crates/dbck/out/dbck-static ' <(make -n static 2> "$work/why")
 }
 
+# make_deb FOLDER VERSION: makes a package of a copy of the program in this folder of $work, with its own folder for temporary files.
+make_deb() {
+    mkdir -p "$work/$1" "$work/temporary"
+    cp "$DBCK" "$work/given"
+    (cd "$work/$1" && TMPDIR=$work/temporary "$root/packaging/make-deb" "$work/given" "$2") > "$work/said" 2>&1
+}
+
 @test 'the package has the same files, examples, and the sums of all' {
+    local bytes name size
     needs make install dpkg-deb strip gzip md5sum
-    cd "$work"
     # Whatever the mask of the caller is.
-    (umask 077 && "$root/packaging/make-deb" "$DBCK" 1.2.3 > said)
-    row 'the package' dpkg-deb -x dbck_1.2.3_amd64.deb "$work/root"
-    dpkg-deb -e dbck_1.2.3_amd64.deb "$work/control"
-    cd "$root"
+    (umask 077 && MAINTAINER='A Name <name@dbck.invalid>' make_deb made 1.2.3)
+    row 'the program that is given' cmp "$DBCK" "$work/given"
+    row 'the package' dpkg-deb -x "$work/made/dbck_1.2.3_amd64.deb" "$work/root"
+    dpkg-deb -e "$work/made/dbck_1.2.3_amd64.deb" "$work/control"
     row 'the files' diff <(files) - << 'END'
 755 usr/bin/dbck
 644 usr/share/bash-completion/completions/dbck
@@ -157,20 +164,23 @@ END
     row 'the manual' cmp docs/dbck.1 <(gzip -dc "$work/root/usr/share/man/man1/dbck.1.gz")
     row 'what zsh gets' cmp completions/_dbck "$work/root/usr/share/zsh/vendor-completions/_dbck"
     row 'the copyright' cmp packaging/copyright "$work/root/usr/share/doc/dbck/copyright"
+    for name in empty two-owners two-tables whole; do
+        row "the example $name" cmp "$data/$name.db" "$work/root/usr/share/doc/dbck/examples/$name.db"
+    done
     row 'the version' grep -qx 'Version: 1.2.3' "$work/control/control"
     row 'the processor' grep -qx 'Architecture: amd64' "$work/control/control"
     row 'the C library' grep -qx 'Depends: libc6 (>= 2.34)' "$work/control/control"
+    row 'the maintainer' grep -qx 'Maintainer: A Name <name@dbck.invalid>' "$work/control/control"
+    row 'whose change it is' grep -q '^ -- A Name <name@dbck.invalid>  ' <(gzip -dc "$work/root/usr/share/doc/dbck/changelog.gz")
+    # In units of 1024 bytes, and folders count too.
+    size=$(sed -n 's/^Installed-Size: //p' "$work/control/control")
+    bytes=$(find "$work/root/usr" -type f -printf '%s\n' | awk '{ all += $1 } END { print all }')
+    row 'the size' [ "$((size * 1024 >= bytes && size * 512 < bytes))" = 1 ]
     row 'the sums' eval "(cd '$work/root' && md5sum --quiet -c '$work/control/md5sums')"
     row 'a sum for each' [ "$(wc -l < "$work/control/md5sums")" = 16 ]
-    row 'all are those of root' [ "$(dpkg-deb -c "$work/dbck_1.2.3_amd64.deb" | awk '{ print $2 }' | sort -u)" = root/root ]
+    row 'all are those of root' [ "$(dpkg-deb -c "$work/made/dbck_1.2.3_amd64.deb" | awk '{ print $2 }' | sort -u)" = root/root ]
     # The program of the package answers of the examples what the manual says.
     row 'an example' [ "$("$work/root/usr/bin/dbck" check "$work/root/usr/share/doc/dbck/examples/whole.db")" = ok ]
-}
-
-# make_deb: makes a package in the folder $work/made, with its own folder for temporary files.
-make_deb() {
-    mkdir -p "$work/made" "$work/temporary"
-    (cd "$work/made" && TMPDIR=$work/temporary "$root/packaging/make-deb" "$DBCK" 1.2.3) > "$work/said" 2>&1
 }
 
 # fails COMMAND..: the command ends with another status than 0.
@@ -181,14 +191,14 @@ fails() {
 @test 'make-deb leaves nothing but the package, and nothing at all where a tool fails' {
     local tool
     needs make install dpkg-deb strip gzip md5sum
-    row 'the package' make_deb
+    row 'the package' make_deb made 1.2.3
     row 'what is there' [ "$(cd "$work" && find made temporary -mindepth 1)" = made/dbck_1.2.3_amd64.deb ]
     rm "$work/made"/*
     mkdir "$work/bin"
     for tool in install strip gzip dpkg-deb; do
         printf '#!/bin/sh\nexit 1\n' > "$work/bin/$tool"
         chmod 755 "$work/bin/$tool"
-        PATH=$work/bin:$PATH row "$tool fails" fails make_deb
+        PATH=$work/bin:$PATH row "$tool fails" fails make_deb made 1.2.3
         row "what is there where $tool fails" [ -z "$(cd "$work" && find made temporary -mindepth 1)" ]
         rm "$work/bin/$tool"
     done
@@ -203,9 +213,8 @@ words_of() {
     local version
     needs make install dpkg-deb strip gzip
     version=$(make -s version)
-    mkdir "$work/one" "$work/other"
-    (cd "$work/one" && "$root/packaging/make-deb" "$DBCK" "$version" > "$work/said")
-    (cd "$work/other" && TZ=Asia/Tokyo "$root/packaging/make-deb" "$DBCK" "$version" > "$work/said")
+    make_deb one "$version"
+    TZ=Asia/Tokyo make_deb other "$version"
     row 'two packages' cmp "$work/one/dbck_${version}_amd64.deb" "$work/other/dbck_${version}_amd64.deb"
     dpkg-deb -x "$work/one/dbck_${version}_amd64.deb" "$work/root"
     gzip -dc "$work/root/usr/share/doc/dbck/changelog.gz" > "$work/changelog"
