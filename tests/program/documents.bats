@@ -2,6 +2,13 @@
 # Commands, sessions and numbers of README and the manual: they are taken out of the text, and run as a reader would.
 load common
 
+# of_repair FIRST: the commands of docs/REPAIR.md from the line that begins so to the end of its display.
+of_repair() {
+    awk -v first="    $1" 'index($0, first) == 1 { on = 1 } on && !/^    / { exit } on { print substr($0, 5) }' docs/REPAIR.md > "$work/command"
+    [ -s "$work/command" ] || fail "docs/REPAIR.md has no command that begins with $1"
+    cat "$work/command"
+}
+
 # displays: the displays of the manual, as a terminal shows them; a line that begins with a point is none of theirs.
 displays() {
     sed -n '/^\.Bd -literal/,/^\.Ed/{s/\\(dq/"/g;s/\\e/\\/g;p}' docs/dbck.1
@@ -55,6 +62,93 @@ plain() {
     runs "$line"
     row 'changes that were found' grep -q '^at byte ' "$work/files/mend.txt"
     row 'no change' cmp "$work/kept.db" "$work/files/copy.db"
+}
+
+@test 'the commands of docs/REPAIR.md for all changes make each at its byte, also above 4 GiB' {
+    printf '#!/bin/sh\nprintf "%%s\\n" "at byte 17 put 02 for 00" "at byte 5000000000 put 00000007 for 00000000" ok\n' > "$work/says"
+    chmod 755 "$work/says"
+    mkdir "$work/files"
+    sparse "$work/files/copy.db" 5000000010
+    DBCK=$work/says runs "$(of_repair 'dbck mend copy.db')"
+    row 'the commands' ended 0 '' ''
+    row 'the length' [ "$(stat -c %s "$work/files/copy.db")" = 5000000010 ]
+    row 'what is written low' [ "$(od -An -v -tx1 -j 16 -N 3 "$work/files/copy.db")" = ' 00 02 00' ]
+    row 'what is written high' [ "$(od -An -v -tx1 -j 4999999999 -N 6 "$work/files/copy.db")" = ' 00 00 00 00 07 00' ]
+    row 'what is not' [ "$(od -An -v -tx1 -j 705032704 -N 4 "$work/files/copy.db")" = ' 00 00 00 00' ]
+}
+
+@test 'the commands of docs/REPAIR.md for the header put the bytes of each code in their place' {
+    local code at
+    mkdir "$work/files"
+    while read -r code at; do
+        cp "$data/whole.db" "$work/files/copy.db"
+        put_at "$work/files/copy.db" "$at" '\0\07'
+        expect 1 "$code page 1 *" '' check "$work/files/copy.db"
+        runs "$(grep "^    printf .* # $code\$" docs/REPAIR.md)"
+        row "the command for $code" cmp "$data/whole.db" "$work/files/copy.db"
+    done << 'END'
+H01 18
+H02 21
+H03 46
+H04 58
+END
+    [ "$rows" = 8 ]
+}
+
+@test 'a new first page takes the place of the one that is gone as docs/REPAIR.md says' {
+    needs sqlite3
+    mkdir "$work/files"
+    sqlite3 "$work/files/copy.db" 'CREATE TABLE t(a); CREATE INDEX i ON t(a); INSERT INTO t VALUES (1), (2), (zeroblob(9000))'
+    sqlite3 "$work/files/copy.db" '.schema --nosys' > "$work/files/schema.sql"
+    put_at "$work/files/copy.db" 0 "$(printf '\\0%.0s' {1..4096})"
+    runs "$(of_repair size=4096)"
+    row 'the commands' ended 0 '*leaf*' ''
+    exactly 0 $'ok\n' '' check "$work/files/copy.db"
+    row 'the rows' [ "$(sqlite3 "$work/files/copy.db" 'SELECT count(*), sum(length(a)) FROM t')" = '3|9002' ]
+}
+
+@test 'a dump has the settings of its database with the commands of docs/REPAIR.md' {
+    local name
+    needs sqlite3
+    mkdir "$work/files"
+    sqlite3 "$work/files/copy.db" "PRAGMA encoding = 'UTF-16le'; PRAGMA page_size = 1024; PRAGMA auto_vacuum = 1; PRAGMA user_version = 7;
+        PRAGMA application_id = 8; CREATE TABLE t(a); INSERT INTO t(rowid, a) VALUES (5, 'five')"
+    runs "$(of_repair "sqlite3 copy.db '.dump --preserve" | head -n 2)"
+    row 'the dump' ended_exactly 0 $'COMMIT;\n' ''
+    runs "$(of_repair '{ for name in encoding')"
+    row 'the new database' ended 0 '' ''
+    row 'its settings' diff - <(for name in encoding page_size auto_vacuum user_version application_id; do
+        sqlite3 "$work/files/new.db" "PRAGMA $name"
+    done) << 'END'
+UTF-16le
+1024
+1
+7
+8
+END
+    row 'its rows' [ "$(sqlite3 "$work/files/new.db" 'SELECT rowid, a FROM t')" = '5|five' ]
+}
+
+# Page 3 is the trunk of the freelist, and page 4 its leaf.
+@test 'the command of docs/REPAIR.md on lost_and_found deletes the rows of the freelist, and no others' {
+    needs sqlite3
+    mkdir "$work/files"
+    sqlite3 "$work/files/copy.db" 'CREATE TABLE t(a); CREATE TABLE u(a); CREATE TABLE v(a); DROP TABLE u; DROP TABLE v'
+    sqlite3 "$work/files/new.db" 'CREATE TABLE lost_and_found(rootpgno, pgno); INSERT INTO lost_and_found VALUES (1, 1), (2, 2), (4, 4), (4, 4)'
+    runs "$(of_repair 'dbck stat --all')"
+    row 'the command' ended 0 '' ''
+    row 'what is left' [ "$(sqlite3 "$work/files/new.db" 'SELECT pgno FROM lost_and_found')" = $'1\n2' ]
+}
+
+# Sixty-four pages of 1024 bytes, each but the first a leaf of a table that is zero else.
+@test 'the counts of pages by which docs/REPAIR.md tells the page size halve beyond it' {
+    local k
+    mkdir "$work/files"
+    printf 'SQLite format 3\0' > "$work/files/copy.db"
+    for k in {1..63}; do put_at "$work/files/copy.db" $((1024 * k)) '\r'; done
+    truncate -s 65536 "$work/files/copy.db"
+    runs "$(of_repair 'for size in')"
+    row 'the counts' ended_exactly 0 $'512 63\n1024 63\n2048 31\n4096 15\n8192 7\n16384 3\n32768 1\n65536 0\n' ''
 }
 
 @test 'a file that was copied as text is told and undone as the manual says' {
@@ -121,14 +215,14 @@ over_many() {
     over_many
     row 'a note' ended_exactly 0 "0 $work/files/srv/a folder/noted.db $wal" ''
     rm "$work/files/srv/a folder"/*
-    cp "$data/two-tables.db" "$work/files/srv/a folder/it's two.db"
+    cp "$data/two-tables.db" "$work/files/srv/a folder/it's two"
     over_many
-    row 'one has faults' ended_exactly 123 "1 $work/files/srv/a folder/it's two.db "$'\n' ''
+    row 'one has faults' ended_exactly 123 "1 $work/files/srv/a folder/it's two "$'\n' ''
     head -c 90 "$data/whole.db" > "$work/files/srv/cut.db"
     over_many
     sort -o "$work/out" "$work/out"
     row 'one is refused' diff "$work/out" - << END
-1 $work/files/srv/a folder/it's two.db$blank
+1 $work/files/srv/a folder/it's two$blank
 3 $work/files/srv/cut.db dbck: note: $work/files/srv/cut.db is not checked
 dbck: E1 file is shorter than 100 bytes
 END
