@@ -89,10 +89,14 @@ noted() {
     done
 }
 
-@test 'a file of which only the log or the access time changes was not changed' {
+@test 'a file of which only the log, the access time, the mode or a name changes was not changed' {
     cp "$data/whole.db" "$work/x.db"
     log_notes "$work/x.db"
-    at_first_note "echo more >> '$work/x.db-wal'; touch -a '$work/x.db'; echo log > '$work/x.db-journal'" check "$work/x.db"
+    # So that the change is in another second than the copy.
+    sleep 1
+    at_first_note "echo more >> '$work/x.db-wal'; echo log > '$work/x.db-journal'; touch -a '$work/x.db'
+        chmod 600 '$work/x.db'; ln '$work/x.db' '$work/y.db'" \
+        check "$work/x.db"
     ended 0 $'ok\n' "$wal*"
     if grep changed "$work/err"; then
         fail 'it has the note'
