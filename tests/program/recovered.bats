@@ -795,23 +795,49 @@ END
     ended_exactly 0 $'ok\n' "dbck: note: $work/x.db-journal: 1 page is read from it; the database had 1 page"$'\n'"${note%.}"
 }
 
-@test 'a file that is written before it is found that its log does not fit has a note' {
+# cut_short LOG SIZE NOTES READ: a log is cut to a size once it was looked through, so that this read of it fails. In NOTES @ begins a note on its database.
+cut_short() {
+    local database=$work/${1%-*} note
+    note=$(changed_note "$work/$1")
+    at_first_note "truncate -s $2 '$work/$1'" check --recovered "$database"
+    row "$1 that is cut" ended_exactly 4 '' "${3//@/dbck: note: $database}"$'\n'"dbck: note: $work/$1: the $4 cannot be read"$'\n'"${note%.}$unread"
+}
+
+# A record of the journal has 4 bytes before its page and 4 behind it.
+@test 'a log that is cut while it is read has a note before the error' {
+    row_of 12 32768 "$work/x.db"
+    journal_of "$work/x.db" <<< '1 5 7 12'
+    cut_short x.db-journal 33292 $'@-journal: 4 pages are read from it; the database had 12 pages\n@-wal holds nothing that SQLite would read' \
+        '32768 bytes at 33292'
+    paired
+    cut_short pair.db-wal 100 '@-wal: 1 page of 1 transaction is read from it' '512 bytes at 56'
+}
+
+# unfit NAME DATABASE WHY: the file NAME, which is this database or a log of it, is written before it is found that a log does not fit it.
+unfit() {
     local note
+    note=$(changed_note "$work/$1")
+    at_first_note "touch -d '2001-01-01 00:00:00.1' '$work/$1'" check --recovered "$work/$2"
+    row "$1 that is written" ended 3 '' "*dbck: note: $work/$2$3"$'\n'"${note%.}"$'dbck: E11 the log does not fit the database\n'
+}
+
+@test 'a database or a log that is written before it is found that they do not fit has a note' {
+    local name
     needs python3
     cp "$data/two-tables.db" "$work/x.db"
     # A journal of pages of 1024 bytes.
     journal_of "$work/x.db" <<< 2
     put_at "$work/x.db-journal" 24 '\0\0\04\0'
-    note=$(changed_note "$work/x.db")
-    at_first_note "touch -d '2001-01-01 00:00:00.1' '$work/x.db'" check --recovered "$work/x.db"
-    ended 3 '' "*dbck: note: $work/x.db and its log have pages of different sizes"$'\n'"${note%.}"$'dbck: E11 the log does not fit the database\n'
-    # A -wal of another version.
+    for name in x.db x.db-journal x.db-wal; do unfit "$name" x.db ' and its log have pages of different sizes'; done
+    # A -wal of another version, which is gone after each run.
     paired
     of_other_version "$work/pair.db-wal"
     journal_of "$work/pair.db" <<< 1
-    note=$(changed_note "$work/pair.db")
-    at_first_note "touch -d '2001-01-01 00:00:00.1' '$work/pair.db'" check --recovered "$work/pair.db"
-    ended 3 '' "*dbck: note: $work/pair.db-wal has a version that SQLite does not open"$'\n'"${note%.}"$'dbck: E11 the log does not fit the database\n'
+    mv "$work/pair.db-wal" "$work/kept-wal"
+    for name in pair.db pair.db-journal pair.db-wal; do
+        cp "$work/kept-wal" "$work/pair.db-wal"
+        unfit "$name" pair.db '-wal has a version that SQLite does not open'
+    done
 }
 
 @test 'with --recovered and --with a note says that the bytes are others' {
