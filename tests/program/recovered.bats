@@ -73,6 +73,11 @@ noted() {
     put_at "$work/t.db-wal" 1200 '\x01'
     noted '1 page of 2 transactions is read from it' \
         "frame 3 is not valid, at byte 1104; 1 frame after it has the log's salts, and is left out"
+    # The last transaction has frames 5 to 7.
+    cp "$work/kept-wal" "$work/t.db-wal"
+    put_at "$work/t.db-wal" 2800 '\x01'
+    noted '1 page of 4 transactions is read from it' '1 frame of a transaction that was not committed is left out' \
+        "frame 6 is not valid, at byte 2712; 1 frame after it has the log's salts, and is left out"
 }
 
 @test 'of a log in which no transaction was committed a note counts the frames that are left out' {
@@ -379,7 +384,7 @@ recovering() {
 
 @test 'a note on bytes that the recovered database has says that they are its own' {
     local database='@, as SQLite would recover it,' none='@-journal: 0 pages are read from it; the database had 0 pages'
-    local past=$'\ndbck: E11 a byte of --with is past the end of the file'
+    local past=$'\ndbck: E11 a byte of --with is past the end of the file' suffix
     needs python3
     cp "$data/two-tables.db" "$work/x.db"
     journal_of "$work/x.db" <<< 1
@@ -395,6 +400,11 @@ recovering() {
     journal_of "$work/x.db" <<< 1
     cp "$work/kept.db" "$work/x.db"
     recovering "@-journal: 1 page is read from it; the database had 8 pages"$'\n'"dbck: note: @ is not checked"$'\n'"dbck: note: $database begins with zeros"$'\n'"dbck: E2 file is not a SQLite 3 database"
+    # A -wal that adds no page to the two of its database.
+    rm "$work/x.db-journal"
+    paired
+    for suffix in '' -wal; do mv "$work/pair.db$suffix" "$work/x.db$suffix"; done
+    recovering "@-wal: 1 page of 1 transaction is read from it"$'\n'"dbck: note: $database has 1024 bytes$past" --with 9000=00
 }
 
 # SQLite takes such a file for a new database, and deletes the log.
@@ -847,13 +857,19 @@ unfit() {
 }
 
 @test 'bytes after the last page of a recovered database are counted' {
+    local read="dbck: note: $work/x.db-journal: 1 page is read from it; the database"
+    local rest=$'dbck: note: 1024 bytes after page @ are not read, 2 whole pages among them\n'
     needs python3
     cp "$data/two-tables.db" "$work/x.db"
     journal_of "$work/x.db" <<< 1
     # It had ten pages, and states eight.
     put_at "$work/x.db-journal" 16 '\0\0\0\012'
-    expect 1 '*' "dbck: note: $work/x.db-journal: 1 page is read from it; the database had 10 pages"$'\n'"dbck: note: 1024 bytes after page 8 are not read, 2 whole pages among them"$'\n' \
-        check --recovered "$work/x.db"
+    expect 1 '*' "$read had 10 pages"$'\n'"${rest/@/8}" check --recovered "$work/x.db"
+    # A sound one, which had fifteen, and states thirteen.
+    cp "$data/whole.db" "$work/x.db"
+    journal_of "$work/x.db" <<< 1
+    put_at "$work/x.db-journal" 16 '\0\0\0\017'
+    exactly 0 $'ok\n' "$read had 15 pages"$'\n'"${rest/@/13}" check --recovered "$work/x.db"
 }
 
 @test 'a log of pages of another size does not fit' {
