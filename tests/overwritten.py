@@ -1,18 +1,22 @@
 #!/usr/bin/env python3
-"""Overwrites a number of a database, and looks whether `dbck mend` puts it back: overwritten.py DBCK FOLDER.
+"""Overwrites numbers of databases, and looks whether `dbck mend` puts them back: overwritten.py DBCK FOLDER.
 
-The databases are made in FOLDER. Each line of NUMBERS is a number of one: the offset, its bytes, the number, and the one that is put over it.
-With the changes that `mend` prints the copy has to be as it was, byte for byte, and the last line has to be `ok`, or the status is 1.
+The databases are made in FOLDER. With the changes that `mend` prints a copy has to be as it was, byte for byte, and the last line has to be
+`ok`, or the status is 1. Of each copy that is not, a line is printed.
 
-The numbers were chosen among thousands that were overwritten by chance. Each condition and each number in the code of `mend` was changed, one at a
-time: of the changes that any of those thousands tells, these few tell nearly all.
+Each line of NUMBERS is a number of a database, or several: the offset, its bytes, the number, and the one that is put over it. Most were chosen among
+thousands that were overwritten by chance. Each condition and each number in the code of `mend` was changed, one at a time: of the changes
+that any of those thousands tells, these few tell nearly all.
+
+Then each kind of number of mend.py is overwritten COPIES times in each of these databases and of those of injuries.py, by a seed that is the
+number of the copy. The copies of which overwritten.txt has a line need not be as they were: mend finds another number there, or none.
 """
 
-import functools
 import pathlib
 import subprocess
 import sys
 
+import injuries
 import mend
 
 
@@ -134,6 +138,26 @@ DATABASES = {
         CREATE TABLE u(a);
         INSERT INTO u {up_to(40)} SELECT 'x' || n FROM k;
         DELETE FROM t WHERE rowid > 20 AND rowid % 5 <> 0;"""),
+    # A freelist of many trunks, one of a trunk with many leaves, and none.
+    "trunks": (512, 0, f"""
+        CREATE TABLE t(a);
+        INSERT INTO t {up_to(2300)} SELECT zeroblob(450) FROM k;
+        CREATE TABLE u(a);
+        DELETE FROM t;"""),
+    "leaves": (1024, 0, """
+        CREATE TABLE t(a);
+        INSERT INTO t VALUES (zeroblob(160000));
+        CREATE TABLE u(a);
+        DELETE FROM t;"""),
+    "no-freelist": (4096, 0, """
+        PRAGMA auto_vacuum = 1;
+        CREATE TABLE t(a);
+        INSERT INTO t VALUES (1);"""),
+    # Keys that are alike as far as they are on their page, or end on overflow pages.
+    "addresses": (512, 0, f"""
+        CREATE TABLE t(u TEXT);
+        CREATE INDEX i ON t(u);
+        INSERT INTO t {up_to(60)} SELECT 'http://example.org/some/path/that/is/long/' || (n * 7919 % 997) || hex(zeroblob(n * 3)) FROM k;"""),
     "short-rows": (512, 0, f"""
         CREATE TABLE t(a);
         INSERT INTO t {up_to(300)} SELECT NULL FROM k;
@@ -168,9 +192,13 @@ DATABASES = {
 
 NUMBERS = """
 ways 475 1 2 3
+ways 512 1 5 2
+ways 1024 1 13 10
+ways 3072 1 2 5
 ways 3084 2 500 487
 ways 3084 2 500 501
 ways 3572 4 8 9
+ways 3584 1 10 13
 ways 3678 2 199 49190
 ways 5134 2 486 472
 without-rowid 437 1 2 5
@@ -211,6 +239,16 @@ reserved 28672 4 58 59
 vacuum 56157 2 0 250
 freelist 12072 4 99 207
 reserved-freelist 32 4 313 312
+trunks 435204 4 120 115
+trunks 930820 4 120 115
+trunks 1178116 4 41 36
+leaves 2052 4 155 156
+leaves 2052 4 155 254
+leaves 2056 4 4 6
+no-freelist 32 4 0 2
+no-freelist 52 4 3 0
+addresses 1032 4 36 0 1487 4 76 0
+addresses 1032 4 36 83 1487 4 76 0
 short-rows 6558 2 4 3
 short-rows 6580 2 460 459
 fragments 56 4 1 2
@@ -225,10 +263,14 @@ dropped 16808 1 29 3
 """
 
 
-@functools.lru_cache(maxsize=None)
-def made(folder, name):
-    """The bytes of a database."""
-    file = folder / f"{name}.db"
+# How often each kind of number is overwritten in each database.
+COPIES = 5
+
+
+def made(file, name):
+    """Makes a database, and gives its bytes."""
+    if name in injuries.SHAPES:
+        return injuries.made(file, name)[1]
     file.unlink(missing_ok=True)
     page_size, reserved, statements = DATABASES[name]
     words = ["sqlite3", file, f".filectrl reserve_bytes {reserved}", f"PRAGMA page_size = {page_size}; {statements}"]
@@ -236,29 +278,56 @@ def made(folder, name):
     return file.read_bytes()
 
 
-def complaint(dbck, file, before, at, size, was, put):
-    """What is wrong with what `mend` says of a database with another number, or nothing."""
-    if int.from_bytes(before[at : at + size], "big") != was:
-        return f"there is no {was}"
-    data = bytearray(before)
-    data[at : at + size] = put.to_bytes(size, "big")
-    file.write_bytes(data)
-    said = mend.run(dbck, "mend", file).stdout
-    for offset, new, _ in mend.changes(said):
-        data[offset : offset + len(new)] = new
-    return "" if said.endswith("\nok\n") and data == before else said
+def chosen(name, before):
+    """The copies with a number of NUMBERS, each with a name of its own."""
+    for line in NUMBERS.strip().split("\n"):
+        database, *words = line.split()
+        if database != name:
+            continue
+        data = bytearray(before)
+        for at, size, was, put in zip(*[map(int, words)] * 4):
+            assert int.from_bytes(data[at : at + size], "big") == was, line
+            data[at : at + size] = put.to_bytes(size, "big")
+        yield line, bytes(data)
+
+
+def by_chance(name, before, stat):
+    """The copies with numbers that a seed chose, each with a name of its own."""
+    for kind, overwrite in mend.KINDS.items():
+        for copy in range(COPIES):
+            seed = f"{name}-{kind.replace(' ', '-')}-{copy}"
+            patient = injuries.Patient(before, before, stat, seed)
+            if not overwrite(patient):
+                yield seed, bytes(patient.data)
+
+
+def is_put_back(said, data, before):
+    """Whether the changes that `mend` printed make a copy as it was, or none was needed: not each number makes a fault."""
+    if said == "ok\n":
+        return True
+    data = bytearray(data)
+    for at, new, _ in mend.changes(said):
+        data[at : at + len(new)] = new
+    return said.endswith("\nok\n") and data == before
 
 
 def main():
     dbck, folder = map(pathlib.Path, sys.argv[1:])
     folder.mkdir(parents=True, exist_ok=True)
-    complaints = []
-    for line in NUMBERS.strip().split("\n"):
-        name, *numbers = line.split()
-        wrong = complaint(dbck.resolve(), folder / "wrong.db", made(folder, name), *map(int, numbers))
-        complaints += [f"{line}: {wrong}"] if wrong else []
-    print("\n".join(complaints))
-    sys.exit(bool(complaints))
+    dbck = dbck.resolve()
+    not_found = pathlib.Path(__file__).with_suffix(".txt").read_text().split()
+    status = 0
+    for name in (*DATABASES, *injuries.SHAPES):
+        file = folder / f"{name}.db"
+        before = made(file, name)
+        stat = mend.run(dbck, "stat", "--all", file).stdout
+        for copy, data in (*chosen(name, before), *by_chance(name, before, stat)):
+            file.write_bytes(data)
+            said = mend.run(dbck, "mend", file).stdout
+            if copy not in not_found and not is_put_back(said, data, before):
+                print(f"{copy}: {said}")
+                status = 1
+    sys.exit(status)
 
 
 if __name__ == "__main__":
