@@ -238,9 +238,9 @@ END
 @test 'the command of README over many databases tells a file that cannot be read, and shows no control character of a name' {
     needs xargs
     mkdir -p "$work/files/srv"
-    cp "$data/two-tables.db" "$work/files/srv/a\\cb"$'\e[2J\t.db'
+    cp "$data/two-tables.db" "$work/files/srv/a\\cb"$'\e[2J\t\177.db'
     over_many
-    row 'a name' ended_exactly 123 "1 $work/files/srv/a\\cb?[2J?.db "$'\n' ''
+    row 'a name' ended_exactly 123 "1 $work/files/srv/a\\cb?[2J??.db "$'\n' ''
     rm "$work/files/srv"/*
     cp "$data/whole.db" "$work/files/srv/x.db"
     printf '#!/bin/sh\necho "head: cannot open x.db" >&2\nexit 1\n' > "$work/bin/head"

@@ -165,18 +165,16 @@ END
     row 'faults to a closed output' [ "$status" = 6 ]
 }
 
-# to_closed WORDS..: runs the program with an output that is closed.
-to_closed() {
-    status=0
-    "$DBCK" "$@" >&- 2> "$work/err" < /dev/null 3>&- || status=$?
-    : > "$work/out"
-}
-
-@test 'of a closed output a note says so' {
-    for words in "check $data/two-owners.db" "stat $data/whole.db" --version; do
-        # shellcheck disable=SC2086
-        to_closed $words
-        row "$words to a closed output" ended 6 '' $'dbck: note: standard output: it is closed\n'"$unwritten"
+@test 'of an output that is closed, or open for reading alone, a note says so' {
+    local from words
+    for from in '&-' "$data/whole.db"; do
+        for words in "check $data/two-owners.db" "stat $data/whole.db" --version; do
+            status=0
+            # shellcheck disable=SC2086
+            eval '"$DBCK" $words 1<'"$from"' 2> "$work/err" < /dev/null 3>&-' || status=$?
+            : > "$work/out"
+            row "$words to $from" ended 6 '' $'dbck: note: standard output: it is not open for writing\n'"$unwritten"
+        done
     done
 }
 

@@ -23,8 +23,8 @@ impl StreamName {
     }
 }
 
-// The number of the system's error of a stream that is closed.
-const CLOSED: i32 = 9;
+// The number of the system's error of a stream that is closed, or open for reading alone.
+const NOT_OPEN: i32 = 9;
 
 /// A write that failed: of which stream, and the number of the system's error.
 #[derive(Clone, Copy)]
@@ -130,8 +130,8 @@ impl<W: Write> Write for Stream<W> {
 
 // What the system says of the error of this number.
 fn reason_of(alloc: Global, code: i32) -> Result<String, AllocError> {
-    if code == CLOSED {
-        return String::from_str(alloc, "it is closed");
+    if code == NOT_OPEN {
+        return String::from_str(alloc, "it is not open for writing");
     }
     system_text(alloc, &io::Error::from_raw_os_error(code))
 }
