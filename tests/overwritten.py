@@ -4,9 +4,9 @@
 The databases are made in FOLDER. With the changes that `mend` prints a copy has to be as it was, byte for byte, and the last line has to be
 `ok`, or the status is 1. Of each copy that is not, a line is printed.
 
-Each line of NUMBERS is a number of a database, or several: the offset, its bytes, the number, and the one that is put over it. Most were chosen among
-thousands that were overwritten by chance. Each condition and each number in the code of `mend` was changed, one at a time: of the changes
-that any of those thousands tells, these few tell nearly all.
+Each line of NUMBERS is a number of a database, or several: the offset, its bytes, the number, and the one that is put over it. Most were
+chosen among thousands that were overwritten by chance. Each condition and each number in the code of `mend` was changed, one at a time: of the
+changes that any of those thousands tells, these few tell nearly all.
 
 Then each kind of number of mend.py is overwritten COPIES times in each of these databases and of those of injuries.py, by a seed that is the
 number of the copy. The copies of which overwritten.txt has a line need not be as they were: mend finds another number there, or none.
@@ -170,6 +170,13 @@ DATABASES = {
         INSERT INTO t {up_to(150)} SELECT n, substr('{LETTERS}', 1, n * 7 % 26) FROM k;
         DELETE FROM t WHERE a % 5 = 2;
         INSERT INTO t {up_to(150)} SELECT n, substr('{LETTERS.upper()}', 1, n * 11 % 17) FROM k WHERE n % 10 = 2;"""),
+    # Fragments side by side, before a freeblock.
+    "shrunk": (1024, 0, f"""
+        CREATE TABLE t(a INTEGER PRIMARY KEY, b);
+        INSERT INTO t {up_to(40)} SELECT n, substr('{LETTERS}', n % 3) FROM k;
+        UPDATE t SET b = substr(b, 4) WHERE a % 5 = 2;
+        UPDATE t SET b = substr(b, 4) WHERE a % 5 = 2;
+        DELETE FROM t WHERE a IN (9, 33);"""),
     # Schemas of one page, and of several: with rows without root pages, and with root pages in no order.
     "page-1": (512, 0, """
         CREATE TABLE aa(x); CREATE TABLE bb(x, y, z); CREATE TABLE c(x);
@@ -234,6 +241,7 @@ large-pages 65518 1 2 3
 large-pages 65518 1 2 12
 large-pages 852016 2 65274 65275
 reserved 383 1 10 31
+reserved 2053 2 204 201
 reserved 2572 2 465 464
 reserved 28672 4 58 59
 vacuum 56157 2 0 250
@@ -252,8 +260,16 @@ addresses 1032 4 36 83 1487 4 76 0
 short-rows 6558 2 4 3
 short-rows 6580 2 460 459
 fragments 56 4 1 2
+fragments 1029 2 1014 1011
 fragments 2049 2 291 0
 fragments 2058 2 211 433
+fragments 2341 2 5 4
+shrunk 1029 2 1019 1018
+shrunk 2428 2 748 0
+shrunk 2428 2 748 750
+shrunk 2430 2 31 30
+shrunk 3077 2 453 0
+shrunk 3077 2 453 455
 page-1 377 1 3 19
 schema 492 4 39 12
 schema 502 4 15 16
@@ -316,16 +332,17 @@ def main():
     folder.mkdir(parents=True, exist_ok=True)
     dbck = dbck.resolve()
     not_found = pathlib.Path(__file__).with_suffix(".txt").read_text().split()
+    wrong = folder / "wrong.db"
     status = 0
     for name in (*DATABASES, *injuries.SHAPES):
         file = folder / f"{name}.db"
         before = made(file, name)
         stat = mend.run(dbck, "stat", "--all", file).stdout
-        for copy, data in (*chosen(name, before), *by_chance(name, before, stat)):
-            file.write_bytes(data)
-            said = mend.run(dbck, "mend", file).stdout
-            if copy not in not_found and not is_put_back(said, data, before):
-                print(f"{copy}: {said}")
+        for title, data in (*chosen(name, before), *by_chance(name, before, stat)):
+            wrong.write_bytes(data)
+            said = mend.run(dbck, "mend", wrong).stdout
+            if title not in not_found and not is_put_back(said, data, before):
+                print(f"{title}: {said}")
                 status = 1
     sys.exit(status)
 
