@@ -1,5 +1,7 @@
 // What the numbers of a freeblock may have been: its size, and the link to it (Database File Format, 1.6).
-use crate::gaps::{block_before, cell_after, each_gap, first_gap, longest_gaps, most_fragmented};
+use crate::gaps::{
+    MOST_FRAGMENT, block_before, cell_after, each_gap, first_gap, longest_gaps, most_fragmented,
+};
 use crate::numbers::{add_short, head};
 use crate::ranked::Ranked;
 use crate::reading::Paper;
@@ -43,11 +45,13 @@ fn add_sizes<A: Allocator>(
     view: &PageView<'_>,
     at: u32,
     end: u32,
+    points: u32,
 ) {
     for fragment in 0..most_fragmented(view) + 1 {
         let size = end.saturating_sub(at).saturating_sub(fragment);
         if size >= 4 {
-            add_short(tries, paper, at.saturating_add(2), size, 30 - fragment);
+            let points = points.saturating_sub(fragment);
+            add_short(tries, paper, at.saturating_add(2), size, points);
         }
     }
 }
@@ -79,7 +83,7 @@ fn end_of<A: Allocator>(paper: &Paper<A>, view: &PageView<'_>, at: u32) -> u32 {
 // Adds what the size of the freeblock of this number may have been, and the link to it, which leads to an offset.
 pub(crate) fn add_block<A: Allocator>(tries: &mut Ranked, paper: &Paper<A>, number: u32, at: u32) {
     if let Some(view) = paper.view() {
-        add_sizes(tries, paper, &view, at, end_of(paper, &view, at));
+        add_sizes(tries, paper, &view, at, end_of(paper, &view, at), 30);
         add_link(tries, paper, &view, Link::of(paper, &view, number));
     }
 }
@@ -107,7 +111,8 @@ pub(crate) fn add_block_over<A: Allocator>(tries: &mut Ranked, paper: &Paper<A>,
     }
 }
 
-// Adds that a freeblock has the run of bytes after it that no item holds, or that one more begins with such a run.
+// Adds that a freeblock has the run of bytes after it that no item holds, or that one more begins with such a run. A run that is no longer
+// than a fragment is no cell that was lost.
 pub(crate) fn add_longer<A: Allocator>(tries: &mut Ranked, paper: &Paper<A>) {
     let Some(view) = paper.view() else {
         return;
@@ -117,7 +122,8 @@ pub(crate) fn add_longer<A: Allocator>(tries: &mut Ranked, paper: &Paper<A>) {
             && let Some(block) = block_before(&view, gap.at)
         {
             let end = gap.at.saturating_add(gap.len);
-            add_sizes(tries, paper, &view, block, end);
+            let points = if gap.len <= MOST_FRAGMENT { 38 } else { 30 };
+            add_sizes(tries, paper, &view, block, end, points);
         }
     });
     add_link(tries, paper, &view, Link::of(paper, &view, u32::MAX));

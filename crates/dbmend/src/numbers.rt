@@ -129,7 +129,8 @@ fn are_as_wide(view: &PageView<'_>) -> bool {
     true
 }
 
-// Adds a count of fragmented bytes, unless the record of some cell is cut: bytes of that may be counted.
+// Adds a count of fragmented bytes, unless the record of some cell is cut: bytes of that may be counted. It goes before a lower count of cells,
+// and after another number by which free bytes are longer.
 pub(crate) fn add_fragments<A: Allocator>(tries: &mut Ranked, paper: &Paper<A>, count: i64) {
     let Some(view) = paper.view() else {
         return;
@@ -139,10 +140,12 @@ pub(crate) fn add_fragments<A: Allocator>(tries: &mut Ranked, paper: &Paper<A>, 
         return;
     }
     if let Ok(stored) = u8::try_from(count) {
-        let is_full = longest_gap(paper) <= MOST_FRAGMENT
-            && !is_beside_free(paper, &view)
-            && are_as_wide(&view);
-        let points = if is_full { 38 } else { 20 };
+        let is_full = longest_gap(paper) <= MOST_FRAGMENT && are_as_wide(&view);
+        let points = match (is_full, is_beside_free(paper, &view)) {
+            (true, false) => 38,
+            (true, true) => 37,
+            _ => 20,
+        };
         add_at(tries, paper, head(paper) + 7, &[stored], points);
     }
 }
@@ -224,18 +227,37 @@ fn count_by_area<A: Allocator>(paper: &mut Paper<A>) -> Option<u32> {
     count
 }
 
-// Whether the content area has as many fragmented bytes as the page states, or no run of bytes longer than a fragment without an item, if a
-// number of two bytes is another one. A longer run may be cells that are left out, or none of the area.
-fn is_full_with<A: Allocator>(paper: &mut Paper<A>, at: u32, number: u32) -> bool {
+// The longest run of bytes without an item, if a number of two bytes is another one.
+fn longest_gap_with<A: Allocator>(paper: &mut Paper<A>, at: u32, number: u32) -> u32 {
+    let Some(stated) = paper.replace_short(at, number) else {
+        return u32::MAX;
+    };
+    let longest = longest_gap(paper);
+    paper.put_short(at, stated);
+    longest
+}
+
+// Whether the page has as many fragmented bytes as it states, if a number of two bytes is another one.
+fn is_counted_with<A: Allocator>(paper: &mut Paper<A>, at: u32, number: u32) -> bool {
     let Some(stated) = paper.replace_short(at, number) else {
         return false;
     };
-    let is_counted = paper
-        .view()
-        .is_some_and(|view| fitting_count(paper) == Some(view.cells()));
-    let is_full = is_counted || longest_gap(paper) <= MOST_FRAGMENT;
+    let cells = paper.view().map(|view| view.cells());
+    let is_counted = cells.is_some() && fitting_count(paper) == cells;
     paper.put_short(at, stated);
-    is_full
+    is_counted
+}
+
+// Whether that, or the content area has no run of bytes longer than a fragment without an item. A longer run may be cells that are left out, or
+// none of the area.
+fn is_full_with<A: Allocator>(paper: &mut Paper<A>, at: u32, number: u32) -> bool {
+    is_counted_with(paper, at, number) || longest_gap_with(paper, at, number) <= MOST_FRAGMENT
+}
+
+// Whether cells are left out with another count: their bytes are a run without an item then.
+fn leaves_out<A: Allocator>(paper: &mut Paper<A>, at: u32, count: u32) -> bool {
+    let longest = longest_gap(paper).max(MOST_FRAGMENT);
+    longest_gap_with(paper, at, count) > longest
 }
 
 // Adds where the content area may begin: where the first cell or freeblock does. If that is before where it is said to be, it goes before a
@@ -247,18 +269,20 @@ pub(crate) fn add_start<A: Allocator>(tries: &mut Ranked, paper: &mut Paper<A>) 
         && (least >= start || is_full_with(paper, at, least))
     {
         let is_near = least <= start.saturating_add(MOST_FRAGMENT);
-        add_short(tries, paper, at, least, if is_near { 38 } else { 30 });
+        add_short(tries, paper, at, least, if is_near { 39 } else { 30 });
     }
 }
 
-// Adds how many cells there may be: as many as fill the content area, and as many as there are pointers, if no cells are left out then.
+// Adds how many cells there may be: as many as fill the content area, and as many as there are pointers, if no cells are left out then. As many
+// as fill it may be fewer if the count of fragmented bytes is wrong: with cells that are left out that count goes before them.
 pub(crate) fn add_count<A: Allocator>(tries: &mut Ranked, paper: &mut Paper<A>) {
     let at = head(paper) + 3;
     let Some(stated) = paper.short_at(at) else {
         return;
     };
     if let Some(count) = count_by_area(paper) {
-        add_short(tries, paper, at, count, 36);
+        let points = if leaves_out(paper, at, count) { 18 } else { 36 };
+        add_short(tries, paper, at, count, points);
     }
     let count = pointed(paper);
     if count >= stated || is_full_with(paper, at, count) {
