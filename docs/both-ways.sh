@@ -115,7 +115,12 @@ run() {
 # derive FILE OTHER < QUERY: runs the statements that a query over FILE.db gives, once all are there: it reads FILE.db until then.
 derive() {
     { with "$2"; cat; echo "SELECT '-- all';"; } | sql "$1.db" > run.sql
-    if [ "$(tail -n 1 run.sql)" = '-- all' ]; then run "$1" "$2" < run.sql; else rm -f all-written; fi
+    if [ "$(tail -n 1 run.sql)" = '-- all' ]; then
+        run "$1" "$2" < run.sql
+    else
+        echo "sqlite3 did not give all statements: $1.db" >&2
+        rm -f all-written
+    fi
 }
 
 # The tables of a database, but for SQLite's own.
@@ -235,6 +240,11 @@ for file in replaced new; do
 SELECT printf('DELETE FROM main."%w" WHERE %s;', l.name,
         (SELECT group_concat(printf('"%w" IN (SELECT definition FROM report.plain)', name), ' OR ') FROM pragma_table_info(l.name)))
     FROM $tables AND EXISTS (SELECT 1 FROM report.plain);
+SQL
+    # Where .dump gives no schema, the tables with a plain definition get their own.
+    derive "$file" dumped << 'SQL'
+SELECT before || iif(instr(before, '--'), char(10), '') || ';' FROM report.plain AS p
+    WHERE NOT EXISTS (SELECT 1 FROM main.sqlite_schema AS m WHERE m.name = p.name COLLATE NOCASE);
 SQL
     lacking "$file" "type = 'table'"
     lacking "$file" "type = 'index' AND sql LIKE 'CREATE UNIQUE %'"

@@ -4,7 +4,8 @@ load common
 
 # with_sqlite: makes $SQLITE3, of which .recover gives what .dump gives: the sqlite3 of a system may have no .recover. It says so in the file
 # `reached`, and waits if there is a file `wait`; it gives no rows if $ROWLESS is set, and no table if $BARE is; $EDITED is done with what it
-# gives, by sed; and it ends with the message $FAILING, if that is set.
+# gives, by sed; and it ends with the message $FAILING, if that is set. The names in the schema that it reads go into a file `schema`, if
+# there is one. If $DUMPLESS is set, .dump gives nothing.
 with_sqlite() {
     needs sqlite3 awk realpath
     mkdir "$work/files"
@@ -14,8 +15,10 @@ with_sqlite() {
 case ${*: -1} in
     'SELECT count(*) FROM sqlite_dbpage') exit ;;
     .recover) ;;
+    '.dump --preserve-rowids') [ -n "${DUMPLESS:-}" ] || exec sqlite3 "$@"; exit ;;
     *) exec sqlite3 "$@" ;;
 esac
+[ ! -e "$WORK/schema" ] || sqlite3 "${@:1:$#-1}" 'PRAGMA writable_schema = ON; SELECT name FROM sqlite_schema' > "$WORK/schema" 2>&1
 [ ! -e "$WORK/wait" ] || : > "$WORK/reached"
 while [ -e "$WORK/wait" ]; do sleep 0.01; done
 sqlite3 "${@:1:$#-1}" '.dump --preserve-rowids' | sed "s/^INSERT INTO/INSERT OR IGNORE INTO/;${ROWLESS:+/^INSERT /d};${BARE:+3,\$d};${EDITED:-}"
@@ -325,19 +328,70 @@ has() {
     done
 }
 
-@test 'both-ways.sh saves texts with a zero byte, and tables with generated columns' {
+@test 'both-ways.sh saves texts with a zero byte' {
     with_sqlite
     sqlite3 "$work/files/x.db" "CREATE TABLE t(a INTEGER PRIMARY KEY, b); INSERT INTO t VALUES (1, 'ab' || char(0) || 'cd'), (2, char(0) || 'e');
-        CREATE TABLE g(a INTEGER PRIMARY KEY, b, c AS (b + 1), d AS (b + 2) STORED); INSERT INTO g VALUES (1, 10), (2, 20)"
-    ROWLESS=1 makes $'g: 2 rows, 2 more than .recover found\nt: 2 rows, 2 more than .recover found*' x.db
-    has $'1|6162006364\n2|0065\n1|10|11|12\n2|20|21|22\n' 'SELECT a, hex(b) FROM t; SELECT * FROM g'
+        CREATE TABLE u(b); INSERT INTO u SELECT b FROM t; CREATE TABLE w(k TEXT PRIMARY KEY, b) WITHOUT ROWID; INSERT INTO w SELECT a, b FROM t"
+    ROWLESS=1 makes $'t: 2 rows, 2 more than .recover found*u: 2 rows, 2 more than .recover found*w: 2 rows, 2 more than .recover found*' x.db
+    for table in 'a, hex(b) FROM t' 'rowid, hex(b) FROM u' 'k, hex(b) FROM w'; do
+        has $'1|6162006364\n2|0065\n' "SELECT $table"
+    done
+}
+
+# In scratch.db such a table has a plain definition, of another name.
+@test 'both-ways.sh saves tables with generated columns, by .recover and by .dump' {
+    local columns=$'1|10|11|12\n2|20|21|22\n'
+    with_sqlite
+    sqlite3 "$work/files/x.db" "CREATE TABLE g(a INTEGER PRIMARY KEY, b, c AS (b + 1), d AS (b + 2) STORED); INSERT INTO g VALUES (1, 10), (2, 20)"
+    : > "$work/schema"
+    makes $'g: 2 rows\n' x.db
+    row 'the schema of .recover' [ "$(cat "$work/schema")" = '~1' ]
+    has "$columns" 'SELECT * FROM g'
+    clear_made
+    ROWLESS=1 makes $'g: 2 rows, 2 more than .recover found\n' x.db
+    has "$columns" 'SELECT * FROM g'
+    clear_made
+    EDITED='s/(2,20,/(3,30,/' makes $'g: 3 rows, 1 more than .recover found\n' x.db
+    has "${columns}"$'3|30|31|32\n' 'SELECT * FROM g'
+    clear_made
+    DUMPLESS=1 makes $'g: 2 rows\n' x.db
+    has "$columns" 'SELECT * FROM g'
+    has $'g\n' 'SELECT name FROM sqlite_schema'
+}
+
+# Of a table whose definition is damaged .recover would leave out the pages.
+@test 'both-ways.sh gives .recover no definition that is damaged' {
+    local at
+    with_sqlite
+    sqlite3 "$work/files/x.db" 'PRAGMA page_size = 512; CREATE TABLE g(a); CREATE TABLE h(x); INSERT INTO h VALUES (1)'
+    at=$(grep -obaF 'CREATE TABLE g(' "$work/files/x.db" | head -n 1 | cut -d : -f 1)
+    put_at "$work/files/x.db" $((at + 14)) '\01'
+    : > "$work/schema"
+    both_ways x.db
+    row 'the schema of .recover' [ "$(cat "$work/schema")" = h ]
+}
+
+@test 'both-ways.sh keeps what .recover found if that ends before its end' {
+    with_sqlite
+    sqlite3 "$work/files/x.db" "CREATE TABLE t(a INTEGER PRIMARY KEY, b); INSERT INTO t VALUES (1, 'x'), (2, 'y')"
+    EDITED="s/(2,'y')/(3,'z')/;/^COMMIT/d" FAILING='sql error: database disk image is malformed (11)' makes '*' x.db
+    has $'1|x\n2|y\n3|z\n' 'SELECT * FROM t'
+}
+
+@test 'both-ways.sh calls no table lost_and_found that the database has' {
+    with_sqlite
+    sqlite3 "$work/files/x.db" 'CREATE TABLE lost_and_found_items(a); INSERT INTO lost_and_found_items VALUES (1), (2)'
+    makes $'lost_and_found_items: 2 rows\n' x.db
 }
 
 @test 'both-ways.sh saves what comes after a definition that ends with a comment' {
     with_sqlite
-    sqlite3 "$work/files/x.db" $'CREATE TABLE t(a); CREATE VIEW v AS SELECT a FROM t -- of t\n; CREATE INDEX i ON t(a); CREATE VIEW w AS SELECT 2'
+    sqlite3 "$work/files/x.db" $'CREATE TABLE t(a); CREATE VIEW v AS SELECT a FROM t -- of t\n; CREATE INDEX i ON t(a);
+        CREATE TRIGGER g AFTER INSERT ON t BEGIN SELECT 1; END; CREATE VIEW w AS SELECT 2'
     ROWLESS=1 BARE=1 makes $'t: 0 rows\n' x.db
-    has $'i\nt\nv\nw\n' 'SELECT name FROM sqlite_schema ORDER BY 1'
+    for name in new replaced; do
+        row "$name.db" diff <(printf '%s\n' g i t v w) <(sqlite3 "$work/files/$name.db" 'SELECT name FROM sqlite_schema ORDER BY 1')
+    done
 }
 
 # .recover and .dump give another row of one key.
@@ -347,11 +401,37 @@ has() {
     EDITED="s/'dump'/'recover'/" makes $'t: 1 row; not among them: 1 of dumped.db\n' x.db
     has $'1|recover\n' 'SELECT * FROM t'
     clear_made
+    # And .recover may give two.
+    EDITED="/'dump'/{p;s/'dump'/'later'/}" makes $'t: 1 row; not among them: 1 of replaced.db\n' x.db
+    has $'1|dump\n' 'SELECT * FROM t'
+    clear_made
     # Without the index .recover may give two rows of one key of it.
     rm "$work/files/x.db"
     sqlite3 "$work/files/x.db" "CREATE TABLE t(a INTEGER PRIMARY KEY, b); CREATE UNIQUE INDEX u ON t(b); INSERT INTO t VALUES (1, 'x'), (2, 'y')"
     EDITED="s/(2,'y')/(3,'y')/;/INDEX/d" makes $'t: 2 rows*' x.db
     has $'1|x\n3|y\nt\nu\n' 'SELECT * FROM t; SELECT name FROM sqlite_schema ORDER BY 1'
+}
+
+@test 'both-ways.sh takes the greatest number of AUTOINCREMENT' {
+    local number
+    with_sqlite
+    sqlite3 "$work/files/x.db" 'CREATE TABLE s(i INTEGER PRIMARY KEY AUTOINCREMENT); INSERT INTO s VALUES (100)'
+    for number in 50 200; do
+        EDITED="/sqlite_sequence/s/100/$number/" makes $'s: 1 row\n' x.db
+        has "s|$((number > 100 ? number : 100))"$'\n' 'SELECT * FROM sqlite_sequence'
+        clear_made
+    done
+}
+
+# The last page of the schema is none of a tree.
+@test 'both-ways.sh says if SQLite cannot read the schema' {
+    local last
+    with_sqlite
+    sqlite3 "$work/files/x.db" "PRAGMA page_size = 512; $(printf 'CREATE TABLE t%d(a, b, c, d, e, f, g, h);' {1..30})"
+    last=$(od -An -tx1 -j 108 -N 4 "$work/files/x.db" | tr -d ' ')
+    put_at "$work/files/x.db" $((512 * (16#$last - 1))) '\0'
+    both_ways x.db
+    row 'what it prints' grep -qx 'SQLite cannot read the schema, so that .dump gave nothing' "$work/out"
 }
 
 # SQLite rolls the journal back in the copy, and writes that.
@@ -468,14 +548,25 @@ with_disk() {
     with_sqlite
     database "$work/files/x.db" 5
     mv "$SQLITE3" "$work/recover"
-    # It ends by a signal once the statements for one database have come.
-    # shellcheck disable=SC2016
-    printf '#!/bin/bash\n%s\nexec "%s" "$@"\n' 'case ${*: -1} in "$KILLED") cat > /dev/null && kill -9 $$ ;; esac' "$work/recover" > "$SQLITE3"
+    # It ends by a signal once the statements for one database have come, or those that ask it for statements.
+    cat > "$SQLITE3" << 'END'
+#!/bin/bash
+case ${*: -1} in
+    "$KILLED") cat > "$WORK/lines" && if grep -q "$AT" "$WORK/lines"; then kill -9 $$; fi && exec "$WORK/recover" "$@" < "$WORK/lines" ;;
+esac
+exec "$WORK/recover" "$@"
+END
     chmod 755 "$SQLITE3"
     for name in new replaced dumped; do
-        KILLED=$name.db both_ways x.db
+        KILLED=$name.db AT='' both_ways x.db
         row "$name.db" ended 2 '*' $'*both-ways.sh: not all of new.db, replaced.db and dumped.db could be written *\n'
         row "$name.db: the log" grep -qx "sqlite3 was killed: $name.db" "$work/files/both-ways.log"
+        clear_made
+    done
+    for name in new replaced; do
+        KILLED=$name.db AT="SELECT '-- all'" both_ways x.db
+        row "$name.db that is asked" ended 2 '*' $'*both-ways.sh: not all of new.db, replaced.db and dumped.db could be written *\n'
+        row "$name.db that is asked: the log" grep -qx "sqlite3 did not give all statements: $name.db" "$work/files/both-ways.log"
         clear_made
     done
 }
