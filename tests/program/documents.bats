@@ -129,6 +129,113 @@ END
     row 'its rows' [ "$(sqlite3 "$work/files/new.db" 'SELECT rowid, a FROM t')" = '5|five' ]
 }
 
+# puts_in NAME: the commands of docs/REPAIR.md put the log of damaged.db, -wal or -journal, into copy.db, and change neither of the two files.
+puts_in() {
+    mkdir "$work/kept"
+    cp "$work/files"/* "$work/kept"
+    runs "$(of_repair '  cp damaged.db' | sed "s/-wal/-$1/g")"
+    row "the commands for a -$1" ended 0 $'0|*\n' ''
+    row "damaged.db beside a -$1" cmp "$work/kept/damaged.db" "$work/files/damaged.db"
+    row "its -$1" cmp "$work/kept/damaged.db-$1" "$work/files/damaged.db-$1"
+    row "the -$1 of copy.db is done with" [ ! -s "$work/files/copy.db-$1" ]
+}
+
+# The definition of the table is damaged, so SQLite reads the schema only as far as the command lets it.
+@test 'the commands of docs/REPAIR.md that put a log into a copy leave the damaged file and its log as they are' {
+    needs sqlite3
+    mkdir "$work/files"
+    logged damaged <<< "INSERT INTO t VALUES ('of the log'), ('of the log')"
+    mv "$work/damaged.db" "$work/damaged.db-wal" "$work/files"
+    put_at "$work/files/damaged.db" "$(grep -abo 'TABLE t(a)' "$work/files/damaged.db" | cut -d : -f 1)" TABEL
+    row 'before' [ "$(grep -ac 'of the log' "$work/files/damaged.db")" = 0 ]
+    puts_in wal
+    row 'what was in the -wal' [ "$(grep -ao 'of the log' "$work/files/copy.db" | wc -l)" = 2 ]
+    rm -r "$work/kept" "$work/files"/*
+    # The journal has page 2 as it was.
+    cp "$data/two-tables.db" "$work/files/damaged.db"
+    journal_of "$work/files/damaged.db" <<< 2
+    put_at "$work/files/damaged.db" 600 'of a transaction'
+    puts_in journal
+    row 'what the -journal undoes' cmp "$data/two-tables.db" "$work/files/copy.db"
+}
+
+@test 'the commands of docs/REPAIR.md find rows of another table, and put the right one of several rows with one key in place' {
+    needs sqlite3
+    mkdir "$work/files"
+    sqlite3 "$work/files/new.db" "CREATE TABLE invoice(id INTEGER PRIMARY KEY, total); CREATE TABLE customer(id INTEGER PRIMARY KEY, name);
+        INSERT INTO invoice VALUES (1, 'customer 1'), (7, 'total 7'), (9, 'total 9'), (1234, 'another total');
+        INSERT INTO customer VALUES (1, 'customer 1'), (7, 'customer 7');
+        CREATE TABLE t(a, b); INSERT INTO t(rowid, a, b) VALUES (5, 'five', 5), (6, 'six', 6)"
+    sqlite3 "$work/files/replaced.db" "CREATE TABLE invoice(id INTEGER PRIMARY KEY, total);
+        INSERT INTO invoice VALUES (7, 'old total 7'), (9, 'total 9'), (1234, 'total 1234');
+        CREATE TABLE t(a, b); INSERT INTO t(rowid, a, b) VALUES (5, 'FIVE', 55)"
+    runs "$(of_repair '   sqlite3 new.db "SELECT rowid, * FROM invoice INTERSECT')"
+    row 'the rows of another table' ended_exactly 0 $'1|1|customer 1\n' ''
+    runs "$(of_repair "   sqlite3 new.db \"ATTACH 'replaced.db'")"
+    row 'the rows that are not in new.db' ended_exactly 0 $'7|7|old total 7\n1234|1234|total 1234\n' ''
+    row 'the rows of new.db' diff - <(sqlite3 "$work/files/new.db" 'SELECT * FROM invoice; SELECT * FROM customer') << 'END'
+1|customer 1
+7|total 7
+9|total 9
+1234|total 1234
+1|customer 1
+7|customer 7
+END
+    runs "sqlite3 new.db \"ATTACH 'replaced.db' AS more; $(grep -o 'REPLACE INTO main\.t(.* FROM more\.t ' docs/REPAIR.md)\""
+    row 'a table without a key' ended_exactly 0 '' ''
+    row 'its rows' [ "$(sqlite3 "$work/files/new.db" 'SELECT rowid, a, b FROM t')" = $'5|FIVE|55\n6|six|6' ]
+}
+
+# Row 17 is in the table already; 19 has another number of columns, and 20 is of another page.
+@test 'the commands of docs/REPAIR.md get rows from lost_and_found, and neither replace nor delete those that are not of another table' {
+    needs sqlite3
+    mkdir "$work/files"
+    sqlite3 "$work/files/new.db" "CREATE TABLE invoice(id INTEGER PRIMARY KEY, total);
+        INSERT INTO invoice VALUES (1, 'customer 1'), (2, 'total 14 of the invoice'), (3, 'old customer 1'), (17, 'total of row 17'), (33, 'customer 33');
+        CREATE TABLE lost_and_found(rootpgno, pgno, nfield, id, c0, c1, c2);
+        INSERT INTO lost_and_found VALUES (7, 7, 2, 17, NULL, 'total 119 of the invoice', NULL), (7, 7, 2, 18, NULL, 'total 126 of the invoice', NULL),
+            (7, 7, 3, 19, NULL, 'nineteen', 19), (8, 8, 2, 20, NULL, 'twenty', NULL);
+        CREATE TABLE t(a, b); INSERT INTO t(rowid, a, b) VALUES (17, 'a', 'b')"
+    runs "$(of_repair 'sqlite3 new.db "SELECT rootpgno')"
+    row 'what is there' ended_exactly 0 $'7|2|2|17|18||total 126 of the invoice\n7|3|1|19|19||nineteen\n8|2|1|20|20||twenty\n' ''
+    runs "$(of_repair 'sqlite3 new.db "DELETE FROM invoice')"
+    row 'the commands' ended_exactly 0 '' ''
+    row 'the rows' diff - <(sqlite3 "$work/files/new.db" 'SELECT * FROM invoice') << 'END'
+2|total 14 of the invoice
+3|old customer 1
+17|total of row 17
+18|total 126 of the invoice
+END
+    runs "sqlite3 new.db \"$(grep -o 'INSERT OR [A-Z]* INTO t(.* SELECT id, c0, c1 ' docs/REPAIR.md) FROM lost_and_found WHERE nfield = 2\""
+    row 'a table without a key' ended_exactly 0 '' ''
+    row 'its rows' [ "$(sqlite3 "$work/files/new.db" 'SELECT rowid, a, b FROM t')" = $'17|a|b\n18||total 126 of the invoice\n20||twenty' ]
+    runs "$(of_repair 'sqlite3 new.db "DROP TABLE')"
+    row 'the tables that are left' [ "$(sqlite3 "$work/files/new.db" 'SELECT name FROM sqlite_schema')" = $'invoice\nt' ]
+}
+
+# The root of the table is page 7, and that of its index page 8.
+@test 'the command of docs/REPAIR.md for a root page changes that of the table, and of nothing that belongs to it' {
+    needs sqlite3
+    mkdir "$work/files"
+    sqlite3 "$work/files/copy.db" "CREATE TABLE a(x); CREATE TABLE b(x); CREATE TABLE c(x); CREATE TABLE d(x); CREATE TABLE e(x);
+        CREATE TABLE invoice(id INTEGER PRIMARY KEY, total); CREATE INDEX by_total ON invoice(total); INSERT INTO invoice VALUES (1, 'one');
+        PRAGMA writable_schema = ON; UPDATE sqlite_schema SET rootpage = 3 WHERE name = 'invoice'"
+    expect 1 '*R03 *' '' check "$work/files/copy.db"
+    runs "$(of_repair 'table=invoice root=7')"
+    row 'the command' ended_exactly 0 '' ''
+    row 'the root pages' diff - <(sqlite3 "$work/files/copy.db" 'SELECT name, rootpage FROM sqlite_schema') << 'END'
+a|2
+b|3
+c|4
+d|5
+e|6
+invoice|7
+by_total|8
+END
+    exactly 0 $'ok\n' '' check "$work/files/copy.db"
+    row 'the rows' [ "$(sqlite3 "$work/files/copy.db" 'SELECT * FROM invoice')" = '1|one' ]
+}
+
 # Page 3 is the trunk of the freelist, and page 4 its leaf.
 @test 'the command of docs/REPAIR.md on lost_and_found deletes the rows of the freelist, and no others' {
     needs sqlite3
@@ -185,14 +292,25 @@ END
     row 'an error' ended 1 '' 'iconv: *'
 }
 
-@test 'the commands of README for a database in use check a copy that has what is in the -wal' {
+@test 'the commands of README and the manual for a database in use check a copy that has what is in the -wal' {
+    local lines from
     needs sqlite3
     mkdir "$work/files"
-    logged live <<< 'INSERT INTO t VALUES (1), (2), (3)'
-    mv "$work/live.db" "$work/live.db-wal" "$work/files"
-    runs "$(sed -n '/^## A database in use/,/^## A damaged/s/^    //p' README.md)"
-    row 'the commands' ended 0 $'ok\n' ''
-    row 'the rows' [ "$(sqlite3 "$work/files/copy.db" 'SELECT count(*) FROM t')" = 3 ]
+    for from in README.md docs/dbck.1; do
+        rm -f "$work/files"/*
+        # Of the page size of new databases: SQLite could not write another one's pages into it.
+        logged live 4096 <<< 'INSERT INTO t VALUES (1), (2), (3)'
+        mv "$work/live.db" "$work/live.db-wal" "$work/files"
+        rm "$work/made.db"*
+        case $from in
+            README.md) lines=$(sed -n '/^## A database in use/,/^## A damaged/s/^    //p' README.md) ;;
+            *) lines=$(displays | sed -n '/^sqlite3 .*\.backup/,/^\.Ed/{/^\.Ed/!p}') ;;
+        esac
+        runs "$lines"
+        row "$from: the commands" ended 0 $'ok\n' ''
+        row "$from: the rows of the copy" [ "$(sqlite3 "$work/files/copy.db" 'SELECT count(*) FROM t')" = 3 ]
+        row "$from: the rows of the database" [ "$(sqlite3 "$work/files/live.db" 'SELECT count(*) FROM t')" = 3 ]
+    done
 }
 
 # over_many: runs the command of README over many databases, those of the folder $work/files/srv.
