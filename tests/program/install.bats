@@ -48,6 +48,19 @@ END
     row 'what zsh gets' cmp completions/_dbck "$work/root/usr/local/share/zsh/site-functions/_dbck"
 }
 
+@test 'make install and make uninstall without PREFIX are of /usr/local, and not of a package' {
+    needs make install
+    unset PREFIX
+    mkdir -p "$work/root/usr/bin"
+    : > "$work/root/usr/bin/dbck"
+    row 'make install' makes install
+    row 'where the files are' [ "$(cd "$work/root/usr" && find . -type f | cut -d / -f 2 | sort -u | tr '\n' ' ')" = 'bin local ' ]
+    row 'the program' cmp "$DBCK" "$work/root/usr/local/bin/dbck"
+    row 'the one of a package' [ ! -s "$work/root/usr/bin/dbck" ]
+    row 'make uninstall' makes uninstall
+    row 'what is left' [ "$(files)" = '644 usr/bin/dbck' ]
+}
+
 @test 'make uninstall takes all of it away, and nothing of others' {
     needs make install
     row 'make install' makes install PREFIX=/usr
