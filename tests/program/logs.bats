@@ -68,6 +68,21 @@ noted() {
     expect 3 '' "dbck: note: $work/text.db-wal is not read, and may hold changes; *dbck: note: $work/text.db is not checked"$'\n'"dbck: note: $work/text.db begins with *"$'\ndbck: E2 *' check "$work/text.db"
 }
 
+@test 'a log beside a database without bytes has a note' {
+    local refused="dbck: note: $work/e.db is not checked"$'\n'"dbck: note: $work/e.db has no bytes; to SQLite it is an empty database"$'\n'
+    refused+=$'dbck: E1 file is shorter than 100 bytes\n'
+    : > "$work/e.db"
+    log_notes "$work/e.db"
+    echo log > "$work/e.db-journal"
+    exactly 3 '' "$journal$refused" check "$work/e.db"
+    echo log > "$work/e.db-wal"
+    for command in "${five[@]}"; do
+        exactly 3 '' "$wal$journal$refused" "$command" "$work/e.db"
+    done
+    rm "$work/e.db-journal"
+    exactly 3 '' "$wal$refused" check "$work/e.db"
+}
+
 @test 'a log that is older than its database has its note where it is not read' {
     cp "$data/empty.db" "$work/x.db"
     log_notes "$work/x.db"

@@ -37,9 +37,13 @@ load common
 }
 
 @test 'a word that is refused is shown without control characters' {
+    local words
     expect 2 '' $'dbck: word 2 of the command line is not UTF-8\n' check $'\xff'
     expect 2 '' $'dbck: word 4 of the command line is not UTF-8\n' check --limit 1 $'x\xff' $'\xff'
     expect 2 '' $'dbck: word 2 of the command line is not UTF-8\n' check "$(printf '%0100000d\xff' 0)"
+    mapfile -t words < <(seq 1500)
+    dbck check "${words[@]}" $'\xff'
+    row 'a word after 1500 others' ended_exactly 2 '' $'dbck: word 1502 of the command line is not UTF-8\n'
     expect 2 '' "dbck: unexpected argument 'y\\\\x1b\\[2J\\\\x0az' found"$'\n*' check x $'y\x1b[2J\nz'
     expect 2 '' "dbck: unrecognized subcommand 'a\\\\x0ab\\\\xc2\\\\x9b'"$'\n*' $'a\nb\xc2\x9b'
     expect 2 '' "dbck: invalid value '5\\\\x0a' for '--limit <N>'*" check --limit $'5\n' x
