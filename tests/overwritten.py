@@ -103,6 +103,11 @@ DATABASES = {
         INSERT INTO t(c0, c1, c69) {up_to(60)} SELECT n, n * 3, 'z' || n FROM k;
         CREATE TABLE w({','.join(f'c{column} INT NOT NULL DEFAULT 0' for column in range(140))}, PRIMARY KEY(c0, c1)) WITHOUT ROWID;
         INSERT INTO w(c0, c1, c139) {up_to(60)} SELECT n % 5, n, -n FROM k;"""),
+    # Lengths of payloads about the least that take two bytes, and three.
+    "lengths": (65536, 0, f"""
+        CREATE TABLE t(a);
+        INSERT INTO t {up_to(9)} SELECT zeroblob(120 + n) FROM k;
+        INSERT INTO t {up_to(4)} SELECT zeroblob(16377 + n) FROM k;"""),
     # Pages of 65536 bytes, with 32 reserved bytes, of a freelist, with short rows, with freeblocks and fragments.
     "large-pages": (65536, 0, f"""
         CREATE TABLE t(a);
@@ -177,6 +182,17 @@ DATABASES = {
         UPDATE t SET b = substr(b, 4) WHERE a % 5 = 2;
         UPDATE t SET b = substr(b, 4) WHERE a % 5 = 2;
         DELETE FROM t WHERE a IN (9, 33);"""),
+    # A fragment behind a freeblock, and one behind a cell.
+    "updated": (512, 0, f"""
+        CREATE TABLE t(a INTEGER PRIMARY KEY, b);
+        INSERT INTO t {up_to(20)} SELECT n, 'the row ' || n FROM k;
+        UPDATE t SET b = substr(b, 3) WHERE a IN (9, 14);
+        DELETE FROM t WHERE a = 9;"""),
+    "updated-twice": (512, 0, f"""
+        CREATE TABLE t(a INTEGER PRIMARY KEY, b);
+        INSERT INTO t {up_to(20)} SELECT n, 'the row ' || n FROM k;
+        UPDATE t SET b = substr(b, 3) WHERE a = 14;
+        UPDATE t SET b = substr(b, 3) WHERE a = 14;"""),
     # Schemas of one page, and of several: with rows without root pages, and with root pages in no order.
     "page-1": (512, 0, """
         CREATE TABLE aa(x); CREATE TABLE bb(x, y, z); CREATE TABLE c(x);
@@ -237,6 +253,8 @@ columns 10466 1 2 13
 columns 10955 1 13 2
 columns 16916 2 107 152
 columns 17781 4 23 33
+lengths 146274 3 8486912 8486913
+lengths 195967 2 33024 33025
 large-pages 65518 1 2 3
 large-pages 65518 1 2 12
 large-pages 852016 2 65274 65275
@@ -270,6 +288,10 @@ shrunk 2428 2 748 750
 shrunk 2430 2 31 30
 shrunk 3077 2 453 0
 shrunk 3077 2 453 455
+updated 519 1 4 19
+updated 519 1 4 34
+updated-twice 519 1 4 19
+updated-twice 519 1 4 34
 page-1 377 1 3 19
 schema 492 4 39 12
 schema 502 4 15 16
