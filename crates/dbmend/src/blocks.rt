@@ -2,7 +2,7 @@
 use crate::gaps::{
     MOST_FRAGMENT, block_before, cell_after, each_gap, first_gap, longest_gaps, most_fragmented,
 };
-use crate::numbers::{add_short, head};
+use crate::numbers::{add_short, are_cells, head};
 use crate::ranked::Ranked;
 use crate::reading::Paper;
 use dbpage::PageView;
@@ -112,17 +112,19 @@ pub(crate) fn add_block_over<A: Allocator>(tries: &mut Ranked, paper: &Paper<A>,
 }
 
 // Adds that a freeblock has the run of bytes after it that no item holds, or that one more begins with such a run. A run that is no longer
-// than a fragment is no cell that was lost.
+// than a fragment is no cell that was lost, unless the pointer of the cell behind it may be wrong.
 pub(crate) fn add_longer<A: Allocator>(tries: &mut Ranked, paper: &Paper<A>) {
     let Some(view) = paper.view() else {
         return;
     };
+    let has_cells = are_cells(&view);
     each_gap(paper, &view, |gap| {
         if gap.len > 0
             && let Some(block) = block_before(&view, gap.at)
         {
             let end = gap.at.saturating_add(gap.len);
-            let points = if gap.len <= MOST_FRAGMENT { 38 } else { 30 };
+            let is_near = has_cells && gap.len <= MOST_FRAGMENT;
+            let points = if is_near { 38 } else { 30 };
             add_sizes(tries, paper, &view, block, end, points);
         }
     });

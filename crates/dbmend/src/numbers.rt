@@ -129,6 +129,12 @@ fn are_as_wide(view: &PageView<'_>) -> bool {
     true
 }
 
+// Whether each pointer of a page may lead to a cell, by the records: none is cut where another is whole, and all have as many columns.
+pub(crate) fn are_cells(view: &PageView<'_>) -> bool {
+    let whole = whole_records(view);
+    (whole == 0 || whole == view.cells()) && are_as_wide(view)
+}
+
 // Adds a count of fragmented bytes, unless the record of some cell is cut: bytes of that may be counted. It goes before a lower count of cells,
 // and after another number by which free bytes are longer.
 pub(crate) fn add_fragments<A: Allocator>(tries: &mut Ranked, paper: &Paper<A>, count: i64) {
@@ -261,15 +267,21 @@ fn leaves_out<A: Allocator>(paper: &mut Paper<A>, at: u32, count: u32) -> bool {
 }
 
 // Adds where the content area may begin: where the first cell or freeblock does. If that is before where it is said to be, it goes before a
-// count with which cells are left out; if it is just behind, before a length of what is there. A pointer that is wrong leaves more bytes.
+// count with which cells are left out; if it is just behind, before a length of what is there, unless the pointer of that cell may be wrong.
 pub(crate) fn add_start<A: Allocator>(tries: &mut Ranked, paper: &mut Paper<A>) {
     let at = head(paper) + 5;
     let start = paper.start();
+    let has_cells = paper.view().is_some_and(|view| are_cells(&view));
     if let Some(least) = least_pointer(paper)
         && (least >= start || is_full_with(paper, at, least))
     {
-        let is_near = least <= start.saturating_add(MOST_FRAGMENT);
-        add_short(tries, paper, at, least, if is_near { 39 } else { 30 });
+        let is_near = has_cells && least <= start.saturating_add(MOST_FRAGMENT);
+        let points = match (least < start, is_near) {
+            (true, _) => 38,
+            (false, true) => 39,
+            (false, false) => 30,
+        };
+        add_short(tries, paper, at, least, points);
     }
 }
 
