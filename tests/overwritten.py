@@ -47,6 +47,11 @@ DATABASES = {
         CREATE INDEX i ON t(a);
         INSERT INTO t {up_to(160)} SELECT substr('Ab_cD^eF`gHiJ_k', n * 7 % 13 + 1, 3) ||
             CASE n % 3 WHEN 0 THEN '_' WHEN 1 THEN 'Z' ELSE 'a' END || n FROM k;"""),
+    # The first forty keys of the index do not show it.
+    "late-nocase": (4096, 0, f"""
+        CREATE TABLE t(b TEXT COLLATE NOCASE);
+        CREATE INDEX i ON t(b);
+        INSERT INTO t {up_to(120)} SELECT iif(n > 40, iif(n % 2, 'name', 'Name'), 'code') || (1000 + n * 37 % 251) FROM k;"""),
     "signs": (512, 0, f"""
         CREATE TABLE t(a TEXT COLLATE NOCASE);
         INSERT INTO t {up_to(200)} SELECT substr('_a^B[c`D_E^f', 1 + n * 7 % 11, 1) || CASE n % 3 WHEN 0 THEN '_' WHEN 1 THEN 'q' ELSE 'Q' END ||
@@ -108,6 +113,9 @@ DATABASES = {
         CREATE TABLE t(a);
         INSERT INTO t {up_to(9)} SELECT zeroblob(120 + n) FROM k;
         INSERT INTO t {up_to(4)} SELECT zeroblob(16377 + n) FROM k;"""),
+    "long-rows": (4096, 0, """
+        CREATE TABLE t(a);
+        INSERT INTO t VALUES (zeroblob(70000)), (zeroblob(80000));"""),
     # Pages of 65536 bytes, with 32 reserved bytes, of a freelist, with short rows, with freeblocks and fragments.
     "large-pages": (65536, 0, f"""
         CREATE TABLE t(a);
@@ -193,6 +201,22 @@ DATABASES = {
         INSERT INTO t {up_to(20)} SELECT n, 'the row ' || n FROM k;
         UPDATE t SET b = substr(b, 3) WHERE a = 14;
         UPDATE t SET b = substr(b, 3) WHERE a = 14;"""),
+    # Fragments side by side, a freeblock, and short rows.
+    "updated-and-deleted": (512, 0, f"""
+        CREATE TABLE t(a INTEGER PRIMARY KEY, b);
+        INSERT INTO t {up_to(11)} SELECT n, 'abcdefgh' FROM k;
+        UPDATE t SET b = substr(b, 4) WHERE a = 5;
+        UPDATE t SET b = substr(b, 4) WHERE a = 5;
+        DELETE FROM t WHERE a = 7;"""),
+    "tiny-rows": (512, 0, f"""
+        CREATE TABLE t(a INTEGER PRIMARY KEY, b);
+        INSERT INTO t {up_to(12)} SELECT n, iif(n = 6, 'abcdefgh', 'ab') FROM k;
+        UPDATE t SET b = substr(b, 4) WHERE a = 6;
+        UPDATE t SET b = substr(b, 4) WHERE a = 6;"""),
+    "deleted": (512, 0, f"""
+        CREATE TABLE t(a);
+        INSERT INTO t {up_to(20)} SELECT 'row ' || n FROM k;
+        DELETE FROM t WHERE rowid IN (5, 11);"""),
     # Schemas of one page, and of several: with rows without root pages, and with root pages in no order.
     "page-1": (512, 0, """
         CREATE TABLE aa(x); CREATE TABLE bb(x, y, z); CREATE TABLE c(x);
@@ -231,6 +255,7 @@ nocase 1038 2 433 450
 nocase 1040 2 450 470
 nocase 1491 4 12 10
 nocase 2062 2 257 107
+late-nocase 8280 2 2862 0
 signs 4664 2 273 17
 utf-16 18 1 1 9
 utf-16 275 1 10 3
@@ -255,6 +280,8 @@ columns 16916 2 107 152
 columns 17781 4 23 33
 lengths 146274 3 8486912 8486913
 lengths 195967 2 33024 33025
+long-rows 5431 3 8712452 8692343
+long-rows 7695 3 8692340 0
 large-pages 65518 1 2 3
 large-pages 65518 1 2 12
 large-pages 852016 2 65274 65275
@@ -288,10 +315,16 @@ shrunk 2428 2 748 750
 shrunk 2430 2 31 30
 shrunk 3077 2 453 0
 shrunk 3077 2 453 455
+updated 519 1 4 3
+updated 519 1 4 5
 updated 519 1 4 19
 updated 519 1 4 34
 updated-twice 519 1 4 19
 updated-twice 519 1 4 34
+updated-and-deleted 515 2 10 6
+updated-and-deleted 515 2 10 9
+tiny-rows 519 1 6 13
+deleted 925 2 10 7
 page-1 377 1 3 19
 schema 492 4 39 12
 schema 502 4 15 16
