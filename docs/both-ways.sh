@@ -196,12 +196,17 @@ echo 'dumped.db, from .dump:' >&2
 # 4. new.db gets what only .dump gives, and what only SQLite itself can read.
 echo 'new.db, from the others:' >&2
 
+# statement NAME: the definition in the column of this name, as a statement. A comment at its end ends with its line.
+statement() {
+    printf "%s || iif(instr(%s, '--'), char(10), '') || ';'" "$1" "$1"
+}
+
 # lacking FILE KIND: makes what FILE.db lacks and dumped.db has.
 lacking() {
     derive "$1" dumped << SQL
 SELECT CASE WHEN sql LIKE 'CREATE VIRTUAL %'
         THEN printf('INSERT INTO main.sqlite_schema SELECT * FROM other.sqlite_schema WHERE type = ''table'' AND name = %Q;', name)
-        ELSE sql || iif(instr(sql, '--'), char(10), '') || ';' END
+        ELSE $(statement sql) END
     FROM other.sqlite_schema AS o WHERE sql IS NOT NULL AND name <> 'sqlite_sequence' AND $2
         AND NOT EXISTS (SELECT 1 FROM main.sqlite_schema AS m WHERE m.name = o.name COLLATE NOCASE) ORDER BY rowid;
 SQL
@@ -242,8 +247,8 @@ SELECT printf('DELETE FROM main."%w" WHERE %s;', l.name,
     FROM $tables AND EXISTS (SELECT 1 FROM report.plain);
 SQL
     # Where .dump gives no schema, the tables with a plain definition get their own.
-    derive "$file" dumped << 'SQL'
-SELECT before || iif(instr(before, '--'), char(10), '') || ';' FROM report.plain AS p
+    derive "$file" dumped << SQL
+SELECT $(statement before) FROM report.plain AS p
     WHERE NOT EXISTS (SELECT 1 FROM main.sqlite_schema AS m WHERE m.name = p.name COLLATE NOCASE);
 SQL
     lacking "$file" "type = 'table'"
