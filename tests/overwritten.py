@@ -217,6 +217,12 @@ DATABASES = {
         CREATE TABLE t(a);
         INSERT INTO t {up_to(20)} SELECT 'row ' || n FROM k;
         DELETE FROM t WHERE rowid IN (5, 11);"""),
+    # After the last pointer an old one, to free bytes before the content area that could be a cell.
+    "old-pointer": (4096, 0, f"""
+        CREATE TABLE t(a INTEGER PRIMARY KEY, b);
+        INSERT INTO t {up_to(100)} SELECT n, 'abcdefghijklm' FROM k;
+        DELETE FROM t WHERE a = 3;
+        UPDATE t SET b = 'x' WHERE a = 100;"""),
     # Schemas of one page, and of several: with rows without root pages, and with root pages in no order.
     "page-1": (512, 0, """
         CREATE TABLE aa(x); CREATE TABLE bb(x, y, z); CREATE TABLE c(x);
@@ -325,6 +331,7 @@ updated-and-deleted 515 2 10 6
 updated-and-deleted 515 2 10 9
 tiny-rows 519 1 6 13
 deleted 925 2 10 7
+old-pointer 4099 2 99 100
 page-1 377 1 3 19
 schema 492 4 39 12
 schema 502 4 15 16

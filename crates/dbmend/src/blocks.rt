@@ -111,8 +111,8 @@ pub(crate) fn add_block_over<A: Allocator>(tries: &mut Ranked, paper: &Paper<A>,
     }
 }
 
-// Adds that a freeblock has the run of bytes after it that no item holds, or that one more begins with such a run. A run that is no longer
-// than a fragment is no cell that was lost, unless the pointer of the cell behind it may be wrong.
+// Adds that a freeblock has the run of bytes after it that no item holds, or that one more begins with such a run. A run of a few bytes is tried
+// early, if each pointer leads to a cell: otherwise it may be the beginning of the next one.
 pub(crate) fn add_longer<A: Allocator>(tries: &mut Ranked, paper: &Paper<A>) {
     let Some(view) = paper.view() else {
         return;

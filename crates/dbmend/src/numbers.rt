@@ -3,7 +3,7 @@ ghost use Rattle.std.specs.Prelude.{◌≤◌};
 
 use crate::gaps::{MOST_FRAGMENT, is_beside_free, longest_gap};
 use crate::key::Key;
-use crate::lengths::whole_records;
+use crate::lengths::{is_whole, whole_records};
 use crate::ranked::{Ranked, add_try};
 use crate::reading::Paper;
 use dbpage::{PageView, type_byte};
@@ -129,10 +129,15 @@ fn are_as_wide(view: &PageView<'_>) -> bool {
     true
 }
 
-// Whether each pointer of a page may lead to a cell, by the records: none is cut where another is whole, and all have as many columns.
-pub(crate) fn are_cells(view: &PageView<'_>) -> bool {
+// Whether some records of a page are cut, and others whole.
+fn has_cut_records(view: &PageView<'_>) -> bool {
     let whole = whole_records(view);
-    (whole == 0 || whole == view.cells()) && are_as_wide(view)
+    whole > 0 && whole < view.cells()
+}
+
+// Whether each pointer of a page leads to a cell, as far as the records show it: none is cut, and all have as many columns.
+pub(crate) fn are_cells(view: &PageView<'_>) -> bool {
+    !has_cut_records(view) && are_as_wide(view)
 }
 
 // Adds a count of fragmented bytes, unless the record of some cell is cut: bytes of that may be counted. It goes before a lower count of cells,
@@ -141,16 +146,15 @@ pub(crate) fn add_fragments<A: Allocator>(tries: &mut Ranked, paper: &Paper<A>, 
     let Some(view) = paper.view() else {
         return;
     };
-    let whole = whole_records(&view);
-    if whole > 0 && whole < view.cells() {
+    if has_cut_records(&view) {
         return;
     }
     if let Ok(stored) = u8::try_from(count) {
         let is_full = longest_gap(paper) <= MOST_FRAGMENT && are_as_wide(&view);
-        let points = match (is_full, is_beside_free(paper, &view)) {
-            (true, false) => 38,
-            (true, true) => 37,
-            _ => 20,
+        let points = match is_full {
+            true if is_beside_free(paper, &view) => 37,
+            true => 38,
+            false => 20,
         };
         add_at(tries, paper, head(paper) + 7, &[stored], points);
     }
@@ -233,60 +237,79 @@ fn count_by_area<A: Allocator>(paper: &mut Paper<A>) -> Option<u32> {
     count
 }
 
-// The longest run of bytes without an item, if a number of two bytes is another one.
-fn longest_gap_with<A: Allocator>(paper: &mut Paper<A>, at: u32, number: u32) -> u32 {
-    let Some(stated) = paper.replace_short(at, number) else {
-        return u32::MAX;
-    };
-    let longest = longest_gap(paper);
-    paper.put_short(at, stated);
-    longest
+// A content area: its longest run of bytes without an item, whether it has as many fragmented bytes as the page states, and whether each pointer
+// leads to a cell.
+#[derive(Clone, Copy)]
+struct Area {
+    longest: u32,
+    is_counted: bool,
+    has_cells: bool,
 }
 
-// Whether the page has as many fragmented bytes as it states, if a number of two bytes is another one.
-fn is_counted_with<A: Allocator>(paper: &mut Paper<A>, at: u32, number: u32) -> bool {
-    let Some(stated) = paper.replace_short(at, number) else {
-        return false;
-    };
-    let cells = paper.view().map(|view| view.cells());
-    let is_counted = cells.is_some() && fitting_count(paper) == cells;
-    paper.put_short(at, stated);
-    is_counted
+impl Area {
+    fn of<A: Allocator>(paper: &Paper<A>) -> Option<Area> {
+        let view = paper.view()?;
+        Some(Area {
+            longest: longest_gap(paper),
+            is_counted: fitting_count(paper) == Some(view.cells()),
+            has_cells: are_cells(&view),
+        })
+    }
+
+    // That of a page with another number of two bytes.
+    fn with<A: Allocator>(paper: &mut Paper<A>, at: u32, number: u32) -> Option<Area> {
+        let stated = paper.replace_short(at, number)?;
+        let area = Area::of(paper);
+        paper.put_short(at, stated);
+        area
+    }
+
+    // Whether it has as many fragmented bytes, or no run that is longer than a fragment. A longer one may be cells that are left out, or none of
+    // the area.
+    fn is_filled(&self) -> bool {
+        self.is_counted || self.longest <= MOST_FRAGMENT
+    }
 }
 
-// Whether that, or the content area has no run of bytes longer than a fragment without an item. A longer run may be cells that are left out, or
-// none of the area.
-fn is_full_with<A: Allocator>(paper: &mut Paper<A>, at: u32, number: u32) -> bool {
-    is_counted_with(paper, at, number) || longest_gap_with(paper, at, number) <= MOST_FRAGMENT
-}
-
-// Whether cells are left out with another count: their bytes are a run without an item then.
-fn leaves_out<A: Allocator>(paper: &mut Paper<A>, at: u32, count: u32) -> bool {
-    let longest = longest_gap(paper).max(MOST_FRAGMENT);
-    longest_gap_with(paper, at, count) > longest
-}
-
-// Adds where the content area may begin: where the first cell or freeblock does. If that is before where it is said to be, it goes before a
-// count with which cells are left out; if it is just behind, before a length of what is there, unless the pointer of that cell may be wrong.
+// Adds where the content area may begin: at the first cell or freeblock. If each pointer leads to a cell then, a lower start goes before a count
+// with which cells are left out, and one that is a few bytes higher before the length of a payload.
 pub(crate) fn add_start<A: Allocator>(tries: &mut Ranked, paper: &mut Paper<A>) {
     let at = head(paper) + 5;
     let start = paper.start();
-    let has_cells = paper.view().is_some_and(|view| are_cells(&view));
-    if let Some(least) = least_pointer(paper)
-        && (least >= start || is_full_with(paper, at, least))
+    let Some(least) = least_pointer(paper) else {
+        return;
+    };
+    if let Some(area) = Area::with(paper, at, least)
+        && (least >= start || area.is_filled())
     {
-        let is_near = has_cells && least <= start.saturating_add(MOST_FRAGMENT);
-        let points = match (least < start, is_near) {
-            (true, _) => 38,
-            (false, true) => 39,
-            (false, false) => 30,
-        };
+        let is_near = least <= start.saturating_add(MOST_FRAGMENT);
+        let points = if is_near && area.has_cells { 39 } else { 30 };
         add_short(tries, paper, at, least, points);
     }
 }
 
+// Whether a cell with a whole record has this number, or a higher one.
+fn has_whole_from<A: Allocator>(paper: &Paper<A>, first: u32) -> bool {
+    let Some(view) = paper.view() else {
+        return false;
+    };
+    for cell in first..view.cells() {
+        if is_whole(&view, cell) {
+            return true;
+        }
+    }
+    false
+}
+
+// Whether cells are left out with another count: some have whole records, or their bytes are a run without an item then.
+fn leaves_out<A: Allocator>(paper: &mut Paper<A>, at: u32, count: u32) -> bool {
+    let longest = longest_gap(paper).max(MOST_FRAGMENT);
+    has_whole_from(paper, count)
+        || Area::with(paper, at, count).is_none_or(|area| area.longest > longest)
+}
+
 // Adds how many cells there may be: as many as fill the content area, and as many as there are pointers, if no cells are left out then. As many
-// as fill it may be fewer if the count of fragmented bytes is wrong: with cells that are left out that count goes before them.
+// as fill it may be fewer if another number is wrong: with cells that are left out that goes before them.
 pub(crate) fn add_count<A: Allocator>(tries: &mut Ranked, paper: &mut Paper<A>) {
     let at = head(paper) + 3;
     let Some(stated) = paper.short_at(at) else {
@@ -297,7 +320,7 @@ pub(crate) fn add_count<A: Allocator>(tries: &mut Ranked, paper: &mut Paper<A>) 
         add_short(tries, paper, at, count, points);
     }
     let count = pointed(paper);
-    if count >= stated || is_full_with(paper, at, count) {
+    if count >= stated || Area::with(paper, at, count).is_some_and(|area| area.is_filled()) {
         add_short(tries, paper, at, count, 24);
     }
 }
