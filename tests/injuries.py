@@ -253,7 +253,7 @@ def schema_root(db):
             types.append(kind)
         if types[3] in (1, 2):
             choices.append((body + sum((kind - 13) // 2 for kind in types[:3]), types[3]))
-    return db.other(*db.one_of(choices))
+    return db.other(*db.one_of(choices)) if choices else True
 
 
 def schema_row(db):

@@ -9,13 +9,15 @@ chosen among thousands that were overwritten by chance. Each condition and each 
 changes that any of those thousands tells, these few tell nearly all.
 
 Then each kind of number of mend.py is overwritten COPIES times in each of these databases and of those of injuries.py, by a seed that is the
-number of the copy. The copies of which overwritten.txt has a line need not be as they were: mend finds another number there, or none.
+number of the copy. In databases of random histories (histories.py) one number at a time is overwritten, or made a little more or less.
+The copies of which overwritten.txt has a line need not be as they were: mend finds another number there, or none.
 """
 
 import pathlib
 import subprocess
 import sys
 
+import histories
 import injuries
 import mend
 
@@ -341,8 +343,22 @@ dropped 16808 1 29 3
 """
 
 
-# How often each kind of number is overwritten in each database.
+# How often each kind of number is overwritten in each database, and in those of random histories.
 COPIES = 5
+COPIES_OF_HISTORIES = {kind: 2 for kind in mend.KINDS if not kind.startswith(("two", "three"))} | {"a number that is near": 20}
+
+HISTORIES = {f"history-{seed}": histories.history(seed) for seed in range(40)}
+
+
+def overwrite_near(db):
+    """The count of cells, the content start, the count of fragments or a number of a freeblock: a little more, or less."""
+    heads = [db.head(page) for page in db.tree_pages()]
+    places = [(head + at, size) for head in heads for at, size in ((3, 2), (5, 2), (7, 1))] + mend.freeblock_numbers(db)
+    at, size = db.one_of(places)
+    db.put(at, size, (db.number(at, size) + db.one_of([*range(-20, 0), *range(1, 21)])) % 256**size)
+
+
+KINDS = mend.KINDS | {"a number that is near": overwrite_near}
 
 
 def made(file, name):
@@ -350,7 +366,7 @@ def made(file, name):
     if name in injuries.SHAPES:
         return injuries.made(file, name)[1]
     file.unlink(missing_ok=True)
-    page_size, reserved, statements = DATABASES[name]
+    page_size, reserved, statements = (DATABASES | HISTORIES)[name]
     words = ["sqlite3", file, f".filectrl reserve_bytes {reserved}", f"PRAGMA page_size = {page_size}; {statements}"]
     subprocess.run(words, check=True, stdout=subprocess.DEVNULL)
     return file.read_bytes()
@@ -371,11 +387,12 @@ def chosen(name, before):
 
 def by_chance(name, before, stat):
     """The copies with numbers that a seed chose, each with a name of its own."""
-    for kind, overwrite in mend.KINDS.items():
-        for copy in range(COPIES):
+    copies = COPIES_OF_HISTORIES if name in HISTORIES else dict.fromkeys(mend.KINDS, COPIES)
+    for kind, count in copies.items():
+        for copy in range(count):
             seed = f"{name}-{kind.replace(' ', '-')}-{copy}"
             patient = injuries.Patient(before, before, stat, seed)
-            if not overwrite(patient):
+            if not KINDS[kind](patient):
                 yield seed, bytes(patient.data)
 
 
@@ -396,7 +413,7 @@ def main():
     not_found = pathlib.Path(__file__).with_suffix(".txt").read_text().split()
     wrong = folder / "wrong.db"
     status = 0
-    for name in (*DATABASES, *injuries.SHAPES):
+    for name in (*DATABASES, *HISTORIES, *injuries.SHAPES):
         file = folder / f"{name}.db"
         before = made(file, name)
         stat = mend.run(dbck, "stat", "--all", file).stdout
