@@ -34,10 +34,12 @@ case $#:${1-} in
 esac
 case ${2-} in -*) die "NEW must not begin with -: ./$2" ;; esac
 damaged=$1 new=${2:-new.db}
-beside=$(dirname -- "$new")
 [ -f "$damaged" ] || die "$damaged is not a file"
-# The logs are beside what a link leads to.
-damaged=$(realpath -- "$damaged") || exit 2
+# The logs are beside what a link leads to. The point keeps a line feed at the end of a name.
+damaged=$(realpath -- "$damaged" && echo .) || exit 2
+damaged=${damaged%??}
+beside=$(dirname -- "$new" && echo .)
+beside=${beside%??}
 case $(basename -- "$new") in
     replaced.db | dumped.db | both-ways.log) die "NEW must have another name than the files beside it: $new" ;;
 esac

@@ -598,3 +598,57 @@ END
     both_ways copy.db new.db
     row 'what it prints' ended_exactly 0 "$(sed -n '/two-tables.db. of README it prints$/,/^`/s/^    //p' docs/REPAIR.md)"$'\n' ''
 }
+
+@test 'both-ways.sh saves the rows that only SQLite itself can read' {
+    with_sqlite
+    sqlite3 "$work/files/x.db" "CREATE TABLE t(a INTEGER PRIMARY KEY, b); INSERT INTO t VALUES (1, 'x'), (2, 'y');
+        CREATE TABLE w(k TEXT PRIMARY KEY, b) WITHOUT ROWID; INSERT INTO w VALUES ('k', 1)"
+    ROWLESS=1 DUMPLESS=1 makes $'t: 2 rows, 2 more than .recover found\nw: 1 row, 1 more than .recover found\n' x.db
+    has $'1|x\n2|y\nk|1\n' 'SELECT * FROM t; SELECT * FROM w'
+}
+
+@test 'both-ways.sh gives .recover a plain definition of the tables that it cannot write, and of no other' {
+    with_sqlite
+    sqlite3 "$work/files/x.db" "CREATE TABLE named(_rowid_ TEXT, other TEXT, third TEXT);
+        CREATE TABLE keyed(value TEXT, name TEXT PRIMARY KEY) WITHOUT ROWID; CREATE TABLE first(name TEXT PRIMARY KEY, value TEXT) WITHOUT ROWID;
+        CREATE TABLE apart(a TEXT UNIQUE); CREATE TABLE s(a,b,c,d,e,f AS(a))"
+    : > "$work/schema"
+    both_ways x.db
+    row 'the schema of .recover' diff "$work/schema" <(printf '%s\n' '~1' '~2' first apart sqlite_autoindex_apart_1 s)
+}
+
+@test 'both-ways.sh gives the rows that are older than a column its default' {
+    with_sqlite
+    sqlite3 "$work/files/x.db" "CREATE TABLE g(a INTEGER PRIMARY KEY, b TEXT NOT NULL, c AS (b + 1)); INSERT INTO g VALUES (1, 10);
+        ALTER TABLE g ADD COLUMN d TEXT DEFAULT 'seven'"
+    : > "$work/schema"
+    DUMPLESS=1 makes $'g: 1 row\n' x.db
+    row 'the schema of .recover' [ "$(cat "$work/schema")" = '~1' ]
+    has $'1|10|11|seven\n' 'SELECT * FROM g'
+}
+
+@test 'both-ways.sh takes no key for a rowid that is none' {
+    with_sqlite
+    sqlite3 "$work/files/x.db" "CREATE TABLE g(a INTEGER PRIMARY KEY DESC, b TEXT NOT NULL, c AS (b + 1)); INSERT INTO g VALUES (100, 10)"
+    DUMPLESS=1 makes $'g: 1 row*' x.db
+    has $'1|100|10|11\n' 'SELECT rowid, * FROM g'
+}
+
+@test 'both-ways.sh says of a row whose overflow pages are damaged that its table cannot be read to its end' {
+    with_sqlite
+    sqlite3 "$work/files/x.db" "PRAGMA page_size = 512; CREATE TABLE t(a INTEGER PRIMARY KEY, b); INSERT INTO t VALUES (1, 'x'), (2, zeroblob(5000))"
+    put_at "$work/files/x.db" 1024 '\0\0377\0377\0377'
+    both_ways x.db
+    row 'what it prints' grep -q '^t: .*; SQLite cannot read this table to its end$' "$work/out"
+}
+
+@test 'both-ways.sh reads the file of the name that it was given, with the line feed at its end' {
+    with_sqlite
+    sqlite3 "$work/files/x.db" "CREATE TABLE t(a); INSERT INTO t VALUES ('of another file')"
+    sqlite3 "$work/files/y.db" "CREATE TABLE t(a); INSERT INTO t VALUES ('of this one')"
+    mv "$work/files/y.db" "$work/files/x.db"$'\n'
+    mkdir "$work/files/to"$'\n'
+    both_ways "x.db"$'\n' "to"$'\n/new.db'
+    row 'both-ways.sh' ended 0 $'t: 1 row\n' ''
+    row 'the row' [ "$(sqlite3 "$work/files/to"$'\n/new.db' 'SELECT a FROM t')" = 'of this one' ]
+}
