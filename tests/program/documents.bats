@@ -313,6 +313,37 @@ END
     done
 }
 
+@test 'a first page of a schema that needs more takes the place of none' {
+    needs sqlite3
+    mkdir "$work/files"
+    sqlite3 "$work/files/copy.db" "$(printf 'CREATE TABLE t%d(a_column_of_a_long_name, another_column_of_a_long_name);' {1..80})"
+    sqlite3 "$work/files/copy.db" '.schema --nosys' > "$work/files/schema.sql"
+    put_at "$work/files/copy.db" 0 "$(printf '\\0%.0s' {1..4096})"
+    cp "$work/files/copy.db" "$work/kept.db"
+    runs "$(of_repair size=4096)"
+    row 'the commands' ended 1 '' '*'
+    row 'copy.db' cmp "$work/kept.db" "$work/files/copy.db"
+}
+
+@test 'the command of docs/REPAIR.md on lost_and_found goes by the page of a row, and not by that of its root' {
+    needs sqlite3
+    mkdir "$work/files"
+    sqlite3 "$work/files/copy.db" 'CREATE TABLE t(a); CREATE TABLE u(a); CREATE TABLE v(a); DROP TABLE u; DROP TABLE v'
+    sqlite3 "$work/files/new.db" 'CREATE TABLE lost_and_found(rootpgno, pgno); INSERT INTO lost_and_found VALUES (2, 4), (4, 2)'
+    runs "$(of_repair 'dbck stat --all')"
+    row 'the command' ended 0 '' ''
+    row 'what is left' [ "$(sqlite3 "$work/files/new.db" 'SELECT * FROM lost_and_found')" = '4|2' ]
+}
+
+@test 'the counts of pages of docs/REPAIR.md are of pages of each kind' {
+    local k kind=('\02' '\05' '\012' '\015')
+    mkdir "$work/files"
+    for k in {1..63}; do put_at "$work/files/copy.db" $((1024 * k)) "${kind[k % 4]}"; done
+    truncate -s 65536 "$work/files/copy.db"
+    runs "$(of_repair 'for size in')"
+    row 'the counts' ended 0 $'512 63\n1024 63\n2048 31\n4096 15\n*' ''
+}
+
 # over_many: runs the command of README over many databases, those of the folder $work/files/srv.
 over_many() {
     runs "$(sed -n '/^## Many databases/,/^## Why/s/^    //p' README.md | sed "s|/srv|'$work/files/srv'|")"
@@ -356,9 +387,9 @@ END
 @test 'the command of README over many databases tells a file that cannot be read, and shows no control character of a name' {
     needs xargs
     mkdir -p "$work/files/srv"
-    cp "$data/two-tables.db" "$work/files/srv/a\\cb"$'\e[2J\t\177.db'
+    cp "$data/two-tables.db" "$work/files/srv/a\\cb"$'\e[2J\t\177\u009b2J.db'
     over_many
-    row 'a name' ended_exactly 123 "1 $work/files/srv/a\\cb?[2J??.db "$'\n' ''
+    row 'a name' ended_exactly 123 "1 $work/files/srv/a\\cb?[2J????2J.db "$'\n' ''
     rm "$work/files/srv"/*
     cp "$data/whole.db" "$work/files/srv/x.db"
     printf '#!/bin/sh\necho "head: cannot open x.db" >&2\nexit 1\n' > "$work/bin/head"
