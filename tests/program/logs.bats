@@ -30,6 +30,23 @@ noted() {
     expect 0 $'ok\n' "$journal" check "$work/noted.db"
 }
 
+@test 'a log has its note whatever its mode, its length and its other names' {
+    local suffix
+    noted
+    for suffix in wal journal; do
+        echo log > "$work/noted.db-$suffix"
+        chmod 444 "$work/noted.db-$suffix"
+        ln "$work/noted.db-$suffix" "$work/other-$suffix"
+    done
+    exactly 0 $'ok\n' "$wal$journal" check "$work/noted.db"
+    rm "$work"/*-{wal,journal}
+    for suffix in wal journal; do
+        sparse "$work/noted.db-$suffix" 4294967296
+        chmod 755 "$work/noted.db-$suffix"
+    done
+    exactly 0 $'ok\n' "$wal$journal" check "$work/noted.db"
+}
+
 @test 'the logs of a link lie beside what it leads to' {
     noted
     echo log > "$work/noted.db-wal"

@@ -321,6 +321,17 @@ END
     noted 3 "dbck: note: $work/zeros.db is not checked"$'\n'"dbck: note: $work/zeros.db begins with zeros"$'\ndbck: E2 file is not a SQLite 3 database\n' stat "$work/zeros.db"
 }
 
+@test 'mend has each note that check has' {
+    grown "$work/x.db"
+    truncate -s +700 "$work/x.db"
+    echo log > "$work/x.db-wal"
+    echo log > "$work/x.db-journal"
+    dbck check --with 92=0000 "$work/x.db"
+    cp "$work/err" "$work/notes"
+    row 'notes on logs, other bytes and bytes after the last page' [ "$(grep -c note: "$work/notes")" = 4 ]
+    exactly 0 $'ok\n' "$(cat "$work/notes")"$'\n' mend --with 92=0000 "$work/x.db"
+}
+
 @test 'a database that is written while it is read through a link has a note' {
     local note
     grown "$work/x.db"

@@ -26,6 +26,16 @@ load common
     done
 }
 
+@test 'a mark at the beginning of a name and a blank without width at its end belong to it' {
+    local name
+    cp "$data/whole.db" "$work/x.db"
+    cd "$work"
+    for name in $'\xef\xbb\xbfx.db' $'x.db\xe2\x80\x8b'; do
+        cp "$root/$data/two-owners.db" "$name"
+        exactly 1 "$twice$unused" '' check "$name"
+    done
+}
+
 # of_path NAME STATUS OUT ERR WORDS..: a row whose name says how long the path is.
 of_path() {
     dbck "${@:5}"

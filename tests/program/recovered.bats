@@ -760,12 +760,15 @@ END
         at_first_note "$change '$work/$name'" check --recovered --with 92=0000 "$work/x.db"
         row "$name that is written, of a file with other bytes" \
             ended_exactly 0 $'ok\n' "${notes}dbck: note: $work/x.db with 2 other bytes"$'\n'"${note%.}"
+        touch "$work/x.db" "$work/x.db-journal"
+        at_first_note "$change '$work/$name'" mend --recovered "$work/x.db"
+        row "$name that is written while mend reads it" ended 0 $'ok\n' "*${note%.}"
     done << 'END'
 x.db touch -d '2001-01-01 00:00:00.1'
 x.db-journal touch -d '2001-01-01 00:00:00.1'
 x.db-wal echo more >>
 END
-    [ "$rows" = 6 ]
+    [ "$rows" = 9 ]
 }
 
 @test 'the note on a log that is written while a link is read names the one that is read' {
@@ -915,6 +918,18 @@ unfit() {
 }
 
 # Page 1 is whole in the journal alone.
+@test 'a log of another mode, or with another name, is read' {
+    local note mode
+    paired
+    note="dbck: note: $work/pair.db-wal: 1 page of 1 transaction is read from it"$'\n'
+    for mode in 444 400 755; do
+        chmod "$mode" "$work/pair.db-wal"
+        exactly 0 $'ok\n' "$note" check --recovered "$work/pair.db"
+    done
+    ln "$work/pair.db-wal" "$work/other"
+    exactly 0 $'ok\n' "$note" check --recovered "$work/pair.db"
+}
+
 @test 'a log of another owner is read' {
     needs python3
     [ "$(id -u)" = 0 ] || skip 'only root may give files away'
