@@ -225,6 +225,11 @@ DATABASES = {
         INSERT INTO t {up_to(100)} SELECT n, 'abcdefghijklm' FROM k;
         DELETE FROM t WHERE a = 3;
         UPDATE t SET b = 'x' WHERE a = 100;"""),
+    # Rows that became shorter. Two numbers of a head are overwritten.
+    "cut-short": (1024, 0, f"""
+        CREATE TABLE t(a INTEGER PRIMARY KEY, b, c, d);
+        INSERT INTO t {up_to(100)} SELECT n, 'abc', n % 3, NULL FROM k;
+        UPDATE t SET b = '' WHERE a % 7 = 4;"""),
     # Schemas of one page, and of several: with rows without root pages, and with root pages in no order.
     "page-1": (512, 0, """
         CREATE TABLE aa(x); CREATE TABLE bb(x, y, z); CREATE TABLE c(x);
@@ -321,6 +326,7 @@ shrunk 1029 2 1019 1018
 shrunk 2428 2 748 0
 shrunk 2428 2 748 750
 shrunk 2430 2 31 30
+shrunk 3075 2 19 0 3077 2 453 455
 shrunk 3077 2 453 0
 shrunk 3077 2 453 455
 updated 519 1 4 3
@@ -332,8 +338,10 @@ updated-twice 519 1 4 34
 updated-and-deleted 515 2 10 6
 updated-and-deleted 515 2 10 9
 tiny-rows 519 1 6 13
+deleted 515 2 18 19
 deleted 925 2 10 7
 old-pointer 4099 2 99 100
+cut-short 2051 2 82 0 2053 2 177 179
 page-1 377 1 3 19
 schema 492 4 39 12
 schema 502 4 15 16

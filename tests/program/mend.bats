@@ -73,6 +73,14 @@ are_put_back() {
     is_put_back "$@" && [ "$(sqlite3 "$work/put.db" 'PRAGMA integrity_check')" = ok ]
 }
 
+# has_rows_back OFFSET BYTES..: mend says ok of x.db with these bytes at these offsets, and to SQLite the changed copy is sound and has the rows
+# that x.db has.
+has_rows_back() {
+    is_put_back "$@"
+    [ "$(tail -n 1 "$work/lines")" = ok ] &&
+        diff <(sqlite3 "$work/x.db" 'PRAGMA integrity_check' .dump) <(sqlite3 "$work/put.db" 'PRAGMA integrity_check' .dump)
+}
+
 # made SQL [SIZE]: makes x.db, with pages of 512 bytes, or SIZE.
 made() {
     rm -f "$work/x.db"
@@ -1134,6 +1142,16 @@ others_are_put_back() {
 }
 
 # One bit of where the content area begins: then it begins with one of the cells, and with fewer of them the page would be sound too.
+# The content area begins with fragmented bytes, in which a cell of four bytes could be.
+@test 'mend does not put a pointer to a whole record before it, where the record would be cut' {
+    needs sqlite3
+    made "PRAGMA auto_vacuum = 1; CREATE TABLE t(a, b); CREATE INDEX i ON t(b DESC);
+        $(up_to 100) INSERT INTO t SELECT n, substr('abcdefghijklmnopqrstuvwxyz', 1, n * 11 % 9) FROM k;
+        DELETE FROM t WHERE a % 3 = 1; DELETE FROM t WHERE a = 84; DELETE FROM t WHERE a = 57; UPDATE t SET b = substr(b, 5) WHERE a % 2 = 0"
+    row 'a content start of 139' [ "$(number_at 3589)" = 139 ]
+    row 'a content start of 139, put 141' has_rows_back 3589 '\0\0215'
+}
+
 @test 'mend leaves out no cell where the content area begins with a later one' {
     local bytes
     needs sqlite3

@@ -217,27 +217,25 @@ pub(crate) fn add_pointer<A: Allocator>(tries: &mut Ranked, paper: &mut Paper<A>
     }
 }
 
-// Adds of each long run of bytes that no item holds, that the cell after it begins with it.
+// Adds of each long run of bytes that no item holds, that the cell after it begins with it, unless its record is whole and would be cut.
 pub(crate) fn add_gaps<A: Allocator>(tries: &mut Ranked, paper: &mut Paper<A>) {
     let longest = match paper.view() {
         Some(view) => longest_gaps(paper, &view),
         None => return,
     };
     for gap in longest {
-        let cell = match paper.view() {
-            Some(view) if gap.len > 0 => cell_after(&view, gap.at),
-            _ => None,
+        let (cell, was_whole) = match paper.view() {
+            Some(view) if gap.len > 0 => match cell_after(&view, gap.at) {
+                Some(cell) => (cell, is_whole(&view, cell)),
+                None => continue,
+            },
+            _ => continue,
         };
-        if let Some(cell) = cell
-            && let Some(found) = cell_from(paper, cell, gap.at)
+        if let Some(found) = cell_from(paper, cell, gap.at)
+            && (found.is_whole || !was_whole)
         {
-            add_offset(
-                tries,
-                paper,
-                cell,
-                gap.at,
-                found.less_if_cut(Fit::new(32, 0)),
-            );
+            let fit = found.less_if_cut(Fit::new(32, 0));
+            add_offset(tries, paper, cell, gap.at, fit);
         }
     }
 }
