@@ -47,6 +47,22 @@ noted() {
     exactly 0 $'ok\n' "$wal$journal" check "$work/noted.db"
 }
 
+@test 'a log has its note whoever owns it, whoever may read it, and whenever it was written' {
+    local mode suffix
+    noted
+    for suffix in wal journal; do echo log > "$work/noted.db-$suffix"; done
+    for mode in 600 400 200 000; do
+        chmod "$mode" "$work"/noted.db-{wal,journal}
+        exactly 0 $'ok\n' "$wal$journal" check "$work/noted.db"
+    done
+    chmod 644 "$work"/noted.db-{wal,journal}
+    touch -d '1970-01-01 00:00:00Z' "$work"/noted.db-{wal,journal}
+    exactly 0 $'ok\n' "$wal$journal" check "$work/noted.db"
+    [ "$(id -u)" = 0 ] || skip 'only root may give files away'
+    chown 12345:12345 "$work"/noted.db-{wal,journal} 2> "$work/why" || skip "no other owner here: $(cat "$work/why")"
+    exactly 0 $'ok\n' "$wal$journal" check "$work/noted.db"
+}
+
 @test 'the logs of a link lie beside what it leads to' {
     noted
     echo log > "$work/noted.db-wal"
@@ -144,4 +160,16 @@ noted() {
     done
     on_disk HIDDEN_LINK=x.db
     exactly 0 $'ok\n' "dbck: note: $work/x.db: whether a log is beside it is not known"$'\n' check "$work/x.db"
+}
+
+@test 'the log of a database on standard input, or of an open file, has its note' {
+    cp "$data/whole.db" "$work/x.db"
+    echo log > "$work/x.db-wal"
+    log_notes "$(realpath "$work")/x.db"
+    status=0
+    "$DBCK" check /dev/stdin < "$work/x.db" > "$work/out" 2> "$work/err" || status=$?
+    row '/dev/stdin' ended_exactly 0 $'ok\n' "$wal"
+    status=0
+    "$DBCK" check /proc/self/fd/7 7< "$work/x.db" > "$work/out" 2> "$work/err" || status=$?
+    row '/proc/self/fd/7' ended_exactly 0 $'ok\n' "$wal"
 }

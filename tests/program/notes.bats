@@ -364,3 +364,30 @@ END
     echo log > "$work/x.db-wal"
     row 'two notes' [ "$(writes_of stderr check "$work/x.db")" = $'1 whole\n1 whole' ]
 }
+
+@test 'a file of any time, mode and names has the note that it was written' {
+    local before note
+    log_notes "$work/x.db"
+    note=$(changed_note "$work/x.db")
+    for before in "touch -d '1970-01-01 00:00:00Z' '$work/x.db'" "touch -d '1960-01-01 00:00:00Z' '$work/x.db'" "chmod 444 '$work/x.db'" \
+        "ln '$work/x.db' '$work/other'"; do
+        rm -f "$work/x.db"
+        cp "$data/whole.db" "$work/x.db"
+        eval "$before"
+        at_first_note "touch -d '2001-01-01 00:00:00.1' '$work/x.db'" check "$work/x.db"
+        row "a file that is written after $before" ended_exactly 0 $'ok\n' "$wal${note%.}"
+    done
+}
+
+@test 'a file that is written while it is read has the note also without progress, and so has a log' {
+    local note
+    log_notes "$work/x.db"
+    note=$(changed_note "$work/x.db")
+    cp "$data/whole.db" "$work/x.db"
+    at_first_note "touch -d '2001-01-01 00:00:00.1' '$work/x.db'" check --no-progress "$work/x.db"
+    row 'a file that is written' ended_exactly 0 $'ok\n' "$wal${note%.}"
+    paired
+    exactly 0 $'ok\n' "dbck: note: $work/pair.db-wal: 1 page of 1 transaction is read from it"$'\n' check --recovered --no-progress "$work/pair.db"
+    log_notes "$work/pair.db"
+    expect 0 '*' "$wal*" check --no-progress --with 92=0000 "$work/pair.db"
+}

@@ -280,3 +280,19 @@ END
     exactly 1 "$twice$unused" '' check -
     cat "$root/$data/whole.db" | { status=0; "$DBCK" check /dev/stdin > "$work/out" 2> "$work/err" || status=$?; ended_exactly 4 '' $'dbck: note: /dev/stdin: not a regular file: unpack it first\n'"$unread"; }
 }
+
+@test 'a database of any mode and time is read that the caller may read' {
+    local mode time
+    cp "$data/whole.db" "$work/x.db"
+    for mode in 600 640 400 755; do
+        chmod "$mode" "$work/x.db"
+        exactly 0 $'ok\n' '' check "$work/x.db"
+    done
+    for time in 1970 1960; do
+        touch -d "$time-01-01 00:00:00Z" "$work/x.db"
+        exactly 0 $'ok\n' '' check "$work/x.db"
+    done
+    [ "$(id -u)" = 0 ] || skip 'only root reads what nobody may read'
+    chmod 000 "$work/x.db"
+    exactly 0 $'ok\n' '' check "$work/x.db"
+}

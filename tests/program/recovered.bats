@@ -335,6 +335,31 @@ is_rolled_back() {
     is_rolled_back
 }
 
+@test 'a super-journal is there whatever its mode, its time, its names and the length of its path' {
+    local mode name read
+    needs python3
+    read="dbck: note: $work/then.db-journal: +([0-9]) pages are read from it; *"
+    journaled
+    cp "$work/then.db-journal" "$work/kept"
+    mkdir "$work/${long:=$(printf '%0200d' 1)}"
+    name=$work/$long/$long-mj1
+    name_super "$name"
+    echo then.db-journal > "$name"
+    expect 0 $'ok\n' "$read" check --recovered "$work/then.db"
+    name=$work/main.db-mj1
+    cp "$work/kept" "$work/then.db-journal"
+    name_super "$name"
+    echo then.db-journal > "$name"
+    for mode in 755 444 600 000; do
+        chmod "$mode" "$name"
+        expect 0 $'ok\n' "$read" check --recovered "$work/then.db"
+    done
+    touch -d '1970-01-01 00:00:00Z' "$name"
+    expect 0 $'ok\n' "$read" check --recovered "$work/then.db"
+    ln "$name" "$work/other"
+    expect 0 $'ok\n' "$read" check --recovered "$work/then.db"
+}
+
 @test 'of a super-journal whose name is not UTF-8 it is not known whether it is here' {
     local name=$work/$'main\xff.db-mj1'
     journaled_alone
@@ -940,6 +965,29 @@ unfit() {
     chown 12345 "$work/x.db-journal" "$work/pair.db-wal" 2> "$work/why" || skip "no other owner here: $(cat "$work/why")"
     exactly 0 $'ok\n' "dbck: note: $work/x.db-journal: 1 page is read from it; the database had 1 page"$'\n' check --recovered "$work/x.db"
     exactly 0 $'ok\n' "dbck: note: $work/pair.db-wal: 1 page of 1 transaction is read from it"$'\n' check --recovered "$work/pair.db"
+}
+
+@test 'a log of another group, or of another time, is read' {
+    local note
+    paired
+    note="dbck: note: $work/pair.db-wal: 1 page of 1 transaction is read from it"$'\n'
+    touch -d '1970-01-01 00:00:00Z' "$work/pair.db-wal"
+    exactly 0 $'ok\n' "$note" check --recovered "$work/pair.db"
+    [ "$(id -u)" = 0 ] || skip 'only root may give files away'
+    chown 12345:12345 "$work/pair.db-wal" 2> "$work/why" || skip "no other owner here: $(cat "$work/why")"
+    exactly 0 $'ok\n' "$note" check --recovered "$work/pair.db"
+}
+
+@test 'a log on another file system is read, and has its note' {
+    local far
+    paired
+    far=$(mktemp -d /dev/shm/dbck.XXXXXX 2> "$work/why") || skip "no other file system here: $(cat "$work/why")"
+    mv "$work/pair.db-wal" "$far/log"
+    ln -s "$far/log" "$work/pair.db-wal"
+    log_notes "$work/pair.db"
+    exactly 0 $'ok\n' "dbck: note: $work/pair.db-wal: 1 page of 1 transaction is read from it"$'\n' check --recovered "$work/pair.db"
+    exactly 0 $'ok\n' "$wal" check "$work/pair.db"
+    rm -r "$far"
 }
 
 @test 'the logs of a link to a link are those beside the file itself' {

@@ -652,3 +652,43 @@ END
     row 'both-ways.sh' ended 0 $'t: 1 row\n' ''
     row 'the row' [ "$(sqlite3 "$work/files/to"$'\n/new.db' 'SELECT a FROM t')" = 'of this one' ]
 }
+
+@test 'both-ways.sh gives a virtual table the name of its definition, so that SQLite opens the new databases' {
+    local name
+    with_sqlite
+    sqlite3 "$work/files/x.db" "CREATE VIRTUAL TABLE f USING fts5(t); INSERT INTO f VALUES ('hello'); CREATE TABLE t(a); INSERT INTO t VALUES (1);
+        PRAGMA writable_schema = ON; UPDATE sqlite_schema SET name = 'F~', tbl_name = 'F~' WHERE name = 'f'" 2> "$work/why" || skip "$(cat "$work/why")"
+    both_ways x.db
+    has $'1\nhello\n' 'SELECT * FROM t; SELECT * FROM f'
+    for name in new replaced; do row "$name.db" [ "$(sqlite3 "$work/files/$name.db" 'SELECT * FROM t' 2>&1)" = 1 ]; done
+}
+
+@test 'both-ways.sh keeps the order of a key whose columns are in another order' {
+    with_sqlite
+    sqlite3 "$work/files/x.db" "CREATE TABLE w(a TEXT, b TEXT, c TEXT, d AS (c || 'x'), PRIMARY KEY(b, a)) WITHOUT ROWID; INSERT INTO w VALUES ('a1', 'b1', 'c1')"
+    sed -i 's/SELECT name FROM sqlite_schema/SELECT sql FROM sqlite_schema/' "$SQLITE3"
+    : > "$work/schema"
+    DUMPLESS=1 makes $'w: 1 row\n' x.db
+    # .recover takes the columns as they are stored: those of the key first, in its order.
+    row 'the schema of .recover' [ "$(cat "$work/schema")" = 'CREATE TABLE "~1"(c1,c0,c2,PRIMARY KEY(c1,c0))WITHOUT ROWID' ]
+    has $'a1|b1|c1|c1x\n' 'SELECT * FROM w'
+}
+
+@test 'both-ways.sh leaves no plain definition in a table whose root leads into the schema' {
+    local leaf
+    with_sqlite
+    sqlite3 "$work/files/x.db" "PRAGMA page_size = 512; CREATE TABLE g(a, c AS (a + 1)); CREATE TABLE t(a, b, c, d, e);
+        $(printf 'CREATE TABLE u%d(aaaaaaaaaaaaaaaaaaaa, bbbbbbbbbbbbbbbbbbb);' {1..12})"
+    leaf=$("$DBCK" stat "$work/files/x.db" | awk -F '\t' '$1 == "sqlite_schema" && $4 == "leaf" { print $3; exit }')
+    sqlite3 "$work/files/x.db" "PRAGMA writable_schema = ON; UPDATE sqlite_schema SET rootpage = $leaf WHERE name = 't'"
+    both_ways x.db
+    has '' "SELECT * FROM t WHERE b LIKE '~%'"
+}
+
+@test 'both-ways.sh keeps the definition of a table whose name in the schema is damaged' {
+    with_sqlite
+    sqlite3 "$work/files/x.db" "CREATE TABLE name(a); INSERT INTO name VALUES (1); PRAGMA writable_schema = ON; UPDATE sqlite_schema SET name = 'nam~'"
+    : > "$work/schema"
+    both_ways x.db
+    row 'the schema of .recover' [ "$(cat "$work/schema")" = 'nam~' ]
+}
