@@ -348,6 +348,8 @@ schema 502 4 15 16
 schema 16379 1 4 0
 dropped 2048 4 0 36
 dropped 16808 1 29 3
+history-1016 11744 1 30 49
+history-1182 1538 1 37 46
 """
 
 
@@ -355,7 +357,7 @@ dropped 16808 1 29 3
 COPIES = 5
 COPIES_OF_HISTORIES = {kind: 2 for kind in mend.KINDS if not kind.startswith(("two", "three"))} | {"a number that is near": 20}
 
-HISTORIES = {f"history-{seed}": histories.history(seed) for seed in range(40)}
+HISTORIES = {f"history-{seed}": histories.history(seed) for seed in (*range(40), 1016, 1182)}
 
 
 def overwrite_near(db):

@@ -336,12 +336,13 @@ is_rolled_back() {
 }
 
 @test 'a super-journal is there whatever its mode, its time, its names and the length of its path' {
-    local mode name read
+    local long mode name read
     needs python3
+    long=$(printf '%0200d' 1)
     read="dbck: note: $work/then.db-journal: +([0-9]) pages are read from it; *"
     journaled
     cp "$work/then.db-journal" "$work/kept"
-    mkdir "$work/${long:=$(printf '%0200d' 1)}"
+    mkdir "$work/$long"
     name=$work/$long/$long-mj1
     name_super "$name"
     echo then.db-journal > "$name"
