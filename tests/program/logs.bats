@@ -63,6 +63,15 @@ noted() {
     exactly 0 $'ok\n' "$wal$journal" check "$work/noted.db"
 }
 
+@test 'the log of a name that has no room for the other log has its note' {
+    local name
+    name=$work/$(printf '%0250d' 0)
+    cp "$data/whole.db" "$name" 2> "$work/why" || skip "no name of 250 bytes here: $(cat "$work/why")"
+    echo log > "$name-wal"
+    log_notes "$name"
+    exactly 0 $'ok\n' "$wal" check "$name"
+}
+
 @test 'the logs of a link lie beside what it leads to' {
     noted
     echo log > "$work/noted.db-wal"

@@ -296,3 +296,33 @@ END
     chmod 000 "$work/x.db"
     exactly 0 $'ok\n' '' check "$work/x.db"
 }
+
+# apart: a process, $pid, in another mount namespace, to which $work/data is $work/inner; $far is its path there. Both have an
+# x.db, and a link.db that leads to it; a -wal is beside that of $work/data alone.
+apart() {
+    local folder suffix
+    needs unshare mount python3
+    unshare -m true 2> "$work/why" || skip "no mount namespace here: $(cat "$work/why")"
+    mkdir "$work/inner" "$work/data"
+    cp "$data/two-owners.db" "$work/inner/x.db"
+    paired
+    for suffix in '' -wal; do mv "$work/pair.db$suffix" "$work/data/x.db$suffix"; done
+    for folder in inner data; do ln -s x.db "$work/$folder/link.db"; done
+    # shellcheck disable=SC2016
+    unshare -m sh -c 'mount --bind "$1/inner" "$1/data" && : > "$1/ready" && exec sleep 60' sh "$work" < /dev/null > "$work/why" 2>&1 3>&- &
+    pid=$!
+    until [ -e "$work/ready" ]; do
+        kill -0 "$pid" 2> /dev/null || skip "nothing can be mounted here: $(cat "$work/why")"
+        sleep 0.01
+    done
+    far=/proc/$pid/root$(realpath "$work")/data
+}
+
+# A path through /proc is not what its text leads to.
+@test 'a database in another mount namespace is read, and none that has its path here' {
+    local far pid
+    apart
+    exactly 1 "$twice$unused" '' check "$far/x.db"
+    exactly 1 "$twice$unused" '' check --recovered "$far/x.db"
+    kill "$pid"
+}

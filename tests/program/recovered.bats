@@ -797,6 +797,35 @@ END
     [ "$rows" = 9 ]
 }
 
+@test 'with --recovered each command has the notes of check, and one on a log that is written' {
+    local command log note notes
+    needs python3
+    cp "$data/empty.db" "$work/x.db"
+    journal_of "$work/x.db" <<< 1
+    notes="dbck: note: $work/x.db-journal: 1 page is read from it; the database had 1 page"$'\n'
+    notes+="dbck: note: $work/x.db-wal holds nothing that SQLite would read"$'\n'
+    for command in check explain map stat; do
+        for log in journal wal; do
+            touch "$work/x.db-journal"
+            note=$(changed_note "$work/x.db-$log")
+            at_first_note "touch -d '2001-01-01 00:00:00.1' '$work/x.db-$log'" "$command" --recovered "$work/x.db"
+            row "$command, and a -$log that is written" ended 0 '*' "$notes${note%.}"
+        done
+    done
+    [ "$rows" = 8 ]
+}
+
+@test 'with --recovered mend says what was read of a journal' {
+    local read
+    needs python3
+    cp "$data/empty.db" "$work/x.db"
+    journal_of "$work/x.db" <<< 1
+    read="dbck: note: $work/x.db-journal: 1 page is read from it; the database had 1 page"$'\n'
+    expect 0 $'ok\n' "$read*the changes are of the database that SQLite would recover, not of this file"$'\n' mend --recovered "$work/x.db"
+    echo log > "$work/x.db-journal"
+    exactly 0 $'ok\n' "dbck: note: $work/x.db-journal has fewer than 512 bytes, and is not rolled back: ask for all of it"$'\n' mend --recovered "$work/x.db"
+}
+
 @test 'the note on a log that is written while a link is read names the one that is read' {
     local name note notes real
     needs python3
@@ -989,6 +1018,62 @@ unfit() {
     exactly 0 $'ok\n' "dbck: note: $work/pair.db-wal: 1 page of 1 transaction is read from it"$'\n' check --recovered "$work/pair.db"
     exactly 0 $'ok\n' "$wal" check "$work/pair.db"
     rm -r "$far"
+}
+
+# SQLite keeps a -shm beside a database that is open, or was not closed.
+@test 'a log beside a -shm is read, and has its note where it is not' {
+    local read
+    paired
+    read="dbck: note: $work/pair.db-wal: 1 page of 1 transaction is read from it"$'\n'
+    log_notes "$work/pair.db"
+    dd if=/dev/zero of="$work/pair.db-shm" bs=32768 count=1 status=none
+    exactly 0 $'ok\n' "$wal" check "$work/pair.db"
+    exactly 0 $'ok\n' "$read" check --recovered "$work/pair.db"
+    rm "$work/pair.db-wal"
+    exactly 0 $'ok\n' '' check "$work/pair.db"
+    echo log > "$work/pair.db-journal"
+    exactly 0 $'ok\n' "$journal" check "$work/pair.db"
+    exactly 0 $'ok\n' "dbck: note: $work/pair.db-journal has fewer than 512 bytes, and is not rolled back: ask for all of it"$'\n' \
+        check --recovered "$work/pair.db"
+}
+
+# So has one in WAL mode that another program has open, which holds a lock on it.
+@test 'the -wal of a database that SQLite has open is read, and has its note where it is not' {
+    local said
+    needs python3
+    said=$(python3 - "$work/x.db" "$DBCK" << 'END'
+import sqlite3, subprocess, sys
+path, program = sys.argv[1:]
+db = sqlite3.connect(path, isolation_level=None)
+db.execute("PRAGMA journal_mode = WAL")
+db.execute("PRAGMA wal_autocheckpoint = 0")
+db.execute("CREATE TABLE t(a)")
+for words in ["check"], ["check", "--recovered"]:
+    run = subprocess.run([program, *words, path], capture_output=True, text=True)
+    print(run.returncode, run.stdout.strip(), run.stderr.strip().replace(path, "x.db"))
+END
+    )
+    [ "$said" = "0 ok dbck: note: x.db-wal is not read, and may hold changes; --recovered reads it
+0 ok dbck: note: x.db-wal: 2 pages of 1 transaction are read from it" ] || fail "$said"
+}
+
+# A path below /dev is no device: /dev/shm has files.
+@test 'a database below /dev has its logs, its notes, and is seen to be written' {
+    local folder note read
+    folder=$(mktemp -d /dev/shm/dbck.XXXXXX 2> "$work/why") || skip "there is no /dev/shm: $(cat "$work/why")"
+    paired
+    read="dbck: note: $folder/pair.db-wal: 1 page of 1 transaction is read from it"$'\n'
+    mv "$work/pair.db" "$work/pair.db-wal" "$folder"
+    log_notes "$folder/pair.db"
+    note=$(changed_note "$folder/pair.db")
+    exactly 0 $'ok\n' "$wal" check "$folder/pair.db"
+    exactly 0 $'ok\n' "$read" check --recovered "$folder/pair.db"
+    status=0
+    "$DBCK" check --recovered /dev/stdin < "$folder/pair.db" > "$work/out" 2> "$work/err" || status=$?
+    row '/dev/stdin' ended_exactly 0 $'ok\n' "$read"
+    at_first_note "touch -d '2001-01-01 00:00:00.1' '$folder/pair.db'" check "$folder/pair.db"
+    row 'a database below /dev that is written' ended_exactly 0 $'ok\n' "$wal${note%.}"
+    rm -r "$folder"
 }
 
 @test 'the logs of a link to a link are those beside the file itself' {
