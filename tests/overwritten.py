@@ -230,6 +230,24 @@ DATABASES = {
         CREATE TABLE t(a INTEGER PRIMARY KEY, b, c, d);
         INSERT INTO t {up_to(100)} SELECT n, 'abc', n % 3, NULL FROM k;
         UPDATE t SET b = '' WHERE a % 7 = 4;"""),
+    # An interior page of more than 400 children, below a root page.
+    "many-leaves": (4096, 0, f"""
+        CREATE TABLE t(a INTEGER PRIMARY KEY, b);
+        INSERT INTO t {up_to(40000)} SELECT n, hex(zeroblob(40)) FROM k;"""),
+    # More than 64 children of a page.
+    "many-children": (1024, 0, f"""
+        CREATE TABLE t(a INTEGER PRIMARY KEY, b);
+        INSERT INTO t {up_to(700)} SELECT n, hex(zeroblob(60)) FROM k;"""),
+    # Views between tables.
+    "views": (1024, 0, """
+        CREATE TABLE a(x); CREATE VIEW va AS SELECT 1; CREATE TABLE b(x); CREATE VIEW vb AS SELECT 2; CREATE TABLE c(x);
+        CREATE VIEW vc AS SELECT 3;
+        INSERT INTO a VALUES ('a'); INSERT INTO b VALUES ('of b'); INSERT INTO c VALUES ('of c');"""),
+    # More than 32 root pages, and a pointer map.
+    "many-roots": (512, 0, f"""
+        PRAGMA auto_vacuum = 1;
+        {' '.join(f'CREATE TABLE t{n}(a);' for n in range(40))}
+        INSERT INTO t7 VALUES (1);"""),
     # Schemas of one page, and of several: with rows without root pages, and with root pages in no order.
     "page-1": (512, 0, """
         CREATE TABLE aa(x); CREATE TABLE bb(x, y, z); CREATE TABLE c(x);
@@ -297,6 +315,7 @@ long-rows 5431 3 8712452 8692343
 long-rows 7695 3 8692340 0
 large-pages 65518 1 2 3
 large-pages 65518 1 2 12
+large-pages 720899 2 0 1
 large-pages 852016 2 65274 65275
 reserved 383 1 10 31
 reserved 2053 2 204 201
@@ -342,6 +361,11 @@ deleted 515 2 18 19
 deleted 925 2 10 7
 old-pointer 4099 2 99 100
 cut-short 2051 2 82 0 2053 2 177 179
+many-leaves 8185 4 499 0
+many-leaves 2043300 4 103 123
+many-children 1580 4 83 93
+views 856 1 4 3
+many-roots 52 4 42 0
 page-1 377 1 3 19
 schema 492 4 39 12
 schema 502 4 15 16
