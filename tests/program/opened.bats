@@ -326,3 +326,12 @@ apart() {
     exactly 1 "$twice$unused" '' check --recovered "$far/x.db"
     kill "$pid"
 }
+
+@test 'no log is taken of another database that has here the path of a link in another mount namespace' {
+    local far note pid
+    apart
+    note="dbck: note: $far/link.db: whether a log is beside it is not known"$'\n'
+    exactly 1 "$twice$unused" "$note" check "$far/link.db"
+    exactly 4 '' "$note$unread" check --recovered "$far/link.db"
+    kill "$pid"
+}

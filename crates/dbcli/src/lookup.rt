@@ -1,5 +1,6 @@
 // What the system knows of a path.
 use std::fs::Metadata;
+use std::os::unix::fs::MetadataExt;
 use std::rt::Files;
 use std::{fs, io, str};
 
@@ -21,7 +22,8 @@ pub trait Lookup {
     ///
     /// # Errors
     ///
-    /// As of [`metadata`](Lookup::metadata), and want of memory.
+    /// As of [`metadata`](Lookup::metadata), and want of memory. [`io::ErrorKind::NotFound`] where another file has that path
+    /// here: below `/proc` a link may be one of another mount namespace.
     fn link_target(&self, path: &str) -> io::Result<Option<String>>;
 
     /// Whether a super-journal of this name is there. As for SQLite, a file without bytes is not, and the name ends at a byte of 0. One
@@ -39,6 +41,11 @@ pub(crate) const LOGS_UNKNOWN: &str = "whether a log is beside it is not known";
 // Whether there is something at a path, by its metadata: anything but a file without bytes.
 pub(crate) fn is_something(metadata: &Metadata) -> bool {
     !metadata.is_file() || metadata.len() > 0
+}
+
+// Whether the metadata of two paths is that of one file.
+fn is_same_file(one: &Metadata, other: &Metadata) -> bool {
+    one.dev() == other.dev() && one.ino() == other.ino()
 }
 
 // Whether a path that cannot be looked up, for this reason, leads to nothing. Nothing has a name that is longer than its folder takes; but a
@@ -68,10 +75,16 @@ impl<R: Files + AllocGlobal> Lookup for R {
     }
 
     fn link_target(&self, path: &str) -> io::Result<Option<String>> {
-        if fs::symlink_metadata(self, path)?.is_symlink() {
-            Ok(Some(fs::canonicalize(self, path)?.into_string()))
+        if !fs::symlink_metadata(self, path)?.is_symlink() {
+            return Ok(None);
+        }
+        let target = fs::canonicalize(self, path)?.into_string();
+        let meant = fs::metadata(self, path)?;
+        let named = fs::metadata(self, target.as_str())?;
+        if is_same_file(&meant, &named) {
+            Ok(Some(target))
         } else {
-            Ok(None)
+            Err(io::Error::from(io::ErrorKind::NotFound))
         }
     }
 
