@@ -381,6 +381,16 @@ is_rolled_back() {
     done
 }
 
+@test 'a super-journal that is a link to nothing, or to a file without bytes, is not here' {
+    local name=$work/main.db-mj1
+    journaled_alone
+    name_super "$name"
+    ln -s nowhere "$name"
+    cold "names the super-journal $name, which is not here, and is not rolled back (see the manual)"
+    : > "$work/nowhere"
+    cold "names the super-journal $name, which is not here, and is not rolled back (see the manual)"
+}
+
 @test 'a super-journal in a folder that the caller may not look into is not here' {
     local name=$work/closed/main.db-mj1
     journaled_alone
