@@ -234,6 +234,19 @@ DATABASES = {
     "many-leaves": (4096, 0, f"""
         CREATE TABLE t(a INTEGER PRIMARY KEY, b);
         INSERT INTO t {up_to(40000)} SELECT n, hex(zeroblob(40)) FROM k;"""),
+    # More than 64 tables, all of them on one page of the schema.
+    "many-tables": (4096, 0, f"""
+        PRAGMA auto_vacuum = 1;
+        {' '.join(f'CREATE TABLE t{n}(a);' for n in range(80))}
+        INSERT INTO t7 VALUES (1);"""),
+    # Thousands of cells of a page.
+    "many-cells": (65536, 0, f"""
+        CREATE TABLE t(a);
+        INSERT INTO t {up_to(9000)} SELECT n % 200 FROM k;"""),
+    # Records with more than 256 columns, and so a header of more bytes.
+    "many-columns": (4096, 0, f"""
+        CREATE TABLE t({','.join(f'c{column}' for column in range(300))});
+        INSERT INTO t(c0, c299) {up_to(60)} SELECT n, 'z' || n FROM k;"""),
     # More than 64 children of a page.
     "many-children": (1024, 0, f"""
         CREATE TABLE t(a INTEGER PRIMARY KEY, b);
@@ -363,6 +376,11 @@ old-pointer 4099 2 99 100
 cut-short 2051 2 82 0 2053 2 177 179
 many-leaves 8185 4 499 0
 many-leaves 2043300 4 103 123
+many-leaves 2041463 4 403 413
+many-tables 1103 1 80 79
+many-tables 52 4 82 0
+many-columns 11057 2 33329 33330
+many-cells 135080 2 52958 52961
 many-children 1580 4 83 93
 views 856 1 4 3
 many-roots 52 4 42 0
