@@ -1141,7 +1141,6 @@ others_are_put_back() {
     [ "$rows" = 16 ]
 }
 
-# One bit of where the content area begins: then it begins with one of the cells, and with fewer of them the page would be sound too.
 # The content area begins with fragmented bytes, in which a cell of four bytes could be.
 @test 'mend does not put a pointer to a whole record before it, where the record would be cut' {
     needs sqlite3
@@ -1152,6 +1151,7 @@ others_are_put_back() {
     row 'a content start of 139, put 141' has_rows_back 3589 '\0\0215'
 }
 
+# One bit of where the content area begins: then it begins with one of the cells, and with fewer of them the page would be sound too.
 @test 'mend leaves out no cell where the content area begins with a later one' {
     local bytes
     needs sqlite3

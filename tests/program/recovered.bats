@@ -982,7 +982,6 @@ unfit() {
     row 'what is reported beside an old log' cmp "$work/out" "$work/wanted"
 }
 
-# Page 1 is whole in the journal alone.
 @test 'a log of another mode, or with another name, is read' {
     local note mode
     paired
@@ -995,6 +994,7 @@ unfit() {
     exactly 0 $'ok\n' "$note" check --recovered "$work/pair.db"
 }
 
+# Page 1 is whole in the journal alone.
 @test 'a log of another owner is read' {
     needs python3
     [ "$(id -u)" = 0 ] || skip 'only root may give files away'
