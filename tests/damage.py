@@ -140,17 +140,10 @@ def of_folder(databases, folder):
     return paths
 
 
-# The places of a database that damages need.
+class Chance:
+    """Numbers by a seed. The standard library keeps those of `random` the same for one seed, and those of its other calls not."""
 
-class Database:
-    """The bytes of a database, and chances that its name decides."""
-
-    def __init__(self, data, seed):
-        self.data = bytearray(data)
-        stored = self.number(16, 2)
-        self.page_size = 65536 if stored == 1 else stored
-        self.pages = len(data) // self.page_size
-        # The standard library keeps the numbers of `random` the same for one seed, and those of its other calls not.
+    def __init__(self, seed):
         self.chance = random.Random(seed).random
 
     def below(self, end):
@@ -159,6 +152,19 @@ class Database:
 
     def one_of(self, choices):
         return choices[self.below(len(choices))]
+
+
+# The places of a database that damages need.
+
+class Database(Chance):
+    """The bytes of a database, and chances that its name decides."""
+
+    def __init__(self, data, seed):
+        super().__init__(seed)
+        self.data = bytearray(data)
+        stored = self.number(16, 2)
+        self.page_size = 65536 if stored == 1 else stored
+        self.pages = len(data) // self.page_size
 
     def number(self, at, size):
         return int.from_bytes(self.data[at : at + size], "big")

@@ -1,6 +1,6 @@
 """Databases with random histories, each by a seed: tables and indexes of several kinds, whose rows are inserted, deleted and updated by turns."""
 
-import random
+import damage
 
 PRAGMAS = ["", "", "", "PRAGMA auto_vacuum = 1;", "PRAGMA auto_vacuum = 2;", "PRAGMA encoding = 'UTF-16le';"]
 # The key of a table beside its other columns, and how its definition ends.
@@ -13,78 +13,62 @@ KEYS = [
 LENGTHS = [0, 1, 2, 3, 5, 8, 13, 30, 60, 100]
 
 
-class Chance:
-    """Numbers by a seed. The standard library keeps those of `random` the same, and those of its other calls not."""
-
-    def __init__(self, seed):
-        self.random = random.Random(seed).random
-
-    def below(self, end):
-        return int(self.random() * end)
-
-    def one_of(self, choices):
-        return choices[self.below(len(choices))]
-
-    def happens(self, share):
-        return self.random() < share
-
-
 class Table:
     """A table of some columns, with or without a key. If its rows are alike, most have the usual values."""
 
-    def __init__(self, chance, name):
-        self.chance = chance
+    def __init__(self, seeded, name):
+        self.seeded = seeded
         self.name = name
-        self.key, self.end = chance.one_of(KEYS)
-        self.columns = "abc"[: 1 + chance.below(3)]
-        self.is_alike = chance.happens(0.5)
+        self.key, self.end = seeded.one_of(KEYS)
+        self.columns = "abc"[: 1 + seeded.below(3)]
+        self.is_alike = seeded.chance() < 0.5
         self.usual = [self.value() for _ in self.columns]
 
     def value(self):
-        chance = self.chance
-        kind = chance.below(8)
+        seeded = self.seeded
+        kind = seeded.below(8)
         if kind == 0:
             return "NULL"
         if kind == 1:
-            return str(chance.below(310) - 9)
+            return str(seeded.below(310) - 9)
         if kind == 2:
-            return str(chance.below(2**41) - 2**40)
+            return str(seeded.below(2**41) - 2**40)
         if kind == 3:
-            return f"zeroblob({chance.one_of([0, 3, 40, 200, 700])})"
-        return repr("".join(chance.one_of("abcdefgh ") for _ in range(chance.one_of(LENGTHS))))
+            return f"zeroblob({seeded.one_of([0, 3, 40, 200, 700])})"
+        return repr("".join(seeded.one_of("abcdefgh ") for _ in range(seeded.one_of(LENGTHS))))
 
     def created(self):
         yield f"CREATE TABLE {self.name}({self.key}{', '.join(self.columns)}) {self.end};"
         for column in self.columns:
-            if self.chance.happens(0.4):
-                order = self.chance.one_of(["", "DESC", "COLLATE NOCASE"])
+            if self.seeded.chance() < 0.4:
+                order = self.seeded.one_of(["", "DESC", "COLLATE NOCASE"])
                 yield f"CREATE INDEX {self.name}{column} ON {self.name}({column} {order});"
 
     def inserted(self):
-        for _ in range(self.chance.one_of([3, 8, 20, 40, 80])):
-            is_usual = self.is_alike and self.chance.happens(0.9)
-            key = [str(1 + self.chance.below(400))] if self.key else []
+        for _ in range(self.seeded.one_of([3, 8, 20, 40, 80])):
+            is_usual = self.is_alike and self.seeded.chance() < 0.9
+            key = [str(1 + self.seeded.below(400))] if self.key else []
             values = self.usual if is_usual else [self.value() for _ in self.columns]
             yield f"INSERT OR REPLACE INTO {self.name} VALUES ({', '.join(key + values)});"
 
     def changed(self):
-        row = 1 + self.chance.below(120)
-        rows = self.chance.one_of([f"= {row}", f"= {row}", f"= {row}", f"% {2 + row % 8} = 1", f"> {row}"])
+        row = 1 + self.seeded.below(120)
+        rows = self.seeded.one_of([f"= {row}", f"= {row}", f"= {row}", f"% {2 + row % 8} = 1", f"> {row}"])
         where = f"WHERE {'id' if self.key else 'rowid'} {rows}"
-        if self.chance.happens(0.5):
+        if self.seeded.chance() < 0.5:
             return f"DELETE FROM {self.name} {where};"
-        return f"UPDATE {self.name} SET {self.chance.one_of(self.columns)} = {self.value()} {where};"
+        return f"UPDATE {self.name} SET {self.seeded.one_of(self.columns)} = {self.value()} {where};"
 
 
 def history(seed):
     """The page size, how many bytes are reserved at the end of each page, and the statements of a database."""
-    chance = Chance(seed)
-    tables = [Table(chance, f"t{number}") for number in range(1 + chance.below(4))]
+    seeded = damage.Chance(seed)
+    tables = [Table(seeded, f"t{number}") for number in range(1 + seeded.below(4))]
     statements = [statement for table in tables for statement in table.created()]
-    for _ in range(1 + chance.below(4)):
-        statements += chance.one_of(tables).inserted()
-        statements += [chance.one_of(tables).changed() for _ in range(chance.below(12))]
-    if chance.happens(0.2):
-        statements.append(f"DROP TABLE {chance.one_of(tables).name};")
-    page_size, reserved = chance.one_of([512, 512, 1024, 4096]), chance.one_of([0, 0, 0, 8])
-    return page_size, reserved, "\n".join([chance.one_of(PRAGMAS), "BEGIN;", *statements, "COMMIT;"])
+    for _ in range(1 + seeded.below(4)):
+        statements += seeded.one_of(tables).inserted()
+        statements += [seeded.one_of(tables).changed() for _ in range(seeded.below(12))]
+    if seeded.chance() < 0.2:
+        statements.append(f"DROP TABLE {seeded.one_of(tables).name};")
+    page_size, reserved = seeded.one_of([512, 512, 1024, 4096]), seeded.one_of([0, 0, 0, 8])
+    return page_size, reserved, "\n".join([seeded.one_of(PRAGMAS), "BEGIN;", *statements, "COMMIT;"])
