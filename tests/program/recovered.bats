@@ -853,6 +853,38 @@ END
     done
 }
 
+# elsewhere DATABASE WRITE: all files are as they were, and link.db leads to this database. At the first note `change` is made, in which NAME is
+# the database, and then its -wal is written so; `note` is the note on that.
+elsewhere() {
+    cp "$work/kept/"* "$work"
+    ln -sfn "$1" "$work/link.db"
+    note=$(changed_note "$real/$1-wal")
+    at_first_note "${change//NAME/$work/$1}; $2 '$work/$1-wal'" check --recovered "$work/link.db"
+}
+
+@test 'the notes on a log name the one that is read, also where a link leads elsewhere meanwhile or the database is moved' {
+    local change log note notes read real
+    real=$(realpath "$work")
+    paired
+    mkdir "$work/kept"
+    mv "$work/pair.db" "$work/pair.db-wal" "$work/kept"
+    cp "$data/empty.db" "$work/kept/x.db"
+    journal_of "$work/kept/x.db" <<< 1
+    cp "$data/whole.db" "$work/kept/other.db"
+    for log in x other; do echo log > "$work/kept/$log.db-wal"; done
+    notes="dbck: note: $real/x.db-journal: 1 page is read from it; the database had 1 page"$'\n'
+    notes+="dbck: note: $real/x.db-wal holds nothing that SQLite would read"$'\n'
+    read="dbck: note: $real/pair.db-wal: 1 page of 1 transaction is read from it"$'\n'
+    read+="dbck: note: $real/pair.db-wal: the 512 bytes at 56 cannot be read"$'\n'
+    for change in "ln -sfn other.db '$work/link.db'" "mv '$work/other.db' '$work/link.db'" "rm '$work/link.db'" "mv 'NAME' '$work/y.db'"; do
+        elsewhere x.db "touch -d '2001-01-01 00:00:00.1'"
+        row "a -wal that is written after $change" ended_exactly 0 $'ok\n' "$notes${note%.}"
+        elsewhere pair.db 'truncate -s 100'
+        row "a -wal that is cut after $change" ended_exactly 4 '' "$read${note%.}$unread"
+    done
+    [ "$rows" = 8 ]
+}
+
 # The reads of the database and then of its journal take 200 ms each, and the journal is written in the first of them.
 @test 'a journal that is written while it is read has a note' {
     local note pid

@@ -2,6 +2,8 @@
 ghost use Rattle.std.specs.Prelude.{◌≡◌};
 ghost use Rattle.dbcli.specs.OpeningFiles.{suffix_of};
 
+use std::alloc::{AllocError, Global};
+
 /// A log that SQLite keeps beside a database.
 #[derive(Clone, Copy)]
 pub enum Log {
@@ -20,5 +22,11 @@ impl Log {
             Log::Journal => "-journal",
             Log::Wal => "-wal",
         }
+    }
+
+    /// The path of this log of the database at a path.
+    pub(crate) fn beside(self, alloc: Global, database: &str) -> Result<String, AllocError> {
+        let suffix = self.suffix();
+        format!(in alloc; "{database}{suffix}")
     }
 }

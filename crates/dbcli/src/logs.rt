@@ -35,8 +35,7 @@ fn put_note<R: Lookup + AllocGlobal, N: Out>(
     notes: &mut NoteOut<'_, N>,
 ) -> Result<(), AllocError> {
     let (log, said) = log;
-    let suffix = log.suffix();
-    let path = format!(in rt.alloc(); "{database}{suffix}")?;
+    let path = log.beside(rt.alloc(), database)?;
     if has_bytes(rt, path.as_str()) {
         let name = Shown::of(rt.alloc(), path.as_str())?;
         notes.put(&name, &[Piece::Words(said)]);

@@ -1,6 +1,6 @@
 // What the system knows of a path.
+use crate::stamp::Stamp;
 use std::fs::Metadata;
-use std::os::unix::fs::MetadataExt;
 use std::rt::Files;
 use std::{fs, io, str};
 
@@ -43,11 +43,6 @@ pub(crate) fn is_something(metadata: &Metadata) -> bool {
     !metadata.is_file() || metadata.len() > 0
 }
 
-// Whether the metadata of two paths is that of one file.
-fn is_same_file(one: &Metadata, other: &Metadata) -> bool {
-    one.dev() == other.dev() && one.ino() == other.ino()
-}
-
 // Whether a path that cannot be looked up, for this reason, leads to nothing. Nothing has a name that is longer than its folder takes; but a
 // path that is longer than a call takes may lead to something.
 pub(crate) fn is_nothing(path: &str, error: &io::Error) -> bool {
@@ -79,9 +74,9 @@ impl<R: Files + AllocGlobal> Lookup for R {
             return Ok(None);
         }
         let target = fs::canonicalize(self, path)?.into_string();
-        let meant = fs::metadata(self, path)?;
-        let named = fs::metadata(self, target.as_str())?;
-        if is_same_file(&meant, &named) {
+        let meant = Stamp::of(&fs::metadata(self, path)?);
+        let named = Stamp::of(&fs::metadata(self, target.as_str())?);
+        if meant.is_of_file(named) {
             Ok(Some(target))
         } else {
             Err(io::Error::from(io::ErrorKind::NotFound))

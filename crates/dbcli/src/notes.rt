@@ -13,7 +13,7 @@ use crate::log_notes::put_found;
 use crate::logs::put_log_notes;
 use crate::lookup::Lookup;
 use crate::note::{NoteOut, Piece};
-use crate::opening::log_name;
+use crate::opening::target_of;
 use crate::rest::put_rest;
 use crate::shown::Shown;
 use crate::stamp::Stamp;
@@ -25,7 +25,6 @@ use dblog::{Index, JournalError, LogError, Rollback};
 use dbreport::Verdict;
 use dbsource::{Changes, Out, Refusal, RunError};
 use std::alloc::Global;
-use std::str;
 
 // What is said of a file, or of a log of it, that somebody writes to.
 const CHANGED: &str = " was changed while it was read; the report may be of no state that it had";
@@ -40,7 +39,9 @@ pub struct FileNotes<'a, R, N> {
     reads: &'a FailedReads,
     notes: NoteOut<'a, N>,
     before: Option<Stamp>,
-    // The same of its logs, where these are read.
+    // The path that the logs which are read are beside: that of what a link leads to.
+    database: Option<String>,
+    // What the system knew of these logs when they were opened.
     journal_before: Option<Stamp>,
     wal_before: Option<Stamp>,
     is_open: bool,
@@ -75,6 +76,7 @@ impl<'a, R: Lookup + AllocGlobal, N: Out> FileNotes<'a, R, N> {
             reads,
             notes: NoteOut::new(rt.alloc(), notes),
             before: Stamp::at(rt, file),
+            database: None,
             journal_before: None,
             wal_before: None,
             is_open: false,
@@ -101,6 +103,7 @@ impl<'a, R: Lookup + AllocGlobal, N: Out> FileNotes<'a, R, N> {
     {
         self.is_open = true;
         if recovered {
+            self.database = database_of(self.rt, self.file);
             self.journal_before = self.stamp_of(Log::Journal);
             self.wal_before = self.stamp_of(Log::Wal);
         } else {
@@ -111,11 +114,15 @@ impl<'a, R: Lookup + AllocGlobal, N: Out> FileNotes<'a, R, N> {
     /// Says that the file could not be opened, or a log of it, and why, if that is known.
     pub fn unopened(&mut self, reason: Option<(Option<Log>, &str)>) {
         let alloc = self.rt.alloc();
-        if let Some((log, reason)) = reason
-            && let Some(name) = self.name_of(log)
-            && let Ok(said) = format!(in alloc; "{name}: {reason}")
-        {
-            self.reason = Shown::of(alloc, said.as_str()).ok();
+        if let Some((log, reason)) = reason {
+            if log.is_some() {
+                self.database = database_of(self.rt, self.file);
+            }
+            if let Some(name) = self.name_of(log)
+                && let Ok(said) = format!(in alloc; "{name}: {reason}")
+            {
+                self.reason = Shown::of(alloc, said.as_str()).ok();
+            }
         }
     }
 
@@ -169,11 +176,10 @@ impl<'a, R: Lookup + AllocGlobal, N: Out> FileNotes<'a, R, N> {
     // The name of the file, or of a log of it.
     fn name_of(&self, log: Option<Log>) -> Option<String> {
         let alloc = self.rt.alloc();
-        let Some(log) = log else {
-            return String::from_str(alloc, self.file).ok();
-        };
-        let name = log_name(self.rt, self.file, log).ok()?;
-        String::from_str(alloc, str::from_utf8(name.as_slice()).ok()?).ok()
+        match log {
+            Some(log) => log.beside(alloc, self.database.as_deref()?).ok(),
+            None => String::from_str(alloc, self.file).ok(),
+        }
     }
 
     // The same, as it is shown.
@@ -374,6 +380,14 @@ impl<R: Lookup + AllocGlobal, N: Out> Notes for FileNotes<'_, R, N> {
             Err(RunError::OutOfMemory { .. }) => {}
         }
         self.put_changes();
+    }
+}
+
+// The path of the database at a path: that of what it leads to, if it is a link.
+fn database_of<R: Lookup + AllocGlobal>(rt: &R, path: &str) -> Option<String> {
+    match target_of(rt, path).ok()? {
+        Some(target) => Some(target),
+        None => String::from_str(rt.alloc(), path).ok(),
     }
 }
 

@@ -142,8 +142,16 @@ impl<'a, R: Files<File = File> + Clock + AllocGlobal> Opener for SystemFiles<'a,
     }
 }
 
-// What the link at this path leads to, if it is one. Where there was no memory to look it up, and there is some, it is looked up once more.
-fn target_of<R: Lookup + AllocGlobal>(rt: &R, path: &str) -> Result<Option<String>, RunError> {
+/// The path of what the link at this path leads to, if it is one. Where there was no memory to look it up, and there is some, it is looked
+/// up once more.
+///
+/// # Errors
+///
+/// [`RunError::ReadFailed`] where it is not known what a link leads to, and [`RunError::OutOfMemory`] where memory was refused.
+pub(crate) fn target_of<R: Lookup + AllocGlobal>(
+    rt: &R,
+    path: &str,
+) -> Result<Option<String>, RunError> {
     let looked_up = match rt.link_target(path) {
         Err(error) if error.kind() == io::ErrorKind::OutOfMemory => {
             memory::filled(rt.alloc(), 0u8, LONGEST_PATH)?;
@@ -154,16 +162,8 @@ fn target_of<R: Lookup + AllocGlobal>(rt: &R, path: &str) -> Result<Option<Strin
     looked_up.map_err(|_| RunError::ReadFailed)
 }
 
-/// The name of a log of the database at this path, or at the end of the link that it is.
-///
-/// # Errors
-///
-/// [`RunError::ReadFailed`] where it is not known what a link leads to, and [`RunError::OutOfMemory`] where memory was refused.
-pub(crate) fn log_name<R: Lookup + AllocGlobal>(
-    rt: &R,
-    path: &str,
-    log: Log,
-) -> Result<Vec<u8>, RunError> {
+// The name of a log of the database at this path, or at the end of the link that it is.
+fn log_name<R: Lookup + AllocGlobal>(rt: &R, path: &str, log: Log) -> Result<Vec<u8>, RunError> {
     let target = target_of(rt, path)?;
     let database = target.as_deref().unwrap_or(path);
     let mut name = Vec::new(rt.alloc());

@@ -1,7 +1,7 @@
 // Whether a file was changed between two looks at it.
 ghost use Rattle.std.specs.Prelude.{◌≡◌, ◌↔◌, IsTrue};
 ghost use Rattle.std.specs.Fs.{metadata_len};
-ghost use Rattle.dbcli.specs.Stamps.{IsChanged};
+ghost use Rattle.dbcli.specs.Stamps.{IsChanged, IsSameFile};
 
 use crate::lookup::Lookup;
 use std::fs::Metadata;
@@ -26,8 +26,8 @@ impl Stamp {
         }
     }
 
-    // The same, of what is known of it.
-    fn of(known: &Metadata) -> Stamp
+    /// The same, of what is known of it.
+    pub(crate) fn of(known: &Metadata) -> Stamp
         ensures { result.len ≡ metadata_len known.now }
     {
         Stamp {
@@ -39,12 +39,19 @@ impl Stamp {
         }
     }
 
+    /// Whether both are stamps of one file.
+    pub(crate) fn is_of_file(self, other: Stamp) -> bool
+        ensures { IsTrue result ↔ IsSameFile self other }
+    {
+        self.device == other.device && self.inode == other.inode
+    }
+
     /// Whether the file got another length, or was written, before it had the stamp `after`. Another file that took its place is no
     /// change of it.
     pub(crate) fn is_changed(self, after: Stamp) -> bool
         ensures { IsTrue result ↔ IsChanged self after }
     {
-        let is_same = self.device == after.device && self.inode == after.inode;
+        let is_same = self.is_of_file(after);
         let is_written = self.seconds != after.seconds || self.nanoseconds != after.nanoseconds;
         is_same && (is_written || self.len != after.len)
     }
