@@ -131,9 +131,15 @@ tables="pragma_table_list AS l WHERE l.schema = 'main' AND l.type IN ('table', '
 # The name by which a table has its rowid: the first of three that is not a column.
 rowid="(SELECT n.column1 FROM (VALUES ('_rowid_'), ('rowid'), ('oid')) AS n
     WHERE NOT l.wr AND n.column1 NOT IN (SELECT lower(name) FROM pragma_table_xinfo(l.name)) LIMIT 1)"
+# each EXPRESSION OPERATOR: joins what EXPRESSION makes of the name of each column of table l. SQLite takes no expression that is deeper than
+# 1000, so groups of 40 are joined.
+each() {
+    printf "(SELECT group_concat(part, ' %s ') FROM (SELECT '(' || group_concat(%s, ' %s ') || ')' AS part
+        FROM pragma_table_info(l.name) GROUP BY cid / 40))" "$2" "$1" "$2"
+}
 # The columns that take a value (generated ones do not), and their values as one text.
 columns="(SELECT group_concat(printf('\"%w\"', name), ', ') FROM pragma_table_info(l.name))"
-values="(SELECT group_concat(printf('quote(\"%w\")', name), ' || '','' || ') FROM pragma_table_info(l.name))"
+values=$(each "printf('quote(\"%w\")', name)" "|| '','' ||")
 
 # 1. .recover of SQLite 3.40.1 cannot write some tables. It may end with an error at one with a virtual column, or at one WITHOUT ROWID
 # whose key is not its first columns, and it puts the rowid into a column that is named _rowid_. In scratch.db these tables get a plain
@@ -244,8 +250,7 @@ SQL
 for file in replaced new; do
     # A root page that leads into the schema makes its rows those of a table. The plain definitions are not in the damaged file.
     derive "$file" dumped << SQL
-SELECT printf('DELETE FROM main."%w" WHERE %s;', l.name,
-        (SELECT group_concat(printf('"%w" IN (SELECT definition FROM report.plain)', name), ' OR ') FROM pragma_table_info(l.name)))
+SELECT printf('DELETE FROM main."%w" WHERE %s;', l.name, $(each "printf('\"%w\" IN (SELECT definition FROM report.plain)', name)" OR))
     FROM $tables AND EXISTS (SELECT 1 FROM report.plain);
 SQL
     # Where .dump gives no schema, the tables with a plain definition get their own.
@@ -267,7 +272,7 @@ add new damaged IGNORE "$other"
 derive new damaged << SQL
 SELECT printf('REPLACE INTO main."%w"(%s) SELECT %s FROM other."%w" NOT INDEXED WHERE %s;', name, all_columns, all_columns, name, cut)
     FROM (SELECT l.name, coalesce($rowid || ', ', '') || $columns AS all_columns,
-        (SELECT group_concat(printf('typeof("%w") = ''text'' AND instr("%w", char(0))', name, name), ' OR ') FROM pragma_table_info(l.name)) AS cut
+        $(each "printf('typeof(\"%w\") = ''text'' AND instr(\"%w\", char(0))', name, name)" OR) AS cut
         FROM $tables AND (l.wr OR $rowid IS NOT NULL))
     WHERE name IN $others;
 SQL
@@ -302,7 +307,7 @@ done
 echo 'What could not be counted:' >&2
 derive damaged new << SQL
 SELECT printf('INSERT INTO report.whole SELECT %Q WHERE (SELECT %s FROM main."%w" NOT INDEXED) >= 0;', l.name,
-        (SELECT group_concat(printf('count("%w" || '''')', name), ' + ') FROM pragma_table_info(l.name)), l.name)
+        $(each "printf('count(\"%w\" || '''')', name)" +), l.name)
     FROM $tables;
 SQL
 derive new dumped << SQL

@@ -412,6 +412,26 @@ has() {
     has $'1|x\n3|y\nt\nu\n' 'SELECT * FROM t; SELECT name FROM sqlite_schema ORDER BY 1'
 }
 
+# wide COUNT OTHERS: makes x.db, a table t of the columns a, OTHERS, b and so many more, with one row. .recover gives another value of b.
+wide() {
+    rm -f "$work/files/x.db"
+    sqlite3 "$work/files/x.db" "CREATE TABLE t(a $2, b, $(seq -s ', ' -f c%.0f "$1")); INSERT INTO t(a, b) VALUES (1, 'dump')"
+}
+
+@test 'both-ways.sh compares tables of as many columns as SQLite takes' {
+    local columns
+    with_sqlite
+    for columns in 400 600 1990; do
+        wide "$columns" 'INTEGER PRIMARY KEY'
+        EDITED="s/'dump'/'recover'/" makes $'t: 1 row; not among them: 1 of dumped.db\n' x.db
+        clear_made
+        # Without a rowid that has a name both rows are kept.
+        wide "$columns" ', rowid, oid, _rowid_'
+        EDITED="s/'dump'/'recover'/" makes $'t: 2 rows, 1 more than .recover found\n' x.db
+        clear_made
+    done
+}
+
 @test 'both-ways.sh takes the greatest number of AUTOINCREMENT' {
     local number
     with_sqlite
