@@ -45,6 +45,24 @@ load common
     expect 1 "$version"$'\n' '' check "$work/copied.db"
 }
 
+@test 'a file of any size, and of pages of any size, that was copied as text has the note' {
+    local size
+    needs sqlite3 perl
+    for size in 512 1024 2048 4096 8192 16384 32768 65536; do
+        rm -f "$work/made.db"
+        sqlite3 "$work/made.db" "PRAGMA page_size = $size; CREATE TABLE t(
+            a,
+            b,
+            c
+        ); INSERT INTO t VALUES (1, 2, 3)"
+        perl -pe 's/\n/\r\n/g' "$work/made.db" > "$work/x.db"
+        expect 1 '*' '*dbck: note: every line feed of the first page comes after a carriage return: perhaps copied as text (see the manual)*' check "$work/x.db"
+    done
+    truncate -s 20000001 "$work/x.db"
+    expect 1 '*' '*perhaps copied as text*' check "$work/x.db"
+    [ "$rows" = 9 ]
+}
+
 # `mend` looks at the first bytes before it writes the first change, which is its last step here.
 @test 'mend has the note on a copied file also where its last change is one of the first bytes' {
     needs python3

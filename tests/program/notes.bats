@@ -379,6 +379,26 @@ END
     done
 }
 
+@test 'a file has the note that it was written where all times are whole seconds' {
+    local note
+    log_notes "$work/x.db"
+    note=$(changed_note "$work/x.db")
+    cp "$data/whole.db" "$work/x.db"
+    touch -d '2001-01-01 00:00:00' "$work/x.db"
+    at_first_note "touch -d '2001-01-01 00:00:02' '$work/x.db'" check "$work/x.db"
+    ended_exactly 0 $'ok\n' "$wal${note%.}"
+}
+
+@test 'a file that is written while references past its stated end are counted has the note' {
+    local note
+    cp "$data/two-tables.db" "$work/x.db"
+    put_at "$work/x.db" 28 '\0\0\0\6'
+    log_notes "$work/x.db"
+    note=$(changed_note "$work/x.db")
+    at_first_note "touch -d '2001-01-01 00:00:00.1' '$work/x.db'" explain "$work/x.db"
+    ended 1 '*' "$wal*, to which 1 reference leads"$'\n'"${note%.}"
+}
+
 @test 'a file that is written while it is read has the note also without progress, and so has a log' {
     local note
     log_notes "$work/x.db"

@@ -80,6 +80,21 @@ noted() {
         "frame 6 is not valid, at byte 2712; 1 frame after it has the log's salts, and is left out"
 }
 
+@test 'notes count hundreds of frames that are left out' {
+    local k
+    { for k in {1..1200}; do echo "INSERT INTO t VALUES ($k)"; done; } | logged t
+    # Frame 4 begins at byte 32 + 536 * 3.
+    put_at "$work/t.db-wal" 1700 '\xee\xee'
+    noted '1 page of 3 transactions is read from it' \
+        "frame 4 is not valid, at byte 1640; +([0-9]) frames after it have the log's salts, and are left out"
+    grep -Eq '; 12[0-9]{2} frames after it' "$work/err"
+    rm "$work/made.db"
+    logged t <<< 'INSERT INTO t VALUES (zeroblob(400000))'
+    truncate -s $((32 + 536 * 700)) "$work/t.db-wal"
+    expect 0 $'ok\n' "dbck: note: $work/t.db-wal holds nothing that SQLite would read"$'\n'"dbck: note: $work/t.db-wal: 700 frames of a transaction that was not committed are left out"$'\n' \
+        check --recovered "$work/t.db"
+}
+
 @test 'of a log in which no transaction was committed a note counts the frames that are left out' {
     local notes="dbck: note: $work/x.db-wal holds nothing that SQLite would read"$'\n'
     notes+="dbck: note: $work/x.db-wal: 2 frames of a transaction that was not committed are left out"$'\n'
@@ -836,6 +851,23 @@ END
     exactly 0 $'ok\n' "dbck: note: $work/x.db-journal has fewer than 512 bytes, and is not rolled back: ask for all of it"$'\n' mend --recovered "$work/x.db"
 }
 
+@test 'with --recovered mend says whose changes it finds, whatever the limit, the bytes of --with and what the logs hold' {
+    local joined='*the changes are of the database that SQLite would recover, not of this file'$'\n*' words
+    needs python3
+    cp "$data/empty.db" "$work/x.db"
+    journal_of "$work/x.db" <<< 1
+    paired
+    for words in '--limit 1' '--limit 16' '--with 92=0000' '--limit 1 --with 92=0000'; do
+        # shellcheck disable=SC2086
+        expect 0 $'ok\n' "$joined" mend --recovered $words "$work/x.db"
+        # shellcheck disable=SC2086
+        expect 0 $'ok\n' "$joined" mend --recovered $words "$work/pair.db"
+    done
+    echo log > "$work/x.db-wal"
+    expect 0 $'ok\n' "$joined" mend --recovered "$work/x.db"
+    [ "$rows" = 9 ]
+}
+
 @test 'the note on a log that is written while a link is read names the one that is read' {
     local name note notes real
     needs python3
@@ -948,6 +980,43 @@ unfit() {
         cp "$work/kept-wal" "$work/pair.db-wal"
         unfit "$name" pair.db '-wal has a version that SQLite does not open'
     done
+}
+
+# joined WORDS..: the program reads x.db and its journal as one, and x.db is written meanwhile, and $also is done.
+joined() {
+    at_first_note "touch -d '2001-01-01 00:00:00.1' '$work/x.db'; $also" "$@" --recovered "$work/x.db"
+}
+
+@test 'a database that is written while it and a log are read as one has a note before each error' {
+    local also='' note read="dbck: note: $work/x.db-journal: 1 page is read from it; the database had"
+    local wal="dbck: note: $work/x.db-wal holds nothing that SQLite would read"$'\n'
+    needs python3 prlimit
+    note=$(changed_note "$work/x.db")
+    cp "$data/empty.db" "$work/x.db"
+    journal_of "$work/x.db" <<< 1
+    joined check --with 9999=00
+    row 'bytes past the end' ended_exactly 3 '' "$read 1 page"$'\n'"${wal}dbck: note: $work/x.db, as SQLite would recover it, has 512 bytes"$'\n'"${note%.}"$'dbck: E11 a byte of --with is past the end of the file\n'
+    # It had 2^26 pages.
+    put_at "$work/x.db-journal" 16 '\04\0\0\0'
+    touch "$work/x.db"
+    also="prlimit --pid \$pid --as=40000000"
+    joined check
+    row 'memory that is refused' ended_exactly 5 '' "$read 67108864 pages"$'\n'"$wal${note%.}"$'dbck: E9 out of memory\n'
+    also=
+    # A size of a page of which no checksum of a journal knows.
+    put_at "$work/x.db-journal" $((512 + 4 + 16)) '\03'
+    touch "$work/x.db"
+    joined check
+    row 'a header that is refused' ended 3 '' "$read 67108864 pages"$'\n'"${wal}dbck: note: $work/x.db is not checked*"$'\n'"${note%.}"$'dbck: E3 *'
+    rm "$work/x.db"
+    row_of 3000 512 "$work/x.db"
+    journal_of "$work/x.db" <<< 1
+    flags=(--recovered)
+    trap '' PIPE
+    touched() { touch -d '2001-01-01 00:00:00.1' "$work/x.db" && false; }
+    meanwhile "$work/x.db" touched
+    row 'rows that cannot be written' ended 6 s "$read *"$'\ndbck: note: standard output: Broken pipe\n'"${note%.}$unwritten"
+    [ "$rows" = 4 ]
 }
 
 @test 'with --recovered and --with a note says that the bytes are others' {

@@ -252,6 +252,16 @@ in_room() {
     done
 }
 
+@test 'pages of thousands of cells in any order, and of thousands of freeblocks, take little time' {
+    needs sqlite3
+    sqlite3 "$work/x.db" 'PRAGMA page_size = 65536; PRAGMA cache_size = -100000; CREATE TABLE t(a INTEGER PRIMARY KEY, b); CREATE INDEX i ON t(a);
+        WITH RECURSIVE k(n) AS (SELECT 1 UNION ALL SELECT n + 1 FROM k WHERE n < 400000) INSERT INTO t SELECT 7919 * n % 400009, NULL FROM k'
+    most=20
+    exactly 0 $'ok\n' '' check "$work/x.db"
+    sqlite3 "$work/x.db" 'DELETE FROM t WHERE a % 2'
+    exactly 0 $'ok\n' '' check "$work/x.db"
+}
+
 @test 'explain and map of the greatest number of pages, nearly all of them zeros' {
     [ "${DBCK_LARGE:-}" ] || skip 'takes minutes: DBCK_LARGE=1 runs it'
     cp "$data/empty.db" "$work/x.db"
