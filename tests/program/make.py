@@ -1,12 +1,15 @@
 #!/usr/bin/env python3
-"""Makes large databases: make.py tables COUNT LENGTH FILE, long GIB FILE, far FILE, high SIZE FILE, beyond FILE,
-back COUNT FILE, halves COUNT FILE.
+"""Makes large databases: make.py tables COUNT LENGTH FILE, long GIB FILE, mapped FILE, far FILE, high SIZE FILE,
+beyond FILE, back COUNT FILE, halves COUNT FILE.
 
-The first two are sound. A `tables` file has as many tables as COUNT, each with a name of LENGTH bytes and an empty page of 512 bytes. First
+The first three are sound. A `tables` file has as many tables as COUNT, each with a name of LENGTH bytes and an empty page of 512 bytes. First
 comes its schema, a tree in levels, and then the roots, in the order of their rows.
 
 A `long` file has pages of 65536 bytes and takes little room, and each page is in use: of a table t, whose pages lie in its second half, or
 of the freelist, whose trunks lie all over the file.
+
+A `mapped` file has pages of 65536 bytes, 5 GiB of them, and pointer maps. Pages 3 and 4 are roots. Its other pages are in the freelist, but for
+the last ones: two leaves of the schema, two of the first table, the overflow pages of a row, and the trunks.
 
 A `far` file has pages of 4096 bytes, and little more than 4 GiB. A row's overflow pages follow one another up to page 40; the others do from
 2^32 bytes after page 36 on, to the end of the file. No other page above 2 is in use.
@@ -21,7 +24,8 @@ A `back` file has pages of 16384 bytes, and a row of as many overflow pages as C
 In a `halves` file the row takes such pages by turns: the last that is left of their second half, and the last that is left of their first.
 
 What lies where is printed, in lines that a shell reads: for `tables` the first root, and the leaf and cell of the last row; for `long` the
-pages of the table, and of the last trunk its page, how many leaves it has, and the last of them.
+pages of the table, and of the last trunk its page, how many leaves it has, and the last of them; for `mapped` the
+first leaves, the overflow pages, the last map, the first trunk, and where the leaf of the schema has the root page.
 """
 
 import os
@@ -101,6 +105,18 @@ def big_endian(numbers):
     return words.tobytes()
 
 
+def fill_freelist(db, pages, used, trunks):
+    """All pages that are not used go into the freelist. Answers how many leaves its last trunk has, and the last of them."""
+    room = db.size // 4 - 2
+    ends = sorted({*used, *trunks})
+    leaves = big_endian(n for low, high in zip(ends, [*ends[1:], pages + 1]) for n in range(low + 1, high))
+    for k, trunk in enumerate(trunks):
+        piece = leaves[4 * room * k:4 * room * (k + 1)]
+        db.put(trunk, 0, be(trunks[k + 1] if k + 1 < len(trunks) else 0) + be(len(piece) // 4) + piece)
+    db.put(1, 32, be(trunks[0]) + be(len(trunks) + len(leaves) // 4))
+    return len(piece) // 4, int.from_bytes(piece[-4:], "big")
+
+
 def long(gib, path):
     size, local = 65536, 8199
     pages = (gib << 30) // size
@@ -113,31 +129,46 @@ def long(gib, path):
     db.leaf(right, 9)
     # Page 16385 is the lock-byte page. Trunks lie behind each power of two, and everywhere between.
     used = {1, 16385, root, left, right, first, last}
-    room = size // 4 - 2
-    count = -(-(pages - len(used)) // (room + 1))
+    count = -(-(pages - len(used)) // (size // 4 - 1))
     powers = [(1 << k) + 1 for k in range(15, 26) if 1 << k < pages]
     places = [2 + k * (pages // count) for k in range(count)]
     trunks = sorted([place for place in {*powers, *places} - used][:count])
-    used.update(trunks)
-    ends = sorted(used)
-    free = pages - len(used)
-    leaves = big_endian(n for low, high in zip(ends, [*ends[1:], pages + 1]) for n in range(low + 1, high))
-    for k, trunk in enumerate(trunks):
-        piece = leaves[4 * room * k:4 * room * (k + 1)]
-        db.put(trunk, 0, be(trunks[k + 1] if k + 1 < count else 0) + be(len(piece) // 4) + piece)
-    end = int.from_bytes(piece[-4:], "big")
-    db.put(1, 32, be(trunks[0]) + be(free + count))
+    leaves, end = fill_freelist(db, pages, used, trunks)
     db.file.close()
-    tell(pages=pages, root=root, left=left, right=right, first=first, last=last, trunk=trunks[-1], leaves=len(piece) // 4, lost=end)
+    tell(pages=pages, root=root, left=left, right=right, first=first, last=last, trunk=trunks[-1], leaves=leaves, lost=end)
 
 
-def chained(path, size, local, pages, chain):
+def mapped(path):
+    size, local, pages = 65536, 8199, 81920
+    root, other = 3, 4
+    schema, after, leaf, right, first, last, *trunks = range(pages - 11, pages + 1)
+    reach = size // 5 + 1
+    maps = range(2, pages + 1, reach)
     db = Sparse(path, pages, size)
-    db.tree_page(1, LEAF_TABLE, [row(1, "t", 2)])
-    db.long_rows(2, (local + (size - 4) * len(chain), local, chain[0]))
-    for page, after in zip(chain, [*chain[1:], 0]):
-        db.put(page, 0, be(after))
+    db.put(1, 28, be(pages))
+    db.put(1, 52, be(other))
+    db.interior(1, after, (schema, 1))
+    cell = row(1, "t", root)
+    db.tree_page(schema, LEAF_TABLE, [cell])
+    db.tree_page(after, LEAF_TABLE, [row(2, "u", other)])
+    db.interior(root, right, (leaf, 1))
+    # A record of one blob: four bytes, and its own.
+    length = local + 2 * (size - 4)
+    begin = bytes([4]) + varint(2 * (length - 4) + 12)
+    db.tree_page(leaf, LEAF_TABLE, [varint(length) + varint(1) + begin + bytes(local - len(begin)) + be(first)])
+    db.leaf(right, 9)
+    db.leaf(other, 9)
+    db.put(first, 0, be(last))
+    entries = {16385: (0, 0), root: (1, 0), other: (1, 0), schema: (5, 1), after: (5, 1), leaf: (5, root), right: (5, root),
+               first: (3, leaf), last: (4, first)}
+    fill_freelist(db, pages, {1, *maps, *entries}, trunks)
+    for page in maps:
+        db.put(page, 0, (b"\2" + be(0)) * min(reach - 1, pages - page))
+    for page, (kind, parent) in entries.items():
+        before = max(number for number in maps if number < page)
+        db.put(before, 5 * (page - before - 1), bytes([kind]) + be(parent))
     db.file.close()
+    tell(schema=schema, leaf=leaf, first=first, last=last, map=maps[-1], trunk=trunks[0], root_at=size - len(cell) + cell.rindex(be(root)))
 
 
 def far(path):
@@ -176,6 +207,8 @@ def halves(count, path):
 if __name__ == "__main__":
     if sys.argv[1] == "tables":
         tables(int(sys.argv[2]), int(sys.argv[3]), sys.argv[4])
+    elif sys.argv[1] == "mapped":
+        mapped(sys.argv[2])
     elif sys.argv[1] == "far":
         far(sys.argv[2])
     elif sys.argv[1] == "high":

@@ -245,27 +245,67 @@ last_child() {
     row "a child, at $at" is_put_back "$at" '\0\0\0\0'
 }
 
-# The root of the table is page 71681, and its leaves are pages 81919 and 76801. Below each of them by 4 GiB is a page of zeros.
-@test 'mend finds numbers of pages above 4 GiB' {
-    local page at right wrong
+# large WORDS..: makes x.db by make.py, whose numbers it sets.
+large() {
     needs python3
-    python3 tests/program/make.py long 5 "$work/x.db" > "$work/numbers" 2> "$work/why" || skip "no such file here: $(tail -n 1 "$work/why")"
+    python3 tests/program/make.py "$@" "$work/x.db" > "$work/numbers" 2> "$work/why" || skip "no such file here: $(tail -n 1 "$work/why")"
+    # shellcheck disable=SC1091
+    source "$work/numbers"
+}
+
+# are_found: of each line of standard input, PAGE AT RIGHT WRONG, mend finds the right bytes of x.db, with pages of 65536 bytes, where the wrong
+# ones stand. Standard error is $notes then.
+are_found() {
+    local page at right wrong
     while read -r page at right wrong; do
         at=$((65536 * (page - 1) + at))
-        put_at "$work/x.db" "$at" "${wrong//00/\\0}"
+        # shellcheck disable=SC2001
+        put_at "$work/x.db" "$at" "$(sed 's/../\\x&/g' <<< "$wrong")"
         dbck mend "$work/x.db"
-        row "page $page, put $right" ended 1 "*at byte $at put $right for $wrong"$'\n'"    page $page at byte $((65536 * (page - 1)))"$'\nok\n' ''
+        row "page $page, put $right" ended 1 "*at byte $at put $right for $wrong"$'\n'"    page $page at byte $((65536 * (page - 1)))"$'\nok\n' "${notes-}"
         # shellcheck disable=SC2001
         put_at "$work/x.db" "$at" "$(sed 's/../\\x&/g' <<< "$right")"
-    done << 'END'
+    done
+    dbck check "$work/x.db"
+    row 'each is put back' ended 0 $'ok\n' ''
+}
+
+# The root of the table is page 71681, and its leaves are pages 81919 and 76801. Below each of them by 4 GiB is a page of zeros.
+@test 'mend finds numbers of pages above 4 GiB' {
+    large long 5
+    are_found << 'END'
 71681 8 00012c01 00000000
 81919 8 dff1 0000
 76801 3 0001 0000
 81919 0 0d 00
 END
-    dbck check "$work/x.db"
-    row 'each is put back' ended 0 $'ok\n' ''
     [ "$rows" = 5 ]
+}
+
+@test 'mend finds entries of the pointer map, references, roots and lengths above 4 GiB, and the sizes of such a file' {
+    local notes='*'
+    large mapped
+    are_found << 'END'
+1 28 00014000 00000046
+1 16 0001 1000
+END
+    notes=
+    # Entries of an overflow page, a leaf and a trunk; the end of a chain, its second page and its first; a leaf of a trunk, how many it has, and
+    # the next trunk; a root; and the length of a payload.
+    are_found << END
+$map $((5 * (first - map - 1))) 03$(printf %08x "$leaf") 0000000000
+$map $((5 * (leaf - map - 1))) 0500000003 0000000000
+$map $((5 * (trunk - map - 1))) 0200000000 0000000000
+$last 0 00000000 00000005
+$first 0 $(printf %08x "$last") 00000000
+$leaf 65532 $(printf %08x "$first") 00000000
+$trunk 32 0000000b 00000000
+$trunk 4 00003ffe 0000000c
+$trunk 0 $(printf %08x $((trunk + 1))) 00000000
+$schema $root_at 00000003 00000046
+$leaf 57329 88bf7f 98bf7f
+END
+    [ "$rows" = 15 ]
 }
 
 @test 'mend finds the encoding, and roots of each' {
@@ -321,6 +361,37 @@ texts of which every second one has a capital letter|TEXT COLLATE NOCASE|a|25|pr
 integers after a column that is 7 in each row|INT|b, a|200|n * 7919 % 211
 END
     [ "$rows" -gt 50 ]
+}
+
+# The keys are in no order of the rows, so the leaves are in none of their numbers.
+@test 'mend finds which leaf of an index is where by numbers of each length and sign, and after columns of each type' {
+    local of value one other
+    needs python3 sqlite3
+    while IFS=';' read -r of value; do
+        made "CREATE TABLE t(a, b DEFAULT 7); CREATE INDEX i ON t($of);
+            WITH RECURSIVE k(n) AS (SELECT 150 UNION ALL SELECT n - 1 FROM k WHERE n > 1) INSERT INTO t(a) SELECT $value FROM k;"
+        while read -r one other; do
+            row "$of, $value: $one and $other" are_put_back "$one" '\0\0\0\0' "$other" '\0\0\0\0'
+        done < <(pairs_of i)
+    done << 'END'
+a;n * 7919 % 211 * 100 - 10000
+a;n * 7919 % 211 * 8640 - 7000000
+a;n * 7919 % 211 * 86400 - 1700000000
+a;n * 7919 % 211 * 86400 - 1700000000000
+a;n * 7919 % 211 * 86400 - 1700000000000000000
+a;n * 7919 % 211 / 1000.0
+a;n * 7919 % 211 * 1e11 + 0.5
+a;n * 7919 % 211 * 1e25
+b * 0, a;n * 7919 % 211
+b * 1000000, a;n * 7919 % 211
+b * 100000000, a;n * 7919 % 211
+b * 100000000000, a;n * 7919 % 211
+b * 100000000000000000, a;n * 7919 % 211
+b * 0.5, a;n * 7919 % 211
+substr(b, 2), a;n * 7919 % 211
+b, b * 2, b * 3, b * 4, b * 5, b * 6, b * 8, b * 9, a;n * 7919 % 211
+END
+    [ "$rows" -gt 100 ]
 }
 
 # The keys are in no order of the rows, so the leaves are in none of their numbers. NULL comes before numbers, and texts before blobs. The
@@ -785,6 +856,23 @@ END
         row "cell $cell of 20003 bytes, of two bytes" are_put_back $(($(length_at 2 "$cell") + 1)) '\034'
     done
     [ "$rows" = 60 ]
+}
+
+# A row of each type of value, after rowids of one byte to nine.
+@test 'mend finds lengths of rows with values of each type, and after rowids of each length' {
+    local value rowid
+    needs sqlite3
+    for value in NULL 0 1 100 1000 100000 100000000 100000000000 1000000000000000000 -100000000 0.5 "''" "x''" "'text'" "x'0102'"; do
+        made "CREATE TABLE t(a, b, c); $(up_to 6) INSERT INTO t SELECT 'row ' || n, $value, n FROM k"
+        row "a row with $value" are_put_back "$(length_at 2 3)" '\03'
+        made "CREATE TABLE t(a, b, c); CREATE INDEX i ON t(a, b); $(up_to 6) INSERT INTO t SELECT 'row ' || n, $value, n FROM k"
+        row "a key with $value" are_put_back "$(length_at 3 3)" '\03'
+    done
+    for rowid in 9 150 20000 3000000 300000000 1700000000000 1000000000000000 100000000000000000 9000000000000000000 -9; do
+        made "CREATE TABLE t(id INTEGER PRIMARY KEY, a); $(up_to 6) INSERT INTO t SELECT n + $rowid, 'row ' || n FROM k"
+        row "rowids from $rowid on" are_put_back "$(length_at 2 3)" '\03'
+    done
+    [ "$rows" = 40 ]
 }
 
 # Eight pages of a table are kept, and then still those of an index.
