@@ -264,6 +264,17 @@ small() {
     tests/small/make.py "tests/small/$1.txt" "$work/small" > "$work/list"
 }
 
+# large KIND WORDS..: makes a large file by make.py, whose numbers become variables. Skips the test where no file may be so long.
+large() {
+    needs python3
+    python3 tests/program/make.py "$@" > "$work/numbers" 2> "$work/why" || {
+        [[ $(tail -n 1 "$work/why") != OSError* ]] || skip "no such file here: $(tail -n 1 "$work/why")"
+        fail "$(< "$work/why")"
+    }
+    # shellcheck disable=SC1091
+    source "$work/numbers"
+}
+
 # large_database: makes large.db, a table of one row of 66930 overflow pages; $pages is how many pages it has.
 large_database() {
     needs sqlite3

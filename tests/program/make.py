@@ -171,6 +171,15 @@ def mapped(path):
     tell(schema=schema, leaf=leaf, first=first, last=last, map=maps[-1], trunk=trunks[0], root_at=size - len(cell) + cell.rindex(be(root)))
 
 
+def chained(path, size, local, pages, chain):
+    db = Sparse(path, pages, size)
+    db.tree_page(1, LEAF_TABLE, [row(1, "t", 2)])
+    db.long_rows(2, (local + (size - 4) * len(chain), local, chain[0]))
+    for page, after in zip(chain, [*chain[1:], 0]):
+        db.put(page, 0, be(after))
+    db.file.close()
+
+
 def far(path):
     beyond = (1 << 32) // 4096
     chained(path, 4096, 489, beyond + 64, [*range(3, 41), *range(beyond + 36, beyond + 65)])

@@ -238,6 +238,26 @@ END
     row 'a log of 200000 transactions' ended 0 $'ok\n' "dbck: note: $work/x.db-wal: 200000 pages of 200000 transactions are read from it"$'\n'
 }
 
+# Each of them has the salts of the log.
+@test 'a log of 600000 frames after one that is not valid takes little time, memory and stack' {
+    local notes="dbck: note: $work/x.db-wal: 1 page of 1 transaction is read from it"$'\n'
+    notes+="dbck: note: $work/x.db-wal: frame 2 is not valid, at byte 568; 599999 frames after it have the log's salts, and are left out"$'\n'
+    logged x <<< 'INSERT INTO t VALUES (1)'
+    python3 - "$work/x.db-wal" << 'END'
+import sys
+frame = open(sys.argv[1], "rb").read()[-536:]
+with open(sys.argv[1], "ab") as log:
+    for _ in range(600):
+        log.write((frame[:16] + bytes(8) + frame[24:]) * 1000)
+END
+    most=30
+    dbck check --recovered "$work/x.db"
+    row '600000 frames after it' ended_exactly 0 $'ok\n' "$notes"
+    status=0
+    (ulimit -s 256 -v 8192 && exec timeout "$most" "$DBCK" check --recovered "$work/x.db" > "$work/out" 2> "$work/err" < /dev/null 3>&-) || status=$?
+    row 'a stack of 256 KiB, and 8 MiB' ended_exactly 0 $'ok\n' "$notes"
+}
+
 @test 'a journal that gives 300000 pages takes little time' {
     needs python3
     cp "$data/empty.db" "$work/x.db"

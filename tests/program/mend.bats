@@ -245,14 +245,6 @@ last_child() {
     row "a child, at $at" is_put_back "$at" '\0\0\0\0'
 }
 
-# large WORDS..: makes x.db by make.py, whose numbers it sets.
-large() {
-    needs python3
-    python3 tests/program/make.py "$@" "$work/x.db" > "$work/numbers" 2> "$work/why" || skip "no such file here: $(tail -n 1 "$work/why")"
-    # shellcheck disable=SC1091
-    source "$work/numbers"
-}
-
 # are_found: of each line of standard input, PAGE AT RIGHT WRONG, mend finds the right bytes of x.db, with pages of 65536 bytes, where the wrong
 # ones stand. Standard error is $notes then.
 are_found() {
@@ -272,7 +264,7 @@ are_found() {
 
 # The root of the table is page 71681, and its leaves are pages 81919 and 76801. Below each of them by 4 GiB is a page of zeros.
 @test 'mend finds numbers of pages above 4 GiB' {
-    large long 5
+    large long 5 "$work/x.db"
     are_found << 'END'
 71681 8 00012c01 00000000
 81919 8 dff1 0000
@@ -284,7 +276,7 @@ END
 
 @test 'mend finds entries of the pointer map, references, roots and lengths above 4 GiB, and the sizes of such a file' {
     local notes='*'
-    large mapped
+    large mapped "$work/x.db"
     are_found << 'END'
 1 28 00014000 00000046
 1 16 0001 1000

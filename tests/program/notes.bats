@@ -379,6 +379,73 @@ END
     done
 }
 
+# notes_of OUT WORDS..: the notes of a run, but for those that its options or a journal add; its text goes to OUT. It ends as the run does.
+notes_of() {
+    local ended=0
+    "${as[@]}" "$DBCK" "${@:2}" > "$1" 2> "$work/err" < /dev/null 3>&- || ended=$?
+    sed -e '/-journal: 1 page is read from it; /d' -e '/-journal is not read, and may undo changes; /d' -e '/ with 1 other byte$/d' \
+        -e '/: the changes are of the database that SQLite would recover/d' -e 's/, as SQLite would recover it,//' "$work/err"
+    return "$ended"
+}
+
+# has_notes OUT WORDS..: a run ends with $status, and has the text and the notes that are kept.
+has_notes() {
+    local ended=0
+    notes_of "$@" > "$work/these" || ended=$?
+    diff "$work/notes" "$work/these" && [ "$ended" = "$status" ] && { [ "$1" = /dev/full ] || cmp "$work/text" "$1"; }
+}
+
+# keep_notes FILE OPTIONS..: each command has notes on a file, also where its text cannot be written, and the same ones with these options.
+keep_notes() {
+    local command out options
+    for command in "${five[@]}"; do
+        for out in "$work/out" /dev/full; do
+            status=0
+            notes_of "$out" "$command" "$1" > "$work/notes" || status=$?
+            [ "$out" = /dev/full ] || cp "$out" "$work/text"
+            row "$command has notes on $1" test -s "$work/notes"
+            for options in "${@:2}"; do
+                # shellcheck disable=SC2086
+                row "$command $options, $1, $out" has_notes "$out" "$command" $options "$1"
+            done
+        done
+    done
+}
+
+@test 'the notes on a file come also with --with, with --recovered beside a journal, and without progress' {
+    local file same
+    needs python3
+    no_returns
+    mv "$work/x.db" "$work/returns.db"
+    # The header states five pages of seven; page 5 names page 7.
+    printf '== whole\nok\n' > "$work/whole.txt"
+    tests/small/make.py "$work/whole.txt" "$work/small" > "$work/list"
+    mv "$work/small/0.db" "$work/rest.db"
+    put_at "$work/rest.db" 28 '\0\0\0\05'
+    put_at "$work/rest.db" 2056 '\0\0\0\07'
+    changed zeros 0 '\0\0\0\0\0\0\0\0\0\0\0\0\0\0\0\0'
+    changed packed 0 '\0037\0213'
+    for file in returns rest zeros packed; do
+        journal_of "$work/$file.db" <<< 1
+        same="--with 0=$(od -An -tx1 -N1 "$work/$file.db" | tr -d ' ')"
+        keep_notes "$work/$file.db" --no-progress "$same" --recovered "--recovered $same"
+    done
+    copied c3
+    keep_notes "$work/copied.db" --no-progress '--with 0=53'
+    # A file whose second page cannot be read.
+    on_disk BAD=512 NAME=/rest.db
+    keep_notes "$work/rest.db" --no-progress '--with 0=53' --recovered '--recovered --with 0=53'
+    [ "$rows" = 280 ]
+}
+
+@test 'the notes on a file whose name begins with - come as those on another one' {
+    cp "$data/whole.db" "$work/-x.db"
+    printf 'sevenby' >> "$work/-x.db"
+    echo log > "$work/-x.db-wal"
+    cd "$work"
+    exactly 0 $'ok\n' $'dbck: note: -x.db-wal is not read, and may hold changes; --recovered reads it\ndbck: note: 7 bytes after page 13 are not read\n' check -- -x.db
+}
+
 @test 'a file has the note that it was written where all times are whole seconds' {
     local note
     log_notes "$work/x.db"

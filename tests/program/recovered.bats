@@ -306,6 +306,24 @@ is_rolled_back() {
     cold "names the super-journal $work/main\\x1b[2J\\x0a.db-mj1, which is not here, and is not rolled back (see the manual)"
 }
 
+@test 'a journal that is not rolled back, or not read, has its note also beside a -wal' {
+    local name=$work/main.db-mj1 read="dbck: note: $work/pair.db-wal: 1 page of 1 transaction is read from it"$'\n'
+    paired
+    head -c 1024 /dev/zero > "$work/pair.db-journal"
+    exactly 0 $'ok\n' "dbck: note: $work/pair.db-journal begins with 0, and is not rolled back: SQLite does not need it"$'\n'"$read" check --recovered "$work/pair.db"
+    echo journal > "$work/pair.db-journal"
+    exactly 0 $'ok\n' "dbck: note: $work/pair.db-journal has fewer than 512 bytes, and is not rolled back: ask for all of it"$'\n'"$read" check --recovered "$work/pair.db"
+    journal_of "$work/pair.db" <<< 1
+    mv "$work/pair.db-journal" "$work/then.db-journal"
+    name_super "$name"
+    mv "$work/then.db-journal" "$work/pair.db-journal"
+    exactly 0 $'ok\n' "dbck: note: $work/pair.db-journal names the super-journal $name, which is not here, and is not rolled back (see the manual)"$'\n'"$read" \
+        check --recovered "$work/pair.db"
+    rm "$work/pair.db-journal"
+    sparse "$work/pair.db-journal" 34359738368
+    exactly 4 '' "dbck: note: $work/pair.db-journal has 32 GiB or more, and is not read"$'\n'"$unread" check --recovered "$work/pair.db"
+}
+
 @test 'a journal that names a super-journal is rolled back where that is there' {
     local name=$work/main.db-mj1
     journaled_alone
@@ -1047,6 +1065,15 @@ joined() {
     put_at "$work/pair.db" 16 '\x04\x00'
     exactly 3 '' "dbck: note: $work/pair.db-wal: 1 page of 1 transaction is read from it"$'\n'"dbck: note: $work/pair.db and its log have pages of different sizes"$'\ndbck: E11 the log does not fit the database\n' \
         check --recovered "$work/pair.db"
+}
+
+@test 'a -wal of pages of another size does not fit what a journal makes of its database' {
+    cp "$data/empty.db" "$work/x.db"
+    logged y 1024 <<< 'INSERT INTO t VALUES (1)'
+    mv "$work/y.db-wal" "$work/x.db-wal"
+    journal_of "$work/x.db" <<< 1
+    exactly 3 '' "dbck: note: $work/x.db-journal: 1 page is read from it; the database had 1 page"$'\n'"dbck: note: $work/x.db-wal: 1 page of 1 transaction is read from it"$'\n'"dbck: note: $work/x.db and its log have pages of different sizes"$'\ndbck: E11 the log does not fit the database\n' \
+        check --recovered "$work/x.db"
 }
 
 @test 'a log has to fit the header with the bytes of --with' {

@@ -1,14 +1,6 @@
 # The greatest files, and many of what there can be many of. Files are sparse: they take little room.
 load common
 
-# made KIND WORDS..: makes a file by make.py, whose numbers become variables.
-made() {
-    needs python3
-    python3 tests/program/make.py "$@" > "$work/numbers" 2> "$work/why" || skip "no such file here: $(tail -n 1 "$work/why")"
-    # shellcheck disable=SC1091
-    source "$work/numbers"
-}
-
 # within SECONDS WORDS..: runs the program, which has to end in that time. It is some twenty times what it takes.
 within() {
     status=0
@@ -32,7 +24,7 @@ damage_roots() {
 }
 
 @test '18000 tables with names of 2 MB are sound, and have a row each' {
-    made tables 18000 112 "$work/x.db"
+    large tables 18000 112 "$work/x.db"
     within 20 check "$work/x.db"
     ended_exactly 0 $'ok\n' ''
     within 20 explain "$work/x.db"
@@ -63,7 +55,7 @@ counted() {
 }
 
 @test '18000 faults in 18000 tables are counted for each' {
-    made tables 18000 112 "$work/x.db"
+    large tables 18000 112 "$work/x.db"
     damage_roots 18000 "$work/x.db"
     within 20 check --limit 20000 "$work/x.db"
     seq "$roots" $((roots + 17999)) | sed 's/.*/P01 page & item 0 value 0: unknown page type/' > "$work/wanted"
@@ -77,7 +69,7 @@ counted() {
 }
 
 @test 'of 65537 tables the last is one too many' {
-    made tables 65537 10 "$work/x.db"
+    large tables 65537 10 "$work/x.db"
     fault="S04 page $leaf item $item value $((roots + 65536)): more than 65536 root pages"
     unused="N01 page $((roots + 65536)) item 0 value 0: page is not in use"
     within 20 check "$work/x.db"
@@ -102,14 +94,14 @@ counted() {
 }
 
 @test '65536 faults in 65536 tables are counted for each' {
-    made tables 65536 10 "$work/x.db"
+    large tables 65536 10 "$work/x.db"
     damage_roots 65536 "$work/x.db"
     within 40 explain --limit 1 "$work/x.db"
     counted 65536 't%09d'
 }
 
 @test 'a picture of 12000 tables has a title of each' {
-    made tables 12000 10 "$work/x.db"
+    large tables 12000 10 "$work/x.db"
     within 40 map "$work/x.db"
     [ "$status" = 0 ]
     sed -n 's/.*<title>\(page .*: root of table .*\)<\/title>.*/\1/p' "$work/out" |
@@ -144,7 +136,7 @@ counted() {
 long_file() {
     sparse "$work/none" $(($1 << 30))
     rm "$work/none"
-    made long "$1" "$work/x.db"
+    large long "$1" "$work/x.db"
 }
 
 # at PAGE: the offset of a page of 65536 bytes.
@@ -252,6 +244,36 @@ in_room() {
     done
 }
 
+@test 'a row of 600000 pages takes little time, memory and stack' {
+    local words
+    row_of 600000 512 "$work/x.db"
+    for words in check explain map stat 'stat --aggregate'; do
+        status=0
+        # shellcheck disable=SC2086
+        (ulimit -s 256 -v 20480 && exec timeout 20 "$DBCK" $words "$work/x.db" > "$work/out" 2> "$work/err" < /dev/null 3>&-) || status=$?
+        row "$words of a row of 600000 pages" ended 0 '*' ''
+    done
+}
+
+@test 'half a million runs of lost pages take little time' {
+    needs python3
+    cp "$data/empty.db" "$work/lost.db"
+    sparse "$work/lost.db" $((512 * 1000001))
+    # Every second page is not zeros.
+    python3 - "$work/lost.db" << 'END'
+import os, sys
+lost = os.open(sys.argv[1], os.O_WRONLY)
+for page in range(2, 1000001, 2):
+    os.pwrite(lost, b"x", 512 * page + 511)
+END
+    most=30
+    for words in 'explain --limit 1' map; do
+        # shellcheck disable=SC2086
+        dbck $words "$work/lost.db"
+        row "$words of half a million runs" [ "$status" = 1 ]
+    done
+}
+
 @test 'pages of thousands of cells in any order, and of thousands of freeblocks, take little time' {
     needs sqlite3
     sqlite3 "$work/x.db" 'PRAGMA page_size = 65536; PRAGMA cache_size = -100000; CREATE TABLE t(a INTEGER PRIMARY KEY, b); CREATE INDEX i ON t(a);
@@ -309,14 +331,14 @@ in_room() {
 # Where pages of 4096 bytes follow one another, several are read at once, and those of pages 32 to 63 have all but the last of the chain. Page
 # 262145 is the lock-byte page.
 @test 'a page above 4 GiB is not taken for one of those that were read at once below it' {
-    made far "$work/x.db"
+    large far "$work/x.db"
     # Of 1048640 pages these are in use: 1 to 40, the lock-byte page, and 1048612 to 1048640, of which the last ends the chain.
     exactly 1 $'N01 page 41 item 0 value 0: page is not in use\nmore 1048569\n' '' check --limit 1 "$work/x.db"
 }
 
 # high SIZE: of a file whose last 400 pages alone are above 4 GiB, these and the first two are in use. One of the others is the lock-byte page.
 high() {
-    made high "$1" "$work/x.db"
+    large high "$1" "$work/x.db"
     dbck check --limit 1 "$work/x.db"
     ended_exactly 1 $'N01 page 3 item 0 value 0: page is not in use\nmore '$(((1 << 32) / $1 - 4))$'\n' ''
 }
