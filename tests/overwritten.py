@@ -29,6 +29,62 @@ def up_to(count):
 
 LETTERS = "abcdefghijklmnopqrstuvwxyz"
 
+
+def mixed(rows, size):
+    """Trees of each kind, with rows that became shorter or were deleted, rows of up to 24 times SIZE bytes, and a root page that was freed."""
+    return f"""
+        CREATE TABLE t(id INTEGER PRIMARY KEY, a, b INT); CREATE INDEX i ON t(b);
+        INSERT INTO t {up_to(rows)} SELECT n, 'text ' || n, n * 37 % 1009 FROM k;
+        CREATE TABLE w(k INT PRIMARY KEY, v) WITHOUT ROWID;
+        INSERT INTO w {up_to(rows)} SELECT n * 37 % 4001, n FROM k;
+        CREATE TABLE o(x); INSERT INTO o {up_to(24)} SELECT zeroblob(n * {size}) FROM k;
+        CREATE TABLE gone(a); CREATE TABLE last(q); DROP TABLE gone; INSERT INTO last VALUES (1);
+        DELETE FROM t WHERE id % 9 = 4; DELETE FROM w WHERE k % 11 = 3;
+        UPDATE t SET a = substr(a, 3) WHERE id % 11 = 3; DELETE FROM o WHERE rowid % 3 = 0;"""
+
+
+def thinned(rows):
+    """A table and an index of which rows here and there, and then many side by side, were deleted, and few added."""
+    return f"""BEGIN;
+        CREATE TABLE t(id INTEGER PRIMARY KEY, a, b); CREATE INDEX i ON t(b);
+        INSERT INTO t {up_to(rows)} SELECT n, printf('text %d', n), n * 37 % 211 FROM k;
+        DELETE FROM t WHERE id % 9 = 4; UPDATE t SET a = substr(a, 3) WHERE id % 11 = 3;
+        DELETE FROM t WHERE id BETWEEN {rows // 2} AND {rows * 2 // 3};
+        INSERT INTO t {up_to(rows // 20)} SELECT NULL, 'new', n FROM k; COMMIT;"""
+
+
+def altered(rows):
+    """A table without rowids that got a column when it had rows."""
+    return f"""BEGIN;
+        CREATE TABLE w(k TEXT, m INT, v, PRIMARY KEY(m DESC, k)) WITHOUT ROWID;
+        INSERT INTO w {up_to(rows)} SELECT 'k' || (n * 53 % 997), n % 11, n FROM k; ALTER TABLE w ADD COLUMN x DEFAULT 3;
+        INSERT INTO w {up_to(rows)} SELECT 'z' || (n * 53 % 997), n % 7, n, n * 2 FROM k; COMMIT;"""
+
+
+def freed(rows, size):
+    """A table that had a row on each page, most of which were deleted, and one that was filled then."""
+    return f"""BEGIN;
+        CREATE TABLE t(a); INSERT INTO t {up_to(rows)} SELECT zeroblob({size - 60}) FROM k; CREATE TABLE u(x);
+        DELETE FROM t WHERE rowid % 4 > 0; INSERT INTO u {up_to(rows)} SELECT n * n FROM k; COMMIT;"""
+
+
+def long(size):
+    """Rows of up to six pages, and keys of up to three, with an index of zeros."""
+    return f"""BEGIN;
+        CREATE TABLE t(a); INSERT INTO t {up_to(30)} SELECT zeroblob(n * {size} / 5) FROM k;
+        CREATE TABLE w(k TEXT PRIMARY KEY, v) WITHOUT ROWID;
+        INSERT INTO w {up_to(30)} SELECT printf('%03d', n * 17 % 31) || hex(zeroblob(n * {size} / 20)), n FROM k;
+        CREATE INDEX i ON t(a); COMMIT;"""
+
+
+def schema(tables, indexes=True):
+    """A schema of so many tables, of which two were dropped, and one is new."""
+    definition = "CREATE TABLE t{0}(a INTEGER PRIMARY KEY, b{0} TEXT UNIQUE, c);"
+    if indexes:
+        definition += " CREATE INDEX i{0} ON t{0}(c);"
+    return f"""{' '.join(definition.format(n) for n in range(tables))}
+        DROP TABLE t7; CREATE TABLE tx(y); DROP TABLE t20; INSERT INTO t3 VALUES (1, 2, 3);"""
+
 # The page size, how many bytes are reserved at the end of each page, and the statements.
 DATABASES = {
     # Columns of an index that go different ways, in ordinary tables and in one without rowids.
@@ -261,6 +317,32 @@ DATABASES = {
         PRAGMA auto_vacuum = 1;
         {' '.join(f'CREATE TABLE t{n}(a);' for n in range(40))}
         INSERT INTO t7 VALUES (1);"""),
+    # Pages of each size, with free bytes in them and without, in trees of each kind.
+    "pages-8192": (8192, 0, mixed(1500, 4000)),
+    "pages-16384": (16384, 8, "PRAGMA auto_vacuum = 2;" + mixed(2500, 7000)),
+    "pages-32768": (32768, 0, mixed(4000, 12000)),
+    "thinned-2048": (2048, 0, "PRAGMA auto_vacuum = 1;" + thinned(300)),
+    "thinned-32768": (32768, 0, thinned(2000)),
+    "thinned-65536": (65536, 0, thinned(3000)),
+    "thinned-utf-16": (512, 0, "PRAGMA auto_vacuum = 1; PRAGMA encoding = 'UTF-16le';" + thinned(150)),
+    "free-512": (512, 0, freed(300, 512)),
+    "free-32768": (32768, 32, "PRAGMA auto_vacuum = 2; PRAGMA encoding = 'UTF-16le';" + freed(20, 32768)),
+    "free-65536": (65536, 0, f"""
+        CREATE TABLE o(x); INSERT INTO o {up_to(12)} SELECT zeroblob(65000 + n * 100) FROM k;
+        CREATE TABLE u(a); INSERT INTO u VALUES (1); DELETE FROM o WHERE rowid % 4 > 0;"""),
+    "long-2048": (2048, 32, long(2048)),
+    "long-4096": (4096, 8, "PRAGMA auto_vacuum = 2; PRAGMA encoding = 'UTF-16le';" + long(4096)),
+    # Tables without rowids, whose keys go different ways, and a pointer map.
+    "mapped-index": (1024, 0, f"""
+        PRAGMA auto_vacuum = 1;
+        CREATE TABLE w(k TEXT, m INT, v, PRIMARY KEY(m DESC, k)) WITHOUT ROWID;
+        INSERT INTO w {up_to(600)} SELECT 'k' || (n * 53 % 997), n % 11, n FROM k;
+        UPDATE w SET v = NULL WHERE v % 7 = 2; DELETE FROM w WHERE v % 5 = 2;"""),
+    "altered": (1024, 0, "PRAGMA auto_vacuum = 2;" + altered(200)),
+    # Schemas on page 1 and below it, of larger pages.
+    "schema-1024": (1024, 0, schema(30)),
+    "schema-4096": (4096, 0, schema(60)),
+    "schema-8192": (8192, 0, schema(30, indexes=False)),
     # Schemas of one page, and of several: with rows without root pages, and with root pages in no order.
     "page-1": (512, 0, """
         CREATE TABLE aa(x); CREATE TABLE bb(x, y, z); CREATE TABLE c(x);
@@ -390,6 +472,18 @@ schema 502 4 15 16
 schema 16379 1 4 0
 dropped 2048 4 0 36
 dropped 16808 1 29 3
+thinned-2048 16092 2 7 5
+thinned-2048 14336 1 10 2
+thinned-32768 65536 1 10 5
+thinned-65536 131072 1 10 2
+thinned-utf-16 1550 2 491 12
+altered 2068 2 975 28847
+free-512 38709 2 30 29
+free-512 460 2 308 307
+free-32768 851980 4 6 23
+long-2048 208901 2 1078 224
+long-4096 14647 2 832 79
+long-4096 1085441 2 3593 0
 history-1016 11744 1 30 49
 history-1182 1538 1 37 46
 """
