@@ -1,5 +1,5 @@
 #!/usr/bin/env python3
-"""Makes large databases: make.py tables COUNT LENGTH FILE, long GIB FILE, mapped FILE, far FILE, high SIZE FILE,
+"""Makes large databases: make.py tables COUNT LENGTH FILE, long GIB FILE, mapped SIZE PAGES FILE, far FILE, high SIZE FILE,
 beyond FILE, back COUNT FILE, halves COUNT FILE.
 
 The first three are sound. A `tables` file has as many tables as COUNT, each with a name of LENGTH bytes and an empty page of 512 bytes. First
@@ -8,8 +8,8 @@ comes its schema, a tree in levels, and then the roots, in the order of their ro
 A `long` file has pages of 65536 bytes and takes little room, and each page is in use: of a table t, whose pages lie in its second half, or
 of the freelist, whose trunks lie all over the file.
 
-A `mapped` file has pages of 65536 bytes, 5 GiB of them, and pointer maps. Pages 3 and 4 are roots. Its other pages are in the freelist, but for
-the last ones: two leaves of the schema, two of the first table, the overflow pages of a row, and the trunks.
+A `mapped` file has PAGES pages of SIZE bytes, no more than six trunks can list, and pointer maps. Pages 3 and 4 are roots. Its other pages are in
+the freelist, but for the last ones: two leaves of the schema, two of the first table, the overflow pages of a row, and the trunks.
 
 A `far` file has pages of 4096 bytes, and little more than 4 GiB. A row's overflow pages follow one another up to page 40; the others do from
 2^32 bytes after page 36 on, to the end of the file. No other page above 2 is in use.
@@ -25,7 +25,7 @@ In a `halves` file the row takes such pages by turns: the last that is left of t
 
 What lies where is printed, in lines that a shell reads: for `tables` the first root, and the leaf and cell of the last row; for `long` the
 pages of the table, and of the last trunk its page, how many leaves it has, and the last of them; for `mapped` the
-first leaves, the overflow pages, the last map, the first trunk, and where the leaf of the schema has the root page.
+first leaves, the overflow pages, the last map, the first trunk, and where these leaves have the root page and the length of the row.
 """
 
 import os
@@ -138,9 +138,11 @@ def long(gib, path):
     tell(pages=pages, root=root, left=left, right=right, first=first, last=last, trunk=trunks[-1], leaves=leaves, lost=end)
 
 
-def mapped(path):
-    size, local, pages = 65536, 8199, 81920
+def mapped(size, pages, path):
     root, other = 3, 4
+    # A row of two overflow pages has as little of it on its own page as may be.
+    local = (size - 12) * 32 // 255 - 23
+    lock = (1 << 30) // size + 1
     schema, after, leaf, right, first, last, *trunks = range(pages - 11, pages + 1)
     reach = size // 5 + 1
     maps = range(2, pages + 1, reach)
@@ -159,8 +161,10 @@ def mapped(path):
     db.leaf(right, 9)
     db.leaf(other, 9)
     db.put(first, 0, be(last))
-    entries = {16385: (0, 0), root: (1, 0), other: (1, 0), schema: (5, 1), after: (5, 1), leaf: (5, root), right: (5, root),
+    entries = {root: (1, 0), other: (1, 0), schema: (5, 1), after: (5, 1), leaf: (5, root), right: (5, root),
                first: (3, leaf), last: (4, first)}
+    if lock <= pages:
+        entries[lock] = (0, 0)
     fill_freelist(db, pages, {1, *maps, *entries}, trunks)
     for page in maps:
         db.put(page, 0, (b"\2" + be(0)) * min(reach - 1, pages - page))
@@ -168,7 +172,8 @@ def mapped(path):
         before = max(number for number in maps if number < page)
         db.put(before, 5 * (page - before - 1), bytes([kind]) + be(parent))
     db.file.close()
-    tell(schema=schema, leaf=leaf, first=first, last=last, map=maps[-1], trunk=trunks[0], root_at=size - len(cell) + cell.rindex(be(root)))
+    tell(schema=schema, leaf=leaf, first=first, last=last, map=maps[-1], trunk=trunks[0], root_at=size - len(cell) + cell.rindex(be(root)),
+         length_at=size - 8 - local)
 
 
 def chained(path, size, local, pages, chain):
@@ -217,7 +222,7 @@ if __name__ == "__main__":
     if sys.argv[1] == "tables":
         tables(int(sys.argv[2]), int(sys.argv[3]), sys.argv[4])
     elif sys.argv[1] == "mapped":
-        mapped(sys.argv[2])
+        mapped(int(sys.argv[2]), int(sys.argv[3]), sys.argv[4])
     elif sys.argv[1] == "far":
         far(sys.argv[2])
     elif sys.argv[1] == "high":

@@ -245,16 +245,18 @@ last_child() {
     row "a child, at $at" is_put_back "$at" '\0\0\0\0'
 }
 
-# are_found: of each line of standard input, PAGE AT RIGHT WRONG, mend finds the right bytes of x.db, with pages of 65536 bytes, where the wrong
-# ones stand. Standard error is $notes then.
+# are_found SIZE: for each line of standard input, PAGE AT WRONG, these bytes are put into x.db, whose pages have SIZE bytes, and mend finds those
+# that were there. Standard error is $notes then.
 are_found() {
-    local page at right wrong
-    while read -r page at right wrong; do
-        at=$((65536 * (page - 1) + at))
+    local begin page at right wrong
+    while read -r page at wrong; do
+        begin=$(($1 * (page - 1)))
+        at=$((begin + at))
+        right=$(od -An -v -tx1 -j "$at" -N $((${#wrong} / 2)) "$work/x.db" | tr -d ' \n')
         # shellcheck disable=SC2001
         put_at "$work/x.db" "$at" "$(sed 's/../\\x&/g' <<< "$wrong")"
         dbck mend "$work/x.db"
-        row "page $page, put $right" ended 1 "*at byte $at put $right for $wrong"$'\n'"    page $page at byte $((65536 * (page - 1)))"$'\nok\n' "${notes-}"
+        row "page $page, put $right" ended 1 "*at byte $at put $right for $wrong"$'\n'"    page $page at byte $begin"$'\nok\n' "${notes-}"
         # shellcheck disable=SC2001
         put_at "$work/x.db" "$at" "$(sed 's/../\\x&/g' <<< "$right")"
     done
@@ -265,39 +267,48 @@ are_found() {
 # The root of the table is page 71681, and its leaves are pages 81919 and 76801. Below each of them by 4 GiB is a page of zeros.
 @test 'mend finds numbers of pages above 4 GiB' {
     large long 5 "$work/x.db"
-    are_found << 'END'
-71681 8 00012c01 00000000
-81919 8 dff1 0000
-76801 3 0001 0000
-81919 0 0d 00
+    are_found 65536 << 'END'
+71681 8 00000000
+81919 8 0000
+76801 3 0000
+81919 0 00
 END
     [ "$rows" = 5 ]
 }
 
-@test 'mend finds entries of the pointer map, references, roots and lengths above 4 GiB, and the sizes of such a file' {
-    local notes='*'
-    large mapped "$work/x.db"
-    are_found << 'END'
-1 28 00014000 00000046
-1 16 0001 1000
+# The last file is longer than 4 GiB.
+@test 'mend finds entries of the pointer map, references, roots and lengths in files of large pages, and how long these are' {
+    local notes size pages
+    while read -r size pages; do
+        large mapped "$size" "$pages" "$work/x.db"
+        notes='*'
+        are_found "$size" <<< '1 28 00000046'
+        [ "$size" != 65536 ] || are_found "$size" <<< '1 16 1000'
+        notes=
+        # Entries of an overflow page, a leaf and a trunk; the end of a chain, its second page and its first; a leaf of a trunk, also where it
+        # names the next one, how many leaves there are, the next trunk, and that there is none; a root; and the length of a payload.
+        are_found "$size" << END
+$map $((5 * (first - map - 1))) 0000000000
+$map $((5 * (leaf - map - 1))) 0000000000
+$map $((5 * (trunk - map - 1))) 0000000000
+$last 0 00000005
+$first 0 00000000
+$leaf $((size - 4)) 00000000
+$trunk 32 00000000
+$trunk 32 0000000c
+$trunk 4 0000000c
+$trunk 0 00000000
+$((trunk + 5)) 0 00000005
+$schema $root_at 00000046
+$leaf $length_at 98bf7f
 END
-    notes=
-    # Entries of an overflow page, a leaf and a trunk; the end of a chain, its second page and its first; a leaf of a trunk, how many it has, and
-    # the next trunk; a root; and the length of a payload.
-    are_found << END
-$map $((5 * (first - map - 1))) 03$(printf %08x "$leaf") 0000000000
-$map $((5 * (leaf - map - 1))) 0500000003 0000000000
-$map $((5 * (trunk - map - 1))) 0200000000 0000000000
-$last 0 00000000 00000005
-$first 0 $(printf %08x "$last") 00000000
-$leaf 65532 $(printf %08x "$first") 00000000
-$trunk 32 0000000b 00000000
-$trunk 4 00003ffe 0000000c
-$trunk 0 $(printf %08x $((trunk + 1))) 00000000
-$schema $root_at 00000003 00000046
-$leaf 57329 88bf7f 98bf7f
+    done << 'END'
+8192 12000
+16384 20000
+32768 40000
+65536 81920
 END
-    [ "$rows" = 15 ]
+    [ "$rows" = 66 ]
 }
 
 @test 'mend finds the encoding, and roots of each' {
