@@ -444,6 +444,8 @@ keep_notes() {
     echo log > "$work/-x.db-wal"
     cd "$work"
     exactly 0 $'ok\n' $'dbck: note: -x.db-wal is not read, and may hold changes; --recovered reads it\ndbck: note: 7 bytes after page 13 are not read\n' check -- -x.db
+    : > -y.db
+    expect 3 '' $'dbck: note: -y.db is not checked\ndbck: note: -y.db has no bytes; to SQLite it is an empty database\ndbck: E1 *' check -- -y.db
 }
 
 @test 'a file has the note that it was written where all times are whole seconds' {
