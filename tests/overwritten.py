@@ -85,6 +85,7 @@ def schema(tables, indexes=True):
     return f"""{' '.join(definition.format(n) for n in range(tables))}
         DROP TABLE t7; CREATE TABLE tx(y); DROP TABLE t20; INSERT INTO t3 VALUES (1, 2, 3);"""
 
+
 # The page size, how many bytes are reserved at the end of each page, and the statements.
 DATABASES = {
     # Columns of an index that go different ways, in ordinary tables and in one without rowids.

@@ -69,6 +69,12 @@ dbck() {
     "${as[@]}" timeout "$most" "$DBCK" "$@" > "$work/out" 2> "$work/err" < /dev/null 3>&- || status=$?
 }
 
+# in_stack KIB WORDS..: the same, with a stack of 256 KiB and this address space, which may be `unlimited`.
+in_stack() {
+    status=0
+    (ulimit -s 256 -v "$1" && exec timeout "$most" "$DBCK" "${@:2}" > "$work/out" 2> "$work/err" < /dev/null 3>&-) || status=$?
+}
+
 # show FILE: what a file begins with, in one line that harms no terminal.
 show() {
     local text
@@ -264,7 +270,16 @@ small() {
     tests/small/make.py "tests/small/$1.txt" "$work/small" > "$work/list"
 }
 
-# large KIND WORDS..: makes a large file by make.py, whose numbers become variables. Skips the test where no file may be so long.
+# one_small LINE FILE: makes a file as a line of such a list says it: NAME PAGES: CHANGES.
+one_small() {
+    needs python3
+    printf '== %s\nok\n' "$1" > "$work/one.txt"
+    tests/small/make.py "$work/one.txt" "$work/one" > "$work/list"
+    mv "$work/one/0.db" "$2"
+}
+
+# large KIND WORDS..: makes a large file by make.py, whose numbers become variables: those of a `long` file take the place of $root. Skips the
+# test where no file may be so long.
 large() {
     needs python3
     python3 tests/program/make.py "$@" > "$work/numbers" 2> "$work/why" || {

@@ -82,12 +82,11 @@ END
 @test 'the note of explain says how many references lead to whole pages after the stated end' {
     needs python3
     local stated child length note lead command
-    printf '== whole\nok\n' > "$work/whole.txt"
-    tests/small/make.py "$work/whole.txt" "$work/small" > "$work/list"
+    one_small whole "$work/whole.db"
     # Page 5 names page 6, and the page of the second column. The header states as many pages as the first column says, and the file has
     # the bytes of the third, where 7 pages have 3584.
     while IFS='|' read -r stated child length note lead; do
-        cp "$work/small/0.db" "$work/x.db"
+        cp "$work/whole.db" "$work/x.db"
         put_at "$work/x.db" 28 "\\0\\0\\0\\x$stated"
         put_at "$work/x.db" 2056 "\\0\\0\\0\\x$child"
         truncate -s "$length" "$work/x.db"

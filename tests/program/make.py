@@ -24,8 +24,8 @@ A `back` file has pages of 16384 bytes, and a row of as many overflow pages as C
 In a `halves` file the row takes such pages by turns: the last that is left of their second half, and the last that is left of their first.
 
 What lies where is printed, in lines that a shell reads: for `tables` the first root, and the leaf and cell of the last row; for `long` the
-pages of the table, and of the last trunk its page, how many leaves it has, and the last of them; for `mapped` the
-first leaves, the overflow pages, the last map, the first trunk, and where these leaves have the root page and the length of the row.
+pages of the table, and of the last trunk its page, how many leaves it has, and the last of them; for `mapped` the first leaves, the overflow
+pages, the last map, the first trunk, and where these leaves have the root page and the length of the row.
 """
 
 import os

@@ -213,8 +213,7 @@ END
 @test 'a log of 1.2 GB takes little of the stack' {
     paired
     sparse "$work/pair.db-wal" 1200000000
-    status=0
-    (ulimit -s 256 && exec "$DBCK" check --recovered "$work/pair.db" > "$work/out" 2> "$work/err" < /dev/null 3>&-) || status=$?
+    in_stack unlimited check --recovered "$work/pair.db"
     row 'a stack of 256 KiB' ended 0 $'ok\n' "dbck: note: $work/pair.db-wal: 1 page of 1 transaction is read from it"$'\n*'
 }
 
@@ -253,8 +252,7 @@ END
     most=30
     dbck check --recovered "$work/x.db"
     row '600000 frames after it' ended_exactly 0 $'ok\n' "$notes"
-    status=0
-    (ulimit -s 256 -v 8192 && exec timeout "$most" "$DBCK" check --recovered "$work/x.db" > "$work/out" 2> "$work/err" < /dev/null 3>&-) || status=$?
+    in_stack 8192 check --recovered "$work/x.db"
     row 'a stack of 256 KiB, and 8 MiB' ended_exactly 0 $'ok\n' "$notes"
 }
 

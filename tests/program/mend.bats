@@ -1692,9 +1692,8 @@ freed() {
 }
 
 @test 'beside a page that is lost for good mend finds a number' {
-    printf '== whole: 3 0 7878787878787878787878787878787878787878, 5 8 00000000\nok\n' > "$work/two.txt"
-    tests/small/make.py "$work/two.txt" "$work/two" > "$work/list"
-    dbck mend "$work/two/0.db"
+    one_small 'whole: 3 0 7878787878787878787878787878787878787878, 5 8 00000000' "$work/two.db"
+    dbck mend "$work/two.db"
     ended 1 $'*at byte 2056 put 00000007 for 00000000\n    page 5 at byte 2048\n    1 fault is left\n1 fault is left\n' ''
 }
 
@@ -1792,11 +1791,10 @@ refused() {
 
 @test 'with --with the changes are of the file with these bytes' {
     needs python3
-    printf '== whole: 2 507 00000000, 5 8 00000000\nok\n' > "$work/two.txt"
-    tests/small/make.py "$work/two.txt" "$work/two" > "$work/list"
-    note="dbck: note: $work/two/0.db with 4 other bytes"$'\n'
-    exactly 1 $'2 faults\nat byte 2056 put 00000007 for 00000000\n    page 5 at byte 2048\nok\n' "$note" mend --with 1019=00000003 "$work/two/0.db"
-    exactly 0 $'ok\n' "${note/ 4 / 8 }" mend --with 1019=00000003 --with 2056=00000007 "$work/two/0.db"
+    one_small 'whole: 2 507 00000000, 5 8 00000000' "$work/two.db"
+    note="dbck: note: $work/two.db with 4 other bytes"$'\n'
+    exactly 1 $'2 faults\nat byte 2056 put 00000007 for 00000000\n    page 5 at byte 2048\nok\n' "$note" mend --with 1019=00000003 "$work/two.db"
+    exactly 0 $'ok\n' "${note/ 4 / 8 }" mend --with 1019=00000003 --with 2056=00000007 "$work/two.db"
     # What is put for which bytes is said of these, too.
     exactly 1 $'2 faults\nat byte 1526 put 00000007 for 00000001\n    page 3 at byte 1024\nok\n' \
         "dbck: note: $data/two-tables.db with 4 other bytes"$'\n' mend --with 1526=00000001 "$data/two-tables.db"
@@ -1959,9 +1957,8 @@ END
 }
 
 @test '65536 bad roots end within their runs, and a minute' {
-    needs python3
     [ -r /proc/self/io ] || skip 'there is no /proc/self/io'
-    eval "$(python3 tests/program/make.py tables 65536 8 "$work/roots.db")"
+    large tables 65536 8 "$work/roots.db"
     size=$(wc -c < "$work/roots.db")
     truncate -s $((512 * (roots - 1))) "$work/roots.db"
     sparse "$work/roots.db" "$size"

@@ -418,9 +418,7 @@ keep_notes() {
     no_returns
     mv "$work/x.db" "$work/returns.db"
     # The header states five pages of seven; page 5 names page 7.
-    printf '== whole\nok\n' > "$work/whole.txt"
-    tests/small/make.py "$work/whole.txt" "$work/small" > "$work/list"
-    mv "$work/small/0.db" "$work/rest.db"
+    one_small whole "$work/rest.db"
     put_at "$work/rest.db" 28 '\0\0\0\05'
     put_at "$work/rest.db" 2056 '\0\0\0\07'
     changed zeros 0 '\0\0\0\0\0\0\0\0\0\0\0\0\0\0\0\0'

@@ -300,7 +300,7 @@ END
     row 'a fast disk' cmp <(whole_mibs) <(seq 0 18)
     rm "$work/reads"
     sparse "$work/large.db" 78662860800
-    python3 tests/program/make.py beyond "$work/large.db"
+    large beyond "$work/large.db"
     on_disk SLOW=1000 "READS=$work/reads"
     expect 1 'N01 page 3 *' '' check --limit 1 "$work/large.db"
     row 'a large file' cmp <(whole_mibs) <(echo 0 && seq 75000 75018)
@@ -399,8 +399,7 @@ END
 
 # After three reads that go back a slow one takes 16 MiB, after six 256, and never more, here of 5.5 GiB.
 @test 'where a disk reads a file from its end on, it takes 256 MiB at once at most, and no memory for them' {
-    needs python3
-    python3 tests/program/make.py back 10 "$work/x.db"
+    large back 10 "$work/x.db"
     counted_on_disk SLOW=1000 "READS=$work/reads"
     counted check --limit 1 "$work/x.db"
     [ "$(cat "$work/out")" = $'N01 page 3 item 0 value 0: page is not in use\nmore 360434' ] # of 360448 pages 13 are in use
@@ -413,8 +412,7 @@ END
 
 # Every other read goes back.
 @test 'where a disk reads two parts of a file by turns, each from its end on, it takes 16 MiB at once' {
-    needs python3
-    python3 tests/program/make.py halves 10 "$work/x.db"
+    large halves 10 "$work/x.db"
     on_disk SLOW=1000 "READS=$work/reads"
     expect 1 'N01 page 3 *' '' check --limit 1 "$work/x.db"
     # Six pages with their MiB, and five with their 16 MiB.
@@ -423,8 +421,7 @@ END
 
 # The header states that a tenth is used, which of 256 MiB is 25 whole ones.
 @test 'where a disk reads a file from its end on of which a tenth is used, it takes 25 MiB at once at most' {
-    needs python3
-    python3 tests/program/make.py back 10 "$work/x.db"
+    large back 10 "$work/x.db"
     # Of 360448 pages 324403 are in the freelist: 4f333 in hexadecimal.
     put_at "$work/x.db" 36 '\x00\x04\xf3\x33'
     counted_on_disk SLOW=1000

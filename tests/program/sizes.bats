@@ -233,24 +233,30 @@ in_room() {
     (ulimit -v $((7 * 1024 + $1 * 8192)) && exec timeout 300 "$DBCK" "${@:2}" > "$work/out" 2> "$work/err" < /dev/null 3>&-) || status=$?
 }
 
+# are_quick WHAT: explain and map of lost.db, which has faults, end within $most seconds.
+are_quick() {
+    local words
+    for words in 'explain --limit 1' map; do
+        # shellcheck disable=SC2086
+        dbck $words "$work/lost.db"
+        row "$words of $1" [ "$status" = 1 ]
+    done
+}
+
 @test 'a million lost pages take explain and map little time' {
     cp "$data/empty.db" "$work/lost.db"
     sparse "$work/lost.db" $((512 * 1000002))
     most=20
-    for words in 'explain --limit 1' map; do
-        # shellcheck disable=SC2086
-        dbck $words "$work/lost.db"
-        row "$words of a million lost pages" [ "$status" = 1 ]
-    done
+    are_quick 'a million lost pages'
 }
 
 @test 'a row of 600000 pages takes little time, memory and stack' {
     local words
     row_of 600000 512 "$work/x.db"
+    most=20
     for words in check explain map stat 'stat --aggregate'; do
-        status=0
         # shellcheck disable=SC2086
-        (ulimit -s 256 -v 20480 && exec timeout 20 "$DBCK" $words "$work/x.db" > "$work/out" 2> "$work/err" < /dev/null 3>&-) || status=$?
+        in_stack 20480 $words "$work/x.db"
         row "$words of a row of 600000 pages" ended 0 '*' ''
     done
 }
@@ -267,11 +273,7 @@ for page in range(2, 1000001, 2):
     os.pwrite(lost, b"x", 512 * page + 511)
 END
     most=30
-    for words in 'explain --limit 1' map; do
-        # shellcheck disable=SC2086
-        dbck $words "$work/lost.db"
-        row "$words of half a million runs" [ "$status" = 1 ]
-    done
+    are_quick 'half a million runs'
 }
 
 @test 'pages of thousands of cells in any order, and of thousands of freeblocks, take little time' {
