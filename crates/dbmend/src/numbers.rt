@@ -303,9 +303,11 @@ fn has_whole_from<A: Allocator>(paper: &Paper<A>, first: u32) -> bool {
 
 // Whether cells are left out with another count: some have whole records, or their bytes are a run without an item then.
 fn leaves_out<A: Allocator>(paper: &mut Paper<A>, at: u32, count: u32) -> bool {
+    if has_whole_from(paper, count) {
+        return true;
+    }
     let longest = longest_gap(paper).max(MOST_FRAGMENT);
-    has_whole_from(paper, count)
-        || Area::with(paper, at, count).is_none_or(|area| area.longest > longest)
+    Area::with(paper, at, count).is_none_or(|area| area.longest > longest)
 }
 
 // Adds how many cells there may be: as many as fill the content area, and as many as there are pointers, if no cells are left out then. As many

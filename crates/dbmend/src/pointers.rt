@@ -217,7 +217,8 @@ pub(crate) fn add_pointer<A: Allocator>(tries: &mut Ranked, paper: &mut Paper<A>
     }
 }
 
-// Adds of each long run of bytes that no item holds, that the cell after it begins with it, unless its record is whole and would be cut.
+// Adds of each long run of bytes that no item holds, that the cell after it begins with it, unless its record is whole and would be cut. If it is
+// whole only then, that goes before the other numbers by which the run is shorter.
 pub(crate) fn add_gaps<A: Allocator>(tries: &mut Ranked, paper: &mut Paper<A>) {
     let longest = match paper.view() {
         Some(view) => longest_gaps(paper, &view),
@@ -234,7 +235,8 @@ pub(crate) fn add_gaps<A: Allocator>(tries: &mut Ranked, paper: &mut Paper<A>) {
         if let Some(found) = cell_from(paper, cell, gap.at)
             && (found.is_whole || !was_whole)
         {
-            let fit = found.less_if_cut(Fit::new(32, 0));
+            let points = if found.is_whole && !was_whole { 40 } else { 32 };
+            let fit = found.less_if_cut(Fit::new(points, 0));
             add_offset(tries, paper, cell, gap.at, fit);
         }
     }
