@@ -9,7 +9,8 @@ chosen among thousands that were overwritten by chance. Each condition and each 
 changes that any of those thousands tells, these few tell nearly all.
 
 Then each kind of number of mend.py is overwritten COPIES times in each of these databases and of those of injuries.py, by a seed that is the
-number of the copy. In databases of random histories (histories.py) one number at a time is overwritten, or made a little more or less.
+number of the copy, some are made a little more or less, and numbers of two and of four pages are overwritten. In databases of random histories
+(histories.py) one number at a time is.
 The copies of which overwritten.txt has a line need not be as they were: mend finds another number there, or none.
 """
 
@@ -84,6 +85,26 @@ def schema(tables, indexes=True):
         definition += " CREATE INDEX i{0} ON t{0}(c);"
     return f"""{' '.join(definition.format(n) for n in range(tables))}
         DROP TABLE t7; CREATE TABLE tx(y); DROP TABLE t20; INSERT INTO t3 VALUES (1, 2, 3);"""
+
+
+def deep(size):
+    """A tree of three levels: few keys fit into a page."""
+    return f"""BEGIN;
+        CREATE TABLE w(k TEXT PRIMARY KEY, v) WITHOUT ROWID;
+        INSERT INTO w {up_to(90)} SELECT printf('%03d', n * 37 % 91) || hex(zeroblob({size} / 8 - 50 - n % 50)), n FROM k;
+        DELETE FROM w WHERE v % 7 = 3; COMMIT;"""
+
+
+def exchanged(rows):
+    """Keys of many lengths, of which some are deleted, and others get their places: also on interior pages."""
+    def added(rows, factor, step, letters):
+        return f"""INSERT OR IGNORE INTO w {up_to(rows)}
+            SELECT printf('%05d', n * {factor} % 10007) || substr('{LETTERS * 2}', 1, n * {step} % {letters}), n FROM k;"""
+    return f"""BEGIN;
+        CREATE TABLE w(k TEXT PRIMARY KEY, v) WITHOUT ROWID;
+        {added(rows, 7919, 7, 50)} DELETE FROM w WHERE v % 3 = 1;
+        {added(rows // 2, 6841, 11, 26)} DELETE FROM w WHERE v % 5 = 2;
+        {added(rows // 2, 5449, 3, 26)} DELETE FROM w WHERE v % 7 = 2; COMMIT;"""
 
 
 # The page size, how many bytes are reserved at the end of each page, and the statements.
@@ -308,6 +329,25 @@ DATABASES = {
     "many-children": (1024, 0, f"""
         CREATE TABLE t(a INTEGER PRIMARY KEY, b);
         INSERT INTO t {up_to(700)} SELECT n, hex(zeroblob(60)) FROM k;"""),
+    # Keys that differ in their last column alone, and behind a zero byte.
+    "wide-keys": (512, 0, f"""
+        CREATE TABLE t({','.join(f'c{column}' for column in range(30))}, last); INSERT INTO t
+        {up_to(120)} SELECT {'1,' * 30} n * 37 % 121 FROM k; CREATE INDEX i ON t({','.join(f'c{column}' for column in range(30))}, last);"""),
+    "zero-bytes": (512, 0, f"""
+        CREATE TABLE t(a); CREATE INDEX i ON t(a); INSERT INTO t {up_to(90)} SELECT 'ab' || char(0) || printf('%04d', n * 37 % 151) || 'abc' FROM k;
+        INSERT INTO t {up_to(90)} SELECT CAST('ab' || char(0) || printf('%04d', n * 37 % 151) || 'abc' AS BLOB) FROM k;"""),
+    # Rowids below 0, and long ones.
+    "below-0": (512, 0, thinned(300).replace("SELECT n,", "SELECT n - 600,").replace("BETWEEN", "+ 600 BETWEEN")),
+    "long-rowids": (1024, 0, thinned(300).replace("SELECT n,", "SELECT n + 9000000000000000000,").replace("BETWEEN", "% 1000 BETWEEN")),
+    # The first schema format.
+    "format-1": (512, 0, "PRAGMA legacy_file_format = ON;" + mixed(300, 500)),
+    # Rows on a few leaves, with freeblocks, and a tree of four levels. Numbers of several pages are overwritten.
+    "rows": (512, 0, f"""
+        CREATE TABLE t(id INTEGER PRIMARY KEY, a); INSERT INTO t {up_to(120)} SELECT n, 'the row of number ' || n FROM k;
+        DELETE FROM t WHERE id % 7 = 3;"""),
+    "four-levels": (512, 0, f"""
+        CREATE TABLE t(a TEXT); INSERT INTO t {up_to(1500)} SELECT printf('%06d', n * 7919 % 10007) || hex(zeroblob(40)) FROM k;
+        CREATE INDEX i ON t(a);"""),
     # Views between tables.
     "views": (1024, 0, """
         CREATE TABLE a(x); CREATE VIEW va AS SELECT 1; CREATE TABLE b(x); CREATE VIEW vb AS SELECT 2; CREATE TABLE c(x);
@@ -340,10 +380,29 @@ DATABASES = {
         INSERT INTO w {up_to(600)} SELECT 'k' || (n * 53 % 997), n % 11, n FROM k;
         UPDATE w SET v = NULL WHERE v % 7 = 2; DELETE FROM w WHERE v % 5 = 2;"""),
     "altered": (1024, 0, "PRAGMA auto_vacuum = 2;" + altered(200)),
+    # Trees of three levels in large pages, and interior pages with free bytes: of an index with ten fragments and more, and of a table.
+    "deep-8192": (8192, 0, deep(8192)),
+    "deep-16384": (16384, 0, deep(16384)),
+    "deep-32768": (32768, 0, deep(32768)),
+    "exchanged": (1024, 0, exchanged(3000)),
+    "few-children": (512, 0, f"""BEGIN;
+        CREATE TABLE t(a INTEGER PRIMARY KEY, b); INSERT INTO t {up_to(6000)} SELECT n * 3, zeroblob(40) FROM k;
+        DELETE FROM t WHERE a / 3 % 300 BETWEEN 100 AND 150;
+        INSERT OR IGNORE INTO t {up_to(150)} SELECT n * 89, zeroblob(50) FROM k; COMMIT;"""),
+    # Freeblocks beside cells with overflow pages.
+    "chains": (4096, 0, f"""BEGIN;
+        CREATE TABLE o(x); INSERT INTO o {up_to(40)} SELECT zeroblob(n % 5 * 4096 + 300) FROM k;
+        DELETE FROM o WHERE rowid % 3 = 0; COMMIT;"""),
     # Schemas on page 1 and below it, of larger pages.
     "schema-1024": (1024, 0, schema(30)),
     "schema-4096": (4096, 0, schema(60)),
     "schema-8192": (8192, 0, schema(30, indexes=False)),
+    # Fragments and a freeblock in a schema of one page: columns got other names.
+    "renamed": (4096, 0, f"""
+        {' '.join(f'CREATE TABLE t{n}(a, b{n}, c);' for n in range(20))}
+        {' '.join(f'ALTER TABLE t{n} RENAME COLUMN b{n} TO b;' for n in range(3, 20, 4))}
+        {' '.join(f'ALTER TABLE t{n} RENAME COLUMN c TO d;' for n in range(2, 20, 5))}
+        DROP TABLE t4; DROP TABLE t13; CREATE TABLE q(a); INSERT INTO t5 VALUES (5, 2, 3);"""),
     # Schemas of one page, and of several: with rows without root pages, and with root pages in no order.
     "page-1": (512, 0, """
         CREATE TABLE aa(x); CREATE TABLE bb(x, y, z); CREATE TABLE c(x);
@@ -384,7 +443,7 @@ nocase 1491 4 12 10
 nocase 2062 2 257 107
 late-nocase 8280 2 2862 0
 signs 4664 2 273 17
-utf-16 18 1 1 9
+utf-16 18 1 2 9
 utf-16 275 1 10 3
 utf-16 275 1 10 11
 long-keys 8162 4 24 12
@@ -414,12 +473,14 @@ large-pages 65518 1 2 12
 large-pages 720899 2 0 1
 large-pages 852016 2 65274 65275
 reserved 383 1 10 31
+reserved 1024 1 13 2
 reserved 2053 2 204 201
 reserved 2572 2 465 464
 reserved 28672 4 58 59
 vacuum 56157 2 0 250
 freelist 12072 4 99 207
 reserved-freelist 32 4 313 312
+trunks 435204 4 120 9 930820 4 120 9
 trunks 435204 4 120 115
 trunks 930820 4 120 115
 trunks 1178116 4 41 36
@@ -465,6 +526,20 @@ many-tables 52 4 82 0
 many-columns 11057 2 33329 33330
 many-cells 135080 2 52958 52961
 many-children 1580 4 83 93
+wide-keys 6616 4 14 15
+zero-bytes 1479 4 8 10
+rows 72 1 0 1 1027 2 16 14
+rows 1019 4 3 0 1014 4 4 0 1009 4 5 0 1004 4 6 0
+rows 1024 1 13 5 1536 1 13 5
+rows 1024 1 13 10 1536 1 13 10
+rows 1025 2 96 9 1537 2 212 9
+rows 1027 2 16 14 1539 2 16 14
+rows 1029 2 46 0 1541 2 62 0 2053 2 62 0
+rows 1031 1 0 9 1543 1 0 9 2055 1 0 9
+rows 1122 2 25 64 1750 2 25 64
+rows 1440 1 22 3 1973 1 23 3
+four-levels 255498 2 233 0
+four-levels 310175 4 604 0
 views 856 1 4 3
 many-roots 52 4 42 0
 page-1 377 1 3 19
@@ -485,6 +560,19 @@ free-32768 851980 4 6 23
 long-2048 208901 2 1078 224
 long-4096 14647 2 832 79
 long-4096 1085441 2 3593 0
+exchanged 1913 2 99 0
+exchanged 111339 4 71 69
+few-children 34803 2 4 6
+few-children 303071 2 21 0
+chains 91423 2 496 495
+renamed 144 2 3492 3494
+renamed 3544 1 14 179
+deep-8192 127172 2 0 6
+deep-8192 196616 4 27 91 65544 4 24 14
+deep-16384 16385 2 8466 8485
+deep-16384 131080 4 24 8216 258166 4 13 0
+deep-32768 32769 2 16658 16674
+deep-32768 295432 4 18 1073741842 491528 4 23 14
 history-1016 11744 1 30 49
 history-1182 1538 1 37 46
 """
@@ -492,7 +580,10 @@ history-1182 1538 1 37 46
 
 # How often each kind of number is overwritten in each database, and in those of random histories.
 COPIES = 5
-COPIES_OF_HISTORIES = {kind: 2 for kind in mend.KINDS if not kind.startswith(("two", "three"))} | {"a number that is near": 20}
+COPIES_OF_HISTORIES = {kind: 2 for kind in mend.KINDS if not kind.startswith(("two", "three"))} | {
+    "a number that is near": 20,
+    "a cell pointer that is near": 10,
+}
 
 HISTORIES = {f"history-{seed}": histories.history(seed) for seed in (*range(40), 1016, 1182)}
 
@@ -505,7 +596,40 @@ def overwrite_near(db):
     db.put(at, size, (db.number(at, size) + db.one_of([*range(-20, 0), *range(1, 21)])) % 256**size)
 
 
-KINDS = mend.KINDS | {"a number that is near": overwrite_near}
+def overwrite_near_pointer(db):
+    """The pointer of a cell: a little more, or less."""
+    pages = [places for places in map(db.cell_pointers, db.tree_pages()) if places]
+    if not pages:
+        return True
+    at = db.one_of(db.one_of(pages))
+    db.put(at, 2, (db.number(at, 2) + db.one_of([*range(-6, 0), *range(1, 7)])) % 65536)
+
+
+def overwrite_pages(count):
+    """A number of one kind or another on each of so many pages, as the sound ones have them; none of the header, where some make no fault."""
+    kinds = [kind for name, kind in mend.KINDS.items() if not name.startswith(("two", "three")) and kind != mend.overwrite_header]
+
+    def injure(db):
+        sound, wrong, pages = bytes(db.data), bytearray(db.data), set()
+        for _ in range(8 * count):
+            db.one_of(kinds)(db)
+            places = [slice(db.start(page), db.start(page + 1)) for page in range(1, db.pages + 1)]
+            changed = [place for place in places if db.data[place] != sound[place]]
+            if len(pages) < count and len(changed) == 1 and changed[0].start not in pages:
+                pages.add(changed[0].start)
+                wrong[changed[0]] = db.data[changed[0]]
+            db.data[:] = sound
+        db.data[:] = wrong
+        return len(pages) < count
+    return injure
+
+
+KINDS = mend.KINDS | {
+    "a number that is near": overwrite_near,
+    "a cell pointer that is near": overwrite_near_pointer,
+    "numbers of two pages": overwrite_pages(2),
+    "numbers of four pages": overwrite_pages(4),
+}
 
 
 def made(file, name):
@@ -516,7 +640,17 @@ def made(file, name):
     page_size, reserved, statements = (DATABASES | HISTORIES)[name]
     words = ["sqlite3", file, f".filectrl reserve_bytes {reserved}", f"PRAGMA page_size = {page_size}; {statements}"]
     subprocess.run(words, check=True, stdout=subprocess.DEVNULL)
-    return file.read_bytes()
+    data = bytearray(file.read_bytes())
+    chance = sum(name.encode())
+    # Numbers of the header that make no fault. Of every second database: of WAL mode, and those of a program of its own.
+    if chance % 2:
+        data[18:20], data[63], data[71] = b"\2\2", 7, 9
+    # Of every third one: an old SQLite has changed it, so that the number of pages is not known, and bytes come after the last page.
+    if chance % 3 == 0:
+        data[27] = (data[27] + 5) % 256
+        data += b"the end"
+    file.write_bytes(data)
+    return bytes(data)
 
 
 def chosen(name, before):
@@ -534,7 +668,7 @@ def chosen(name, before):
 
 def by_chance(name, before, stat):
     """The copies with numbers that a seed chose, each with a name of its own."""
-    copies = COPIES_OF_HISTORIES if name in HISTORIES else dict.fromkeys(mend.KINDS, COPIES)
+    copies = COPIES_OF_HISTORIES if name in HISTORIES else dict.fromkeys(KINDS, COPIES)
     for kind, count in copies.items():
         for copy in range(count):
             seed = f"{name}-{kind.replace(' ', '-')}-{copy}"

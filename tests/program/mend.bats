@@ -311,6 +311,47 @@ END
     [ "$rows" = 66 ]
 }
 
+# The overflow pages of t are those from 4 to 15. The freelist is page 16, a trunk, and its leaves, 22, 21 and 20.
+@test 'mend finds which leaves a trunk has and how many, pages of chains and a root in files of each page size' {
+    local count size
+    needs sqlite3
+    for size in 512 1024 2048 4096 8192 16384 32768 65536; do
+        made "CREATE TABLE t(a); CREATE TABLE u(a); $(up_to 4) INSERT INTO t SELECT zeroblob(3 * $size) FROM k;
+            INSERT INTO u VALUES (zeroblob(7 * $size)); DELETE FROM u; INSERT INTO u VALUES (zeroblob(3 * $size))" "$size"
+        row "a trunk of pages of $size bytes" [ "$(number_at 32 4) $(number_at $((15 * size + 4)) 4)" = '16 3' ]
+        for count in 0 2 4; do
+            row "$count leaves, pages of $size bytes" are_put_back $((15 * size + 4)) "\\0\\0\\0\\0$count"
+        done
+        row "the leaf before, pages of $size bytes" are_put_back $((15 * size + 16)) '\0\0\0\025'
+        row "the page after the next one of a chain, pages of $size bytes" are_put_back $((3 * size)) '\0\0\0\06'
+        row "a page of a chain for a root, pages of $size bytes" are_put_back $(($(before t) - 1)) '\06'
+    done
+    [ "$rows" = 56 ]
+}
+
+# Row 5 is gone, and the last row, of seven bytes, is in its place, behind a freeblock.
+@test 'mend finds the counts of a page with fragments, and the size of a freeblock before the last cell, in pages of each size' {
+    local block cells last len size wrong
+    needs sqlite3
+    for size in 512 1024 2048 4096 8192 16384 32768 65536; do
+        made "CREATE TABLE t(id INTEGER PRIMARY KEY, a); $(up_to $((size / 40))) INSERT INTO t SELECT n, printf('row number %02d', n) FROM k;
+            UPDATE t SET a = substr(a, 3) WHERE id % ($size / 200) = 1" "$size"
+        cells=$(number_at $((size + 3)))
+        row "fragments, $size bytes" [ "$(number_at $((size + 7)) 1)" -gt 5 ]
+        row "the counts of a page of $size bytes" are_put_back $((size + 3)) "$(short $((cells + 7)))" $((size + 7)) '\05'
+        made "CREATE TABLE t(id INTEGER PRIMARY KEY, a); $(up_to $((size / 60)))
+            INSERT INTO t SELECT n, printf('row number %02d and more', n) FROM k; DELETE FROM t WHERE id = 5; INSERT INTO t VALUES (5000, 'x')" "$size"
+        block=$((size + $(number_at $((size + 1)))))
+        len=$(number_at $((block + 2)))
+        last=$(number_at $((size + 6 + 2 * $(number_at $((size + 3))))))
+        row "the last cell of a page of $size bytes" [ $((size + last)) = $((block + len)) ]
+        for wrong in $((len + 7)) $((len - 1)) $((len - 3)); do
+            row "a freeblock of $len of $size bytes, put $wrong" are_put_back $((block + 2)) "$(short "$wrong")"
+        done
+    done
+    [ "$rows" = 48 ]
+}
+
 @test 'mend finds the encoding, and roots of each' {
     local at encoding
     needs sqlite3
@@ -1242,6 +1283,19 @@ others_are_put_back() {
     row 'a content start of 139, put 141' has_rows_back 3589 '\0\0215'
 }
 
+# The content area could begin with what is there.
+@test 'mend finds the pointer of the only row of a page where it leads a few bytes late' {
+    local late size
+    needs sqlite3
+    for size in 512 4096 65536; do
+        made "CREATE TABLE t(a INTEGER PRIMARY KEY, b TEXT, c); INSERT INTO t VALUES (1, '2', 3)" "$size"
+        for late in 1 2 3 4; do
+            row "$late bytes in a page of $size bytes" are_put_back $((size + 8)) "$(short $((size - 8 + late)))"
+        done
+    done
+    [ "$rows" = 12 ]
+}
+
 # One bit of where the content area begins: then it begins with one of the cells, and with fewer of them the page would be sound too.
 @test 'mend leaves out no cell where the content area begins with a later one' {
     local bytes
@@ -1447,7 +1501,7 @@ END
 }
 
 @test 'mend finds five, eight, thirteen and sixteen numbers of the header and of pages in one run' {
-    local numbers
+    local limit numbers
     needs sqlite3
     cp "$data/whole.db" "$work/x.db"
     numbers=(18 '\011' 21 '\01\01\01' 56 '\0\0\0\07')
@@ -1461,6 +1515,10 @@ END
     numbers=(21 '\01\01\01' 72 '\01' 512 "$(printf '\\07%.0s' {1..60})")
     row 'sixteen, of which twelve are entries of the pointer map' is_put_back "${numbers[@]}"
     row 'sixteen changes' [ "$(grep -c '^at byte' "$work/lines")" = 16 ]
+    for limit in {1..15}; do
+        dbck mend --limit "$limit" "$work/wrong.db"
+        row "of sixteen changes the first $limit" diff <(grep '^at byte' "$work/lines" | head -n "$limit") <(grep '^at byte' "$work/out")
+    done
 }
 
 # vacuumed MODE: makes x.db of two tables, with a pointer map for this auto_vacuum.
@@ -1686,9 +1744,13 @@ freed() {
             trunk=$(number_at $((512 * trunk - 512)) 4)
         done
     done
+    freed 400
+    trunk=$(number_at 32 4)
+    row 'two of four trunks' are_put_back \
+        $((512 * trunk - 508)) '\0\0\0\011' $((512 * $(number_at $((512 * trunk - 512)) 4) - 508)) '\0\0\0\011'
     made 'CREATE TABLE t(a); CREATE TABLE u(a); DROP TABLE u'
     row 'a trunk without leaves' are_put_back $((512 * $(number_at 32 4) - 508)) '\0\0\0\01'
-    [ "$rows" = 19 ]
+    [ "$rows" = 20 ]
 }
 
 @test 'beside a page that is lost for good mend finds a number' {
