@@ -9,10 +9,12 @@ Makes the database NEW (new.db) of the rows of DAMAGED, and beside NEW:
 None of the four may be there before, nor a -wal or -journal of one, and only their owner may read them. DAMAGED, and
 DAMAGED-wal or DAMAGED-journal, are only copied: SQLite opens the copies, in a folder beside NEW, which takes about six
 times the size of DAMAGED until the end. Then it prints what the tables of NEW have, and which tables could not be read
-to their end. The exit status is 2 if it made none of the four, or says that they are not whole: the disk is full, or a
-write failed.
+to their end. The exit status is 2 if it made none of the four, or says that they are not whole, as where the disk is
+full; the log says why.
 
-It needs a sqlite3 of 3.37 or later with .recover: the one in PATH, or the program that the variable SQLITE3 names.'
+If you do not trust who made DAMAGED, run this as a user who can write no other file: .recover runs what stands behind a
+definition of the schema. It needs a sqlite3 of 3.37 or later with .recover: the one in PATH, or the program that the
+variable SQLITE3 names.'
 
 set -u
 umask 077
@@ -64,10 +66,25 @@ for end in '' -wal -journal; do
         chmod u+rw "$work/$copy.db$end"
     done
 done
+# last FROM COUNT: so many bytes of the journal, from so many before its end on.
+last() {
+    tail -c "$1" "$work/damaged.db-journal" | head -c "$2"
+}
+# A journal may end with the name of a super-journal, its length, a checksum and this mark. With the first copy that SQLite rolls back it would
+# delete that super-journal, and roll no other copy back then. So where the super-journal is there the copies lose the mark.
+if [ -e "$work/damaged.db-journal" ] && [ "$(last 8 8 | od -An -tx1 | tr -d ' ')" = d9d505f920a163d7 ]; then
+    len=$(last 16 4 | od -An -tu1 | awk '{ printf "%d", (($1 * 256 + $2) * 256 + $3) * 256 + $4 }')
+    if [ -s "$(last $((len + 16)) "$len" | tr '\0' '\n' | head -n 1)" ]; then
+        size=$(($(wc -c < "$work/damaged.db-journal") - 8))
+        for copy in damaged scratch; do
+            head -c "$size" "$damaged-journal" > "$work/$copy.db-journal" || die "$damaged-journal cannot be copied"
+        done
+    fi
+fi
 before=$PWD
 cd "$work" || exit 2
 # All files are there from the beginning, and room for a journal. all-written is removed if something could not be written.
-touch new.db replaced.db dumped.db report.db recover.sql recover.log run.sql run.out all-written both-ways.log new.db-journal 2> /dev/null ||
+touch new.db replaced.db dumped.db report.db recover.sql recover.log dump.log run.sql run.out all-written both-ways.log new.db-journal 2> /dev/null ||
     die "$beside takes no more files"
 rm new.db-journal
 exec 3>&2 2>> both-ways.log
@@ -82,41 +99,62 @@ if [ -z "$encoding" ]; then
     esac
 fi
 
-# pass: passes messages on to the log. Most of those of sqlite3 are about the damaged file; these say that a write failed.
+# Behind a definition the damaged file may have other statements, and commands of sqlite3. So all statements are run in safe mode, which takes no
+# other file but at a line with this word, which no file can know; and no line that the file gives begins with a point, as commands do.
+word=${work##*.}
+safe() {
+    sql -safe -nonce "$word" "$@"
+}
+no_commands() {
+    sed 's/^\./ &/'
+}
+# attach FILE NAME: the line and the statement that take FILE.db as NAME.
+attach() {
+    printf ".nonce %s\nATTACH '%s.db' AS %s;\n" "$word" "$1" "$2"
+}
+# pass: passes messages on to the log. Most of those of sqlite3 are about the damaged file; these say that a write failed, that memory was refused,
+# or that sqlite3 ended at what safe mode forbids.
 pass() {
-    awk '/: (database or disk is full|disk I\/O error)( \([0-9]+\))?$|^sqlite3 was killed/ { lost = 1 }
+    awk '/: (database or disk is full|disk I\/O error|out of memory)( \([0-9]+\))?$|^sqlite3 was killed|^line [0-9]+: cannot .* in safe mode$/ { lost = 1 }
         { print }
         END { exit lost }' >&2 || rm -f all-written
 }
+# alive STATUS NAME: says so if sqlite3 ended by a signal.
+alive() {
+    [ "$1" -lt 128 ] || echo "sqlite3 was killed: $2" >&2
+}
 # into FILE: runs the statements of standard input, which write into FILE.db.
 into() {
-    { sql "$1.db" || [ $? -lt 128 ] || echo "sqlite3 was killed: $1.db" >&2; } 2>&1 > run.out | pass
+    { safe "$1.db" || alive $? "$1.db"; } 2>&1 > run.out | pass
 }
 into report << SQL
 PRAGMA encoding = '$encoding';
 CREATE TABLE plain(id INT, place TEXT, name TEXT, before TEXT, those TEXT, definition TEXT);
+CREATE TABLE kept(file TEXT, place TEXT);
 CREATE TABLE recovered(name TEXT, count INT);
 CREATE TABLE rows(name TEXT, count INT, lost INT);
 CREATE TABLE others(name TEXT, file TEXT, count INT);
-CREATE TABLE whole(name TEXT);
+CREATE TABLE whole(name TEXT, count INT);
 SQL
 
 # with OTHER: what comes before statements that have OTHER.db as `other`. A database that is still empty has no encoding of its own.
 with() {
-    printf "PRAGMA encoding = '%s'; PRAGMA writable_schema = ON; ATTACH '%s.db' AS other; ATTACH 'report.db' AS report;\n" "$encoding" "$1"
+    printf "PRAGMA encoding = '%s'; PRAGMA writable_schema = ON;\n" "$encoding"
+    attach "$1" other
+    attach report report
 }
-# run FILE OTHER < STATEMENTS: runs them in FILE.db. No trigger fires.
+# run FILE OTHER < STATEMENTS: runs them in FILE.db. No trigger fires, and rows that break a CHECK are taken.
 run() {
     {
         printf '.dbconfig %s off\n' defensive enable_trigger
         with "$2"
-        printf 'PRAGMA foreign_keys = OFF; PRAGMA %s.synchronous = OFF;\n' main report
+        printf 'PRAGMA foreign_keys = OFF; PRAGMA ignore_check_constraints = ON; PRAGMA %s.synchronous = OFF;\n' main report
         cat
     } | into "$1"
 }
 # derive FILE OTHER < QUERY: runs the statements that a query over FILE.db gives, once all are there: it reads FILE.db until then.
 derive() {
-    { with "$2"; cat; echo "SELECT '-- all';"; } | sql "$1.db" > run.sql
+    { with "$2"; cat; echo "SELECT '-- all';"; } | safe "$1.db" | no_commands > run.sql
     if [ "$(tail -n 1 run.sql)" = '-- all' ]; then
         run "$1" "$2" < run.sql
     else
@@ -147,19 +185,21 @@ values=$(each "printf('quote(\"%w\")', name)" "|| '','' ||")
 # page for it. And if a definition is damaged, so that SQLite makes no table of it, its row of the schema is deleted: .recover would
 # leave out the pages of this table, and now puts their rows into lost_and_found.
 
+# The name of row s of the schema then: the first of three that no table has.
+place="(SELECT p.column1 || s.rowid FROM (VALUES ('~'), ('^'), ('!')) AS p WHERE p.column1 || s.rowid NOT IN (SELECT name FROM pragma_table_list) LIMIT 1)"
 # Whether row s of the schema is table l. If the name is damaged in one place of the row, it is whole behind CREATE TABLE.
 same="(s.name = l.name OR instr(s.sql, l.name) IN (14, 15) AND s.name NOT IN (SELECT name FROM pragma_table_list)
     AND l.name NOT IN (SELECT name FROM main.sqlite_schema))"
 echo 'Before .recover:' >&2
 into scratch << SQL
 PRAGMA writable_schema = ON;
-ATTACH 'report.db' AS report;
+$(attach report report)
 PRAGMA main.synchronous = OFF;
 PRAGMA report.synchronous = OFF;
 PRAGMA main.auto_vacuum = incremental;
-INSERT INTO report.plain SELECT s.rowid, '~' || s.rowid, l.name, s.sql,
+INSERT INTO report.plain SELECT s.rowid, $place, l.name, s.sql,
         (SELECT group_concat('c' || cid, ', ') FROM pragma_table_xinfo(l.name) WHERE hidden = 0),
-        printf('CREATE TABLE "~%d"(%s%s', s.rowid,
+        printf('CREATE TABLE "%s"(%s%s', $place,
             (SELECT group_concat('c' || cid || iif(pk AND NOT l.wr AND upper(type) = 'INTEGER'
                     AND (SELECT max(pk) FROM pragma_table_info(l.name)) = 1
                     AND NOT EXISTS (SELECT 1 FROM pragma_index_list(l.name) WHERE origin = 'pk'), ' INTEGER PRIMARY KEY', '')
@@ -169,7 +209,7 @@ INSERT INTO report.plain SELECT s.rowid, '~' || s.rowid, l.name, s.sql,
                 FROM (SELECT cid FROM pragma_table_xinfo(l.name) WHERE pk ORDER BY pk)), ')'))
     FROM main.sqlite_schema AS s, $tables AND s.type = 'table' AND $same
         AND EXISTS (SELECT 1 FROM pragma_table_xinfo(l.name) WHERE hidden = 2 OR lower(name) = '_rowid_' OR l.wr AND pk AND cid <> pk - 1);
-DELETE FROM report.plain WHERE length(definition) + 2 * length(place) >
+DELETE FROM report.plain WHERE place IS NULL OR length(definition) + 2 * length(place) >
     (SELECT length(sql) + length(name) + length(tbl_name) FROM main.sqlite_schema AS s WHERE s.rowid = plain.id);
 DELETE FROM main.sqlite_schema AS s WHERE rootpage > 0 AND type IS NOT 'index' AND name IS NOT 'sqlite_sequence'
     AND coalesce(sql, '') NOT LIKE 'CREATE INDEX %' AND coalesce(sql, '') NOT LIKE 'CREATE UNIQUE INDEX %'
@@ -177,13 +217,19 @@ DELETE FROM main.sqlite_schema AS s WHERE rootpage > 0 AND type IS NOT 'index' A
 UPDATE main.sqlite_schema AS s SET name = p.place, tbl_name = p.place, sql = p.definition FROM report.plain AS p WHERE s.rowid = p.id;
 SQL
 
+# settings: what comes before the text of .recover and of .dump.
+settings() {
+    echo '.dbconfig defensive off'
+    printf "PRAGMA synchronous = OFF; PRAGMA ignore_check_constraints = ON; PRAGMA encoding = '%s';\n" "$encoding"
+}
+
 # 2. What .recover finds goes into new.db and replaced.db: of several rows of one key the first, and the last.
-sql scratch.db .recover 2> recover.log | sed '1,10{/^PRAGMA encoding = /d;}' > recover.sql || rm -f all-written
+{ sql scratch.db .recover || alive $? .recover; } 2> recover.log | sed '1,10{/^PRAGMA encoding = /d;}' | no_commands > recover.sql || rm -f all-written
 pass < recover.log
 for file in new replaced; do
     echo "$file.db, from .recover:" >&2
     {
-        printf "PRAGMA synchronous = OFF; PRAGMA encoding = '%s';\n" "$encoding"
+        settings
         case $file in
             new) cat recover.sql ;;
             replaced) sed 's/^INSERT OR IGNORE/INSERT OR REPLACE/' recover.sql ;;
@@ -197,9 +243,10 @@ rm recover.sql
 # 3. What .dump reads goes into dumped.db: of each table the rows before the first page that cannot be read, and those behind the last.
 echo 'dumped.db, from .dump:' >&2
 {
-    printf "PRAGMA synchronous = OFF; PRAGMA encoding = '%s';\n" "$encoding"
-    sql damaged.db '.dump --preserve-rowids' | sed 's/^ROLLBACK; -- due to errors.*/COMMIT;/'
+    settings
+    { sql damaged.db '.dump --preserve-rowids' || alive $? .dump; } 2> dump.log | sed 's/^ROLLBACK; -- due to errors.*/COMMIT;/' | no_commands
 } | into dumped
+pass < dump.log
 
 # 4. new.db gets what only .dump gives, and what only SQLite itself can read.
 echo 'new.db, from the others:' >&2
@@ -285,10 +332,15 @@ SELECT 'UPDATE main.sqlite_sequence AS s SET seq = max(seq, o.most)
         WHERE name NOT IN (SELECT name FROM main.sqlite_sequence) GROUP BY name;'
     FROM main.sqlite_schema JOIN other.sqlite_schema USING (name) WHERE name = 'sqlite_sequence';
 SQL
+# If a virtual column of one row cannot be computed, none of the rows is inserted: then the table with the plain definition stays.
 for file in replaced new; do
-    derive "$file" dumped << 'SQL'
+    derive "$file" dumped << SQL
+SELECT printf('INSERT INTO report.kept SELECT ''$file'', %Q WHERE (SELECT count(*) FROM main."%w") > (SELECT count(*) FROM main."%w");',
+    place, place, m.name) FROM report.plain AS p JOIN main.sqlite_schema AS m ON m.sql = p.before AND place IN (SELECT name FROM main.sqlite_schema);
+SQL
+    derive "$file" dumped << SQL
 SELECT printf('DROP TABLE main."%w";', place) FROM report.plain WHERE before IN (SELECT sql FROM main.sqlite_schema)
-    AND place IN (SELECT name FROM main.sqlite_schema);
+    AND place IN (SELECT name FROM main.sqlite_schema) AND place NOT IN (SELECT place FROM report.kept WHERE file = '$file');
 SQL
     lacking "$file" true
 done
@@ -306,8 +358,8 @@ done
 # 5. What each table has.
 echo 'What could not be counted:' >&2
 derive damaged new << SQL
-SELECT printf('INSERT INTO report.whole SELECT %Q WHERE (SELECT %s FROM main."%w" NOT INDEXED) >= 0;', l.name,
-        $(each "printf('count(\"%w\" || '''')', name)" +), l.name)
+SELECT printf('INSERT INTO report.whole SELECT %Q, rows FROM (SELECT count(*) AS rows, %s AS read FROM main."%w" NOT INDEXED) WHERE read >= 0;',
+        l.name, $(each "printf('count(\"%w\" || '''')', name)" +), l.name)
     FROM $tables;
 SQL
 derive new dumped << SQL
@@ -324,18 +376,25 @@ SELECT printf('INSERT INTO report.others SELECT %Q, ''$file.db'', count(*) FROM 
 SQL
 done
 exec 2>&3
-sql report.db << 'SQL'
-SELECT printf('%s: %d row%s', n.name, n.count, iif(n.count = 1, '', 's'))
-    || iif(lost, ' of pages that no table refers to',
+# shown: text as a terminal may have it, with ? for control characters, also those of two bytes.
+shown() {
+    LC_ALL=C tr '\000-\011\013-\037\177' '?' | LC_ALL=C sed "s/$(printf '\302')[$(printf '\200')-$(printf '\237')]/?/g"
+}
+sql report.db << 'SQL' | shown
+SELECT printf('%s: %d row%s', replace(n.name, char(10), '?'), n.count, iif(n.count = 1, '', 's'))
+    || coalesce((SELECT ' of table ' || replace(p.name, char(10), '?') || ', which does not take all of them' FROM plain AS p WHERE p.place = n.name),
+        iif(lost, ' of pages that no table refers to',
         iif(n.count > coalesce(r.count, 0), printf(', %d more than .recover found', n.count - coalesce(r.count, 0)), '')
         || coalesce('; not among them: ' || (SELECT group_concat(printf('%d of %s', count, file), ', ')
             FROM others AS o WHERE o.name = n.name AND o.count > 0), '')
-        || iif(n.name IN (SELECT name FROM whole), '', '; SQLite cannot read this table to its end'))
-    FROM rows AS n LEFT JOIN recovered AS r USING (name) ORDER BY lost, n.name;
+        || iif(w.name IS NULL, '; SQLite cannot read this table to its end',
+            iif(w.count > n.count + coalesce((SELECT count FROM others AS o WHERE o.name = n.name AND file = 'dumped.db'), 0),
+                printf('; SQLite reads %d row%s of it in the damaged file', w.count, iif(w.count = 1, '', 's')), ''))))
+    FROM rows AS n LEFT JOIN recovered AS r USING (name) LEFT JOIN whole AS w USING (name) ORDER BY lost, n.name;
 SQL
 sql damaged.db 'PRAGMA writable_schema = ON; SELECT count(*) FROM sqlite_schema' > run.out 2>&1 ||
     echo 'SQLite cannot read the schema, so that .dump gave nothing'
-[ ! -s recover.log ] || printf '.recover came to no end: %s\n' "$(cat recover.log)"
+[ ! -s recover.log ] || printf '.recover came to no end: %s\n' "$(cat recover.log)" | shown
 cd "$before" || exit 2
 mv "$work/new.db" "$new" || exit 2
 for file in replaced.db dumped.db both-ways.log; do

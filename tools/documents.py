@@ -15,7 +15,7 @@ import sys
 
 TOP = os.path.dirname(os.path.dirname(os.path.abspath(__file__)))
 WORDS = {"README.md": 1800}
-ALL_WORDS = 38594
+ALL_WORDS = 38844
 WIDTH = 160
 # Sections that have to be there: what a reader acts on, and what a length must not take away.
 SECTIONS = {

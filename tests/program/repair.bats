@@ -530,7 +530,7 @@ with_disk() {
     local files
     with_sqlite
     database "$work/files/x.db" 20
-    for files in 1 2 4 5 8 10 11 12 13 14 15; do
+    for files in 1 2 4 5 8 10 11 12 13 14 15 16; do
         with_disk "size=9m,nr_inodes=$files"
         both_ways x.db disk/new.db
         if [ "$status" = 0 ]; then
@@ -568,10 +568,11 @@ with_disk() {
     with_sqlite
     database "$work/files/x.db" 5
     mv "$SQLITE3" "$work/recover"
-    # It ends by a signal once the statements for one database have come, or those that ask it for statements.
+    # It ends by a signal once the statements for one database have come, or those that ask it for statements, or where it reads.
     cat > "$SQLITE3" << 'END'
 #!/bin/bash
 case ${*: -1} in
+    ".$KILLED"*) kill -9 $$ ;;
     "$KILLED") cat > "$WORK/lines" && if grep -q "$AT" "$WORK/lines"; then kill -9 $$; fi && exec "$WORK/recover" "$@" < "$WORK/lines" ;;
 esac
 exec "$WORK/recover" "$@"
@@ -581,6 +582,12 @@ END
         KILLED=$name.db AT='' both_ways x.db
         row "$name.db" ended 2 '*' $'*both-ways.sh: not all of new.db, replaced.db and dumped.db could be written *\n'
         row "$name.db: the log" grep -qx "sqlite3 was killed: $name.db" "$work/files/both-ways.log"
+        clear_made
+    done
+    for name in recover dump; do
+        KILLED=$name both_ways x.db
+        row ".$name" ended 2 '*' $'*both-ways.sh: not all of new.db, replaced.db and dumped.db could be written *\n'
+        row ".$name: the log" grep -qx "sqlite3 was killed: .$name" "$work/files/both-ways.log"
         clear_made
     done
     for name in new replaced; do
@@ -597,7 +604,7 @@ END
     database "$work/files/x.db" 100
     FAILING=$damaged both_ways x.db
     row "$damaged" ended_exactly 0 $'t: 100 rows\n.recover came to no end: '"$damaged"$'\n' ''
-    for said in 'sql error: database or disk is full (13)' 'Error: near line 2: disk I/O error'; do
+    for said in 'sql error: database or disk is full (13)' 'Error: near line 2: disk I/O error' 'sql error: out of memory (7)'; do
         clear_made
         FAILING=$said both_ways x.db
         row "$said" ended 2 $'t: 100 rows\n.recover came to no end: *\n' 'both-ways.sh: not all of new.db, *'
@@ -711,4 +718,136 @@ END
     : > "$work/schema"
     both_ways x.db
     row 'the schema of .recover' [ "$(cat "$work/schema")" = 'nam~' ]
+}
+
+# The definition of t goes on with a command of sqlite3, or with statements. At the latter sqlite3 ends.
+@test 'both-ways.sh runs no command that stands behind a definition, and touches no other database' {
+    local bare behind
+    with_sqlite
+    sqlite3 "$work/other.db" 'CREATE TABLE v(a); INSERT INTO v VALUES (1)'
+    while read -r behind; do
+        rm -f "$work/files/x.db"
+        sqlite3 "$work/files/x.db" "CREATE TABLE t(a); INSERT INTO t VALUES (1); PRAGMA writable_schema = ON;
+            UPDATE sqlite_schema SET sql = 'CREATE TABLE t(a);' || char(10) || '${behind//\'/\'\'}' || char(10) || '--'"
+        # The second time .recover gives no table.
+        for bare in '' 1; do
+            if [[ $behind = .* ]]; then
+                BARE=$bare makes $'t: 1 row*' x.db
+            else
+                BARE=$bare both_ways x.db
+                row "$behind${bare:+, without .recover}" ended 2 '*' $'*both-ways.sh: not all of new.db, *: ./both-ways.log says why\n'
+                row "$behind: the log" grep -q '^line [0-9]*: cannot .* in safe mode$' "$work/files/both-ways.log"
+            fi
+            row "$behind: files" [ "$(cd "$work" && echo run*)" = 'run*' ]
+            row "$behind: the other database" [ "$(sqlite3 "$work/other.db" 'SELECT count(*) FROM v')" = 1 ]
+            clear_made
+        done
+    done << END
+.shell touch $work/run
+.system touch $work/run
+.once $work/run
+.import /etc/passwd t
+.trace $work/run
+ATTACH '$work/other.db' AS w; DELETE FROM w.v;
+COMMIT; VACUUM INTO '$work/run';
+SELECT writefile('$work/run', 'x');
+END
+    [ "$rows" = 54 ]
+}
+
+# super NAME: makes x.db, whose two pages of before are in its journal, and this ends with the name of a super-journal.
+super() {
+    sqlite3 "$work/after.db" "PRAGMA page_size = 512; CREATE TABLE t(a); INSERT INTO t VALUES ('before')"
+    cp "$work/after.db" "$work/files/x.db"
+    journal_of "$work/files/x.db" <<< '1 2'
+    sqlite3 "$work/after.db" "UPDATE t SET a = 'half'; INSERT INTO t VALUES ('half 2')"
+    mv "$work/after.db" "$work/files/x.db"
+    python3 - "$work/files/x.db-journal" "$1" << 'END'
+import sys
+name = sys.argv[2].encode()
+with open(sys.argv[1], "ab") as journal:
+    journal.write(((1 << 30) // 512 + 1).to_bytes(4, "big") + name + len(name).to_bytes(4, "big") + sum(name).to_bytes(4, "big"))
+    journal.write(bytes.fromhex("d9d505f920a163d7"))
+END
+}
+
+# What the super-journal names is not there, so that SQLite would delete it with the first copy that it rolls back. Its name has 270 bytes and more.
+@test 'both-ways.sh rolls back each copy of a database whose journal names a super-journal that is there, and keeps that' {
+    local file there
+    with_sqlite
+    needs python3
+    there=$work/$(printf 'long%.0s' {1..60})
+    mkdir "$there"
+    super "$there/super one, with a name"
+    printf '/none/m.db-journal\0' > "$there/super one, with a name"
+    there > "$work/before"
+    makes $'t: 1 row\n' x.db
+    for file in new dumped; do row "$file.db" [ "$(sqlite3 "$work/files/$file.db" 'SELECT a FROM t')" = before ]; done
+    clear_made
+    row 'the folder' diff "$work/before" <(there)
+    row 'the super-journal' cmp "$there/super one, with a name" <(printf '/none/m.db-journal\0')
+    # With an empty one, or none, SQLite rolls nothing back.
+    : > "$there/super one, with a name"
+    makes $'t: 2 rows\n' x.db
+    row 'the rows with an empty one' [ "$(sqlite3 "$work/files/new.db" 'SELECT a FROM t')" = $'half\nhalf 2' ]
+    clear_made
+    rm "$there/super one, with a name"
+    makes $'t: 2 rows\n' x.db
+    row 'the rows with none' [ "$(sqlite3 "$work/files/new.db" 'SELECT a FROM t')" = $'half\nhalf 2' ]
+}
+
+@test 'both-ways.sh keeps rows that break a CHECK, and says how many break another rule' {
+    with_sqlite
+    sqlite3 "$work/files/x.db" "CREATE TABLE c(a INTEGER PRIMARY KEY, b); INSERT INTO c VALUES (1, 100), (2, -50), (3, 70);
+        CREATE TABLE n(a INTEGER PRIMARY KEY, b); INSERT INTO n VALUES (1, 1), (2, NULL); CREATE TABLE s(a INTEGER PRIMARY KEY, b);
+        INSERT INTO s VALUES (1, 'text'); PRAGMA writable_schema = ON;
+        UPDATE sqlite_schema SET sql = 'CREATE TABLE c(a INTEGER PRIMARY KEY, b CHECK (b >= 0))' WHERE name = 'c';
+        UPDATE sqlite_schema SET sql = 'CREATE TABLE n(a INTEGER PRIMARY KEY, b NOT NULL)' WHERE name = 'n';
+        UPDATE sqlite_schema SET sql = 'CREATE TABLE s(a INTEGER PRIMARY KEY, b INT) STRICT' WHERE name = 's'"
+    makes "c: 3 rows
+n: 1 row; SQLite reads 2 rows of it in the damaged file
+s: 0 rows; SQLite reads 1 row of it in the damaged file
+" x.db
+    has $'1|100\n2|-50\n3|70\n' 'SELECT * FROM c'
+    clear_made
+    ROWLESS=1 makes $'c: 3 rows, 3 more than .recover found\nn: *s: *' x.db
+    has $'1|100\n2|-50\n3|70\n' 'SELECT * FROM c'
+}
+
+# So the rows of the plain definition cannot be put into the table.
+@test 'both-ways.sh keeps the rows of a table if a column of one of them cannot be computed' {
+    with_sqlite
+    sqlite3 "$work/files/x.db" "CREATE TABLE j(a INTEGER PRIMARY KEY, b); INSERT INTO j VALUES (1, '{\"k\": 1}'), (2, 'x'), (3, '{\"k\": 3}');
+        PRAGMA writable_schema = ON; UPDATE sqlite_schema
+        SET sql = 'CREATE TABLE j(a INTEGER PRIMARY KEY, b DEFAULT ''that takes room for the name'', k NOT NULL AS (json_extract(b, ''$.k'')))'"
+    DUMPLESS=1 makes "j: 0 rows; SQLite reads 3 rows of it in the damaged file
+~1: 3 rows of table j, which does not take all of them
+" x.db
+    has $'1|{"k": 1}\n2|x\n3|{"k": 3}\n' 'SELECT * FROM "~1"'
+}
+
+@test 'both-ways.sh saves a table that has the name of a plain definition, and one with a column _ROWID_' {
+    with_sqlite
+    sqlite3 "$work/files/x.db" "CREATE TABLE \"~2\"(a INTEGER PRIMARY KEY, b); INSERT INTO \"~2\" VALUES (1, 'x'), (5, 'y');
+        CREATE TABLE v(a, b AS (a + 1), c DEFAULT 'a text that takes room for the name'); INSERT INTO v(a) VALUES (10);
+        CREATE TABLE u(_ROWID_ TEXT, b); INSERT INTO u(rowid, _ROWID_, b) VALUES (7, 'x', 1), (9, 'y', 2)"
+    makes $'u: 2 rows\nv: 1 row\n~2: 2 rows\n' x.db
+    has $'1|x\n5|y\n10|11\n7|x|1\n9|y|2\n' 'SELECT * FROM "~2"; SELECT a, b FROM v; SELECT rowid, * FROM u'
+}
+
+# So SQLite moves no page of the copy when it frees one.
+@test 'both-ways.sh gives .recover a database with incremental auto_vacuum in place of a full one' {
+    with_sqlite
+    sqlite3 "$work/files/x.db" 'PRAGMA auto_vacuum = FULL; CREATE TABLE t(a); INSERT INTO t VALUES (1)'
+    sed -i 's/SELECT name FROM sqlite_schema/PRAGMA auto_vacuum/' "$SQLITE3"
+    : > "$work/schema"
+    makes $'t: 1 row\n' x.db
+    row 'auto_vacuum' [ "$(cat "$work/schema")" = 2 ]
+}
+
+@test 'both-ways.sh shows no control character of a name or a message' {
+    with_sqlite
+    sqlite3 "$work/files/x.db" "CREATE TABLE \"a"$'\e'"[31m"$'\n'"b: 9 rows"$'\u9b'"é\"(a)"
+    FAILING=$'sql error: \e[1m' both_ways x.db
+    row 'what it prints' ended_exactly 0 $'a?[31m?b: 9 rows?é: 0 rows\n.recover came to no end: sql error: ?[1m\n' ''
 }
