@@ -249,6 +249,14 @@ to_be_nobody() {
 # The disks of tests of reads: all reads of the first take no time, as of a file in memory, and none of the second is fast.
 disks=(SLOW=0 SLOW=20)
 
+# system_errors: the number and the text of each error of the system, but for ENOENT, ENOMEM and ENAMETOOLONG.
+system_errors() {
+    python3 -c '
+import errno, os
+for error in sorted(errno.errorcode.keys() - {errno.ENOENT, errno.ENOMEM, errno.ENAMETOOLONG}):
+    print(error, os.strerror(error))'
+}
+
 # on_disk SETTING..: lets `as` run the program with the files on a disk that is slow, or has a bad block: see disk.c.
 on_disk() {
     needs cc

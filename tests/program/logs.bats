@@ -158,15 +158,16 @@ noted() {
 
 @test 'a log that the system cannot look at has a note' {
     local error
+    needs python3
     cp "$data/whole.db" "$work/x.db"
     log_notes "$work/x.db"
-    # EIO, ENXIO, ETIMEDOUT and ESTALE.
-    for error in 5 6 110 116; do
+    while read -r error _; do
         on_disk HIDDEN=x.db-wal "HIDDEN_ERROR=$error"
         exactly 0 $'ok\n' "$wal" check "$work/x.db"
         on_disk HIDDEN=x.db-journal "HIDDEN_ERROR=$error"
         exactly 0 $'ok\n' "$journal" check "$work/x.db"
-    done
+    done < <(system_errors)
+    [ "$rows" -gt 200 ]
     on_disk HIDDEN_LINK=x.db
     exactly 0 $'ok\n' "dbck: note: $work/x.db: whether a log is beside it is not known"$'\n' check "$work/x.db"
 }

@@ -190,8 +190,8 @@ def far(path):
     chained(path, 4096, 489, beyond + 64, [*range(3, 41), *range(beyond + 36, beyond + 65)])
 
 
-def high(size, path):
-    below, count = (1 << 32) // size, 400
+def high(size, bits, path):
+    below, count = (1 << bits) // size, min(400, size // 10)
     db = Sparse(path, below + count, size)
     db.tree_page(1, LEAF_TABLE, [row(1, "t", 2)])
     db.interior(2, below + count, *((below + k, k) for k in range(1, count)))
@@ -226,7 +226,7 @@ if __name__ == "__main__":
     elif sys.argv[1] == "far":
         far(sys.argv[2])
     elif sys.argv[1] == "high":
-        high(int(sys.argv[2]), sys.argv[3])
+        high(int(sys.argv[2]), int(sys.argv[3]), sys.argv[4])
     elif sys.argv[1] == "beyond":
         beyond(sys.argv[2])
     elif sys.argv[1] == "back":

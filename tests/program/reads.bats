@@ -432,16 +432,23 @@ END
     [ "$bytes" -lt $((160 * 1048576)) ] || fail "$bytes bytes"
 }
 
+# Of the second file little is used, so that no MiB is read as a whole, at the last time.
 @test 'pages of each size that a slow disk gives in any order are what the file has' {
+    local kept='INSERT INTO t SELECT 7919 * n % 8009, randomblob(3000) FROM k' numbers='WITH RECURSIVE k(n) AS (SELECT 1 UNION ALL SELECT n + 1 FROM k)'
     needs sqlite3
-    for size in 4096 8192 16384 32768; do
-        rm -f "$work/x.db"
-        sqlite3 "$work/x.db" "PRAGMA page_size = $size; CREATE TABLE t (a INTEGER PRIMARY KEY, b);
-            WITH RECURSIVE k(n) AS (SELECT 1 UNION ALL SELECT n + 1 FROM k WHERE n < 8000) INSERT INTO t SELECT 7919 * n % 8009, randomblob(3000) FROM k;"
+    for size in 512 1024 2048 4096 8192 16384 32768 65536; do
+        rm -f "$work"/{full,free}.db
+        sqlite3 "$work/full.db" "PRAGMA page_size = $size; CREATE TABLE t(a INTEGER PRIMARY KEY, b); $numbers $kept LIMIT 4000"
+        sqlite3 "$work/free.db" "PRAGMA page_size = $size; BEGIN; CREATE TABLE t(a INTEGER PRIMARY KEY, b); CREATE TABLE gone(a); $numbers $kept LIMIT 40;
+            $numbers INSERT INTO gone SELECT zeroblob(2000000) FROM k LIMIT 20; $numbers $kept LIMIT 40 OFFSET 40; DROP TABLE gone; COMMIT"
         on_disk SLOW=100
-        exactly 0 $'ok\n' '' check "$work/x.db"
+        exactly 0 $'ok\n' '' check "$work/full.db"
+        exactly 0 $'ok\n' '' check "$work/free.db"
+        on_disk SLOW=3000
+        exactly 0 $'ok\n' '' check "$work/free.db"
         as=()
     done
+    [ "$rows" = 24 ]
 }
 
 @test 'of a log no more is read than is needed' {

@@ -514,19 +514,15 @@ recovering() {
 
 @test 'a log that the system cannot look at is E8, and is not passed over' {
     local suffix error said
+    needs python3
     cp "$data/whole.db" "$work/x.db"
     while read -r error said; do
         for suffix in journal wal; do
             on_disk "HIDDEN=x.db-$suffix" "HIDDEN_ERROR=$error"
             exactly 4 '' "dbck: note: $work/x.db-$suffix: $said"$'\n'"$unread" check --recovered "$work/x.db"
         done
-    done << 'END'
-5 Input/output error
-6 No such device or address
-110 Connection timed out
-116 Stale file handle
-END
-    [ "$rows" = 8 ]
+    done < <(system_errors)
+    [ "$rows" -gt 200 ]
 }
 
 @test 'a link that the system cannot look at is E8, and its logs are not passed over' {

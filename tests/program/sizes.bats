@@ -338,17 +338,44 @@ END
     exactly 1 $'N01 page 41 item 0 value 0: page is not in use\nmore 1048569\n' '' check --limit 1 "$work/x.db"
 }
 
-# high SIZE: of a file whose last 400 pages alone are above 4 GiB, these and the first two are in use. One of the others is the lock-byte page.
+# high SIZE BITS: of a file whose last pages, of this size, up to 400, alone are above so many bits, these and the first two are in use. One of
+# the others is the lock-byte page.
 high() {
-    large high "$1" "$work/x.db"
+    large high "$1" "$2" "$work/x.db"
+    is_high "$@"
+}
+is_high() {
     dbck check --limit 1 "$work/x.db"
-    ended_exactly 1 $'N01 page 3 item 0 value 0: page is not in use\nmore '$(((1 << 32) / $1 - 4))$'\n' ''
+    ended_exactly 1 $'N01 page 3 item 0 value 0: page is not in use\nmore '$(((1 << $2) / $1 - 4))$'\n' ''
 }
 
 # Those of 4096 bytes are read in longer and longer reads, and of longer ones some in two parts.
 @test 'leaves that follow one another above 4 GiB are read from where they are' {
     local size
-    for size in 4096 8192 16384 32768 65536; do row "leaves of $size bytes" high "$size"; done
+    for size in 4096 8192 16384 32768 65536; do row "leaves of $size bytes" high "$size" 32; done
+}
+
+# A slow disk is read by MiBs, and a turning one by more of them.
+@test 'leaves of each size far above 4 GiB are read from where they are, also from a disk' {
+    local bits micros size
+    while read -r size bits; do
+        as=()
+        row "leaves of $size bytes" high "$size" "$bits"
+        for micros in 100 3000; do
+            on_disk "SLOW=$micros"
+            row "leaves of $size bytes, in $micros microseconds" is_high "$size" "$bits"
+        done
+    done << 'END'
+512 34
+1024 35
+2048 36
+4096 37
+8192 38
+16384 38
+32768 38
+65536 38
+END
+    [ "$rows" = 24 ]
 }
 
 # 2^32 bytes after the page and 265 more.
