@@ -123,9 +123,9 @@ pass() {
 alive() {
     [ "$1" -lt 128 ] || echo "sqlite3 was killed: $2" >&2
 }
-# into FILE: runs the statements of standard input, which write into FILE.db.
+# into FILE: runs the statements of standard input, which write into FILE.db, also into its schema.
 into() {
-    { safe "$1.db" || alive $? "$1.db"; } 2>&1 > run.out | pass
+    { { echo '.dbconfig defensive off'; cat; } | safe "$1.db" || alive $? "$1.db"; } 2>&1 > run.out | pass
 }
 into report << SQL
 PRAGMA encoding = '$encoding';
@@ -137,18 +137,23 @@ CREATE TABLE others(name TEXT, file TEXT, count INT);
 CREATE TABLE whole(name TEXT, count INT);
 SQL
 
-# with OTHER: what comes before statements that have OTHER.db as `other`. A database that is still empty has no encoding of its own.
+# settings: what comes before all statements. A database that is still empty has no encoding of its own, and rows that break a CHECK are taken.
+settings() {
+    printf "PRAGMA encoding = '%s'; PRAGMA synchronous = OFF; PRAGMA ignore_check_constraints = ON;\n" "$encoding"
+}
+# with OTHER: what comes before statements that have OTHER.db as `other`.
 with() {
-    printf "PRAGMA encoding = '%s'; PRAGMA writable_schema = ON;\n" "$encoding"
+    settings
+    echo 'PRAGMA writable_schema = ON;'
     attach "$1" other
     attach report report
 }
-# run FILE OTHER < STATEMENTS: runs them in FILE.db. No trigger fires, and rows that break a CHECK are taken.
+# run FILE OTHER < STATEMENTS: runs them in FILE.db. No trigger fires.
 run() {
     {
-        printf '.dbconfig %s off\n' defensive enable_trigger
+        echo '.dbconfig enable_trigger off'
         with "$2"
-        printf 'PRAGMA foreign_keys = OFF; PRAGMA ignore_check_constraints = ON; PRAGMA %s.synchronous = OFF;\n' main report
+        echo 'PRAGMA foreign_keys = OFF; PRAGMA report.synchronous = OFF;'
         cat
     } | into "$1"
 }
@@ -217,14 +222,13 @@ DELETE FROM main.sqlite_schema AS s WHERE rootpage > 0 AND type IS NOT 'index' A
 UPDATE main.sqlite_schema AS s SET name = p.place, tbl_name = p.place, sql = p.definition FROM report.plain AS p WHERE s.rowid = p.id;
 SQL
 
-# settings: what comes before the text of .recover and of .dump.
-settings() {
-    echo '.dbconfig defensive off'
-    printf "PRAGMA synchronous = OFF; PRAGMA ignore_check_constraints = ON; PRAGMA encoding = '%s';\n" "$encoding"
+# text NAME FILE COMMAND: what a command gives of FILE.db. Its messages go to NAME.log.
+text() {
+    { sql "$2.db" "$3" || alive $? ".$1"; } 2> "$1.log" | no_commands
 }
 
 # 2. What .recover finds goes into new.db and replaced.db: of several rows of one key the first, and the last.
-{ sql scratch.db .recover || alive $? .recover; } 2> recover.log | sed '1,10{/^PRAGMA encoding = /d;}' | no_commands > recover.sql || rm -f all-written
+text recover scratch .recover | sed '1,10{/^PRAGMA encoding = /d;}' > recover.sql || rm -f all-written
 pass < recover.log
 for file in new replaced; do
     echo "$file.db, from .recover:" >&2
@@ -244,7 +248,7 @@ rm recover.sql
 echo 'dumped.db, from .dump:' >&2
 {
     settings
-    { sql damaged.db '.dump --preserve-rowids' || alive $? .dump; } 2> dump.log | sed 's/^ROLLBACK; -- due to errors.*/COMMIT;/' | no_commands
+    text dump damaged '.dump --preserve-rowids' | sed 's/^ROLLBACK; -- due to errors.*/COMMIT;/'
 } | into dumped
 pass < dump.log
 
