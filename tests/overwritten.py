@@ -44,13 +44,19 @@ def mixed(rows, size):
         UPDATE t SET a = substr(a, 3) WHERE id % 11 = 3; DELETE FROM o WHERE rowid % 3 = 0;"""
 
 
-def thinned(rows):
-    """A table and an index of which rows here and there, and then many side by side, were deleted, and few added."""
+def columns(count):
+    """The names of so many columns."""
+    return ",".join(f"c{column}" for column in range(count))
+
+
+def thinned(rows, before=0):
+    """A table and an index of which rows here and there, and then many side by side, were deleted, and few added. `before` comes before the
+    first rowid."""
     return f"""BEGIN;
         CREATE TABLE t(id INTEGER PRIMARY KEY, a, b); CREATE INDEX i ON t(b);
-        INSERT INTO t {up_to(rows)} SELECT n, printf('text %d', n), n * 37 % 211 FROM k;
+        INSERT INTO t {up_to(rows)} SELECT n + {before}, printf('text %d', n), n * 37 % 211 FROM k;
         DELETE FROM t WHERE id % 9 = 4; UPDATE t SET a = substr(a, 3) WHERE id % 11 = 3;
-        DELETE FROM t WHERE id BETWEEN {rows // 2} AND {rows * 2 // 3};
+        DELETE FROM t WHERE id - {before} BETWEEN {rows // 2} AND {rows * 2 // 3};
         INSERT INTO t {up_to(rows // 20)} SELECT NULL, 'new', n FROM k; COMMIT;"""
 
 
@@ -184,7 +190,7 @@ DATABASES = {
         CREATE INDEX j ON t(b % 3, a DESC);"""),
     # Records whose header has a size of two bytes.
     "columns": (512, 0, f"""
-        CREATE TABLE t({','.join(f'c{column}' for column in range(70))});
+        CREATE TABLE t({columns(70)});
         INSERT INTO t(c0, c1, c69) {up_to(60)} SELECT n, n * 3, 'z' || n FROM k;
         CREATE TABLE w({','.join(f'c{column} INT NOT NULL DEFAULT 0' for column in range(140))}, PRIMARY KEY(c0, c1)) WITHOUT ROWID;
         INSERT INTO w(c0, c1, c139) {up_to(60)} SELECT n % 5, n, -n FROM k;"""),
@@ -323,7 +329,7 @@ DATABASES = {
         INSERT INTO t {up_to(9000)} SELECT n % 200 FROM k;"""),
     # Records with more than 256 columns, and so a header of more bytes.
     "many-columns": (4096, 0, f"""
-        CREATE TABLE t({','.join(f'c{column}' for column in range(300))});
+        CREATE TABLE t({columns(300)});
         INSERT INTO t(c0, c299) {up_to(60)} SELECT n, 'z' || n FROM k;"""),
     # More than 64 children of a page.
     "many-children": (1024, 0, f"""
@@ -331,16 +337,16 @@ DATABASES = {
         INSERT INTO t {up_to(700)} SELECT n, hex(zeroblob(60)) FROM k;"""),
     # Keys that differ in their last column alone, and behind a zero byte.
     "wide-keys": (512, 0, f"""
-        CREATE TABLE t({','.join(f'c{column}' for column in range(30))}, last); INSERT INTO t
-        {up_to(120)} SELECT {'1,' * 30} n * 37 % 121 FROM k; CREATE INDEX i ON t({','.join(f'c{column}' for column in range(30))}, last);"""),
+        CREATE TABLE t({columns(30)}, last); INSERT INTO t {up_to(120)} SELECT {'1,' * 30} n * 37 % 121 FROM k;
+        CREATE INDEX i ON t({columns(30)}, last);"""),
     "zero-bytes": (512, 0, f"""
         CREATE TABLE t(a); CREATE INDEX i ON t(a); INSERT INTO t {up_to(90)} SELECT 'ab' || char(0) || printf('%04d', n * 37 % 151) || 'abc' FROM k;
         INSERT INTO t {up_to(90)} SELECT CAST('ab' || char(0) || printf('%04d', n * 37 % 151) || 'abc' AS BLOB) FROM k;"""),
     # Rowids below 0, and long ones.
-    "below-0": (512, 0, thinned(300).replace("SELECT n,", "SELECT n - 600,").replace("BETWEEN", "+ 600 BETWEEN")),
-    "long-rowids": (1024, 0, thinned(300).replace("SELECT n,", "SELECT n + 9000000000000000000,").replace("BETWEEN", "% 1000 BETWEEN")),
+    "below-0": (512, 0, thinned(300, -600)),
+    "long-rowids": (1024, 0, thinned(300, 9 * 10**18)),
     # The first schema format.
-    "format-1": (512, 0, "PRAGMA legacy_file_format = ON;" + mixed(300, 500)),
+    "format-1": (512, 0, mixed(300, 500)),
     # Rows on a few leaves, with freeblocks, and a tree of four levels. Numbers of several pages are overwritten.
     "rows": (512, 0, f"""
         CREATE TABLE t(id INTEGER PRIMARY KEY, a); INSERT INTO t {up_to(120)} SELECT n, 'the row of number ' || n FROM k;
@@ -610,13 +616,15 @@ def overwrite_pages(count):
     kinds = [kind for name, kind in mend.KINDS.items() if not name.startswith(("two", "three")) and kind != mend.overwrite_header]
 
     def injure(db):
-        sound, wrong, pages = bytes(db.data), bytearray(db.data), set()
+        sound, wrong, pages = bytes(db.data), bytearray(db.data), []
+        every = [slice(db.start(page), db.start(page + 1)) for page in range(1, db.pages + 1)]
         for _ in range(8 * count):
+            if len(pages) == count:
+                break
             db.one_of(kinds)(db)
-            places = [slice(db.start(page), db.start(page + 1)) for page in range(1, db.pages + 1)]
-            changed = [place for place in places if db.data[place] != sound[place]]
-            if len(pages) < count and len(changed) == 1 and changed[0].start not in pages:
-                pages.add(changed[0].start)
+            changed = [page for page in every if db.data[page] != sound[page]]
+            if len(changed) == 1 and changed[0] not in pages:
+                pages += changed
                 wrong[changed[0]] = db.data[changed[0]]
             db.data[:] = sound
         db.data[:] = wrong
@@ -645,6 +653,9 @@ def made(file, name):
     # Numbers of the header that make no fault. Of every second database: of WAL mode, and those of a program of its own.
     if chance % 2:
         data[18:20], data[63], data[71] = b"\2\2", 7, 9
+    # SQLite writes the fourth schema format, and reads the first one.
+    if name == "format-1":
+        data[47] = 1
     # Of every third one: an old SQLite has changed it, so that the number of pages is not known, and bytes come after the last page.
     if chance % 3 == 0:
         data[27] = (data[27] + 5) % 256

@@ -344,6 +344,18 @@ open(path + "-journal", "wb").write(out)
 ' "$1"
 }
 
+# name_super JOURNAL NAME: puts the name of a super-journal to the end of a journal. A @ in it stands for a byte of 0.
+name_super() {
+    python3 - "$@" << 'END'
+import os, sys
+with open(sys.argv[1], "ab") as journal:
+    name = os.fsencode(sys.argv[2]).replace(b"@", b"\0")
+    # SQLite adds the bytes as signed ones.
+    total = sum(byte - 256 * (byte > 127) for byte in name) % 2**32
+    journal.write(name + len(name).to_bytes(4, "big") + total.to_bytes(4, "big") + bytes.fromhex("d9d505f920a163d7"))
+END
+}
+
 # with_zeros: makes cold.db, hot.db and wal.db, each with a log of 64 MiB that ends in zeros which nobody needs: a journal that begins with
 # 0, one that gives page 1, and a -wal without a head. Their names are in `logs`.
 with_zeros() {

@@ -1,5 +1,5 @@
 #!/usr/bin/env python3
-"""Makes large databases: make.py tables COUNT LENGTH FILE, long GIB FILE, mapped SIZE PAGES FILE, far FILE, high SIZE FILE,
+"""Makes large databases: make.py tables COUNT LENGTH FILE, long GIB FILE, mapped SIZE PAGES FILE, far FILE, high SIZE BITS FILE,
 beyond FILE, back COUNT FILE, halves COUNT FILE.
 
 The first three are sound. A `tables` file has as many tables as COUNT, each with a name of LENGTH bytes and an empty page of 512 bytes. First
@@ -14,8 +14,8 @@ the freelist, but for the last ones: two leaves of the schema, two of the first 
 A `far` file has pages of 4096 bytes, and little more than 4 GiB. A row's overflow pages follow one another up to page 40; the others do from
 2^32 bytes after page 36 on, to the end of the file. No other page above 2 is in use.
 
-A `high` file has pages of SIZE bytes, 4096 at least, of which a table's 400 leaves are the last; they follow one another from 2^32 bytes on. No
-other page above 2 is in use.
+A `high` file has pages of SIZE bytes, of which the leaves of a table, 400 or as many as one page above them leads to, are the last; they follow
+one another from 2^BITS bytes on. No other page above 2 is in use.
 
 A `beyond` file has pages of 65536 bytes, and more than 73 GiB. A row's overflow chain is in its last 300 pages.
 

@@ -277,18 +277,6 @@ altered() {
     cold 'has fewer than 512 bytes, and is not rolled back: ask for all of it'
 }
 
-# name_super NAME: puts the name of a super-journal to the end of then.db-journal. A @ in it stands for a byte of 0.
-name_super() {
-    python3 - "$work/then.db-journal" "$1" << 'END'
-import os, sys
-with open(sys.argv[1], "ab") as journal:
-    name = os.fsencode(sys.argv[2]).replace(b"@", b"\0")
-    # SQLite adds the bytes as signed ones.
-    total = sum(byte - 256 * (byte > 127) for byte in name) % 2**32
-    journal.write(name + len(name).to_bytes(4, "big") + total.to_bytes(4, "big") + bytes.fromhex("d9d505f920a163d7"))
-END
-}
-
 # The report of then.db with its journal is that of before.db, which is what SQLite makes of it.
 is_rolled_back() {
     dbck check "$work/before.db"
@@ -302,7 +290,7 @@ is_rolled_back() {
 
 @test 'the name of a super-journal is shown in its note' {
     journaled_alone
-    name_super "$work/"$'main\e[2J\n.db-mj1'
+    name_super "$work/then.db-journal" "$work/"$'main\e[2J\n.db-mj1'
     cold "names the super-journal $work/main\\x1b[2J\\x0a.db-mj1, which is not here, and is not rolled back (see the manual)"
 }
 
@@ -314,9 +302,7 @@ is_rolled_back() {
     echo journal > "$work/pair.db-journal"
     exactly 0 $'ok\n' "dbck: note: $work/pair.db-journal has fewer than 512 bytes, and is not rolled back: ask for all of it"$'\n'"$read" check --recovered "$work/pair.db"
     journal_of "$work/pair.db" <<< 1
-    mv "$work/pair.db-journal" "$work/then.db-journal"
-    name_super "$name"
-    mv "$work/then.db-journal" "$work/pair.db-journal"
+    name_super "$work/pair.db-journal" "$name"
     exactly 0 $'ok\n' "dbck: note: $work/pair.db-journal names the super-journal $name, which is not here, and is not rolled back (see the manual)"$'\n'"$read" \
         check --recovered "$work/pair.db"
     rm "$work/pair.db-journal"
@@ -327,7 +313,7 @@ is_rolled_back() {
 @test 'a journal that names a super-journal is rolled back where that is there' {
     local name=$work/main.db-mj1
     journaled_alone
-    name_super "$name"
+    name_super "$work/then.db-journal" "$name"
     cold "names the super-journal $name, which is not here, and is not rolled back (see the manual)"
     # One of the same name in another folder, which is the one that the program runs in, is not it.
     mkdir "$work/here"
@@ -344,7 +330,7 @@ is_rolled_back() {
 
 @test 'the name of a super-journal ends at a byte of 0' {
     journaled_alone
-    name_super "$work/main.db-mj1@more"
+    name_super "$work/then.db-journal" "$work/main.db-mj1@more"
     cold "names the super-journal $work/main.db-mj1, which is not here, and is not rolled back (see the manual)"
     echo then.db-journal > "$work/main.db-mj1"
     # SQLite reads the name so.
@@ -354,7 +340,7 @@ is_rolled_back() {
 @test 'a journal that names a super-journal is rolled back where its name is not ASCII' {
     local name=$work/$'m\u00e4in.db-mj1'
     journaled_alone
-    name_super "$name"
+    name_super "$work/then.db-journal" "$name"
     cold "names the super-journal $name, which is not here, and is not rolled back (see the manual)"
     echo then.db-journal > "$name"
     is_rolled_back
@@ -363,7 +349,7 @@ is_rolled_back() {
 # It has the name of each database that the transaction wrote.
 @test 'a journal that names a super-journal is rolled back where that is long' {
     journaled_alone
-    name_super "$work/main.db-mj1"
+    name_super "$work/then.db-journal" "$work/main.db-mj1"
     { echo then.db-journal && head -c 100000 /dev/zero; } > "$work/main.db-mj1"
     is_rolled_back
 }
@@ -377,12 +363,12 @@ is_rolled_back() {
     cp "$work/then.db-journal" "$work/kept"
     mkdir "$work/$long"
     name=$work/$long/$long-mj1
-    name_super "$name"
+    name_super "$work/then.db-journal" "$name"
     echo then.db-journal > "$name"
     expect 0 $'ok\n' "$read" check --recovered "$work/then.db"
     name=$work/main.db-mj1
     cp "$work/kept" "$work/then.db-journal"
-    name_super "$name"
+    name_super "$work/then.db-journal" "$name"
     echo then.db-journal > "$name"
     for mode in 755 444 600 000; do
         chmod "$mode" "$name"
@@ -398,7 +384,7 @@ is_rolled_back() {
     local name=$work/$'main\xff.db-mj1'
     journaled_alone
     echo then.db-journal > "$name"
-    name_super "$name"
+    name_super "$work/then.db-journal" "$name"
     cold "names a super-journal whose name is not UTF-8: it is not known whether that is here, and it is not rolled back (see the manual)"
 }
 
@@ -409,7 +395,7 @@ is_rolled_back() {
     ln -s itself "$work/itself"
     for name in "$work/then.db/main.db-mj1" "$work/itself"; do
         cp "$work/kept-journal" "$work/then.db-journal"
-        name_super "$name"
+        name_super "$work/then.db-journal" "$name"
         cold "names the super-journal $name, which is not here, and is not rolled back (see the manual)"
     done
 }
@@ -417,7 +403,7 @@ is_rolled_back() {
 @test 'a super-journal that is a link to nothing, or to a file without bytes, is not here' {
     local name=$work/main.db-mj1
     journaled_alone
-    name_super "$name"
+    name_super "$work/then.db-journal" "$name"
     ln -s nowhere "$name"
     cold "names the super-journal $name, which is not here, and is not rolled back (see the manual)"
     : > "$work/nowhere"
@@ -427,7 +413,7 @@ is_rolled_back() {
 @test 'a super-journal in a folder that the caller may not look into is not here' {
     local name=$work/closed/main.db-mj1
     journaled_alone
-    name_super "$name"
+    name_super "$work/then.db-journal" "$name"
     mkdir -m 000 "$work/closed"
     to_be_nobody
     cold "names the super-journal $name, which is not here, and is not rolled back (see the manual)"
@@ -437,7 +423,7 @@ is_rolled_back() {
     local make
     needs python3
     journaled
-    name_super "$work/named"
+    name_super "$work/then.db-journal" "$work/named"
     as=(timeout 60)
     for make in mkfifo mkdir; do
         "$make" "$work/named"

@@ -33,6 +33,16 @@ database() {
         WITH n(i) AS (SELECT 1 UNION ALL SELECT i + 1 FROM n WHERE i < $2) INSERT INTO t SELECT i, randomblob(1000) FROM n"
 }
 
+# unfinished FILE: makes a database with half of a transaction: its journal has the pages of before, when the row of t was `before`.
+unfinished() {
+    needs python3
+    sqlite3 "$1" "PRAGMA page_size = 512; CREATE TABLE t(a); INSERT INTO t VALUES ('before')"
+    journal_of "$1" <<< '1 2'
+    mv "$1-journal" "$work/journal"
+    sqlite3 "$1" "UPDATE t SET a = 'half'; INSERT INTO t VALUES ('half 2')"
+    mv "$work/journal" "$1-journal"
+}
+
 # both_ways WORDS..: runs the script in the folder $work/files, as `dbck` runs the program.
 both_ways() {
     status=0
@@ -198,12 +208,7 @@ count() {
     with_sqlite
     logged log <<< 'INSERT INTO t VALUES (1), (2), (3)'
     mv "$work/log.db" "$work/log.db-wal" "$work/files"
-    # The journal has the pages as they were before the rows of `after`.
-    sqlite3 "$work/files/hot.db" "PRAGMA page_size = 512; CREATE TABLE t(a); INSERT INTO t VALUES ('before')"
-    cp "$work/files/hot.db" "$work/after.db"
-    journal_of "$work/files/hot.db" <<< '1 2'
-    sqlite3 "$work/after.db" "UPDATE t SET a = 'after'; INSERT INTO t VALUES ('after')"
-    cp "$work/after.db" "$work/files/hot.db"
+    unfinished "$work/files/hot.db"
     database "$work/files/alone.db" 4
     for name in log hot alone; do
         there > "$work/before"
@@ -457,12 +462,7 @@ wide() {
 # SQLite rolls the journal back in the copy, and writes that.
 @test 'both-ways.sh saves the rows of a file and a journal that may only be read' {
     with_sqlite
-    needs python3
-    sqlite3 "$work/after.db" "PRAGMA page_size = 512; CREATE TABLE t(a); INSERT INTO t VALUES ('before')"
-    cp "$work/after.db" "$work/files/x.db"
-    journal_of "$work/files/x.db" <<< '1 2'
-    sqlite3 "$work/after.db" "UPDATE t SET a = 'after'"
-    cp "$work/after.db" "$work/files/x.db"
+    unfinished "$work/files/x.db"
     chmod 444 "$work/files"/*
     chmod 777 "$work/files"
     to_be_nobody
@@ -755,43 +755,27 @@ END
     [ "$rows" = 54 ]
 }
 
-# super NAME: makes x.db, whose two pages of before are in its journal, and this ends with the name of a super-journal.
-super() {
-    sqlite3 "$work/after.db" "PRAGMA page_size = 512; CREATE TABLE t(a); INSERT INTO t VALUES ('before')"
-    cp "$work/after.db" "$work/files/x.db"
-    journal_of "$work/files/x.db" <<< '1 2'
-    sqlite3 "$work/after.db" "UPDATE t SET a = 'half'; INSERT INTO t VALUES ('half 2')"
-    mv "$work/after.db" "$work/files/x.db"
-    python3 - "$work/files/x.db-journal" "$1" << 'END'
-import sys
-name = sys.argv[2].encode()
-with open(sys.argv[1], "ab") as journal:
-    journal.write(((1 << 30) // 512 + 1).to_bytes(4, "big") + name + len(name).to_bytes(4, "big") + sum(name).to_bytes(4, "big"))
-    journal.write(bytes.fromhex("d9d505f920a163d7"))
-END
-}
-
-# What the super-journal names is not there, so that SQLite would delete it with the first copy that it rolls back. Its name has 270 bytes and more.
+# What the super-journal names is not there, so that SQLite would delete it with the first copy that it rolls back. Its name has more than 256 bytes.
 @test 'both-ways.sh rolls back each copy of a database whose journal names a super-journal that is there, and keeps that' {
-    local file there
+    local file super
     with_sqlite
-    needs python3
-    there=$work/$(printf 'long%.0s' {1..60})
-    mkdir "$there"
-    super "$there/super one, with a name"
-    printf '/none/m.db-journal\0' > "$there/super one, with a name"
+    super=$work/$(printf 'long%.0s' {1..60})/super
+    mkdir "${super%/*}"
+    unfinished "$work/files/x.db"
+    name_super "$work/files/x.db-journal" "$super"
+    printf '/none/m.db-journal\0' > "$super"
     there > "$work/before"
     makes $'t: 1 row\n' x.db
     for file in new dumped; do row "$file.db" [ "$(sqlite3 "$work/files/$file.db" 'SELECT a FROM t')" = before ]; done
     clear_made
     row 'the folder' diff "$work/before" <(there)
-    row 'the super-journal' cmp "$there/super one, with a name" <(printf '/none/m.db-journal\0')
+    row 'the super-journal' cmp "$super" <(printf '/none/m.db-journal\0')
     # With an empty one, or none, SQLite rolls nothing back.
-    : > "$there/super one, with a name"
+    : > "$super"
     makes $'t: 2 rows\n' x.db
     row 'the rows with an empty one' [ "$(sqlite3 "$work/files/new.db" 'SELECT a FROM t')" = $'half\nhalf 2' ]
     clear_made
-    rm "$there/super one, with a name"
+    rm "$super"
     makes $'t: 2 rows\n' x.db
     row 'the rows with none' [ "$(sqlite3 "$work/files/new.db" 'SELECT a FROM t')" = $'half\nhalf 2' ]
 }
